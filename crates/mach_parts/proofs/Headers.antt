@@ -1,4 +1,4 @@
--- The header found at a place of the bytes.
+-- The header at a place of the bytes.
 use Rattle.std.proofs.Common.{◌≡◌, ℕ, ◌+◌, ◌-◌, ◌<◌, ◌≤◌, true, false, List, length, drop, Ok, Err, nat_le, inl, inr, sym, ap, ◌∙◌, arith}
 use Rattle.std.proofs.lemmas.Bool.{cases_lt, lt-leb, le-leb}
 use Rattle.std.proofs.lemmas.List.{length-drop}
@@ -15,12 +15,12 @@ use Rattle.mach_parts.specs.declared.header.Header.{Header}
 use Rattle.mach_parts.specs.Header.{header32_fields, header32_of_values, header64_fields, header64_of_values, header_of_32, held, header_in, header_front}
 use Rattle.mach_parts.specs.Header.{IsHeader}
 
--- the header at a place is the one at the front of what is left there
+-- the header at a place is the one at the start of the bytes from there on
 header_in-front : (w : Container) (le : Endian) (bytes : List ℕ) (o : ℕ) → header_in w le bytes o ≡ header_in w le (drop o bytes) 0
 header_in-front Little le bytes o = ap (λ (vs : List Value). header_of_32 (header32_of_values vs)) (values_in-front le header32_fields o bytes)
 header_in-front Big le bytes o = ap (λ (vs : List Value). held (header64_of_values vs)) (values_in-front le header64_fields o bytes)
 
--- a header that is found has 32 bytes
+-- a header that was found has 32 bytes
 pub header-found : (ctx : Ctx) (bytes : List ℕ) (o : ℕ) (h : Header) → value_of (front_at (header_front ctx) bytes o) ≡ Ok h
     → (o + 32 ≤ length bytes) × IsHeader ctx bytes o h
 header-found ctx bytes o h e = elim (cases_lt o (length bytes)) [
@@ -37,7 +37,7 @@ header-found ctx bytes o h e = elim (cases_lt o (length bytes)) [
       ]
 ]
 
--- where some bytes are left, none is found only for want of the 32
+-- if bytes are left at the place, a header is missing only because there are fewer than 32
 pub header-missed : (ctx : Ctx) (bytes : List ℕ) (o : ℕ) (f : Fault) → o < length bytes → value_of (front_at (header_front ctx) bytes o) ≡ Err f
     → (length bytes < o + 32) × (f ≡ malformed)
 header-missed ctx bytes o f inside e =

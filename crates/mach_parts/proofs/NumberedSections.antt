@@ -15,7 +15,7 @@ use Rattle.mach_parts.specs.Segment.{SegmentView, segment_view}
 use Rattle.mach_parts.specs.declared.segment.Segment.{Segment}
 use Rattle.mach_parts.specs.declared.segment.numbered.NumberedSection.{NumberedSection}
 
--- an item of two lists is one of the first or one of the second
+-- an item of two joined lists is one of the first or one of the second
 get_in_front : {A : Type 0} (xs ys : List A) (k : ℕ) → k < length xs → slice_get (xs ++ ys) k ≡ slice_get xs k
 get_in_front [] ys k inside = absurd (omega (arith, inside))
 get_in_front (x ∷ xs) ys zero inside = refl
@@ -26,13 +26,13 @@ get_behind [] ys k past = ap (λ (n : ℕ). slice_get ys n) (omega arith)
 get_behind (x ∷ xs) ys zero past = absurd (omega (arith, past))
 get_behind (x ∷ xs) ys (suc k) past = get_behind xs ys k (omega (arith, past)) ∙ ap (λ (n : ℕ). slice_get ys n) (omega arith)
 
--- behind the last section of a segment there is none
+-- after the last section of a segment there is none
 none_from : (n : ℕ) (s : SegmentView) (k : ℕ) → s.command.nsects ≤ k → numbered_from n s k ≡ []
 none_from n s k past =
     let none : s.command.nsects - k ≡ 0 = omega arith in
     ap (λ (count : ℕ). items_from (numbered_section n s) k count) none
 
--- those of some segments are those of the first, and then the others'
+-- the sections of some segments are those of the first, followed by those of the others
 in_as_behind : (n : ℕ) (ss : List SegmentView) → numbered_in n ss ≡ numbered_behind n 0 ss
 in_as_behind n [] = refl
 in_as_behind n (s ∷ ss) = refl
@@ -85,7 +85,7 @@ module _ (segments : List Segment) (i : ℕ) (d : Segment) (inside : i < length 
   of_all : numbered_in i rest ≡ numbered_from i here 0 ++ numbered_in (i + 1) others
   of_all = ap (λ (xs : List Segment). numbered_in i (map segment_view xs)) (drop_more segments i d inside)
 
-  -- a number among the first segment's sections means one of these
+  -- a number within the first segment's count names one of its sections
   pub found_here : (k : ℕ) → k < here.command.nsects → slice_get (numbered_in i rest) k ≡ Some (numbered_section i here k)
   found_here k few =
       ap (λ (items : List (Result NumberedSection Fault)). slice_get items k) of_all
@@ -94,7 +94,7 @@ module _ (segments : List Segment) (i : ℕ) (d : Segment) (inside : i < length 
       ∙ (ap (λ (count : ℕ). slice_get (items_from (numbered_section i here) 0 count) k) (omega arith)
       ∙ slice_get-items (numbered_section i here) here.command.nsects k few))
 
-  -- and another one of the others'
+  -- a higher number names a section of the others
   pub found_later : (k : ℕ) → here.command.nsects ≤ k
       → slice_get (numbered_in i rest) k ≡ slice_get (numbered_in (i + 1) others) (k - here.command.nsects)
   found_later k past =
@@ -107,14 +107,14 @@ module _ (segments : List Segment) (i : ℕ) (d : Segment) (inside : i < length 
 pub found_none : (segments : List Segment) (i k : ℕ) → length segments ≤ i → slice_get (numbered_in i (map segment_view (drop i segments))) k ≡ None
 found_none segments i k past = ap (λ (xs : List Segment). slice_get (numbered_in i (map segment_view xs)) k) (drop_all i segments past)
 
--- behind the last segment nothing is left
+-- after the last segment nothing is left
 pub nothing_behind : (segments : List Segment) (i k : ℕ) → length segments ≤ i → numbered_behind i k (map segment_view (drop i segments)) ≡ []
 nothing_behind segments i k past = ap (λ (xs : List Segment). numbered_behind i k (map segment_view xs)) (drop_all i segments past)
 
 pub nothing_readable : (segments : List Segment) (i k : ℕ) → length segments ≤ i → readable_behind i k (map segment_view (drop i segments)) ≡ []
 nothing_readable segments i k past = ap (λ (xs : List Segment). readable_behind i k (map segment_view xs)) (drop_all i segments past)
 
--- the answer of a read of the next section says whether it is there
+-- the result of reading the next section says whether it is there
 module _ (n : ℕ) (s : SegmentView) (k : ℕ) where
   from_here : k < s.command.nsects
       → in_front (numbered_from n s k) ≡ in_front (numbered_section n s k ∷ numbered_from n s (k + 1))

@@ -19,20 +19,20 @@ use Rattle.mach_parts.specs.Section.{section_at, section_data, section_item, sec
 use Rattle.mach_parts.specs.Symbols.{SymbolTable, begun_of, nlist_size, symbol_at, symbol_place}
 use Rattle.mach_records.specs.Segments.{section32_of_values, section64_of_values}
 
--- a relocation is past the end exactly if its number is that of none that begins
+-- a relocation is past the end exactly if its number is not below the number of those that begin
 pub relocation_past : (le : Endian) (bytes : List ℕ) (reloff k : ℕ)
     → is_past_the_end (relocation_item le bytes reloff k) ≡ nat_le (records_begun (length bytes) reloff 8) k
 relocation_past le bytes reloff k =
     past_after _ relocation_of_values ∙ past_bounded 8 bytes (reloff + 8 * k) _
     ∙ same_test (length bytes) (reloff + 8 * k) (records_begun (length bytes) reloff 8) k (λ past. omega (arith, past)) (λ less. omega (arith, less))
 
--- and so it is of an indirect symbol
+-- the same for an indirect symbol
 pub indirect_past : (t : IndirectTable) (k : ℕ) → is_past_the_end (indirect_symbol_at t k) ≡ nat_le (records_begun (length t.bytes) t.start 4) k
 indirect_past t k =
     past_after _ indirect_symbol ∙ past_bounded 4 t.bytes (t.start + 4 * k) _
     ∙ same_test (length t.bytes) (t.start + 4 * k) (records_begun (length t.bytes) t.start 4) k (λ past. omega (arith, past)) (λ less. omega (arith, less))
 
--- and of a section, whose place has 64 bits
+-- the same for a section, whose place has 64 bits
 record_past : (width : Container) (le : Endian) (file : List ℕ) (place : ℕ) → is_past_the_end (section_at width le file place) ≡ nat_le (length file) place
 record_past Little le file place = past_after _ (λ vs. section_of_32 (section32_of_values vs)) ∙ past_bounded 68 file place _
 record_past Big le file place = past_after _ (λ vs. section_of_64 (section64_of_values vs)) ∙ past_bounded 80 file place _
@@ -54,7 +54,7 @@ section_past ctx file offset few k =
     ∙ record_past ctx.container ctx.le file (section_place ctx.container offset k)
     ∙ place_past ctx.container (length file) offset k few
 
--- what isn't there makes nothing
+-- from a record past the end nothing is read
 none_there : {A B : Type 0} (n : ℕ) (bytes : List ℕ) (s : ℕ) (found : A) (f : A → Result B Fault) → length bytes ≤ s
     → is_ok (bounded n bytes s found >>= f) ≡ false
 none_there n bytes s found f past = let test : nat_le (length bytes) s ≡ true = le-leb (length bytes) s past in rw test refl

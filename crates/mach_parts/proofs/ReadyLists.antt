@@ -46,7 +46,7 @@ module _ (t : SlotTables) (r : SlotRun) where
   unfolding ready_slots
   one_ready many entries address index = refl
 
-  -- where the entry of slot j stands
+  -- the place of slot j's entry
   abbrev place : ℕ → ℕ
   place j = t.indirect.start + 4 * (r.first + j)
 
@@ -117,7 +117,7 @@ module _ (t : SlotTables) (r : SlotRun) where
       ∙ (ap (λ (found : Result SlotEntry Fault). entry_then found (slot_of_entry t r) (slots_from t r most (j + 1))) (sym here)
       ∙ sym (one_more t r most j)))))))
 
-  -- the first of them, whose entries stand from the place of the first one's on
+  -- the first of them, whose entries lie from the place of the first slot's entry on
   pub ready_first : (n : ℕ) (rest entries : List ℕ) → n ≤ r.count → r.address + n * r.len < 2 ^ 64 → n ≤ t.indirect.count - r.first
       → t.indirect.count < 2 ^ 32 → t.indirect.start + 4 * r.first ≤ length t.indirect.bytes → 4 * n ≤ length rest
       → rest ≡ drop (t.indirect.start + 4 * r.first) t.indirect.bytes → entries ≡ take (4 * n) rest
@@ -144,7 +144,7 @@ module _ (t : SlotTables) (r : SlotRun) where
             ∙ made,
       )
 
--- the first is the slot of its entry, and what is left behind it are the others
+-- the first is the slot of its entry, and the others are left after it
 pub one_passed : (t : SlotTables) (s left : ReadySlots) → ready_count s ≡ suc (ready_count left) → left.entries.now ≡ drop 4 s.entries.now
     → left.address ≡ (s.address + s.run.len) % 2 ^ 64 → left.index ≡ (s.index + 1) % 2 ^ 32 → left.run ≡ s.run
     → ready_left t s ≡ slot_of_entry t s.run (ready_entry t.indirect s.entries.now s.address s.index) ∷ ready_left t left

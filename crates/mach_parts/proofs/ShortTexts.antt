@@ -1,4 +1,4 @@
--- A text that ends within some bytes from a place on is the text at that place.
+-- A text that ends within a window of bytes is the text at the window's place.
 use Rattle.std.proofs.Common.{◌≡◌, ℕ, ◌+◌, ◌-◌, ◌<◌, ◌≤◌, Bool, true, false, List, length, take, drop, Ok, Err, min, refl, sym, ap, subst, ◌∙◌, arith}
 use Rattle.std.proofs.Common.{if◌then◌else◌, nat_le}
 use Rattle.std.proofs.lemmas.List.{length-drop, length-take, get_or-take, take-take}
@@ -23,7 +23,7 @@ text_is bytes text s e = by (nat_le (length bytes) s) (is_utf8 (run_at bytes s))
     by false true is = (sym (same_ok is), refl)
     by false false is = absurd (cc)
 
--- the run of a front that has its zero byte
+-- the run of a prefix that contains its zero byte
 front_run : (xs : List ℕ) (w : ℕ) → position_or_len is_zero (take w xs) < length (take w xs)
     → before_first is_zero (take w xs) ≡ before_first is_zero xs
 front_run xs w ends =
@@ -36,7 +36,7 @@ front_run xs w ends =
     (λ lt. ap is_zero (sym (get_or-take w xs p 0 (omega (arith, len, ends)))) ∙ passes_at_first is_zero ys 0 ends) in
     take-take p w xs (omega (arith, len, ends)) ∙ ap (λ n. take n xs) (sym first)
 
--- the text that ends within so many bytes from a place on
+-- the text that ends within a window of w bytes
 pub short_text_is : (bytes text : List ℕ) (place w : ℕ) → place + w ≤ length bytes → text_at (take w (drop place bytes)) 0 ≡ Ok text → length text < w
     → text_at bytes place ≡ Ok text
 short_text_is bytes text place w room e ends =

@@ -1,4 +1,4 @@
--- Laws of slots: where they lie, what finds them, and how many there are.
+-- Laws of slots: where they lie, how they are found, and how many there are.
 use Rattle.std.proofs.Common.{◌≡◌, ℕ, zero, suc, ◌+◌, ◌-◌, ◌*◌, ◌/◌, ◌<◌, ◌≤◌, Bool, true, false, cond, List, [], ◌∷◌, ◌++◌, length}
 use Rattle.std.proofs.Common.{Option, Some, None, Result, Ok, Err, slice_get, nat_lt, refl, sym, ap, ◌∙◌, subst, arith}
 use Rattle.std.specs.Prelude.{All, find, ◌&&◌, nat_le, ◌==◌}
@@ -33,7 +33,7 @@ entries_counted t = length-items_from (indirect_symbol_at t) 0 t.count
 pub entry_by_number : (t : IndirectTable) (k : ℕ) → k < t.count → slice_get (indirect_symbols_of t) k ≡ Some (indirect_symbol_at t k)
 entry_by_number t k inside = slice_get-items (indirect_symbol_at t) t.count k inside
 
--- ---- choices that came out well
+-- ---- tests that succeeded
 
 where_true : {A : Type 0} (b : Bool) (x : Result A Fault) (y : A) → cond b x (Err malformed) ≡ Ok y → (b ≡ true) × (x ≡ Ok y)
 where_true true x y e = (refl, e)
@@ -73,7 +73,7 @@ few (Ok e) slot others most by_others one = let h = by_others e refl in omega ar
 few (Err f) slot others most by_others one = one
 
 module _ (t : SlotTables) (r : SlotRun) where
-  -- what an entry says of its slot
+  -- the fields of a slot's entry
   entry_is : (j : ℕ) (e : SlotEntry) → slot_entry t r j ≡ Ok e
       → (e.address ≡ r.address + j * r.len) × (e.index ≡ r.first + j) × (r.first + j < t.indirect.count)
   entry_is j e there =
@@ -83,7 +83,7 @@ module _ (t : SlotTables) (r : SlotRun) where
       let is = same_ok read.2 in
       (ap (λ (x : SlotEntry). x.address) (sym is), ap (λ (x : SlotEntry). x.index) (sym is), ltb-true (r.first + j) t.indirect.count inner.0)
 
-  -- and what the slot has of the entry and the run
+  -- the fields of a slot, by its entry and its run
   slot_is : (e : SlotEntry) (s : Slot) → slot_of_entry t r e ≡ Ok s
       → (s.segment ≡ r.segment) × (s.section ≡ r.section) × (s.address ≡ e.address) × (s.len ≡ r.len) × (s.kind ≡ r.kind) × (s.index ≡ e.index)
   slot_is e s there =
@@ -113,7 +113,7 @@ module _ (t : SlotTables) (r : SlotRun) where
       let same : (j + 1) + k ≡ j + suc k = omega arith in
       (omega arith, (rest.1.0, subst (λ (n : ℕ). slot_entry t r n ≡ Ok rest.1.0) same rest.1.1, rest.1.2))
 
-  -- each has an entry of its own, but for a fault at the end
+  -- each has an entry of its own, except for a fault at the end
   no_more_from : (most j : ℕ) → length (slots_from t r most j) ≤ (t.indirect.count - (r.first + j)) + 1
   no_more_from zero j = let none = ap length (none_more t r j) in omega arith
   no_more_from (suc most) j =
@@ -125,7 +125,7 @@ module _ (t : SlotTables) (r : SlotRun) where
 
 -- ---- the slots of a section
 
--- what the run of a section has of it
+-- the fields of a section's run
 run_is : (container : Container) (n : NumberedSection) (found : Option SlotKind) (r : SlotRun) → run_of_kind container n found ≡ Ok (Some r)
     → (found ≡ Some r.kind) × (r.segment ≡ n.segment) × (r.section ≡ n.number) × (r.address ≡ n.section.addr)
     × (r.len ≡ slot_len container r.kind n.section) × (r.first ≡ n.section.reserved1) × (r.count ≡ n.section.size / r.len) × (0 < r.len)
@@ -154,7 +154,7 @@ of_run t (Ok (Some r)) k s there = (r, refl, there)
 of_run t (Err f) zero s there = absurd (cc)
 of_run t (Err f) (suc k) s there = absurd (none-some (Ok s) (sym (get_none k) ∙ there))
 
--- what a slot of a section is
+-- the fields of a slot of a section
 pub record IsRead (t : SlotTables) (n : NumberedSection) (k : ℕ) (s : Slot) : Type 0 where
   pub run : SlotRun
   pub entry : SlotEntry
@@ -177,7 +177,7 @@ is_read t n k s there =
       slot_of_it = item.1.2;
     }
 
--- so many whole slots fit
+-- how many whole slots fit
 one_time_more : (k len : ℕ) → (k + 1) * len ≡ k * len + len
 one_time_more k len = let same : k + 1 ≡ suc k = omega arith in ap (λ (n : ℕ). n * len) same ∙ suc-mul k len
 
@@ -212,7 +212,7 @@ in_their_section t n k s there =
       entry = of_slot.5 ∙ (of_entry.1 ∙ ap (λ (x : ℕ). x + k) of_run.5);
     }
 
--- ---- the slot of an address
+-- ---- the slot at an address
 
 found_behind : {A : Type 0} (p : A → Bool) (before : List A) (x : A) (behind : List A) → All (λ y. p y ≡ false) before → p x ≡ true
     → find p (before ++ x ∷ behind) ≡ Some x

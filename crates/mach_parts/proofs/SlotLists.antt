@@ -6,7 +6,7 @@ use Rattle.mach_parts.specs.declared.slots.kind.SlotRun.{SlotRun}
 use Rattle.mach_parts.specs.declared.slot.SlotEntry.{SlotEntry}
 
 module _ (t : SlotTables) (r : SlotRun) where
-  -- so many slots: none, or the first and then the others
+  -- no slots, or the first and then the others
   pub none_more : (j : ℕ) → slots_from t r 0 j ≡ []
   unfolding slots_from
   none_more j = refl
@@ -15,7 +15,7 @@ module _ (t : SlotTables) (r : SlotRun) where
   unfolding slots_from
   one_more most j = refl
 
-  -- behind the last there is none
+  -- after the last there is none
   pub no_slots : (j : ℕ) → r.count ≤ j → slots_from t r (r.count - j) j ≡ []
   no_slots j past =
       let none : r.count - j ≡ 0 = omega arith in
@@ -34,7 +34,7 @@ module _ (t : SlotTables) (r : SlotRun) where
       from_number j inside
       ∙ ap (λ (found : Result SlotEntry Fault). entry_then found (slot_of_entry t r) (slots_from t r (r.count - (j + 1)) (j + 1))) there
 
-  -- where it has no entry, the fault of that is the last
+  -- if it has no entry, that fault is the last item
   pub last_slot : (j : ℕ) (f : Fault) → j < r.count → slot_entry t r j ≡ Err f → slots_from t r (r.count - j) j ≡ Err f ∷ []
   last_slot j f inside there =
       from_number j inside

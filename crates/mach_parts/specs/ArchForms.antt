@@ -1,4 +1,4 @@
--- The tables of fat files: a header of 8 bytes, and records of one size behind it (`mach-o/fat.h`).
+-- The tables of fat files: a header of 8 bytes, followed by records of one size (`mach-o/fat.h`).
 use Rattle.std.specs.Prelude.{◌≡◌, ℕ, ◌*◌, ◌<◌, List, Result, Ok}
 use Rattle.mach_base.specs.Answer.{◌>>=◌}
 use Rattle.mach_base.specs.Fault.{Fault}
@@ -10,8 +10,8 @@ use Rattle.mach_parts.specs.declared.fat.FatArch.{FatArch}
 use Rattle.mach_parts.specs.FatRecords.{fat_arch_64_fields, fat_arch_64_of_values}
 use Rattle.mach_parts.specs.declared.fat64.FatArch64.{FatArch64}
 
--- What the records of a table are: how many bytes each has, its fields, the record of their values, and what a record says of its
--- entry: the cpu and its kind, its place, its length and its alignment, as a power of 2.
+-- The form of a table's records: the size in bytes, the fields, and the record of some values. Also what a
+-- record says of its entry: the CPU type and subtype, the offset, the size, and the alignment as a power of 2.
 pub record ArchForm (R : Type 0) : Type 0 where
   pub stride : ℕ
   pub fields : List Field
@@ -49,17 +49,17 @@ arch_form_64 =
       align = λ a. a.align;
     }
 
--- records of so many bytes, of these fields and values, are of a form
+-- records of this size, with these fields and values, have this form
 pub record IsArchForm {R : Type 0} (bytes : ℕ) (fields : List Field) (values : R → List Value) (form : ArchForm R) : Type 0 where
   pub sized : bytes ≡ form.stride
   pub some : 0 < form.stride
   pub same_fields : fields ≡ form.fields
   pub read_back : (x : R) → form.of_values (values x) ≡ x
 
--- where the record of entry i stands, behind the header; so those of n entries end where that of entry n would stand
+-- the place of entry i's record, after the header; the records of n entries end at the place of entry n
 abbrev pub arch_place_in : {R : Type 0} → ArchForm R → ℕ → ℕ
 arch_place_in form i = place_after 8 (form.stride * i)
 
--- the record of entry i, or why it isn't there
+-- the record of entry i, or the reason why there is none
 abbrev pub arch_in : {R : Type 0} → ArchForm R → List ℕ → ℕ → Result R Fault
 arch_in form bytes i = record_at Big form.fields bytes (arch_place_in form i) >>= λ values. Ok (form.of_values values)

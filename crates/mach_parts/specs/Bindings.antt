@@ -1,5 +1,4 @@
--- Where dyld looks for a symbol that an image takes, by the ordinal of its bind (`mach-o/loader.h`, the constants
--- BIND_SPECIAL_DYLIB).
+-- Where dyld looks up a symbol that an image imports, by the ordinal of its bind (`mach-o/loader.h`, the constants BIND_SPECIAL_DYLIB).
 use Rattle.std.specs.Prelude.{◌==◌, ℕ, ℤ, pos, negsuc, Bool, List, Option, Some, None, Result, Ok, Err, if◌then◌else◌, slice_get}
 use Rattle.mach_base.specs.declared.error.Error.{Error}
 use Rattle.mach_base.specs.Fault.{Fault, malformed, fault_of}
@@ -19,11 +18,11 @@ abbrev pub named : ℕ → Option (List ℕ) → Result Provider Fault
 named n None = Err malformed
 named n (Some name) = Ok (of_library n name)
 
--- by a number that counts the libraries: 0 is the image itself
+-- by an unsigned ordinal: 0 is the image itself, any other number a library
 abbrev pub provider_by_number : List (List ℕ) → ℕ → Result Provider Fault
 provider_by_number libs n = if n == 0 then Ok itself else named n (slice_get libs n)
 
--- by a number below 0: these are 0 for -1, 1 for -2, and so on
+-- by a negative ordinal: n is 0 for -1, 1 for -2, and so on
 abbrev pub special_of : ℕ → Result Provider Fault
 special_of n =
     if n == 0 then Ok main_executable
@@ -31,17 +30,17 @@ special_of n =
     else (if n == 2 then Ok weak_lookup
     else Err malformed))
 
--- by an ordinal: 0 the image itself, above it a library, below it -1 the main executable, -2 any image (flat),
--- -3 the weak look-up; no other number is one of a provider
+-- by an ordinal: 0 is the image itself, a positive number a library, -1 the main
+-- executable, -2 any image (flat), -3 the weak lookup; no other number has a provider
 unfoldable pub provider_of : List (List ℕ) → ℤ → Result Provider Fault
 provider_of libs (pos n) = provider_by_number libs n
 provider_of libs (negsuc n) = special_of n
 
--- a place in memory that takes a symbol's address from a provider
+-- a pointer in memory that takes a symbol's address from a provider
 pub record Binding : Type 0 where
   pub name : List ℕ
   pub provider : Provider
-  -- the place in the file
+  -- its file offset
   pub offset : ℕ
   pub address : ℕ
   pub addend : ℤ

@@ -1,4 +1,4 @@
--- The table at the front of a fat file (`mach-o/fat.h`, struct fat_header and fat_arch).
+-- The table at the start of a fat file (`mach-o/fat.h`, struct fat_header and fat_arch).
 use Rattle.std.specs.Prelude.{ℕ, ◌+◌, List, [], ◌∷◌, length, take, drop, nat_le, if◌then◌else◌}
 use Rattle.mach_base.specs.Record.{Field, num, Value, number_is, number_among}
 use Rattle.mach_parts.specs.declared.fat.FatHeader.{FatHeader}
@@ -30,6 +30,6 @@ fat_arch_of_values vs =
       align = number_among vs 4;
     }
 
--- the n bytes at s where they lie in the bytes, else none
+-- the n bytes at s if they lie in the bytes, or else none
 abbrev pub part_of : List ℕ → ℕ → ℕ → List ℕ
 part_of bytes s n = if nat_le (s + n) (length bytes) then take n (drop s bytes) else []

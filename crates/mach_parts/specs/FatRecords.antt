@@ -1,11 +1,11 @@
--- The magic of a fat file of 64 bits (`mach-o/fat.h`, FAT_MAGIC_64), and the record of an entry there (struct fat_arch_64).
+-- The magic of a 64-bit fat file (`mach-o/fat.h`, FAT_MAGIC_64), and the record of an entry there (struct fat_arch_64).
 use Rattle.std.specs.Prelude.{◌≡◌, ℕ, List, [], ◌∷◌, Ok}
 use Rattle.mach_base.specs.Number.{number_at}
 use Rattle.mach_base.specs.Record.{Field, num, Value, number_is, number_among}
 use Rattle.mach_base.specs.declared.context.Endian.TheVariants.{Big}
 use Rattle.mach_parts.specs.declared.fat64.FatArch64.{FatArch64}
 
--- the bytes begin with the magic of a fat file of 64 bits
+-- the bytes begin with the magic of a 64-bit fat file
 abbrev pub HasFat64Magic : List ℕ → Type 0
 HasFat64Magic bytes = number_at Big 4 bytes 0 ≡ Ok 0xcafe_babf
 

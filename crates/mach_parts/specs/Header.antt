@@ -54,7 +54,7 @@ header64_of_values vs =
       reserved = number_among vs 7;
     }
 
--- the header of a 32-bit image lacks the reserved field, which becomes 0
+-- the header of a 32-bit image has no reserved field; here it is 0
 abbrev pub header_of_32 : Header32 → Header
 header_of_32 h =
     record {
@@ -68,7 +68,7 @@ header_of_32 h =
       reserved = 0;
     }
 
--- that of a 64-bit image has all fields
+-- the header of a 64-bit image has all fields
 abbrev pub held : Header64 → Header
 held h =
     record {
@@ -82,7 +82,7 @@ held h =
       reserved = h.reserved;
     }
 
--- of `ncmds` the low 32 bits are kept
+-- the low 32 bits of `ncmds` are kept
 abbrev pub narrowed32 : Header → Header32
 narrowed32 h =
     record {
@@ -108,12 +108,12 @@ narrowed64 h =
       reserved = h.reserved;
     }
 
--- how many bytes the header of an image has
+-- the size of an image's header in bytes
 abbrev pub header_size : Container → ℕ
 header_size Little = 28
 header_size Big = 32
 
--- the header of an image of this width and byte order at o: its record, in the form of either width
+-- the header at o of an image of this width and byte order
 abbrev pub header_in : Container → Endian → List ℕ → ℕ → Header
 header_in Little le bytes o = header_of_32 (header32_of_values (values_in le header32_fields o bytes))
 header_in Big le bytes o = held (header64_of_values (values_in le header64_fields o bytes))
@@ -121,7 +121,7 @@ header_in Big le bytes o = held (header64_of_values (values_in le header64_field
 abbrev pub IsHeader : Ctx → List ℕ → ℕ → Header → Type 0
 IsHeader ctx bytes o h = h ≡ header_in ctx.container ctx.le bytes o
 
--- the header at the front of some bytes, where there are 32 of them, also for a 32-bit image
+-- the header at the start of at least 32 bytes, also for a 32-bit image
 abbrev pub header_front : Ctx → List ℕ → Found Header
 header_front ctx bytes =
     if nat_le 32 (length bytes) then Ok (header_in ctx.container ctx.le bytes 0, header_size ctx.container)
@@ -146,7 +146,7 @@ magic_alone magic =
       reserved = 0;
     }
 
--- a header that says only which width it has
+-- a header that says only its width
 abbrev pub new_header : Container → Header
 new_header Little = magic_alone 0xfeed_face
 new_header Big = magic_alone 0xfeed_facf

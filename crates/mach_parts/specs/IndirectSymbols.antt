@@ -1,5 +1,5 @@
--- Indirect symbols: numbers that say of pointers and stubs which symbol they stand for (`mach-o/loader.h`, struct dysymtab_command,
--- INDIRECT_SYMBOL_LOCAL and INDIRECT_SYMBOL_ABS).
+-- Indirect symbols: numbers that say to which symbol a pointer or a stub refers
+-- (`mach-o/loader.h`, struct dysymtab_command, INDIRECT_SYMBOL_LOCAL and INDIRECT_SYMBOL_ABS).
 use Rattle.std.specs.Prelude.{◌==◌, ℕ, ◌+◌, ◌*◌, List, length, min, Result, Ok, if◌then◌else◌}
 use Rattle.mach_base.specs.declared.context.Endian.{Endian}
 use Rattle.mach_base.specs.Answer.{◌>>=◌}
@@ -9,7 +9,7 @@ use Rattle.mach_base.specs.Number.{number_at}
 use Rattle.mach_parts.specs.declared.indirect.IndirectSymbol.{IndirectSymbol}
 use Rattle.mach_parts.specs.declared.indirect.IndirectSymbol.TheVariants.{Symbol, Local, Absolute, LocalAbsolute}
 
--- what the number of an entry says: one with other bits beside these two is the number of a symbol
+-- the decoded number of an entry: a number with other bits than these two is the number of a symbol
 abbrev pub indirect_symbol : ℕ → IndirectSymbol
 indirect_symbol n =
     if n == 0x8000_0000 then Local
@@ -17,14 +17,14 @@ indirect_symbol n =
     else (if n == 0xc000_0000 then LocalAbsolute
     else Symbol n))
 
--- A table of them: so many entries of four bytes at a place.
+-- A table of them: `count` entries of four bytes at a place.
 pub record IndirectTable : Type 0 where
   pub bytes : List ℕ
   pub start : ℕ
   pub count : ℕ
   pub le : Endian
 
--- what entry k says, or why it isn't there
+-- the decoded entry k, or the reason why there is none
 abbrev pub indirect_symbol_at : IndirectTable → ℕ → Result IndirectSymbol Fault
 indirect_symbol_at t k = number_at t.le 4 t.bytes (t.start + 4 * k) >>= (λ n. Ok (indirect_symbol n))
 
@@ -32,7 +32,7 @@ indirect_symbol_at t k = number_at t.le 4 t.bytes (t.start + 4 * k) >>= (λ n. O
 abbrev pub indirect_symbols_of : IndirectTable → List (Result IndirectSymbol Fault)
 indirect_symbols_of t = items_from (indirect_symbol_at t) 0 t.count
 
--- The table of those that begin within the bytes: of no entry behind it a byte can be read.
+-- The table of the entries that begin within the bytes. No byte of any later entry can be read.
 abbrev pub begun_table : IndirectTable → IndirectTable
 begun_table t =
     record { bytes = t.bytes; start = t.start; count = min t.count (records_begun (length t.bytes) t.start 4); le = t.le }

@@ -9,11 +9,11 @@ use Rattle.mach_parts.specs.declared.segment.numbered.NumberedSection.{NumberedS
 use Rattle.mach_parts.specs.declared.segment.numbered.NumberedSections.{NumberedSections}
 use Rattle.mach_parts.specs.declared.segment.readable.ReadableSections.{ReadableSections}
 
--- an item, as it was answered
+-- an item, as it was returned
 abbrev pub numbered_read : Result NumberedSection Error → Result NumberedSection Fault
 numbered_read item = read_as (λ n. n) item
 
--- of some segments, of which the first has number n: the sections of the first from number k on, and those of the others
+-- for some segments, the first of which has number n: the sections of the first from number k on, and those of the others
 abbrev pub numbered_behind : ℕ → ℕ → List SegmentView → List (Result NumberedSection Fault)
 numbered_behind n k [] = []
 numbered_behind n k (s ∷ ss) = numbered_from n s k ++ numbered_in (n + 1) ss
@@ -22,7 +22,7 @@ abbrev pub readable_behind : ℕ → ℕ → List SegmentView → List NumberedS
 readable_behind n k [] = []
 readable_behind n k (s ∷ ss) = in_front (numbered_from n s k) ++ readable_in (n + 1) ss
 
--- the sections that an iterator has yet to give
+-- the remaining sections of an iterator
 abbrev pub numbered_left : NumberedSections → List (Result NumberedSection Fault)
 numbered_left it = numbered_behind it.segment it.number (map segment_view (drop it.segment it.segments.now))
 

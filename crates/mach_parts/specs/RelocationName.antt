@@ -1,4 +1,4 @@
--- The names of relocation types, by cpu (`mach-o/reloc.h` and the `reloc.h` of each cpu).
+-- The names of relocation types, by CPU (`mach-o/reloc.h` and the `reloc.h` of each CPU).
 use Rattle.std.specs.Prelude.{◌==◌, ℕ, zero, suc, ◌||◌, List, [], ◌∷◌, codes, if◌then◌else◌}
 
 -- the types of x86-64, from 0
@@ -58,14 +58,13 @@ arm64_names =
     ∷ codes "ARM64_RELOC_ADDEND"
     ∷ []
 
--- the name of a type among those of a cpu, or UNKNOWN
+-- the name of a type among those of a CPU, or UNKNOWN
 abbrev pub type_name_of : List (List ℕ) → ℕ → List ℕ
 type_name_of [] k = codes "UNKNOWN"
 type_name_of (name ∷ names) zero = name
 type_name_of (name ∷ names) (suc k) = type_name_of names k
 
--- the name of a type for a cpu (CPU_TYPE_ARM64 and CPU_TYPE_ARM64_32, CPU_TYPE_X86_64, CPU_TYPE_ARM,
--- CPU_TYPE_X86), or BAD_CPUTYPE
+-- the name of a type for a CPU type (CPU_TYPE_ARM64 and CPU_TYPE_ARM64_32, CPU_TYPE_X86_64, CPU_TYPE_ARM, CPU_TYPE_X86), or BAD_CPUTYPE
 abbrev pub relocation_name : ℕ → ℕ → List ℕ
 relocation_name reloc cputype =
     if cputype == 0x100_000c || cputype == 0x200_000c then type_name_of arm64_names reloc

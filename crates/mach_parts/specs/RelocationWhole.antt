@@ -1,5 +1,5 @@
--- A relocation is that of its values: what its record shows of itself. It stands here, since a record's own
--- facts may cite only what stands beside the definitions.
+-- A relocation is determined by its values, which its record must prove. The
+-- proof is in specs, because a record's own facts may cite only what is in specs.
 use Rattle.std.specs.Prelude.{◌≡◌, ℕ, ◌+◌, ◌-◌, ◌^◌, true, ℤ, pos, negsuc, [], ◌∷◌, nat_lt, if◌then◌else◌}
 use Rattle.std.proofs.Common.{◌≤◌, ◌∙◌, ap, inl, inr, lt-ltb, le-ltb, le_trans, le-add_right, pred, add-one, subst, sym}
 use Rattle.std.proofs.Math.Nat.{sub-suc, sub-le-sub_left}
@@ -33,12 +33,12 @@ whole_negsuc n = elim (cases_lt n (2 ^ 31)) [
   | inr high ↦ ap (λ small. signed_of (if small then number_is (2 ^ 32 - (n + 1)) else bytes_are (n ∷ n ∷ []))) (le-ltb n (2 ^ 31) high)
 ]
 
--- a signed number is that of its value
+-- a signed number is determined by its value
 signed_whole : (z : ℤ) → signed_of (value_of_signed z) ≡ z
 signed_whole (pos n) = whole_pos n
 signed_whole (negsuc n) = whole_negsuc n
 
--- a relocation is that of its values
+-- a relocation is determined by its values
 pub relocation_whole : (r : RelocationInfo) → relocation_of_values (relocation_values r) ≡ r
 relocation_whole r =
     ap (λ (z : ℤ). let made : RelocationInfo = record { r_address = z; r_info = r.r_info } in made) (signed_whole r.r_address)

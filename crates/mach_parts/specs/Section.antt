@@ -16,7 +16,7 @@ use Rattle.mach_records.specs.Segments.{section32_fields, section32_values, sect
 use Rattle.mach_base.specs.Items.{items_from}
 use Rattle.mach_parts.specs.declared.segment.section.Section.{Section}
 
--- how many bytes a section has
+-- the size of a section's record in bytes
 abbrev pub section_size : Container → ℕ
 section_size Little = 68
 section_size Big = 80
@@ -50,8 +50,7 @@ section_of_64 r =
       flags = r.flags;
     }
 
--- the record of a section: the reserved fields are 0, and in the narrower one address and size keep
--- their low 32 bits
+-- the record of a section: the reserved fields are 0, and in the 32-bit record address and size keep their low 32 bits
 abbrev pub section32_of : Section → Section32
 section32_of s =
     record {
@@ -85,12 +84,12 @@ section64_of s =
       reserved3 = 0;
     }
 
--- what is left of a section that was written and read in a width
+-- the section that is read back after it was written in a width
 abbrev pub kept : Container → Section → Section
 kept Little s = record s { addr = s.addr % 2 ^ 32; size = s.size % 2 ^ 32 }
 kept Big s = s
 
--- a section without names, with every number 0
+-- a section without names, whose numbers are all 0
 abbrev pub blank_section : Section
 blank_section =
     record {
@@ -105,54 +104,53 @@ blank_section =
       flags = 0;
     }
 
--- the bytes of a section, in the form of a width
+-- the bytes of a section's record in a width
 abbrev pub section_bytes : Container → Endian → Section → List ℕ
 section_bytes Little le s = spelling le section32_fields (section32_values (section32_of s))
 section_bytes Big le s = spelling le section64_fields (section64_values (section64_of s))
 
--- the section at a place, or why there is none
+-- the section at a place, or the reason why there is none
 abbrev pub section_at : Container → Endian → List ℕ → ℕ → Result Section Fault
 section_at Little le bytes s =
     record_at le section32_fields bytes s >>= (λ vs. Ok (section_of_32 (section32_of_values vs)))
 section_at Big le bytes s =
     record_at le section64_fields bytes s >>= (λ vs. Ok (section_of_64 (section64_of_values vs)))
 
--- what is read of a section that was written at the front, or why it can't be written there
+-- the section that is read back after it was written at the start of the bytes, or the reason why it cannot be written there
 abbrev pub read_back : Ctx → Section → List ℕ → Result Section Fault
 read_back ctx s bytes = room_at (section_size ctx.container) bytes 0 >>= (λ _. Ok (kept ctx.container s))
 
--- the section at the front and how wide it is, or why there is none
+-- the section at the start of the bytes and its width, or the reason why there is none
 abbrev pub section_front : Ctx → List ℕ → Found Section
 section_front ctx bytes = with_width (section_size ctx.container) (section_at ctx.container ctx.le bytes 0)
 
--- whether the type in a section's flags is that of zeros that take no bytes of the file: S_ZEROFILL,
--- S_GB_ZEROFILL or S_THREAD_LOCAL_ZEROFILL
+-- whether the type in a section's flags is one of zeros that take no
+-- bytes of the file: S_ZEROFILL, S_GB_ZEROFILL or S_THREAD_LOCAL_ZEROFILL
 abbrev pub is_zero_fill : ℕ → Bool
 is_zero_fill flags = let kind = bit_and flags 0xff in kind == 0x1 || kind == 0xc || kind == 0x12
 
--- the data of a section: `size` bytes at `offset` of the file, empty where they are out of it, and
--- where the section is of zeros
+-- the data of a section: `size` bytes at `offset` of the file; empty if they do not lie in the file or if the section is of zeros
 abbrev pub section_data : List ℕ → Section → List ℕ
 section_data file s = if is_zero_fill s.flags then [] else result_unwrap_or (slice_at s.size file s.offset) []
 
--- how many bytes the command of a segment has
+-- the size of a segment's command in bytes, without its sections
 abbrev pub command_size : Container → ℕ
 command_size Little = 56
 command_size Big = 72
 
--- where section k stands behind the command at an offset
+-- the place of section k of the command at an offset
 abbrev pub section_place : Container → ℕ → ℕ → ℕ
 section_place container offset k = place_after offset (command_size container + k * section_size container)
 
--- the section at a place with its data, or why it isn't there
+-- the section at a place with its data, or the reason why there is none
 abbrev pub section_with_data : Ctx → List ℕ → ℕ → Result (Section × List ℕ) Fault
 section_with_data ctx file place =
     section_at ctx.container ctx.le file place >>= (λ s. Ok (s, section_data file s))
 
--- section k behind the command at an offset, with its data
+-- section k of the command at an offset, with its data
 abbrev pub section_item : Ctx → List ℕ → ℕ → ℕ → Result (Section × List ℕ) Fault
 section_item ctx file offset k = section_with_data ctx file (section_place ctx.container offset k)
 
--- `count` sections behind the command at an offset, from the first
+-- `count` sections of the command at an offset
 abbrev pub sections_at : Ctx → List ℕ → ℕ → ℕ → List (Result (Section × List ℕ) Fault)
 sections_at ctx file offset count = items_from (section_item ctx file offset) 0 count

@@ -1,4 +1,4 @@
--- What is left to an iterator over sections.
+-- What is left of an iterator over sections.
 use Rattle.std.specs.Prelude.{ℕ, ◌-◌, List, Result}
 use Rattle.std.specs.Borrow.{Bor}
 use Rattle.mach_base.specs.declared.error.Error.{Error}
@@ -8,14 +8,14 @@ use Rattle.mach_parts.specs.Section.{section_item}
 use Rattle.mach_parts.specs.declared.segment.section.Section.{Section}
 use Rattle.mach_parts.specs.declared.segment.sections.SectionIterator.{SectionIterator}
 
--- a section and the bytes that its data are
+-- a section and the bytes of its data
 abbrev pub section_and_bytes : Section × Bor (List ℕ) → Section × List ℕ
 section_and_bytes found = (found.0, found.1.now)
 
--- an item, as it was answered
+-- an item, as it was returned
 abbrev pub section_read : Result (Section × Bor (List ℕ)) Error → Result (Section × List ℕ) Fault
 section_read item = read_as section_and_bytes item
 
--- the sections that are left, with their data
+-- the remaining sections, with their data
 abbrev pub sections_left : SectionIterator → List (Result (Section × List ℕ) Fault)
 sections_left it = items_from (section_item it.ctx it.bytes.now it.offset) it.next_item (it.count - it.next_item)

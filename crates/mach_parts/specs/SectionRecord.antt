@@ -1,5 +1,5 @@
--- Sections as the wider record, with all its fields, and by their numbers over the segments of an image (`mach-o/loader.h`, struct section
--- and section_64; `mach-o/nlist.h`, n_sect).
+-- Sections in their 64-bit form with all fields, numbered over all segments of an
+-- image (`mach-o/loader.h`, struct section and section_64; `mach-o/nlist.h`, n_sect).
 use Rattle.std.specs.Prelude.{◌==◌, ℕ, ◌+◌, ◌-◌, ◌&&◌, Bool, List, [], ◌∷◌, ◌++◌, find, Option, Some, None, Result, Ok, Err, nat_le, nat_lt}
 use Rattle.std.specs.Prelude.{if◌then◌else◌, slice_get}
 use Rattle.mach_base.specs.declared.context.Endian.{Endian}
@@ -16,7 +16,7 @@ use Rattle.mach_parts.specs.Section.{section_place}
 use Rattle.mach_parts.specs.Segment.{SegmentView}
 use Rattle.mach_parts.specs.declared.segment.numbered.NumberedSection.{NumberedSection}
 
--- the section of a 32-bit image in the wider form
+-- the section of a 32-bit image in the 64-bit form
 abbrev pub wider_section : Section32 → Section64
 wider_section s =
     record {
@@ -34,37 +34,37 @@ wider_section s =
       reserved3 = 0;
     }
 
--- the section at a place, or why there is none
+-- the section at a place, or the reason why there is none
 abbrev pub section_record_at : Container → Endian → List ℕ → ℕ → Result Section64 Fault
 section_record_at Little le bytes place = record_at le section32_fields bytes place >>= (λ vs. Ok (wider_section (section32_of_values vs)))
 section_record_at Big le bytes place = record_at le section64_fields bytes place >>= (λ vs. Ok (section64_of_values vs))
 
--- those in front of the first that isn't there
+-- the items before the first fault
 abbrev pub in_front : {X : Type 0} → List (Result X Fault) → List X
 in_front [] = []
 in_front (Ok x ∷ items) = x ∷ in_front items
 in_front (Err f ∷ items) = []
 
--- section k of the segment with number n, or why it isn't there
+-- section k of the segment with number n, or the reason why there is none
 abbrev pub numbered_section : ℕ → SegmentView → ℕ → Result NumberedSection Fault
 numbered_section n s k =
     section_record_at s.ctx.container s.ctx.le s.file (section_place s.ctx.container s.offset k)
     >>= (λ found. Ok (record { segment = n; number = k; section = found }))
 
--- those of a segment from number k on
+-- the sections of a segment from number k on
 abbrev pub numbered_from : ℕ → SegmentView → ℕ → List (Result NumberedSection Fault)
 numbered_from n s k = items_from (numbered_section n s) k (s.command.nsects - k)
 
--- those of some segments, of which the first has number n
+-- the sections of some segments, the first of which has number n
 abbrev pub numbered_in : ℕ → List SegmentView → List (Result NumberedSection Fault)
 numbered_in n [] = []
 numbered_in n (s ∷ ss) = numbered_from n s 0 ++ numbered_in (n + 1) ss
 
--- all sections of an image's segments, each or why it isn't there
+-- all sections of an image's segments, each as a section or as the reason why there is none
 abbrev pub numbered_sections : List SegmentView → List (Result NumberedSection Fault)
 numbered_sections ss = numbered_in 0 ss
 
--- of each segment those in front of the first that isn't in the bytes: behind it none is
+-- for each segment the sections before the first that does not lie in the bytes; no later one does
 abbrev pub readable_in : ℕ → List SegmentView → List NumberedSection
 readable_in n [] = []
 readable_in n (s ∷ ss) = in_front (numbered_from n s 0) ++ readable_in (n + 1) ss
@@ -73,11 +73,11 @@ readable_in n (s ∷ ss) = in_front (numbered_from n s 0) ++ readable_in (n + 1)
 abbrev pub readable_sections : List SegmentView → List NumberedSection
 readable_sections ss = readable_in 0 ss
 
--- whether an address lies in a section
+-- whether a section holds an address
 abbrev pub holds_address : ℕ → NumberedSection → Bool
 holds_address a n = nat_le n.section.addr a && nat_lt a (n.section.addr + n.section.size)
 
--- the first section that an address lies in
+-- the first section that holds an address
 abbrev pub section_holding : List SegmentView → ℕ → Option NumberedSection
 section_holding ss a = find (holds_address a) (readable_sections ss)
 
@@ -87,6 +87,6 @@ item_if_any None = Ok None
 item_if_any (Some (Ok x)) = Ok (Some x)
 item_if_any (Some (Err f)) = Err f
 
--- the section that a symbol's `n_sect` means: they are counted from 1 over all segments, and 0 means none
+-- the section that a symbol's `n_sect` names: sections are counted from 1 over all segments, and 0 means none
 abbrev pub section_by_number : List SegmentView → ℕ → Result (Option NumberedSection) Fault
 section_by_number ss n = if n == 0 then Ok None else item_if_any (slice_get (numbered_sections ss) (n - 1))

@@ -21,7 +21,7 @@ abbrev pub command_number : Container → ℕ
 command_number Little = 0x1
 command_number Big = 0x19
 
--- the command of a 32-bit image in the wider form
+-- the command of a 32-bit image in the 64-bit form
 abbrev pub widened : SegmentCommand32 → SegmentCommand64
 widened c =
     record {
@@ -38,7 +38,7 @@ widened c =
       flags = c.flags;
     }
 
--- a command in the narrower form: addresses, places and sizes keep their low 32 bits
+-- a command in the 32-bit form: addresses, places and sizes keep their low 32 bits
 abbrev pub narrowed : SegmentCommand64 → SegmentCommand32
 narrowed c =
     record {
@@ -55,13 +55,13 @@ narrowed c =
       flags = c.flags;
     }
 
--- the bytes of a command, in the form of a width
+-- the bytes of a command in a width
 abbrev pub command_bytes : Container → Endian → SegmentCommand64 → List ℕ
 command_bytes Little le c = spelling le segment_command32_fields (segment_command32_values (narrowed c))
 command_bytes Big le c = spelling le segment_command64_fields (segment_command64_values c)
 
--- What contracts see of a segment: the fields of its command in the wider form, its data, and what its
--- sections are read from: these bytes, behind the command at this offset, in this context.
+-- What contracts see of a segment: the fields of its command in the 64-bit form, its data, and what
+-- its sections are read from. These follow the command at `offset` of `file`, in the context `ctx`.
 pub record SegmentView : Type 0 where
   pub command : SegmentCommand64
   pub bytes : List ℕ
@@ -69,7 +69,7 @@ pub record SegmentView : Type 0 where
   pub offset : ℕ
   pub ctx : Ctx
 
--- the fields that a segment holds
+-- the fields of a segment
 abbrev pub segment_command_of : Segment → SegmentCommand64
 segment_command_of s =
     record {
@@ -96,26 +96,26 @@ segment_view s =
       ctx = s.ctx;
     }
 
--- the data of a segment: n bytes at a place; where n is 0 none, wherever the place is
+-- the data of a segment: n bytes at a place, or none if n is 0, whatever the place is
 abbrev pub segment_data : List ℕ → ℕ → ℕ → Result (List ℕ) Fault
 segment_data bytes place n = if n == 0 then Ok [] else slice_at n bytes place
 
--- the segment of the command at an offset, with these data
+-- the segment of the command at an offset, with this data
 abbrev pub with_data : Ctx → List ℕ → ℕ → SegmentCommand64 → List ℕ → SegmentView
 with_data ctx file offset c bytes =
     record { command = c; bytes = bytes; file = file; offset = offset; ctx = ctx }
 
--- the segment of the command at an offset, or why its data are not there
+-- the segment of the command at an offset, or the reason why its data does not lie in the bytes
 abbrev pub segment_at : Ctx → List ℕ → ℕ → SegmentCommand64 → Result SegmentView Fault
 segment_at ctx bytes offset c =
     segment_data bytes c.fileoff c.filesize >>= (λ found. Ok (with_data ctx bytes offset c found))
 
--- the same in lossy mode: data that are not there are empty
+-- the same in lossy mode: data that does not lie in the bytes is empty
 abbrev pub lossy_segment_at : Ctx → List ℕ → ℕ → SegmentCommand64 → Result SegmentView Fault
 lossy_segment_at ctx bytes offset c =
     Ok (with_data ctx bytes offset c (result_unwrap_or (segment_data bytes c.fileoff c.filesize) []))
 
--- a new command before sections of `len` bytes: its number and its size, and all else 0
+-- a new command before sections of `len` bytes: its number and its size, and 0 in every other field
 abbrev pub new_command : Container → ℕ → SegmentCommand64
 new_command container len =
     record {
@@ -132,10 +132,10 @@ new_command container len =
       flags = 0;
     }
 
--- a new segment: its data are its sections as they will be written, and it has none to read
+-- a new segment: its data is its sections, as they will be written, and it has no sections to read
 abbrev pub new_segment : Ctx → List ℕ → SegmentView
 new_segment ctx sections = with_data ctx [] 0 (new_command ctx.container (length sections)) sections
 
--- the sections of a segment with their data, each or why it isn't there
+-- the sections of a segment with their data, each as a section or as the reason why there is none
 abbrev pub sections_of : SegmentView → List (Result (Section × List ℕ) Fault)
 sections_of s = sections_at s.ctx s.file s.offset s.command.nsects

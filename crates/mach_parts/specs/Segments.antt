@@ -11,6 +11,6 @@ use Rattle.mach_parts.specs.declared.segment.section.Section.{Section}
 abbrev pub segments_in : {S A : Type 0} → Segments S A → List S
 segments_in s = s.segments.items
 
--- the sections of each segment that is left
+-- the sections of each remaining segment
 abbrev pub sections_in : SegmentSections → List (List (Result (Section × List ℕ) Fault))
 sections_in it = map (λ s. sections_of (segment_view s)) (iter_rest it.segments)

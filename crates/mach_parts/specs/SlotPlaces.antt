@@ -5,8 +5,8 @@ use Rattle.mach_parts.specs.declared.segment.numbered.NumberedSection.{NumberedS
 use Rattle.mach_parts.specs.SlotSections.{slot_kind, slot_len}
 use Rattle.mach_parts.specs.Slots.{Slot}
 
--- Slot k of a section: it has the section's numbers, kind and size, lies behind k others inside the section, and its entry is behind k
--- others of the section's.
+-- Slot k of a section: it has the section's numbers, kind and size. It lies
+-- inside the section, after k others, and its entry follows those of these k.
 pub record IsSlotOfSection (container : Container) (n : NumberedSection) (k : ℕ) (s : Slot) : Type 0 where
   pub of_segment : s.segment ≡ n.segment
   pub of_section : s.section ≡ n.number

@@ -18,11 +18,11 @@ use Rattle.mach_parts.specs.declared.slots.source.SlotSource.{SlotSource}
 abbrev pub indirect_table_of : IndirectSymbols → IndirectTable
 indirect_table_of t = record { bytes = t.bytes.now; start = t.start; count = t.count; le = t.le }
 
--- an entry, as it was answered
+-- an entry, as it was returned
 abbrev pub indirect_read : Result IndirectSymbol Error → Result IndirectSymbol Fault
 indirect_read item = read_as (λ s. s) item
 
--- the entries that an iterator has yet to give
+-- the remaining entries of an iterator
 abbrev pub indirect_left : IndirectSymbolIterator → List (Result IndirectSymbol Fault)
 indirect_left it = items_from (indirect_symbol_at (indirect_table_of it.table)) it.next_item ((indirect_table_of it.table).count - it.next_item)
 
@@ -30,7 +30,7 @@ abbrev pub slot_tables_of : SlotSource → SlotTables
 slot_tables_of s =
     record { indirect = indirect_table_of s.indirect; symbols = option_map (λ symbols. table_of symbols.now) s.symbols; container = s.ctx.container }
 
--- of a source that holds its symbols itself
+-- the tables of a source that holds its symbols by value
 abbrev pub held_tables_of : HeldSource → SlotTables
 held_tables_of s =
     record { indirect = indirect_table_of s.indirect; symbols = option_map copied_table s.symbols; container = s.ctx.container }

@@ -1,4 +1,4 @@
--- Slots: the stubs and pointers of an image that stand for symbols.
+-- Slots: the stubs and pointers of an image that refer to symbols.
 use Rattle.std.specs.Prelude.{ℕ, zero, suc, ◌+◌, ◌*◌, ◌^◌, List, [], ◌∷◌, Option, Some, None, Result, Ok, Err, flat_map, nat_lt, if◌then◌else◌}
 use Rattle.mach_base.specs.declared.context.Container.{Container}
 use Rattle.mach_base.specs.Answer.{◌>>=◌}
@@ -15,20 +15,20 @@ use Rattle.mach_parts.specs.declared.slots.kind.SlotKind.{SlotKind}
 use Rattle.mach_parts.specs.declared.slots.kind.SlotRun.{SlotRun}
 use Rattle.mach_parts.specs.declared.slot.SlotEntry.{SlotEntry}
 
--- What slots are read from: the table of indirect symbols, that of symbols if there is one, and the width of the image.
+-- The tables from which slots are read: the indirect symbol table, the symbol table if there is one, and the width of the image.
 pub record SlotTables : Type 0 where
   pub indirect : IndirectTable
   pub symbols : Option SymbolTable
   pub container : Container
 
--- whose a slot is: a symbol's, with its number and its name; or the image's own, an absolute number's, or both
+-- what a slot refers to: a symbol, with its number and its name; something local to the image, an absolute value, or both
 pub data SlotOwner : Type 0 where
   named_slot : (index : ℕ) (name : List ℕ) → SlotOwner
   local_slot : SlotOwner
   absolute_slot : SlotOwner
   local_absolute_slot : SlotOwner
 
--- A slot: its section, where it lies, what stands there, the number of its entry, and whose it is.
+-- A slot: its section, its address and size, its kind, the number of its entry, and what it refers to.
 pub record Slot : Type 0 where
   pub segment : ℕ
   pub section : ℕ
@@ -38,7 +38,7 @@ pub record Slot : Type 0 where
   pub index : ℕ
   pub symbol : SlotOwner
 
--- the entry of slot j of a section, where its address has 64 bits, it is in the table, and its bytes are there
+-- the entry of slot j of a section; the slot's address must fit 64 bits, and the entry must lie in the table and in the bytes
 abbrev pub slot_entry : SlotTables → SlotRun → ℕ → Result SlotEntry Fault
 slot_entry t r j =
     if nat_lt (r.address + j * r.len) (2 ^ 64)
@@ -47,20 +47,20 @@ slot_entry t r j =
     else Err malformed)
     else Err malformed
 
--- the symbol of a number, which is one of the table
+-- the symbol of a number, which must be one of the table
 abbrev pub named_symbol : Option SymbolTable → ℕ → Result SlotOwner Fault
 named_symbol None k = Err malformed
 named_symbol (Some symbols) k =
     if nat_lt k symbols.nsyms then symbol_at symbols k >>= (λ found. Ok (named_slot k found.0)) else Err malformed
 
--- whose a slot is, by what its entry says
+-- what a slot refers to, by its entry
 abbrev pub slot_symbol : Option SymbolTable → IndirectSymbol → Result SlotOwner Fault
 slot_symbol symbols (Symbol k) = named_symbol symbols k
 slot_symbol symbols Local = Ok local_slot
 slot_symbol symbols Absolute = Ok absolute_slot
 slot_symbol symbols LocalAbsolute = Ok local_absolute_slot
 
--- the slot of an entry, or why its symbol can't be read
+-- the slot of an entry, or the reason why its symbol cannot be read
 abbrev pub slot_of_entry : SlotTables → SlotRun → SlotEntry → Result Slot Fault
 slot_of_entry t r e =
     slot_symbol t.symbols e.says
@@ -74,17 +74,17 @@ slot_of_entry t r e =
       symbol = owner;
     }))
 
--- the slot of an entry, and then others; or why there is no entry, and nothing
+-- the slot of an entry, followed by others; or the reason why there is no entry, and nothing after it
 abbrev pub entry_then : Result SlotEntry Fault → (SlotEntry → Result Slot Fault) → List (Result Slot Fault) → List (Result Slot Fault)
 entry_then (Ok e) slot others = slot e ∷ others
 entry_then (Err f) slot others = Err f ∷ []
 
--- at most so many slots of a section from number j on: up to the first that has no entry, which ends them
+-- at most `most` slots of a section from number j on; the first without an entry ends them
 unfoldable pub slots_from : SlotTables → SlotRun → (most j : ℕ) → List (Result Slot Fault)
 slots_from t r zero j = []
 slots_from t r (suc most) j = entry_then (slot_entry t r j) (slot_of_entry t r) (slots_from t r most (j + 1))
 
--- the slots of a section that has some, if it can be said how many
+-- the slots of a section if it has some, or the reason why their number is not known
 abbrev pub slots_of_run : SlotTables → Result (Option SlotRun) Fault → List (Result Slot Fault)
 slots_of_run t (Ok None) = []
 slots_of_run t (Ok (Some r)) = slots_from t r r.count 0
@@ -93,7 +93,7 @@ slots_of_run t (Err f) = Err f ∷ []
 abbrev pub read_slots : SlotTables → NumberedSection → List (Result Slot Fault)
 read_slots t n = slots_of_run t (run_of t.container n)
 
--- the slots of a section; why it can't be read is one item
+-- the slots of a section; if it cannot be read, the reason is the only item
 abbrev pub section_slots : SlotTables → Result NumberedSection Fault → List (Result Slot Fault)
 section_slots t (Ok n) = read_slots t n
 section_slots t (Err f) = Err f ∷ []

@@ -1,4 +1,4 @@
--- Symbols (`mach-o/nlist.h`) and where they stand (`mach-o/loader.h`, struct symtab_command).
+-- Symbols (`mach-o/nlist.h`) and their places (`mach-o/loader.h`, struct symtab_command).
 use Rattle.std.specs.Prelude.{◌≡◌, ◌≢◌, ℕ, ◌+◌, ◌-◌, ◌*◌, ◌/◌, ◌%◌, ◌^◌, min, List, [], ◌∷◌, length, Result, Ok, Err, nat_lt, nat_le, bit_and, codes}
 use Rattle.std.specs.Prelude.{if◌then◌else◌, ◌==◌, Bool, not}
 use Rattle.std.specs.Int.{IsBitSet}
@@ -56,7 +56,7 @@ nlist64_of_values vs =
       n_value = number_among vs 4;
     }
 
--- a symbol of either width
+-- a symbol for images of either width
 abbrev pub of_nlist32 : Nlist32 → Nlist
 of_nlist32 s =
     record { n_strx = s.n_strx; n_type = s.n_type; n_sect = s.n_sect; n_desc = s.n_desc; n_value = s.n_value }
@@ -65,8 +65,7 @@ abbrev pub of_nlist64 : Nlist64 → Nlist
 of_nlist64 s =
     record { n_strx = s.n_strx; n_type = s.n_type; n_sect = s.n_sect; n_desc = s.n_desc; n_value = s.n_value }
 
--- the low 32 bits of the name's place, the low 8 of the section's number, and of a 32-bit image's
--- value the low 32 are kept
+-- the low 32 bits of the name's offset and of a 32-bit image's value, and the low 8 bits of the section number, are kept
 abbrev pub to_nlist32 : Nlist → Nlist32
 to_nlist32 s =
     record {
@@ -87,21 +86,21 @@ to_nlist64 s =
       n_value = s.n_value;
     }
 
--- how many bytes a symbol's record has
+-- the size of a symbol's record in bytes
 abbrev pub nlist_size : Container → ℕ
 nlist_size Little = 12
 nlist_size Big = 16
 
--- the symbol's record that the bytes from s on are, in a width and a byte order
+-- the symbol's record at s, in a width and a byte order
 abbrev pub nlist_in : Container → Endian → List ℕ → ℕ → Nlist
 nlist_in Little le bytes s = of_nlist32 (nlist32_of_values (values_in le nlist32_fields s bytes))
 nlist_in Big le bytes s = of_nlist64 (nlist64_of_values (values_in le nlist64_fields s bytes))
 
--- the symbol's record at s, or why there is none
+-- the symbol's record at s, or the reason why there is none
 abbrev pub nlist_at : Ctx → List ℕ → ℕ → Result Nlist Fault
 nlist_at ctx bytes s = bounded (nlist_size ctx.container) bytes s (nlist_in ctx.container ctx.le bytes s)
 
--- its bytes in a width and a byte order
+-- the bytes of a symbol's record, in a width and a byte order
 abbrev pub nlist_spelling : Container → Endian → Nlist → List ℕ
 nlist_spelling Little le s = spelling le nlist32_fields (nlist32_values (to_nlist32 s))
 nlist_spelling Big le s = spelling le nlist64_fields (nlist64_values (to_nlist64 s))
@@ -110,7 +109,7 @@ nlist_spelling Big le s = spelling le nlist64_fields (nlist64_values (to_nlist64
 abbrev pub type_of : ℕ → ℕ
 type_of n_type = bit_and n_type 0x0e
 
--- known outside the image: N_EXT
+-- visible outside the image: N_EXT
 abbrev pub IsGlobal : Nlist → Type 0
 IsGlobal s = IsBitSet s.n_type 0
 
@@ -122,11 +121,11 @@ IsWeakSymbol s = bit_and s.n_desc 0xc0 ≢ 0
 abbrev pub IsUndefined : Nlist → Type 0
 IsUndefined s = (s.n_sect ≡ 0) × (type_of s.n_type ≡ 0)
 
--- an entry for a debugger (`mach-o/stab.h`): any bit of N_STAB
+-- a debugging entry (`mach-o/stab.h`): any bit of N_STAB
 abbrev pub IsStab : Nlist → Type 0
 IsStab s = bit_and s.n_type 0xe0 ≢ 0
 
--- an entry for a debugger (N_STAB)
+-- whether a symbol is a debugging entry (N_STAB)
 abbrev pub is_stab : Nlist → Bool
 is_stab s = not (bit_and s.n_type 0xe0 == 0)
 
@@ -143,7 +142,7 @@ type_names =
 abbrev pub type_name : ℕ → List ℕ
 type_name n_type = name_or (codes "UNKNOWN_N_TYPE") type_names n_type
 
--- The symbols of some bytes: the place of their records, how many they are, and the place of their names.
+-- The symbols of some bytes: the place of their records, their number, and the place of the string table.
 pub record SymbolTable : Type 0 where
   pub bytes : List ℕ
   pub start : ℕ
@@ -151,18 +150,18 @@ pub record SymbolTable : Type 0 where
   pub strtab : ℕ
   pub ctx : Ctx
 
--- where the record of symbol k stands
+-- the place of symbol k's record
 abbrev pub symbol_place : SymbolTable → ℕ → ℕ
 symbol_place t k = place_after t.start (k * nlist_size t.ctx.container)
 
--- symbol k: its name and its record, or why one of them is missing
+-- symbol k: its name and its record, or the reason why one of them is missing
 unfoldable pub symbol_at : SymbolTable → ℕ → Result (List ℕ × Nlist) Fault
 symbol_at t k = do
   symbol ← nlist_at t.ctx t.bytes (symbol_place t k)
   name ← text_at t.bytes (place_after t.strtab symbol.n_strx)
   Ok (name, symbol)
 
--- its name alone
+-- the name of symbol k
 abbrev pub symbol_name_at : SymbolTable → ℕ → Result (List ℕ) Fault
 symbol_name_at t k = symbol_at t k >>= (λ found. Ok found.0)
 
@@ -170,7 +169,7 @@ symbol_name_at t k = symbol_at t k >>= (λ found. Ok found.0)
 abbrev pub symbols_of : SymbolTable → List (Result (List ℕ × Nlist) Fault)
 symbols_of t = items_from (symbol_at t) 0 t.nsyms
 
--- The table of those whose records begin within the bytes: of no symbol behind it a byte can be read.
+-- The table of the symbols whose records begin within the bytes. No byte of any later symbol can be read.
 abbrev pub begun_of : SymbolTable → SymbolTable
 begun_of t =
     let size = nlist_size t.ctx.container in
@@ -182,8 +181,7 @@ begun_of t =
       ctx = t.ctx;
     }
 
--- the table that a command describes: its names don't stand before its records, which begin inside
--- the bytes
+-- the table that a command describes: its string table does not lie before its records, and its records begin inside the bytes
 abbrev pub table_at : Ctx → List ℕ → SymtabCommand → Result SymbolTable Fault
 table_at ctx bytes c =
     if nat_lt c.stroff c.symoff then Err malformed

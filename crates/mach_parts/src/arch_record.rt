@@ -1,4 +1,4 @@
-//! What the records of both forms of a fat file's table say.
+//! The common interface of the records of fat tables, 32-bit and 64-bit.
 
 ghost use Rattle.std.specs.Prelude.{◌≡◌, ◌/◌, length, nat_le};
 ghost use Rattle.mach_base.specs.Answer.{Reads};
@@ -10,32 +10,32 @@ use crate::fat64::FatArch64;
 use mach_base::{Endian, Record, Result};
 use mach_records::cputype::CpuType;
 
-/// A record of a fat file's table: for which cpu an entry is, and where it lies.
+/// A record of a fat file's table: the CPU of an entry, and its place.
 pub trait ArchRecord: Record {
-    // What such records say.
+    // How such records are read.
     ghost arch_form: { ArchForm Self };
 
-    /// The cpu of the entry.
+    /// Returns the CPU type of the entry.
     fn entry_cpu(&self) -> CpuType
         ensures { result ≡ arch_form.cputype self.now };
 
-    /// The kind of this cpu, and its capabilities in the top 8 bits.
+    /// Returns the CPU subtype, with capabilities in the top 8 bits.
     fn entry_cpu_kind(&self) -> u32
         ensures { result ≡ arch_form.cpusubtype self.now };
 
-    /// The entry's place in the file.
+    /// Returns the entry's file offset.
     fn entry_offset(&self) -> u64
         ensures { result ≡ arch_form.offset self.now };
 
-    /// How many bytes the entry has.
+    /// Returns the entry's size in bytes.
     fn entry_size(&self) -> u64
         ensures { result ≡ arch_form.size self.now };
 
-    /// Its place is a multiple of 2 to this power.
+    /// Returns the alignment of the offset, as a power of 2.
     fn entry_align(&self) -> u32
         ensures { result ≡ arch_form.align self.now };
 
-    /// The entry's bytes, where they lie in the file; else none.
+    /// Returns the entry's bytes if they lie in the file, or else none.
     fn entry_slice<'a>(&self, bytes: &'a [u8]) -> &'a [u8]
         ensures { result.now ≡ part_of bytes.now (arch_form.offset self.now) (arch_form.size self.now) };
 
@@ -106,7 +106,7 @@ impl ArchRecord for FatArch64 {
     }
 }
 
-/// Where the record of an entry stands, which is where those of the entries before it end; the last place that 64 bits have where it passes them.
+/// Returns the offset of an entry's record, after the records of the entries before it. It is at most 2^64 - 1.
 pub fn place_of<R: ArchRecord>(index: usize) -> usize
     ensures { result ≡ arch_place_in R.arch_form index }
 {
@@ -114,14 +114,14 @@ pub fn place_of<R: ArchRecord>(index: usize) -> usize
     before.saturating_add(SIZEOF_FAT_HEADER)
 }
 
-/// The record of an entry of a fat file, whose table is big-endian.
+/// Reads the record of an entry of a fat file. The table is big-endian.
 pub fn read_arch<R: ArchRecord>(bytes: &[u8], index: usize) -> Result<R>
     ensures { Reads (λ arch. arch) result (arch_in R.arch_form bytes.now index) }
 {
     R::read(bytes, place_of::<R>(index), Endian::Big)
 }
 
-/// Whether some bytes could hold so many records.
+/// Whether the bytes could hold so many records.
 pub fn has_room_for<R: ArchRecord>(bytes: &[u8], narches: usize) -> bool
     ensures { result ≡ nat_le narches (length bytes.now / R.arch_form.stride) }
 {

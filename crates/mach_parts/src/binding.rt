@@ -1,4 +1,4 @@
-//! What a bind comes to: a place that takes a symbol's address from a provider; and how a pointer is signed.
+//! Resolved bindings: a pointer in memory that takes a symbol's address from a provider, and how a pointer is signed.
 
 ghost use Rattle.std.specs.Prelude.{◌≡◌, pos, Ok, Err, MatchOption};
 ghost use Rattle.mach_base.specs.Answer.{Reads};
@@ -8,10 +8,10 @@ ghost use Rattle.mach_base.specs.Text.{texts};
 
 use mach_base::{Error, Result};
 
-/// Where dyld looks for a symbol that an image takes.
+/// Where dyld looks up a symbol that an image imports.
 #[derive(Clone, Copy, Debug)]
 pub enum Provider<'a> {
-    /// A library of the image's list.
+    /// A library of the image's list of libraries.
     Library {
         /// Its number, from 1.
         ordinal: u64,
@@ -20,24 +20,24 @@ pub enum Provider<'a> {
     },
     /// The image itself.
     Itself,
-    /// The program.
+    /// The main executable.
     MainExecutable,
     /// Any image, in the order in which they were loaded.
     Flat,
-    /// Any image, a definition that isn't weak before one that is.
+    /// Any image. A definition that is not weak comes before a weak one.
     WeakLookup,
 }
 
-/// A place in memory that takes a symbol's address from a provider.
+/// A pointer in memory that takes a symbol's address from a provider.
 #[derive(Clone, Copy, Debug)]
 pub struct Binding<'a> {
     /// The symbol's name.
     pub name: &'a str,
-    /// Where the symbol is looked for.
+    /// Where the symbol is looked up.
     pub provider: Provider<'a>,
-    /// The place in the file of the pointer to bind.
+    /// The file offset of the pointer.
     pub offset: u64,
-    /// The address in memory of the pointer to bind.
+    /// The address of the pointer in memory.
     pub address: u64,
     /// What is added to the symbol's address.
     pub addend: i64,
@@ -52,15 +52,15 @@ pub struct Binding<'a> {
 pub struct PointerAuth {
     /// The key: 0 IA, 1 IB, 2 DA, 3 DB.
     pub key: u8,
-    /// What is mixed in.
+    /// The value that is mixed in.
     pub diversity: u16,
-    /// Whether the pointer's own address is mixed in, too.
+    /// Whether the pointer's own address is also mixed in.
     pub is_address_diverse: bool,
 }
 
 impl<'a> Provider<'a> {
-    /// The provider of an ordinal: 0 is the image itself, a number above it a library, -1 the main
-    /// executable, -2 any image, -3 the weak look-up. `libs` are the image's libraries, by ordinal.
+    /// Returns the provider of an ordinal. 0 is the image itself, a positive number a library, -1 the
+    /// main executable, -2 any image, -3 the weak lookup. `libs` are the image's libraries, by ordinal.
     pub fn of_ordinal(libs: &[&'a str], ordinal: i64) -> Result<Self>
         ensures { Reads provider_view result (provider_of (texts libs.now) ordinal) }
     {
@@ -70,7 +70,7 @@ impl<'a> Provider<'a> {
         }
     }
 
-    /// The same, with no reason where there is none.
+    /// Does the same, but returns `None` instead of an error.
     #[tactic(auto, unfolding(crate::specs::Bindings::provider_of))]
     #[inline(always)]
     pub fn by_ordinal(libs: &[&'a str], ordinal: i64) -> Option<Self>
@@ -86,7 +86,7 @@ impl<'a> Provider<'a> {
         }
     }
 
-    /// The provider of a number that counts the libraries: 0 is the image itself.
+    /// Returns the provider of an unsigned ordinal: 0 is the image itself, any other number a library.
     #[tactic(auto, unfolding(crate::specs::Bindings::provider_of))]
     #[inline(always)]
     pub fn by_number(libs: &[&'a str], ordinal: u64) -> Option<Self>

@@ -1,4 +1,4 @@
-//! The table at the front of a fat file, which is big-endian (`mach-o/fat.h`).
+//! The table at the start of a fat file, which is big-endian (`mach-o/fat.h`).
 
 ghost use Rattle.std.specs.Prelude.{◌≡◌, ◌↔◌, IsTrue};
 ghost use Rattle.mach_base.specs.declared.context.Endian.TheVariants.{Big};
@@ -14,14 +14,14 @@ use mach_records::cputype::{CPU_ARCH_ABI64, CpuSubType, CpuType};
 /// The magic of a fat file.
 pub const FAT_MAGIC: u32 = 0xcafe_babe;
 
-/// The magic of a fat file, its bytes reversed.
+/// The magic of a fat file, with its bytes reversed.
 pub const FAT_CIGAM: u32 = 0xbeba_feca;
 
 pub const SIZEOF_FAT_HEADER: usize = 8;
 
 pub const SIZEOF_FAT_ARCH: usize = 20;
 
-/// What a fat file begins with (struct fat_header).
+/// The header of a fat file (struct fat_header).
 #[derive(Clone, Copy, Debug, Default)]
 pub struct FatHeader {
     /// The magic number.
@@ -58,14 +58,14 @@ impl Record for FatHeader {
 }
 
 impl FatHeader {
-    /// The header that these bytes are.
+    /// Reads the header from its bytes.
     pub fn from_bytes(bytes: [u8; SIZEOF_FAT_HEADER]) -> FatHeader
         ensures { fat_header_values result ≡ values_in Big fat_header_fields 0 bytes }
     {
         FatHeader::load(&bytes, Endian::Big)
     }
 
-    /// The header at the front of the bytes; its magic is not tested.
+    /// Reads the header at the start of the bytes. Its magic is not tested.
     pub fn parse(bytes: &[u8]) -> Result<FatHeader>
         ensures { Reads fat_header_values result (record_at Big fat_header_fields bytes.now 0) }
     {
@@ -76,15 +76,15 @@ impl FatHeader {
 /// One entry of a fat file: an image or an archive for one cpu (struct fat_arch).
 #[derive(Clone, Copy, Debug, Default)]
 pub struct FatArch {
-    /// The cpu, one of the `CPU_TYPE_` constants.
+    /// The CPU type, one of the `CPU_TYPE_` constants.
     pub cputype: u32,
-    /// The kind of this cpu, and its capabilities in the top 8 bits.
+    /// The CPU subtype, with capabilities in the top 8 bits.
     pub cpusubtype: u32,
-    /// Its place in the file.
+    /// Its file offset.
     pub offset: u32,
-    /// How many bytes it has.
+    /// Its size in bytes.
     pub size: u32,
-    /// Its place is a multiple of 2 to this power.
+    /// The alignment of its offset, as a power of 2.
     pub align: u32,
 }
 
@@ -122,7 +122,7 @@ impl Record for FatArch {
 }
 
 impl FatArch {
-    /// The entry's bytes, where they lie in the file; else none.
+    /// Returns the entry's bytes if they lie in the file, or else none.
     pub fn slice<'a>(&self, bytes: &'a [u8]) -> &'a [u8]
         ensures { result.now ≡ part_of bytes.now self.now.offset self.now.size }
     {
@@ -130,35 +130,35 @@ impl FatArch {
         bytes.get(start..start + self.size as usize).unwrap_or(&[])
     }
 
-    /// The cpu.
+    /// Returns the CPU type.
     pub fn cputype(&self) -> CpuType
         ensures { result ≡ self.now.cputype }
     {
         self.cputype
     }
 
-    /// The kind of the cpu, without its capabilities.
+    /// Returns the CPU subtype without its capabilities.
     pub fn cpusubtype(&self) -> CpuSubType
         ensures { result ≡ kind_of_cpu self.now.cpusubtype }
     {
         kind_of(self.cpusubtype)
     }
 
-    /// The capabilities of the cpu, below 256.
+    /// Returns the CPU's capabilities, below 256.
     pub fn cpu_caps(&self) -> u32
         ensures { result ≡ caps_of_cpu self.now.cpusubtype }
     {
         caps_of(self.cpusubtype)
     }
 
-    /// Whether the cpu's addresses have 64 bits.
+    /// Whether the CPU's addresses have 64 bits.
     pub fn is_64(&self) -> bool
         ensures { IsTrue result ↔ HasAbi64 self.now.cputype }
     {
         self.cputype & CPU_ARCH_ABI64 != 0
     }
 
-    /// The entry at a place of the table.
+    /// Reads the entry at an offset of the table.
     pub fn parse(bytes: &[u8], offset: usize) -> Result<Self>
         ensures { Reads fat_arch_values result (record_at Big fat_arch_fields bytes.now offset) }
     {

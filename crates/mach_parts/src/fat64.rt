@@ -1,4 +1,4 @@
-//! The record of an entry in a fat file of 64 bits, which is big-endian (`mach-o/fat.h`).
+//! The record of an entry in a 64-bit fat file, which is big-endian (`mach-o/fat.h`).
 
 ghost use Rattle.std.specs.Prelude.{◌≡◌, ◌↔◌, IsTrue};
 ghost use Rattle.mach_base.specs.declared.context.Endian.TheVariants.{Big};
@@ -11,25 +11,25 @@ ghost use Rattle.mach_parts.specs.FatRecords.{fat_arch_64_fields, fat_arch_64_va
 use mach_base::{Endian, Record, RecordBytes, Result};
 use mach_records::cputype::{CPU_ARCH_ABI64, CPU_SUBTYPE_MASK, CpuSubType, CpuType};
 
-/// The magic of a fat file of 64 bits.
+/// The magic of a 64-bit fat file.
 pub const FAT_MAGIC_64: u32 = 0xcafe_babf;
 
 pub const SIZEOF_FAT_ARCH_64: usize = 32;
 
-/// One entry of a fat file of 64 bits: an image or an archive for one cpu (struct fat_arch_64).
+/// One entry of a 64-bit fat file: an image or an archive for one CPU (struct fat_arch_64).
 #[derive(Clone, Copy, Debug, Default)]
 pub struct FatArch64 {
-    /// The cpu, one of the `CPU_TYPE_` constants.
+    /// The CPU type, one of the `CPU_TYPE_` constants.
     pub cputype: u32,
-    /// The kind of this cpu, and its capabilities in the top 8 bits.
+    /// The CPU subtype, with capabilities in the top 8 bits.
     pub cpusubtype: u32,
-    /// Its place in the file.
+    /// Its file offset.
     pub offset: u64,
-    /// How many bytes it has.
+    /// Its size in bytes.
     pub size: u64,
-    /// Its place is a multiple of 2 to this power.
+    /// The alignment of its offset, as a power of 2.
     pub align: u32,
-    /// Says nothing.
+    /// Unused.
     pub reserved: u32,
 }
 
@@ -69,7 +69,7 @@ impl Record for FatArch64 {
 }
 
 impl FatArch64 {
-    /// The entry's bytes, where they lie in the file; else none.
+    /// Returns the entry's bytes if they lie in the file, or else none.
     pub fn slice<'a>(&self, bytes: &'a [u8]) -> &'a [u8]
         ensures { result.now ≡ part_of bytes.now self.now.offset self.now.size }
     {
@@ -79,35 +79,35 @@ impl FatArch64 {
         }
     }
 
-    /// The cpu.
+    /// Returns the CPU type.
     pub fn cputype(&self) -> CpuType
         ensures { result ≡ self.now.cputype }
     {
         self.cputype
     }
 
-    /// The kind of the cpu, without its capabilities.
+    /// Returns the CPU subtype without its capabilities.
     pub fn cpusubtype(&self) -> CpuSubType
         ensures { result ≡ kind_of_cpu self.now.cpusubtype }
     {
         self.cpusubtype & !CPU_SUBTYPE_MASK
     }
 
-    /// The capabilities of the cpu, below 256.
+    /// Returns the CPU's capabilities, below 256.
     pub fn cpu_caps(&self) -> u32
         ensures { result ≡ caps_of_cpu self.now.cpusubtype }
     {
         (self.cpusubtype & CPU_SUBTYPE_MASK) >> 24
     }
 
-    /// Whether the cpu's addresses have 64 bits.
+    /// Whether the CPU's addresses have 64 bits.
     pub fn is_64(&self) -> bool
         ensures { IsTrue result ↔ HasAbi64 self.now.cputype }
     {
         self.cputype & CPU_ARCH_ABI64 != 0
     }
 
-    /// The entry at a place of the table.
+    /// Reads the entry at an offset of the table.
     pub fn parse(bytes: &[u8], offset: usize) -> Result<Self>
         ensures { Reads fat_arch_64_values result (record_at Big fat_arch_64_fields bytes.now offset) }
     {

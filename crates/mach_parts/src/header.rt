@@ -24,20 +24,20 @@ use mach_records::cputype::{CpuSubType, CpuType};
 /// The magic of a 32-bit image.
 pub const MH_MAGIC: u32 = 0xfeed_face;
 
-/// The magic of a 32-bit image, its bytes reversed.
+/// The magic of a 32-bit image, with its bytes reversed.
 pub const MH_CIGAM: u32 = 0xcefa_edfe;
 
 /// The magic of a 64-bit image.
 pub const MH_MAGIC_64: u32 = 0xfeed_facf;
 
-/// The magic of a 64-bit image, its bytes reversed.
+/// The magic of a 64-bit image, with its bytes reversed.
 pub const MH_CIGAM_64: u32 = 0xcffa_edfe;
 
 pub const SIZEOF_HEADER_32: usize = 28;
 
 pub const SIZEOF_HEADER_64: usize = 32;
 
-/// The header of a 32-bit image, as it stands in the bytes (struct mach_header).
+/// The header of a 32-bit image, as in the file (struct mach_header).
 #[derive(Clone, Copy, Debug, Default)]
 pub struct Header32 {
     pub magic: u32,
@@ -92,14 +92,14 @@ impl Header32 {
     ghost use Rattle.mach_base.specs.Record.{values_in};
     ghost use Rattle.mach_parts.specs.Header.{header32_fields, header32_values};
 
-    /// The header that these bytes are, little-endian.
+    /// Reads the header from its bytes, as little-endian.
     pub fn from_bytes(bytes: &[u8; SIZEOF_HEADER_32]) -> Self
         ensures { header32_values result ≡ values_in Little header32_fields 0 bytes.now }
     {
         Header32::load(bytes, Endian::Little)
     }
 
-    /// How many bytes it has: 28.
+    /// Returns its size in bytes: 28.
     pub fn size(&self) -> usize
         ensures { result ≡ 28 }
     {
@@ -107,7 +107,7 @@ impl Header32 {
     }
 }
 
-/// The header of a 64-bit image, as it stands in the bytes (struct mach_header_64).
+/// The header of a 64-bit image, as in the file (struct mach_header_64).
 #[derive(Clone, Copy, Debug, Default)]
 pub struct Header64 {
     pub magic: u32,
@@ -165,14 +165,14 @@ impl Header64 {
     ghost use Rattle.mach_base.specs.Record.{values_in};
     ghost use Rattle.mach_parts.specs.Header.{header64_fields, header64_values};
 
-    /// The header that these bytes are, little-endian.
+    /// Reads the header from its bytes, as little-endian.
     pub fn from_bytes(bytes: &[u8; SIZEOF_HEADER_64]) -> Self
         ensures { header64_values result ≡ values_in Little header64_fields 0 bytes.now }
     {
         Header64::load(bytes, Endian::Little)
     }
 
-    /// How many bytes it has: 32.
+    /// Returns its size in bytes: 32.
     pub fn size(&self) -> usize
         ensures { result ≡ 32 }
     {
@@ -185,24 +185,24 @@ impl Header64 {
 pub struct Header {
     /// The magic number, in the byte order of the image.
     pub magic: u32,
-    /// The cpu, one of the `CPU_TYPE_` constants.
+    /// The CPU type, one of the `CPU_TYPE_` constants.
     pub cputype: u32,
-    /// The kind of this cpu, and its capabilities in the top 8 bits.
+    /// The CPU subtype, with capabilities in the top 8 bits.
     pub cpusubtype: u32,
-    /// The kind of file, such as an executable or a dylib.
+    /// The file type, for example an executable or a dynamic library.
     pub filetype: u32,
     /// How many load commands follow.
     pub ncmds: usize,
-    /// How many bytes the load commands take together.
+    /// The size of all load commands in bytes.
     pub sizeofcmds: u32,
-    /// Bits, one for each `MH_` flag.
+    /// The `MH_` flags.
     pub flags: u32,
-    /// Reserved; 0 in a 32-bit image, which lacks it.
+    /// Reserved; 0 for a 32-bit image, which has no such field.
     pub reserved: u32,
 }
 
 impl Header {
-    /// A header of this width: its magic, and 0 in every other field.
+    /// Builds a header of the context's width. It has the magic of that width, and 0 in every other field.
     pub fn new(ctx: Ctx) -> Self
         ensures { result ≡ new_header ctx.container }
     {
@@ -222,21 +222,21 @@ impl Header {
         }
     }
 
-    /// The cpu.
+    /// Returns the CPU type.
     pub fn cputype(&self) -> CpuType
         ensures { result ≡ self.now.cputype }
     {
         self.cputype
     }
 
-    /// The kind of the cpu, without its capabilities.
+    /// Returns the CPU subtype without its capabilities.
     pub fn cpusubtype(&self) -> CpuSubType
         ensures { result ≡ kind_of_cpu self.now.cpusubtype }
     {
         kind_of(self.cpusubtype)
     }
 
-    /// The capabilities of the cpu, below 256.
+    /// Returns the CPU's capabilities, below 256.
     pub fn cpu_caps(&self) -> u32
         ensures { result ≡ caps_of_cpu self.now.cpusubtype }
     {

@@ -17,21 +17,21 @@ const INDIRECT_SYMBOL_ABS: u32 = 0x4000_0000;
 
 const INDIRECT_SYMBOL_LOCAL_ABS: u32 = INDIRECT_SYMBOL_LOCAL | INDIRECT_SYMBOL_ABS;
 
-/// What an entry of the table of indirect symbols says.
+/// An entry of the indirect symbol table.
 #[derive(Clone, Copy, Debug)]
 pub enum IndirectSymbol {
     /// The number of a symbol.
     Symbol(u32),
-    /// The pointer is the image's own: no symbol says whose.
+    /// The pointer is local to the image. No symbol names it.
     Local,
-    /// The pointer is an absolute number.
+    /// The pointer is an absolute value.
     Absolute,
-    /// The pointer is the image's own and an absolute number.
+    /// The pointer is local to the image and an absolute value.
     LocalAbsolute,
 }
 
 impl IndirectSymbol {
-    /// What the number of an entry says.
+    /// Decodes the number of an entry.
     #[inline(always)]
     pub fn of(number: u32) -> IndirectSymbol
         ensures { result ≡ indirect_symbol number }
@@ -45,7 +45,7 @@ impl IndirectSymbol {
     }
 }
 
-/// A table of indirect symbols: so many entries of four bytes each at a place of the bytes.
+/// An indirect symbol table: a number of four-byte entries at a place of the bytes.
 #[derive(Clone, Copy)]
 pub struct IndirectSymbols<'a> {
     bytes: &'a [u8],
@@ -54,7 +54,7 @@ pub struct IndirectSymbols<'a> {
     le: Endian,
 }
 
-// Why no entry stands at a place.
+// Returns the reason why no entry lies at a place.
 #[cold]
 #[inline(never)]
 fn beyond(bytes: &[u8], place: usize, le: Endian) -> Error
@@ -68,7 +68,7 @@ fn beyond(bytes: &[u8], place: usize, le: Endian) -> Error
 }
 
 impl<'a> IndirectSymbols<'a> {
-    /// The table of which `count` entries stand from `start` on. Nothing of it is tested.
+    /// Builds the table of `count` entries from `start` on. Nothing is tested.
     pub fn new(bytes: &'a [u8], start: u32, count: u32, le: Endian) -> IndirectSymbols<'a>
         ensures { indirect_table_of result ≡ record { bytes = bytes.now; start = start; count = count; le = le } }
     {
@@ -80,14 +80,14 @@ impl<'a> IndirectSymbols<'a> {
         }
     }
 
-    /// How many entries there are said to be.
+    /// Returns the claimed number of entries.
     pub fn len(&self) -> u32
         ensures { result ≡ (indirect_table_of self.now).count }
     {
         self.count
     }
 
-    /// The table of those of its entries that begin within the bytes. Of no entry after these a byte can be read.
+    /// Restricts the table to the entries that begin within the bytes. No byte of any later entry can be read.
     pub fn begun(&self) -> IndirectSymbols<'a>
         ensures { indirect_table_of result ≡ begun_table (indirect_table_of self.now) }
     {
@@ -98,7 +98,7 @@ impl<'a> IndirectSymbols<'a> {
         }
     }
 
-    /// What an entry says; how many there are said to be is not tested.
+    /// Reads entry `number`. Whether it is below the claimed number of entries is not tested.
     #[inline(always)]
     pub fn get(&self, number: u32) -> Result<IndirectSymbol>
         ensures { Reads (λ s. s) result (indirect_symbol_at (indirect_table_of self.now) number) }
@@ -110,7 +110,7 @@ impl<'a> IndirectSymbols<'a> {
         Ok(IndirectSymbol::of(self.le.u32_at(self.bytes, place)))
     }
 
-    // The bytes from an entry's place on, where it lies in the bytes or at their end.
+    // Returns the bytes from an entry's place on, if that is in the bytes or at their end.
     pub(crate) fn entries_from(&self, number: u32) -> Option<&'a [u8]>
         ensures there { IfSome result (λ _. (indirect_table_of self.now).start + 4 * number ≤ length (indirect_table_of self.now).bytes) }
         ensures bytes { IfSome result (λ rest. rest.now ≡ drop ((indirect_table_of self.now).start + 4 * number) (indirect_table_of self.now).bytes) }
@@ -122,7 +122,7 @@ impl<'a> IndirectSymbols<'a> {
         Some(rest_at(self.bytes, from))
     }
 
-    // What the entry says with which some bytes begin.
+    // Decodes the entry with which some bytes begin.
     #[inline(always)]
     pub(crate) fn first_of(&self, entries: &[u8]) -> IndirectSymbol
         requires { 4 ≤ length entries.now }
@@ -131,7 +131,7 @@ impl<'a> IndirectSymbols<'a> {
         IndirectSymbol::of(self.le.u32_at(entries, 0))
     }
 
-    /// The entries in order, exactly as many as there are said to be, unreadable ones included.
+    /// Returns an iterator over the entries in order. It has exactly the claimed number of items, including unreadable ones.
     pub fn iter(&self) -> IndirectSymbolIterator<'a>
         ensures { indirect_left result ≡ indirect_symbols_of (indirect_table_of self.now) }
     {
@@ -143,7 +143,7 @@ impl<'a> IndirectSymbols<'a> {
 }
 
 impl fmt::Debug for IndirectSymbols<'_> {
-    /// Where the entries stand; of the bytes only how many they are.
+    /// Prints where the entries lie, and only the number of the bytes.
     fn fmt<W: fmt::Write>(&self, f: &mut fmt::Formatter<W>) -> fmt::Result {
         f.debug_struct("IndirectSymbols")
             .field("bytes", &ByteCount(self.bytes))
@@ -154,8 +154,8 @@ impl fmt::Debug for IndirectSymbols<'_> {
     }
 }
 
-/// The indirect symbols one after the other, each as `get` gives it: an error stands in the place of its item. It
-/// takes no memory.
+/// An iterator over indirect symbols. Each item is what `get` returns, so an entry
+/// that cannot be read is an error and the iterator goes on. It allocates no memory.
 #[derive(Clone, Copy, Debug)]
 pub struct IndirectSymbolIterator<'a> {
     table: IndirectSymbols<'a>,
@@ -163,7 +163,7 @@ pub struct IndirectSymbolIterator<'a> {
 }
 
 impl IndirectSymbolIterator<'_> {
-    /// Those of them that begin within the bytes. Of no entry after these a byte can be read.
+    /// Restricts it to the entries that begin within the bytes. No byte of any later entry can be read.
     pub fn begun(&self) -> Self
         ensures { indirect_left result ≡ begun_items (indirect_left self.now) }
     {
@@ -177,7 +177,7 @@ impl IndirectSymbolIterator<'_> {
 impl Default for IndirectSymbolIterator<'_> {
     ghost is_default = { λ it. indirect_left it ≡ [] };
 
-    /// No entries.
+    /// Returns an iterator without entries.
     fn default() -> Self {
         IndirectSymbols::new(&[], 0, 0, Endian::Little).iter()
     }
@@ -204,7 +204,7 @@ impl<'a> Iterator for IndirectSymbolIterator<'a> {
         Some(self.table.get(number))
     }
 
-    /// How many items are left, exactly.
+    /// Returns the exact number of items left, as both bounds.
     fn size_hint(&self) -> (usize, Option<usize>)
         ensures lower { IsWithinCount result.0 (item_count indirect_left self.now) }
         ensures upper { IfSome result.1 (UpTo (item_count indirect_left self.now)) }
@@ -216,7 +216,7 @@ impl<'a> Iterator for IndirectSymbolIterator<'a> {
 }
 
 impl<'a> ExactSizeIterator for IndirectSymbolIterator<'a> {
-    /// How many items are left.
+    /// Returns the number of items left.
     fn len(&self) -> usize {
         self.table.count.saturating_sub(self.next_item) as usize
     }

@@ -1,8 +1,8 @@
-//! The parts of an image: magics, headers and fat records; segments with their sections and relocations; symbols; and the
-//! stubs and pointers that lead to symbols (`mach-o/loader.h`, `mach-o/fat.h`, `mach-o/reloc.h`, `mach-o/nlist.h`).
+//! The parts of an image: magics, headers and fat records; segments with their sections and relocations; symbols; and
+//! the stubs and pointers that use symbols (`mach-o/loader.h`, `mach-o/fat.h`, `mach-o/reloc.h`, `mach-o/nlist.h`).
 #![tactic(auto)]
 
-// Headers of images and of fat files, and the names of cpus and magics.
+// Headers of images and of fat files, CPU subtypes and magics.
 mod arch_record;
 mod cpu;
 pub mod fat;

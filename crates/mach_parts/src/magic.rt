@@ -1,4 +1,4 @@
-//! What the first four bytes say.
+//! Recognizes a file by its first four bytes.
 
 ghost use Rattle.std.specs.Prelude.{◌≡◌, Ok};
 ghost use Rattle.mach_base.specs.declared.context.Endian.TheVariants.{Big};
@@ -10,14 +10,14 @@ use crate::fat::FAT_MAGIC;
 use crate::header::{MH_CIGAM, MH_CIGAM_64, MH_MAGIC, MH_MAGIC_64};
 use mach_base::{Container, Ctx, Endian, Hint, HintData, Result, read_u32};
 
-/// The number of the four bytes at a place, the highest byte first.
+/// Reads the four-byte number at `offset`, as big-endian.
 pub fn peek(bytes: &[u8], offset: usize) -> Result<u32>
     ensures { Reads (λ magic. magic) result (number_at Big 4 bytes.now offset) }
 {
     read_u32(bytes, offset, Endian::Big)
 }
 
-// The context of the image that a magic begins, if it begins one.
+// Returns the context of an image with this magic, if it is the magic of an image.
 fn ctx_of_magic(magic: u32) -> Option<Ctx>
     ensures { result ≡ ctx_of magic }
 {
@@ -30,7 +30,7 @@ fn ctx_of_magic(magic: u32) -> Option<Ctx>
     }
 }
 
-/// The magic at a place, and the context of the image that it begins, if it begins one.
+/// Reads the magic at `offset`, and returns it with the context of the image if it is the magic of an image.
 pub fn parse_magic_and_ctx(bytes: &[u8], offset: usize) -> Result<(u32, Option<Ctx>)>
     ensures { Reads (λ found. found) result (magic_at bytes.now offset) }
 {
@@ -38,7 +38,7 @@ pub fn parse_magic_and_ctx(bytes: &[u8], offset: usize) -> Result<(u32, Option<C
     Ok((magic, ctx_of_magic(magic)))
 }
 
-/// What the first 16 bytes of a file hint at; it is always Ok.
+/// Recognizes the kind of a file by its first 16 bytes. It is always `Ok`.
 pub fn peek_bytes(bytes: &[u8; 16]) -> Result<Hint>
     ensures { result ≡ Ok (hint_in bytes.now) }
 {

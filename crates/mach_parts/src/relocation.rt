@@ -25,17 +25,16 @@ pub use crate::relocation::types::{
 use mach_base::{Endian, Record, RecordBytes};
 use mach_records::cputype::CpuType;
 
-/// A place in a section that is to be corrected once addresses are known (struct relocation_info).
+/// A place in a section that is corrected when addresses are known (struct relocation_info).
 #[derive(Clone, Copy, Debug)]
 pub struct RelocationInfo {
-    /// The place, counted from the section's start.
+    /// The offset from the section's start.
     pub r_address: i32,
-    /// From the lowest bit: 24 bits for `r_symbolnum`, 1 for `r_pcrel`, 2 for `r_length`, 1 for
-    /// `r_extern` and 4 for `r_type`.
+    /// From the lowest bit: 24 bits `r_symbolnum`, 1 bit `r_pcrel`, 2 bits `r_length`, 1 bit `r_extern` and 4 bits `r_type`.
     pub r_info: u32,
 }
 
-/// How many bytes a relocation has.
+/// The size of a relocation in bytes.
 pub const SIZEOF_RELOCATION_INFO: usize = 8;
 
 impl Record for RelocationInfo {
@@ -68,35 +67,35 @@ impl Record for RelocationInfo {
 }
 
 impl RelocationInfo {
-    /// The number of a symbol where `is_extern`, else that of a section, counted from 1.
+    /// Returns the number of a symbol if `is_extern`, or else that of a section, counted from 1.
     pub fn r_symbolnum(self) -> usize
         ensures { result ≡ bits_from 0 24 self.r_info }
     {
         (self.r_info & 0x00ff_ffff) as usize
     }
 
-    /// 1 where the distance from the place is meant, else 0.
+    /// Returns 1 if the value is relative to the place, or else 0.
     pub fn r_pcrel(self) -> u8
         ensures { result ≡ bits_from 24 1 self.r_info }
     {
         ((self.r_info >> 24) & 0x1) as u8
     }
 
-    /// How long what is to be corrected is: 2 to this power, in bytes.
+    /// Returns the length of the corrected value: 2 to this power, in bytes.
     pub fn r_length(self) -> u8
         ensures { result ≡ bits_from 25 2 self.r_info }
     {
         ((self.r_info >> 25) & 0x3) as u8
     }
 
-    /// 1 where `r_symbolnum` is the number of a symbol, else 0.
+    /// Returns 1 if `r_symbolnum` is the number of a symbol, or else 0.
     pub fn r_extern(self) -> u8
         ensures { result ≡ bits_from 27 1 self.r_info }
     {
         ((self.r_info >> 27) & 0x1) as u8
     }
 
-    /// What is to be done; its meaning goes by the cpu.
+    /// Returns the type of the relocation. Its meaning depends on the CPU.
     pub fn r_type(self) -> RelocType
         ensures { result ≡ bits_from 28 4 self.r_info }
     {
@@ -110,14 +109,14 @@ impl RelocationInfo {
         self.r_extern() == 1
     }
 
-    /// Whether the distance from the place is meant.
+    /// Whether the value is relative to the place.
     pub fn is_pic(self) -> bool
         ensures { IsTrue result ↔ (0 < bits_from 24 1 self.r_info) }
     {
         self.r_pcrel() > 0
     }
 
-    /// The name of the relocation's type for a cpu, as `reloc_to_str` gives it.
+    /// Returns the name of the relocation's type for a CPU, as `reloc_to_str` does.
     pub fn to_str(self, cputype: CpuType) -> &'static str
         ensures { result.now ≡ relocation_name (bits_from 28 4 self.r_info) cputype }
     {

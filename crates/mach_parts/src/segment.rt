@@ -32,40 +32,40 @@ use std::alloc::{Allocator, Global};
 /// The segments of an image, in order.
 pub type Segments<'a, A = Global> = list::Segments<Segment<'a>, A>;
 
-/// A part of an image that is mapped into memory as a whole, with its bytes in the file.
+/// A part of an image that is mapped into memory as a whole, with its bytes in the file (struct segment_command).
 #[derive(Drop)]
 pub struct Segment<'a> {
     /// The number of the command.
     pub cmd: u32,
-    /// How many bytes the command has, its sections with it.
+    /// The size of the command and its sections, in bytes.
     pub cmdsize: u32,
-    /// The name, with zeros behind it.
+    /// The name, padded with zeros.
     pub segname: [u8; 16],
     /// The address in memory.
     pub vmaddr: u64,
-    /// How many bytes there are in memory.
+    /// The size in memory, in bytes.
     pub vmsize: u64,
-    /// The place in the file.
+    /// The file offset.
     pub fileoff: u64,
-    /// How many bytes there are in the file.
+    /// The size in the file, in bytes.
     pub filesize: u64,
-    /// What may be allowed at most.
+    /// The maximum protection.
     pub maxprot: u32,
-    /// What is allowed at first.
+    /// The initial protection.
     pub initprot: u32,
     /// How many sections there are.
     pub nsects: u32,
-    /// Bits, one for each flag of a segment.
+    /// The flags of the segment.
     pub flags: u32,
-    /// The data: the bytes at `fileoff`, or the sections handed to `new`.
+    /// The data: the bytes at `fileoff`, or the sections that were passed to `new`.
     pub bytes: &'a [u8],
-    // What the sections are read from, the place of the command there, and the context.
+    // What the sections are read from: the file, the place of the command, and the context.
     file: &'a [u8],
     offset: usize,
     ctx: Ctx,
 }
 
-// The data of a segment: `size` bytes at a place of the file, and none where `size` is 0.
+// Returns the data of a segment: `size` bytes at a place of the file, or none if `size` is 0.
 fn data_at(bytes: &[u8], place: u64, size: u64) -> Result<&[u8]>
     ensures { Reads (λ found. found.now) result (segment_data bytes.now place size) }
 {
@@ -76,8 +76,8 @@ fn data_at(bytes: &[u8], place: u64, size: u64) -> Result<&[u8]>
 }
 
 impl<'a> Segment<'a> {
-    /// A segment to be written: its command's number by the context, its size, its sections as
-    /// they will be written behind it; all else is 0, and there are no sections to go over.
+    /// Builds a segment to be written. Its command number follows from the context, its size includes `sections`, and its
+    /// data is `sections`, which will be written after it. Everything else is 0, and it has no sections to iterate over.
     pub fn new(ctx: Ctx, sections: &'a [u8]) -> Self
         requires { command_size ctx.container + length sections.now < 2 ^ 32 }
         ensures { segment_view result ≡ new_segment ctx sections.now }
@@ -105,8 +105,7 @@ impl<'a> Segment<'a> {
         }
     }
 
-    /// The segment of a command of a 32-bit image, which stands at `offset` of the bytes. Refused
-    /// where its data are out of the bytes.
+    /// Builds the segment of a 32-bit image's command, which is at `offset` of the bytes. Fails if its data does not lie in the bytes.
     pub fn from_32(
         bytes: &'a [u8],
         segment: &SegmentCommand32,
@@ -118,8 +117,7 @@ impl<'a> Segment<'a> {
         Segment::from_64(bytes, &widen(segment), offset, ctx)
     }
 
-    /// The segment of a command of a 64-bit image, which stands at `offset` of the bytes. Refused
-    /// where its data are out of the bytes.
+    /// Builds the segment of a 64-bit image's command, which is at `offset` of the bytes. Fails if its data does not lie in the bytes.
     pub fn from_64(
         bytes: &'a [u8],
         segment: &SegmentCommand64,
@@ -132,7 +130,7 @@ impl<'a> Segment<'a> {
         Ok(Segment::of(bytes, segment, offset, ctx, data))
     }
 
-    /// As `from_32`, but data out of the bytes are empty. It is always Ok.
+    /// Like `from_32`, but data that does not lie in the bytes is empty. It is always `Ok`.
     pub fn from_32_lossy(
         bytes: &'a [u8],
         segment: &SegmentCommand32,
@@ -144,7 +142,7 @@ impl<'a> Segment<'a> {
         Segment::from_64_lossy(bytes, &widen(segment), offset, ctx)
     }
 
-    /// As `from_64`, but data out of the bytes are empty. It is always Ok.
+    /// Like `from_64`, but data that does not lie in the bytes is empty. It is always `Ok`.
     pub fn from_64_lossy(
         bytes: &'a [u8],
         segment: &SegmentCommand64,
@@ -157,7 +155,7 @@ impl<'a> Segment<'a> {
         Ok(Segment::of(bytes, segment, offset, ctx, found.unwrap_or(&[])))
     }
 
-    // The segment of a command and its data.
+    // Builds the segment of a command and its data.
     fn of(
         file: &'a [u8],
         segment: &SegmentCommand64,
@@ -186,14 +184,14 @@ impl<'a> Segment<'a> {
         }
     }
 
-    /// The segment's name: the text with which `segname` begins.
+    /// Returns the segment's name: the text with which `segname` begins.
     pub fn name(&self) -> Result<&str>
         ensures { Reads (λ name. name.now) result (text_at self.now.segname 0) }
     {
         read_text(&self.segname, 0)
     }
 
-    /// Whether an offset from the segment's start lies in the segment's memory.
+    /// Whether an offset from the segment's start lies within the segment's memory.
     pub fn holds(&self, seg_offset: u64) -> bool
         ensures { IsTrue result ↔ (seg_offset < self.now.vmsize) }
     {
@@ -206,7 +204,7 @@ impl<'a> Segment<'a> {
     ghost use Rattle.mach_parts.specs.Segment.{sections_of};
     ghost use Rattle.mach_parts.specs.SectionItems.{section_and_bytes};
 
-    /// The segment's sections with their data. The first that is out of the bytes refuses them all.
+    /// Returns the segment's sections with their data. Fails if the record of any section does not lie in the bytes, or if memory runs out.
     pub fn sections<A: Allocator>(&self, alloc: A) -> Result<Vec<(Section, SectionData<'a>), A>>
         ensures { Gives (λ v. map section_and_bytes v.items) result (all_read (sections_of (segment_view self.now))) }
     {

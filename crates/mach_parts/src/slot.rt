@@ -1,27 +1,27 @@
-//! What a slot is.
+//! Slots: stubs and symbol pointers.
 
 use crate::indirect::IndirectSymbol;
 use crate::slots::kind::SlotKind;
 
-/// Whose a slot is.
+/// What a slot refers to.
 #[derive(Clone, Copy, Debug)]
 pub enum SlotSymbol<'a> {
-    /// A symbol's.
+    /// A symbol.
     Named {
         /// The symbol's number.
         index: u32,
         /// The symbol's name.
         name: &'a str,
     },
-    /// The image's own: no symbol says whose.
+    /// Something local to the image. No symbol names it.
     Local,
-    /// An absolute number's.
+    /// An absolute value.
     Absolute,
-    /// The image's own, with an absolute number.
+    /// Something local to the image, with an absolute value.
     LocalAbsolute,
 }
 
-/// A stub or a pointer that stands for a symbol.
+/// A stub or a pointer that refers to a symbol.
 #[derive(Clone, Copy, Debug)]
 pub struct SymbolSlot<'a> {
     /// The number of its segment, from 0.
@@ -30,17 +30,17 @@ pub struct SymbolSlot<'a> {
     pub section: u32,
     /// Its address.
     pub address: u64,
-    /// How many bytes it has.
+    /// Its size in bytes.
     pub len: u64,
-    /// What stands there.
+    /// Its kind.
     pub kind: SlotKind,
-    /// The number of its entry in the table of indirect symbols.
+    /// The number of its entry in the indirect symbol table.
     pub index: u32,
-    /// Whose it is.
+    /// What it refers to.
     pub symbol: SlotSymbol<'a>,
 }
 
-/// The entry of a slot: where the slot lies, and the entry's number and what it says.
+/// The entry of a slot: the slot's address, the entry's number, and the decoded entry.
 #[derive(Clone, Copy)]
 pub struct SlotEntry {
     pub address: u64,

@@ -22,21 +22,20 @@ use crate::slots::ready::ReadySlots;
 use crate::slots::source::{HeldSource, SlotSource};
 use mach_base::{Ctx, Endian, Result};
 
-/// The slots of an image's sections in order, each with its symbol. An error stands in the place of its slot, or of
-/// the slots of a section from the first that has no address or no entry on, or of a section that can't be read. It
-/// takes no memory.
+/// An iterator over the slots of an image's sections, in order, each with its symbol. An error takes the place of a slot, of the
+/// slots of a section from the first without an address or an entry on, or of a section that cannot be read. It allocates no memory.
 #[derive(Clone, Copy)]
 pub struct SlotIterator<'a, 'b> {
     source: HeldSource<'a>,
     sections: NumberedSections<'a, 'b>,
-    // The slots of the section that is open which are known to have entries; the section, and the number of the slot behind these.
+    // The slots of the current section that are known to have entries; the section; and the number of the slot after these.
     ready: ReadySlots<'a>,
     run: Option<SlotRun>,
     next_slot: u64,
 }
 
 impl<'a, 'b> SlotIterator<'a, 'b> {
-    /// Those of the sections of some segments.
+    /// Builds an iterator over the slots in the sections of some segments.
     pub fn new(source: SlotSource<'a, 'b>, segments: &'b [Segment<'a>]) -> Self
         ensures { slots_left result ≡ slots_of (slot_tables_of source.entry) (map segment_view segments.now) }
     {
@@ -49,7 +48,7 @@ impl<'a, 'b> SlotIterator<'a, 'b> {
         }
     }
 
-    // The next slot of those that are known to have entries, where it is quickly found.
+    // Returns the next slot that is known to have an entry, if it is found by the fast path.
     #[inline(always)]
     fn quick_slot(&mut self) -> Option<SymbolSlot<'a>>
         ensures some { IfSome result (λ slot. ready_left (held_tables_of self.old.source) self.old.ready
@@ -66,7 +65,7 @@ impl<'a, 'b> SlotIterator<'a, 'b> {
         Some(slot)
     }
 
-    // The next slot of those that are known to have entries.
+    // Returns the next slot that is known to have an entry.
     fn ready_slot(&mut self) -> Option<Result<SymbolSlot<'a>>>
         ensures ready { MatchOption result (ready_left (held_tables_of self.old.source) self.old.ready ≡ [])
             (λ item. ready_left (held_tables_of self.old.source) self.old.ready
@@ -84,7 +83,7 @@ impl<'a, 'b> SlotIterator<'a, 'b> {
         Some(self.source.slot(&self.ready.run, &entry))
     }
 
-    // The next slot of the section that is open, behind those.
+    // Returns the next slot of the current section after those.
     fn take(&mut self) -> Option<Result<SymbolSlot<'a>>>
         ensures open { MatchOption result (open_slots_left self.old ≡ [])
             (λ item. open_slots_left self.old ≡ symbol_slot_read item ∷ open_slots_left self.new) }
@@ -132,7 +131,7 @@ impl<'a, 'b> SlotIterator<'a, 'b> {
         }
     }
 
-    // The next slot: of those that are known to have entries, where it is quickly found.
+    // Returns the next slot. It tries the fast path first.
     #[inline(always)]
     fn next_item(&mut self) -> Option<Result<SymbolSlot<'a>>>
         ensures { YieldsFirstBy symbol_slot_read slots_left self.old result self.new }
@@ -143,8 +142,8 @@ impl<'a, 'b> SlotIterator<'a, 'b> {
         }
     }
 
-    // The next slot, where it may be one of a later section. It works on a copy, so that a loop that asks for slots can keep
-    // the iterator in registers.
+    // Returns the next slot, which may be in a later section. It works on a
+    // copy, so that a loop over slots can keep the iterator in registers.
     #[inline(always)]
     fn next_of_later(&mut self) -> Option<Result<SymbolSlot<'a>>>
         ensures { YieldsFirstBy symbol_slot_read slots_left self.old result self.new }
@@ -154,7 +153,7 @@ impl<'a, 'b> SlotIterator<'a, 'b> {
         item
     }
 
-    // The next slot, and what is left behind it.
+    // Returns the next slot and the rest of the iterator after it.
     #[cold]
     #[inline(never)]
     fn later(self) -> (Option<Result<SymbolSlot<'a>>>, Self)
@@ -165,7 +164,7 @@ impl<'a, 'b> SlotIterator<'a, 'b> {
         (item, left)
     }
 
-    // Goes on to the next section that has one, where the open one has none.
+    // Goes on to the next section that has a slot if the current one has none left.
     fn seek(&mut self) -> Option<Result<SymbolSlot<'a>>>
         ensures { YieldsFirstBy symbol_slot_read slots_left self.old result self.new }
     {
@@ -192,7 +191,7 @@ impl<'a, 'b> SlotIterator<'a, 'b> {
 impl Default for SlotIterator<'_, '_> {
     ghost is_default = { λ it. slots_left it ≡ [] };
 
-    /// No slots.
+    /// Returns an iterator without slots.
     fn default() -> Self {
         let source = SlotSource {
             indirect: IndirectSymbols::new(&[], 0, 0, Endian::Little),

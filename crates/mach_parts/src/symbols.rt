@@ -36,15 +36,15 @@ use std::fmt;
 /// How the symbols in some bytes are read.
 #[derive(Clone, Copy, Debug, Default)]
 pub struct SymbolsCtx {
-    /// How many there are.
+    /// The number of symbols.
     pub nsyms: usize,
-    /// Where their names begin.
+    /// Where the string table begins.
     pub strtab: usize,
     /// The width of a record, and the byte order.
     pub ctx: Ctx,
 }
 
-// Records from a place on, and names from another.
+// Symbol records from one place on, and names from another.
 #[derive(Clone, Copy)]
 struct Table<'a> {
     bytes: &'a [u8],
@@ -55,7 +55,7 @@ struct Table<'a> {
 }
 
 impl<'a> Table<'a> {
-    // Where the record of a symbol stands; the last place that 64 bits have where it passes them.
+    // Returns the place of a symbol's record, at most 2^64 - 1.
     #[inline(always)]
     fn place(self, index: usize) -> usize
         ensures { result ≡ symbol_place (table_view self.entry) index }
@@ -64,7 +64,7 @@ impl<'a> Table<'a> {
         self.start.saturating_add(before)
     }
 
-    // A symbol with its name.
+    // Reads a symbol with its name.
     #[tactic(auto, unfolding(crate::specs::Symbols::symbol_at))]
     #[inline(always)]
     fn symbol(self, index: usize) -> Result<(&'a str, Nlist)>
@@ -77,7 +77,7 @@ impl<'a> Table<'a> {
 }
 
 impl<'a> Table<'a> {
-    // The name of a symbol, wherever `symbol` finds one at places of 64 bits.
+    // Like `symbol`, but returns only the name. Returns `None` if there is none or if a place exceeds 64 bits.
     #[tactic(auto, unfolding(crate::specs::Symbols::symbol_at))]
     #[inline(always)]
     fn quick_name(self, index: usize) -> Option<&'a str>
@@ -92,14 +92,14 @@ impl<'a> Table<'a> {
     }
 }
 
-/// The symbols of an image, with their names: slices of its bytes.
+/// The symbols of an image with their names, which are slices of its bytes.
 #[derive(Drop)]
 pub struct Symbols<'a> {
     table: Table<'a>,
 }
 
 impl fmt::Debug for Symbols<'_> {
-    /// Where the symbols stand; of the bytes only how many they are.
+    /// Prints where the symbols lie, and only the number of the bytes.
     fn fmt<W: fmt::Write>(&self, f: &mut fmt::Formatter<W>) -> fmt::Result {
         f.debug_struct("Symbols")
             .field("bytes", &ByteCount(self.table.bytes))
@@ -112,8 +112,8 @@ impl fmt::Debug for Symbols<'_> {
 }
 
 impl<'a> Symbols<'a> {
-    /// The symbols of which `count` records stand from `start` on, and the names from `strtab` on,
-    /// in a 64-bit little-endian image. None of this is tested; it is always Ok.
+    /// Builds the table of `count` records from `start` on, with names from `strtab`
+    /// on, for a 64-bit little-endian image. Nothing is tested; it is always `Ok`.
     pub fn new(bytes: &'a [u8], start: usize, count: usize, strtab: usize) -> Result<Symbols<'a>>
         ensures { Reads table_of result
             (Ok (record { bytes = bytes.now; start = start; nsyms = count; strtab = strtab; ctx = record { container = Big; le = Little } })) }
@@ -129,8 +129,8 @@ impl<'a> Symbols<'a> {
         })
     }
 
-    /// The symbols that a command describes. It is `Malformed` where their names stand before their
-    /// records, and `BadOffset` where their records begin at or past the end, also where there are none.
+    /// Builds the table that a `LC_SYMTAB` command describes. Fails as `Malformed` if the string table lies
+    /// before the records, and as `BadOffset` if the records begin at or past the end, even if there are none.
     pub fn parse(bytes: &'a [u8], symtab: &SymtabCommand, ctx: Ctx) -> Result<Symbols<'a>>
         ensures { Reads table_of result (table_at ctx bytes.now symtab.now) }
     {
@@ -152,7 +152,7 @@ impl<'a> Symbols<'a> {
         })
     }
 
-    /// The symbols in order, exactly as many as there are said to be, unreadable ones included.
+    /// Returns an iterator over the symbols in order. It has exactly the claimed number of items, including unreadable ones.
     pub fn iter(&self) -> SymbolIterator<'a>
         ensures items { symbols_left result ≡ symbols_of (table_of self.now) }
         ensures bounded { length (symbols_left result) < 2 ^ 64 }
@@ -160,8 +160,8 @@ impl<'a> Symbols<'a> {
         SymbolIterator::new(self.table)
     }
 
-    /// The symbols of which `count` records stand from `start` on, and the names from `strtab` on, in the width
-    /// and the byte order of `ctx`. None of this is tested.
+    /// Builds the table of `count` records from `start` on, with names from
+    /// `strtab` on, in the width and byte order of `ctx`. Nothing is tested.
     pub fn at(bytes: &'a [u8], start: usize, count: usize, strtab: usize, ctx: Ctx) -> Symbols<'a>
         ensures { table_of result ≡ record { bytes = bytes.now; start = start; nsyms = count; strtab = strtab; ctx = ctx } }
     {
@@ -176,42 +176,42 @@ impl<'a> Symbols<'a> {
         }
     }
 
-    /// The place of the first record.
+    /// Returns the place of the first record.
     pub fn start(&self) -> usize
         ensures { result ≡ (table_of self.now).start }
     {
         self.table.start
     }
 
-    /// How many symbols there are said to be.
+    /// Returns the claimed number of symbols.
     pub fn len(&self) -> usize
         ensures { result ≡ (table_of self.now).nsyms }
     {
         self.table.nsyms
     }
 
-    /// Whether there are said to be none.
+    /// Whether the claimed number of symbols is 0.
     pub fn is_empty(&self) -> bool
         ensures { IsTrue result ↔ ((table_of self.now).nsyms ≡ 0) }
     {
         self.table.nsyms == 0
     }
 
-    /// The place from which the places of names count.
+    /// Returns where the string table begins. The places of names count from there.
     pub fn strtab(&self) -> usize
         ensures { result ≡ (table_of self.now).strtab }
     {
         self.table.strtab
     }
 
-    /// The width of a record, and the byte order.
+    /// Returns the width of a record, and the byte order.
     pub fn ctx(&self) -> Ctx
         ensures { result ≡ (table_of self.now).ctx }
     {
         self.table.ctx
     }
 
-    /// The front of them: those whose records begin within the bytes. Of no symbol behind these a byte can be read.
+    /// Restricts the table to the symbols whose records begin within the bytes. No byte of any later symbol can be read.
     pub fn begun(&self) -> Symbols<'a>
         ensures { table_of result ≡ begun_of (table_of self.now) }
     {
@@ -225,7 +225,7 @@ impl<'a> Symbols<'a> {
         }
     }
 
-    /// Where the name of a symbol of these stands; the last place that 64 bits have where it passes them.
+    /// Returns the place of a symbol's name, at most 2^64 - 1.
     #[inline(always)]
     pub fn name_place(&self, symbol: &Nlist) -> usize
         ensures { result ≡ place_after (table_of self.now).strtab symbol.now.n_strx }
@@ -233,21 +233,21 @@ impl<'a> Symbols<'a> {
         self.table.strtab.saturating_add(symbol.n_strx)
     }
 
-    /// The symbols from a number on, in order.
+    /// Returns an iterator over the symbols from number `first` on.
     pub fn iter_from(&self, first: usize) -> SymbolIterator<'a>
         ensures { symbols_left result ≡ drop first (symbols_of (table_of self.now)) }
     {
         SymbolIterator::from_number(self.table, first)
     }
 
-    /// The same symbols as a value that is copied.
+    /// Returns the same symbols as a copyable value.
     pub fn copied(&self) -> CopiedSymbols<'a>
         ensures { copied_table result ≡ table_of self.now }
     {
         CopiedSymbols { copy: self.table }
     }
 
-    /// A symbol with its name; how many there are said to be is not tested.
+    /// Reads a symbol with its name. Whether `index` is below the claimed number of symbols is not tested.
     #[inline(always)]
     pub fn get(&self, index: usize) -> Result<(&'a str, Nlist)>
         ensures { symbol_read result ≡ symbol_at (table_of self.now) index }
@@ -256,14 +256,14 @@ impl<'a> Symbols<'a> {
     }
 }
 
-/// Symbols as a value that is copied: what keeps them beside other values can hold their places in registers.
+/// Symbols as a copyable value. A holder of such a value can keep its fields in registers.
 #[derive(Clone, Copy)]
 pub struct CopiedSymbols<'a> {
     copy: Table<'a>,
 }
 
 impl<'a> CopiedSymbols<'a> {
-    /// How many symbols there are said to be.
+    /// Returns the claimed number of symbols.
     #[inline(always)]
     pub fn len(&self) -> usize
         ensures { result ≡ (copied_table self.now).nsyms }
@@ -271,7 +271,7 @@ impl<'a> CopiedSymbols<'a> {
         self.copy.nsyms
     }
 
-    /// A symbol with its name; how many there are said to be is not tested.
+    /// Reads a symbol with its name. Whether `index` is below the claimed number of symbols is not tested.
     #[inline(always)]
     pub fn get(&self, index: usize) -> Result<(&'a str, Nlist)>
         ensures { symbol_read result ≡ symbol_at (copied_table self.now) index }
@@ -279,8 +279,8 @@ impl<'a> CopiedSymbols<'a> {
         self.copy.symbol(index)
     }
 
-    /// The name of a symbol, for a caller that asks `get` where there is none; how many symbols there are said to be is not
-    /// tested.
+    /// Reads the name of a symbol by a fast path. For `None` the caller tries
+    /// `get`. Whether `index` is below the claimed number of symbols is not tested.
     #[inline(always)]
     pub fn quick_name(&self, index: usize) -> Option<&'a str>
         ensures { IfSome result (λ name. symbol_name_at (copied_table self.now) index ≡ Ok name.now) }
@@ -319,7 +319,7 @@ impl<'a> TryFromCtx<'a, SymbolsCtx> for Symbols<'a> {
 
     ghost front = { symbols_front };
 
-    /// All bytes as symbols, the records from 0 on; it is always Ok.
+    /// Takes all bytes as symbols, with the records from 0 on. It is always `Ok`.
     fn try_from_ctx(bytes: &'a [u8], ctx: SymbolsCtx) -> Result<(Symbols<'a>, usize)> {
         let table = Table {
             bytes,

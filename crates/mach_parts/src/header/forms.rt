@@ -1,4 +1,4 @@
-//! A header in the form of either width, and how it is read and written.
+//! Conversions of headers between the two widths, and how they are read and written.
 
 ghost use Rattle.std.specs.Prelude.{◌≡◌, ◌<◌};
 
@@ -50,7 +50,7 @@ impl From<Header> for Header32 {
 
     ghost from_gives = { λ header narrow. narrow ≡ narrowed32 header };
 
-    /// Of `ncmds` the low 32 bits are kept; `reserved` has no place here.
+    /// Keeps the low 32 bits of `ncmds` and drops `reserved`.
     fn from(header: Header) -> Header32 {
         Header32 {
             magic: header.magic,
@@ -69,7 +69,7 @@ impl From<Header> for Header64 {
 
     ghost from_gives = { λ header narrow. narrow ≡ narrowed64 header };
 
-    /// Of `ncmds` the low 32 bits are kept.
+    /// Keeps the low 32 bits of `ncmds`.
     fn from(header: Header) -> Header64 {
         Header64 {
             magic: header.magic,
@@ -102,7 +102,7 @@ impl<'a> TryFromCtx<'a, Ctx> for Header {
 
     ghost front = { header_front };
 
-    /// The header at the front of at least 32 bytes, also that of a 32-bit image, which has 28.
+    /// Reads the header at the start of at least 32 bytes. This also holds for a 32-bit image, whose header has 28.
     fn try_from_ctx(bytes: &'a [u8], ctx: Ctx) -> Result<(Header, usize)> {
         if bytes.len() < SIZEOF_HEADER_64 {
             return Err(Error::Malformed("a header is 32 bytes"));
@@ -131,7 +131,7 @@ impl TryIntoCtx<Ctx> for Header {
 
     ghost not_empty = { λ ctx _. elim ctx.container as (λ w. 0 < header_size w) [ Little ↦ zero-lt-suc _ | Big ↦ zero-lt-suc _ ] };
 
-    /// Writes the header in the width of the context, its magic as it is held.
+    /// Writes the header in the width of the context. Its magic is written unchanged.
     fn try_into_ctx(self, bytes: &mut [u8], ctx: Ctx) -> Result<usize> {
         match ctx.container {
             Container::Little => Header32::from(self).write(bytes, 0, ctx.le),

@@ -1,4 +1,4 @@
-//! The two forms of relocations, by cpu and byte order.
+//! The two forms of relocations, by CPU and byte order.
 
 ghost use Rattle.std.specs.Prelude.{◌≡◌, ◌<◌};
 ghost use Rattle.mach_parts.specs.RelocationForms.{address_word, bit_is_one, plain_form, relocation_form, scattered_form, scatters};
@@ -7,35 +7,35 @@ use crate::relocation::RelocationInfo;
 use mach_base::Endian;
 use mach_records::cputype::{CPU_TYPE_ARM64, CPU_TYPE_ARM64_32, CPU_TYPE_X86_64, CpuType};
 
-/// What a relocation says, in the form that its cpu and its byte order give it.
+/// A relocation, decoded for its CPU and byte order.
 #[derive(Clone, Copy, Debug, PartialEq)]
 pub enum Relocation {
-    /// A place that is to be corrected by a symbol or a section (struct relocation_info).
+    /// A place that is corrected by a symbol or a section (struct relocation_info).
     Plain {
-        /// The place, counted from the section's start.
+        /// The offset from the section's start.
         address: u32,
-        /// The number of a symbol where `is_extern`, else that of a section, counted from 1.
+        /// The number of a symbol if `is_extern`, or else that of a section, counted from 1.
         symbol: u32,
-        /// Whether the distance from the place is meant.
+        /// Whether the value is relative to the place.
         is_pcrel: bool,
-        /// How long what is to be corrected is: 2 to this power, in bytes.
+        /// The length of the corrected value: 2 to this power, in bytes.
         length: u8,
         /// Whether `symbol` is the number of a symbol.
         is_extern: bool,
-        /// What is to be done; its meaning goes by the cpu.
+        /// The type. Its meaning depends on the CPU.
         kind: u8,
     },
-    /// A place that is to be corrected by an address (struct scattered_relocation_info).
+    /// A place that is corrected by an address (struct scattered_relocation_info).
     Scattered {
-        /// The place, of 24 bits, counted from the section's start.
+        /// The offset from the section's start, of 24 bits.
         address: u32,
-        /// The address that the place speaks of.
+        /// The address to which the place refers.
         value: u32,
-        /// Whether the distance from the place is meant.
+        /// Whether the value is relative to the place.
         is_pcrel: bool,
-        /// How long what is to be corrected is: 2 to this power, in bytes.
+        /// The length of the corrected value: 2 to this power, in bytes.
         length: u8,
-        /// What is to be done; its meaning goes by the cpu.
+        /// The type. Its meaning depends on the CPU.
         kind: u8,
     },
 }
@@ -48,14 +48,14 @@ fn has_bit(number: u32, bit: u32) -> bool
     (number >> bit) & 1 == 1
 }
 
-// Whether a cpu has scattered relocations.
+// Whether a CPU has scattered relocations.
 fn scatters(cputype: CpuType) -> bool
     ensures { result ≡ scatters cputype }
 {
     !(cputype == CPU_TYPE_X86_64 || cputype == CPU_TYPE_ARM64 || cputype == CPU_TYPE_ARM64_32)
 }
 
-// The form of a plain one with this second word.
+// Decodes a plain relocation with this second word.
 fn plain(address: u32, info: u32, le: Endian) -> Relocation
     ensures { result ≡ plain_form le address info }
 {
@@ -79,7 +79,7 @@ fn plain(address: u32, info: u32, le: Endian) -> Relocation
     }
 }
 
-// The form of a scattered one with these words.
+// Decodes a scattered relocation with these words.
 fn scattered(word: u32, value: u32) -> Relocation
     ensures { result ≡ scattered_form word value }
 {
@@ -93,16 +93,15 @@ fn scattered(word: u32, value: u32) -> Relocation
 }
 
 impl RelocationInfo {
-    // The number of the first four bytes.
+    // Returns the number of the first four bytes.
     fn address_word(self) -> u32
         ensures { result ≡ address_word self }
     {
         self.r_address.cast_unsigned()
     }
 
-    /// What the relocation says in an image of a cpu and a byte order. It is scattered where the highest bit of
-    /// `r_address` is set, but on x86_64, arm64 and arm64_32, which have no such relocations; the bits of a plain one run
-    /// from the highest in a big-endian image.
+    /// Decodes the relocation for a CPU and a byte order. It is scattered if the highest bit of `r_address` is set, except on x86_64, arm64
+    /// and arm64_32, which have no scattered relocations. In a big-endian image the bits of a plain one are counted from the highest.
     pub fn read_as(self, cputype: CpuType, le: Endian) -> Relocation
         ensures { result ≡ relocation_form cputype le self }
     {

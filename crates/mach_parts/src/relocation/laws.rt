@@ -6,7 +6,7 @@ ghost use Rattle.mach_parts.specs.Relocation.{relocations_at, relocation_item};
 
 use crate::relocation::RelocationInfo;
 
-/// The five parts of `r_info`, each at its place, make `r_info`.
+/// The five parts of `r_info`, each at its own bits, add up to `r_info`.
 pub fn bits_together(r: RelocationInfo) -> u32
     ensures { result ≡ r.r_info }
 {
@@ -17,8 +17,7 @@ pub fn bits_together(r: RelocationInfo) -> u32
         + u32::from(r.r_type()) * (1 << 28)
 }
 
-/// Relocations go by their number: there are `count`, and relocation k is the one at its own
-/// place, whatever the others are.
+/// Relocations are given by their number. There are `count`, and relocation k is the one at its own place, whatever the others are.
 pub fn relocations_by_number()
     ensures count { (le : Endian) (bytes : List ℕ) (reloff count : ℕ) → length (relocations_at le bytes reloff count) ≡ count }
     ensures item { (le : Endian) (bytes : List ℕ) (reloff count k : ℕ) → k < count

@@ -1,4 +1,4 @@
-//! A segment as the command of either width.
+//! Conversions of a segment to the command of either width.
 
 ghost use Rattle.std.specs.Prelude.{◌≡◌, ◌<◌};
 ghost use Rattle.mach_parts.specs.Section.{command_size};
@@ -8,7 +8,7 @@ use crate::segment::Segment;
 use mach_base::{Container, Ctx, IntoCtx, Record, Result, SizeWith, TryIntoCtx, low_bits};
 use mach_records::{SegmentCommand32, SegmentCommand64};
 
-// How many bytes the command of a segment has.
+// Returns the size of a segment's command in bytes.
 pub(crate) fn command_len(container: Container) -> usize
     ensures { result ≡ command_size container }
 {
@@ -18,7 +18,7 @@ pub(crate) fn command_len(container: Container) -> usize
     }
 }
 
-// A command of a 32-bit image in the wider form.
+// Converts the command of a 32-bit image to the 64-bit form.
 pub(crate) fn widen(segment: &SegmentCommand32) -> SegmentCommand64
     ensures { result ≡ widened segment.now }
 {
@@ -42,7 +42,7 @@ impl<'a> From<Segment<'a>> for SegmentCommand32 {
 
     ghost from_gives = { λ s command. command ≡ narrowed (segment_command_of s) };
 
-    /// The low 32 bits of addresses, places and sizes.
+    /// Keeps the low 32 bits of addresses, places and sizes.
     fn from(segment: Segment<'a>) -> SegmentCommand32 {
         let segname = segment.segname;
         SegmentCommand32 {
@@ -95,7 +95,7 @@ impl<'a> TryIntoCtx<Ctx> for Segment<'a> {
 
     ghost not_empty = { λ ctx _. elim ctx.container as (λ w. 0 < command_size w) [ Little ↦ zero-lt-suc _ | Big ↦ zero-lt-suc _ ] };
 
-    /// Writes the command alone, in the form of the context's width.
+    /// Writes the command alone, in the context's width.
     fn try_into_ctx(self, bytes: &mut [u8], ctx: Ctx) -> Result<usize> {
         match ctx.container {
             Container::Little => SegmentCommand32::from(self).try_into_ctx(bytes, ctx.le),
@@ -109,7 +109,7 @@ impl<'a> IntoCtx<Ctx> for Segment<'a> {}
 impl<'a> SizeWith<Ctx> for Segment<'a> {
     ghost size = { λ ctx. command_size ctx.container };
 
-    /// 56 or 72, by the context's width.
+    /// Returns 56 or 72, by the context's width.
     fn size_with(ctx: &Ctx) -> usize
         ensures { result ≡ command_size ctx.now.container }
     {

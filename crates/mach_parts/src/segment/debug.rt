@@ -1,11 +1,11 @@
-//! A segment as Debug shows it.
+//! How `Debug` prints a segment.
 
 use crate::segment::Segment;
 use mach_base::ByteCount;
 use std::fmt;
 
 impl fmt::Debug for Segment<'_> {
-    /// The fields; of the data and of the file only how many bytes they are.
+    /// Prints the fields, and only the numbers of the bytes of the data and of the file.
     fn fmt<W: fmt::Write>(&self, f: &mut fmt::Formatter<W>) -> fmt::Result {
         f.debug_struct("Segment")
             .field("cmd", &self.cmd)

@@ -9,8 +9,8 @@ use std::alloc::Allocator;
 use std::slice::Iter;
 
 /// The segments of an image, in order: a list of `S`, which is `Segment<'a>`.
-// `S` is a parameter for the sake of `get_mut`: what a list ends as once an element was lent is
-// proved only where the element's type names no lifetime.
+// `S` is a parameter because of `get_mut`. The value of a list after an
+// element was lent can be proved only if the element's type names no lifetime.
 #[derive(Drop)]
 #[derive_where(Debug; S)]
 pub struct Segments<S, A: Allocator> {
@@ -24,7 +24,7 @@ impl<S, A: Allocator> Segments<S, A> {
     ghost use Rattle.mach_parts.specs.Segments.{segments_in};
     ghost use Rattle.mach_parts.specs.SegmentLending.{LendsSegment};
 
-    /// The segment at an index, to be changed in place, if there is one. The others stay as they are.
+    /// Returns the segment at an index for changes in place, if there is one. The others are unchanged.
     pub fn get_mut(&mut self, index: usize) -> Option<&mut S>
         ensures* writes_back { sem 𝓛 (LendsSegment S.row A.row A.Allocator self.entry index result) }
         ensures lent { option_copied_mut result ≡ slice_get (segments_in self.old) index }
@@ -37,7 +37,7 @@ impl<'a, A: Allocator> Segments<Segment<'a>, A> {
     ghost use Rattle.mach_base.specs.Answer.{IsOkUnlessMemory};
     ghost use Rattle.mach_parts.specs.Segments.{segments_in, sections_in};
 
-    /// No segments yet. The context changes nothing.
+    /// Builds an empty list. The context has no effect.
     pub fn new(alloc: A, _ctx: Ctx) -> Self
         ensures { segments_in result ≡ [] }
     {
@@ -46,7 +46,7 @@ impl<'a, A: Allocator> Segments<Segment<'a>, A> {
         }
     }
 
-    /// Adds a segment at the end. Where memory is refused it is dropped, and the others stay.
+    /// Appends a segment. If memory runs out, the segment is dropped and the list is unchanged.
     pub fn push(&mut self, segment: Segment<'a>) -> Result<()>
         ensures ok { OnOk result (segments_in self.new ≡ segments_in self.old ++ segment.entry ∷ []) }
         ensures only { IsOkUnlessMemory result }
@@ -56,7 +56,7 @@ impl<'a, A: Allocator> Segments<Segment<'a>, A> {
         Ok(())
     }
 
-    /// The segments as a slice.
+    /// Returns the segments as a slice.
     pub fn as_slice(&self) -> &[Segment<'a>]
         ensures { result.now ≡ segments_in self.now }
     {
@@ -67,7 +67,7 @@ impl<'a, A: Allocator> Segments<Segment<'a>, A> {
     ghost use Rattle.std.specs.Slice.Iter.{iter_rest};
     ghost use Rattle.mach_parts.specs.declared.segment.Segment.{Segment};
 
-    /// Goes over the segments.
+    /// Returns an iterator over the segments.
     pub fn iter(&self) -> Iter<'_, Segment<'a>>
         ensures items { iter_rest result ≡ segments_in self.now }
         ensures runs { IterYieldsInOrder Segment }
@@ -75,7 +75,7 @@ impl<'a, A: Allocator> Segments<Segment<'a>, A> {
         self.segments.as_slice().iter()
     }
 
-    /// Goes over the segments' iterators over their sections.
+    /// Returns an iterator over the segments' section iterators.
     pub fn sections(&self) -> SegmentSections<'_, 'a>
         ensures { sections_in result ≡ map (λ s. sections_of (segment_view s)) (segments_in self.now) }
     {
@@ -112,7 +112,7 @@ impl<'a, 'b, A: Allocator> IntoIterator for &'b Segments<Segment<'a>, A> {
     }
 }
 
-/// The segments' iterators over their sections, in order.
+/// An iterator over the segments' section iterators, in order.
 #[derive(Clone, Drop)]
 pub struct SegmentSections<'b, 'a> {
     segments: Iter<'b, Segment<'a>>,

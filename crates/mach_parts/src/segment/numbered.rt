@@ -1,4 +1,4 @@
-//! Sections as the wider record, by their numbers over the segments of an image.
+//! Sections in their 64-bit form, numbered over all segments of an image.
 
 ghost use Rattle.std.specs.Prelude.{◌≡◌, map, option_map, slice_get};
 ghost use Rattle.mach_base.specs.Answer.{Reads};
@@ -12,19 +12,19 @@ use crate::segment::sections::place_of;
 use mach_base::{Container, Ctx, Record, Result};
 use mach_records::{Section32, Section64};
 
-/// A section in the wider form, with its place among the sections of an image.
+/// A section in its 64-bit form, with its position among the sections of an image.
 #[derive(Clone, Copy, Debug)]
 pub struct NumberedSection {
     /// The number of its segment, from 0.
     pub segment: usize,
-    /// Its own number in its segment, from 0.
+    /// Its number in its segment, from 0.
     pub number: u32,
-    /// The section itself, the reserved fields with it.
+    /// The section itself, including the reserved fields.
     pub section: Section64,
 }
 
 impl NumberedSection {
-    /// Whether an address lies in the section.
+    /// Whether an address lies within the section.
     pub fn holds(&self, address: u64) -> bool
         ensures { result ≡ holds_address address self.now }
     {
@@ -33,7 +33,7 @@ impl NumberedSection {
     }
 }
 
-/// The section of a 32-bit image in the wider form.
+/// Converts a section of a 32-bit image to the 64-bit form.
 pub fn widen_section(s: &Section32) -> Section64
     ensures { result ≡ wider_section s.now }
 {
@@ -53,7 +53,7 @@ pub fn widen_section(s: &Section32) -> Section64
     }
 }
 
-/// The section at a place of the bytes, in the wider form.
+/// Reads the section at `place`, in its 64-bit form.
 pub fn section_at(bytes: &[u8], ctx: Ctx, place: usize) -> Result<Section64>
     ensures { Reads (λ s. s) result (section_record_at ctx.container ctx.le bytes.now place) }
 {
@@ -64,7 +64,8 @@ pub fn section_at(bytes: &[u8], ctx: Ctx, place: usize) -> Result<Section64>
 }
 
 impl Segment<'_> {
-    /// A section of this segment, which has a number itself. How many there are is not tested.
+    /// Reads section `number` of this segment, which is number `segment`
+    /// itself. Whether `number` is below the segment's count is not tested.
     pub fn numbered(&self, segment: usize, number: u32) -> Result<NumberedSection>
         ensures { Reads (λ n. n) result (numbered_section segment (segment_view self.now) number) }
     {
@@ -78,18 +79,18 @@ impl Segment<'_> {
     }
 }
 
-/// The sections of an image's segments in order: exactly as many items as the segments say, of which each is the
-/// section at its own place or the error of the read there. It takes no memory.
+/// An iterator over the sections of an image's segments, in order. It has exactly as many items as the
+/// segments claim. Each is the section at its own place, or the error of that read. It allocates no memory.
 #[derive(Clone, Copy)]
 pub struct NumberedSections<'a, 'b> {
     segments: &'b [Segment<'a>],
-    // The segment whose sections come now, and how many of them came.
+    // The current segment, and the number of its next section.
     segment: usize,
     number: u32,
 }
 
 impl<'a, 'b> NumberedSections<'a, 'b> {
-    /// Those of these segments.
+    /// Builds an iterator over the sections of these segments.
     pub fn new(segments: &'b [Segment<'a>]) -> Self
         ensures { numbered_left result ≡ numbered_sections (map segment_view segments.now) }
     {
@@ -127,7 +128,8 @@ impl<'a, 'b> Iterator for NumberedSections<'a, 'b> {
     }
 }
 
-// Section `number` of an image, counted from 0 over all segments, or why it isn't in the bytes.
+// Reads section `number` of an image, counted from 0 over all segments.
+// It is the error of that read if the section does not lie in the bytes.
 fn counted_section(segments: &[Segment<'_>], number: usize) -> Option<Result<NumberedSection>>
     ensures { option_map numbered_read result ≡ slice_get (numbered_sections (map segment_view segments.now)) number }
 {
@@ -142,8 +144,8 @@ fn counted_section(segments: &[Segment<'_>], number: usize) -> Option<Result<Num
     None
 }
 
-/// The section that a symbol's `n_sect` means, if there is one: sections are counted from 1 over all segments.
-/// Refused where it isn't in the bytes.
+/// Reads the section that a symbol's `n_sect` names, if there is one. Sections
+/// are counted from 1 over all segments. Fails if it does not lie in the bytes.
 pub fn section_of(segments: &[Segment<'_>], n_sect: usize) -> Result<Option<NumberedSection>>
     ensures { Reads (λ found. found) result (section_by_number (map segment_view segments.now) n_sect) }
 {

@@ -1,4 +1,4 @@
-//! The sections that are in the bytes, and the one of an address.
+//! The sections whose records lie in the bytes, and the section that holds an address.
 
 ghost use Rattle.std.specs.Prelude.{◌≡◌, ◌∷◌, ◌+◌, ◌<◌, ◌^◌, [], MatchOption, IfSome, map};
 ghost use Rattle.mach_parts.specs.Segment.{segment_view};
@@ -8,18 +8,18 @@ ghost use Rattle.mach_parts.specs.NumberedLeft.{readable_left};
 use crate::segment::Segment;
 use crate::segment::numbered::NumberedSection;
 
-/// The sections of an image's segments in order, of each segment those in front of the first that isn't in the
-/// bytes. It takes no memory.
+/// An iterator over the sections of an image's segments, in order. From each segment it
+/// takes those before the first that does not lie in the bytes. It allocates no memory.
 #[derive(Clone, Copy)]
 pub struct ReadableSections<'a, 'b> {
     segments: &'b [Segment<'a>],
-    // The segment whose sections come now, and how many of them came.
+    // The current segment, and the number of its next section.
     segment: usize,
     number: u32,
 }
 
 impl<'a, 'b> ReadableSections<'a, 'b> {
-    /// Those of these segments.
+    /// Builds an iterator over the sections of these segments.
     pub fn new(segments: &'b [Segment<'a>]) -> Self
         ensures { readable_left result ≡ readable_sections (map segment_view segments.now) }
     {
@@ -31,7 +31,7 @@ impl<'a, 'b> ReadableSections<'a, 'b> {
     }
 }
 
-// The next section of a segment behind those that came, if it has one more.
+// Reads the next section of a segment after the first `taken`, if there is one.
 fn take_numbered(segment: &Segment<'_>, n: usize, taken: u32) -> Option<NumberedSection>
     ensures more { MatchOption result (in_front (numbered_from n (segment_view segment.now) taken) ≡ [])
         (λ found. in_front (numbered_from n (segment_view segment.now) taken) ≡ found ∷ in_front (numbered_from n (segment_view segment.now) (taken + 1))) }
@@ -68,7 +68,7 @@ impl<'a, 'b> Iterator for ReadableSections<'a, 'b> {
     }
 }
 
-/// The first section of an image's segments in which an address lies, among those that are in the bytes.
+/// Finds the first section that holds an address, among the sections that lie in the bytes.
 pub fn section_holding(segments: &[Segment<'_>], address: u64) -> Option<NumberedSection>
     ensures { result ≡ section_holding (map segment_view segments.now) address }
 {

@@ -7,8 +7,8 @@ ghost use Rattle.mach_parts.specs.Relocation.{relocation_at};
 use crate::relocation::{RelocationInfo, SIZEOF_RELOCATION_INFO};
 use mach_base::{Endian, Record, Result, records_begun};
 
-/// The relocations of a section: exactly as many items as the section says, each the relocation at its own
-/// place or the error of the read there.
+/// An iterator over the relocations of a section. It has exactly as many items as the
+/// section claims. Each is the relocation at its own place, or the error of that read.
 #[derive(Clone, Drop)]
 pub struct RelocationIterator<'a> {
     bytes: &'a [u8],
@@ -23,7 +23,7 @@ impl<'a> RelocationIterator<'a> {
     ghost use Rattle.mach_parts.specs.Relocation.{relocations_at};
     ghost use Rattle.mach_parts.specs.RelocationItems.{relocations_left};
 
-    // So many relocations that begin at `reloff`.
+    // Builds an iterator over `count` relocations from `reloff` on.
     pub(crate) fn new(bytes: &'a [u8], reloff: u32, count: u32, le: Endian) -> Self
         ensures { relocations_left result ≡ relocations_at le bytes.now reloff count }
     {
@@ -36,7 +36,7 @@ impl<'a> RelocationIterator<'a> {
         }
     }
 
-    /// Those of them whose record begins within the bytes. Of no relocation after these a byte can be read.
+    /// Restricts it to the relocations whose record begins within the bytes. No byte of any later relocation can be read.
     pub fn begun(&self) -> Self
         ensures { relocations_left result ≡ begun_items (relocations_left self.now) }
     {
@@ -69,7 +69,7 @@ impl<'a> Iterator for RelocationIterator<'a> {
         Some(read_at(self.bytes, place, self.le))
     }
 
-    /// How many items are left, exactly.
+    /// Returns the exact number of items left, as both bounds.
     fn size_hint(&self) -> (usize, Option<usize>)
         ensures lower { IsWithinCount result.0 (item_count relocations_left self.now) }
         ensures upper { IfSome result.1 (UpTo (item_count relocations_left self.now)) }
@@ -81,13 +81,13 @@ impl<'a> Iterator for RelocationIterator<'a> {
 }
 
 impl<'a> ExactSizeIterator for RelocationIterator<'a> {
-    /// How many items are left.
+    /// Returns the number of items left.
     fn len(&self) -> usize {
         self.count.saturating_sub(self.next_item) as usize
     }
 }
 
-// The relocation at a place.
+// Reads the relocation at a place.
 fn read_at(bytes: &[u8], place: usize, le: Endian) -> Result<RelocationInfo>
     ensures { Reads (λ r. r) result (relocation_at le bytes.now place) }
 {

@@ -18,38 +18,38 @@ use mach_records::{Section32, Section64};
 /// The data of a section: bytes of the file.
 pub type SectionData<'a> = &'a [u8];
 
-/// A part of a segment, of an image of either width.
+/// A part of a segment, for images of either width (struct section, struct section_64).
 #[derive(Debug, Drop)]
 pub struct Section {
-    /// The name, with zeros behind it.
+    /// The name, padded with zeros.
     pub sectname: [u8; 16],
-    /// The name of the segment, with zeros behind it.
+    /// The name of the segment, padded with zeros.
     pub segname: [u8; 16],
     /// The address in memory.
     pub addr: u64,
-    /// How many bytes there are.
+    /// The size in bytes.
     pub size: u64,
-    /// The place in the file.
+    /// The file offset.
     pub offset: u32,
-    /// The address is a multiple of 2 to this power.
+    /// The alignment of the address, as a power of 2.
     pub align: u32,
-    /// The place of the relocations in the file.
+    /// The file offset of the relocations.
     pub reloff: u32,
     /// How many relocations there are.
     pub nreloc: u32,
-    /// The type in the low 8 bits, attributes above them.
+    /// The type in the low 8 bits, attributes in the others.
     pub flags: u32,
 }
 
 impl Section {
-    /// The section's name: the text with which `sectname` begins.
+    /// Returns the section's name: the text with which `sectname` begins.
     pub fn name(&self) -> Result<&str>
         ensures { Reads (λ name. name.now) result (text_at self.now.sectname 0) }
     {
         read_text(&self.sectname, 0)
     }
 
-    /// The name of the section's segment: the text with which `segname` begins.
+    /// Returns the name of the section's segment: the text with which `segname` begins.
     pub fn segname(&self) -> Result<&str>
         ensures { Reads (λ name. name.now) result (text_at self.now.segname 0) }
     {
@@ -59,14 +59,14 @@ impl Section {
     ghost use Rattle.mach_parts.specs.Relocation.{relocations_at};
     ghost use Rattle.mach_parts.specs.RelocationItems.{relocations_left};
 
-    /// Goes over the section's relocations, which stand in the bytes of the file.
+    /// Returns an iterator over the section's relocations in the bytes of the file.
     pub fn iter_relocations<'b>(&self, bytes: &'b [u8], ctx: Ctx) -> RelocationIterator<'b>
         ensures { relocations_left result ≡ relocations_at ctx.le bytes.now self.now.reloff self.now.nreloc }
     {
         RelocationIterator::new(bytes, self.reloff, self.nreloc, ctx.le)
     }
 
-    // The section at a place.
+    // Reads the section at `place`.
     pub(crate) fn read(bytes: &[u8], place: usize, ctx: Ctx) -> Result<Section>
         ensures { Reads (λ s. s) result (section_at ctx.container ctx.le bytes.now place) }
     {
@@ -76,7 +76,7 @@ impl Section {
         })
     }
 
-    // The data of the section.
+    // Returns the data of the section.
     pub(crate) fn data_in<'a>(&self, file: &'a [u8]) -> SectionData<'a>
         ensures { result.now ≡ section_data file.now self.now }
     {
@@ -87,7 +87,7 @@ impl Section {
     }
 }
 
-// Whether a section with these flags is of zeros, which take no bytes of the file.
+// Whether a section with these flags consists of zeros that take no bytes of the file.
 fn is_of_zeros(flags: u32) -> bool
     ensures { IsTrue result ↔ IsTrue (is_zero_fill flags) }
 {
@@ -102,7 +102,7 @@ impl Default for Section {
 
     ghost is_default = { λ s. s ≡ blank_section };
 
-    /// A section without names; every number is 0.
+    /// Returns a section without names. Every number is 0.
     fn default() -> Self {
         Section {
             sectname: [0; 16],
@@ -167,7 +167,7 @@ impl From<Section> for Section32 {
 
     ghost from_gives = { λ s held. held ≡ section32_of s };
 
-    /// The low 32 bits of address and size; the reserved fields are 0.
+    /// Keeps the low 32 bits of address and size. The reserved fields are 0.
     fn from(section: Section) -> Section32 {
         let sectname = section.sectname;
         let segname = section.segname;
@@ -192,7 +192,7 @@ impl From<Section> for Section64 {
 
     ghost from_gives = { λ s held. held ≡ section64_of s };
 
-    /// The reserved fields are 0.
+    /// Sets the reserved fields to 0.
     fn from(section: Section) -> Section64 {
         let sectname = section.sectname;
         let segname = section.segname;
@@ -247,7 +247,7 @@ impl TryIntoCtx<Ctx> for Section {
 
     ghost not_empty = { λ ctx _. elim ctx.container as (λ w. 0 < section_size w) [ Little ↦ zero-lt-suc _ | Big ↦ zero-lt-suc _ ] };
 
-    /// Writes the section in the form of the context's width.
+    /// Writes the section in the context's width.
     fn try_into_ctx(self, bytes: &mut [u8], ctx: Ctx) -> Result<usize>
         ensures answer { Reads (λ n. n) result (room_at (section_size ctx.container) bytes.old 0) }
         ensures written { OnOk result (IsWritten bytes.old bytes.new 0 (section_bytes ctx.container ctx.le self)) }
@@ -262,7 +262,7 @@ impl TryIntoCtx<Ctx> for Section {
     }
 }
 
-// Writes a record at the front of the bytes, where it can be read again.
+// Writes a record at the start of the bytes, so that it can be read back.
 fn put<R: Record>(held: R, bytes: &mut [u8], le: Endian) -> Result<usize>
     ensures answer { Reads (λ n. n) result (room_at R.SIZE bytes.old 0) }
     ensures written { OnOk result (IsWritten bytes.old bytes.new 0 (spelling le R.fields (R.values held))) }
@@ -280,7 +280,7 @@ impl SizeWith<Ctx> for Section {
 
     ghost size = { λ ctx. section_size ctx.container };
 
-    /// 68 or 80, by the context's width.
+    /// Returns 68 or 80, by the context's width.
     fn size_with(ctx: &Ctx) -> usize {
         match ctx.container {
             Container::Little => Section32::SIZE,

@@ -8,8 +8,8 @@ use crate::segment::conversions::command_len;
 use crate::segment::section::{Section, SectionData};
 use mach_base::{Ctx, Result, SizeWith, records_begun};
 
-/// The sections of a segment with their data: exactly as many items as the segment says, of which
-/// each is the section at its own place or the error of the read there.
+/// An iterator over the sections of a segment with their data. It has exactly as many items
+/// as the segment claims. Each is the section at its own place, or the error of that read.
 #[derive(Clone, Drop)]
 pub struct SectionIterator<'a> {
     bytes: &'a [u8],
@@ -19,7 +19,7 @@ pub struct SectionIterator<'a> {
     ctx: Ctx,
 }
 
-/// Where section `number` stands behind the command at an offset.
+/// Returns the place of section `number` of the command at `offset`.
 pub fn place_of(ctx: Ctx, offset: usize, number: u32) -> usize
     ensures { result ≡ section_place ctx.container offset number }
 {
@@ -27,7 +27,7 @@ pub fn place_of(ctx: Ctx, offset: usize, number: u32) -> usize
     offset.saturating_add(behind)
 }
 
-// A section at a place, with its data.
+// Reads the section at `place`, with its data.
 fn read_at<'a>(bytes: &'a [u8], place: usize, ctx: Ctx) -> Result<(Section, SectionData<'a>)>
     ensures { Reads (λ found. (found.0, found.1.now)) result (section_with_data ctx bytes.now place) }
 {
@@ -41,7 +41,7 @@ impl<'a> SectionIterator<'a> {
     ghost use Rattle.mach_parts.specs.Section.{sections_at};
     ghost use Rattle.mach_parts.specs.SectionItems.{sections_left};
 
-    // So many sections behind the command at an offset.
+    // Builds an iterator over `count` sections of the command at `offset`.
     pub(crate) fn new(bytes: &'a [u8], offset: usize, count: u32, ctx: Ctx) -> Self
         ensures { sections_left result ≡ sections_at ctx bytes.now offset count }
     {
@@ -54,7 +54,7 @@ impl<'a> SectionIterator<'a> {
         }
     }
 
-    /// Those of them whose record begins within the bytes. Of no section after these a byte can be read.
+    /// Restricts it to the sections whose record begins within the bytes. No byte of any later section can be read.
     pub fn begun(&self) -> Self
         ensures { sections_left result ≡ begun_items (sections_left self.now) }
     {
@@ -88,7 +88,7 @@ impl<'a> Iterator for SectionIterator<'a> {
         Some(read_at(self.bytes, place, self.ctx))
     }
 
-    /// How many items are left, exactly.
+    /// Returns the exact number of items left, as both bounds.
     fn size_hint(&self) -> (usize, Option<usize>)
         ensures lower { IsWithinCount result.0 (item_count sections_left self.now) }
         ensures upper { IfSome result.1 (UpTo (item_count sections_left self.now)) }
@@ -100,7 +100,7 @@ impl<'a> Iterator for SectionIterator<'a> {
 }
 
 impl<'a> ExactSizeIterator for SectionIterator<'a> {
-    /// How many items are left.
+    /// Returns the number of items left.
     fn len(&self) -> usize {
         self.count.saturating_sub(self.next_item) as usize
     }

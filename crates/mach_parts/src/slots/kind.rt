@@ -1,4 +1,4 @@
-//! Kinds of slots, and the slots that a section has (`mach-o/loader.h`, struct section).
+//! The kinds of slots, and the slots of a section (`mach-o/loader.h`, struct section).
 
 ghost use Rattle.std.specs.Prelude.{◌≡◌, ◌*◌, ◌+◌, ◌<◌, ◌^◌, Some, None, nat_lt, if◌then◌else◌};
 ghost use Rattle.mach_base.specs.Answer.{Reads};
@@ -19,23 +19,23 @@ const S_LAZY_DYLIB_SYMBOL_POINTERS: u32 = 0x10;
 
 const S_THREAD_LOCAL_VARIABLE_POINTERS: u32 = 0x14;
 
-/// What stands in a slot.
+/// The kind of a slot.
 #[derive(Clone, Copy, Debug)]
 pub enum SlotKind {
-    /// A pointer that is bound when the image is loaded.
+    /// A pointer that is bound at load time.
     Pointer,
-    /// A pointer that is bound at the first use.
+    /// A pointer that is bound at its first use.
     LazyPointer,
-    /// Code that jumps by a pointer.
+    /// Code that jumps through a pointer.
     Stub,
-    /// A pointer into a library that is loaded at the first use.
+    /// A pointer into a library that is loaded at its first use.
     LazyLibraryPointer,
-    /// A pointer to a variable that each thread has for itself.
+    /// A pointer to a thread-local variable.
     ThreadLocalPointer,
 }
 
 impl SlotKind {
-    /// The kind of the slots of a section with these flags, if it has slots.
+    /// Returns the kind of the slots in a section with these flags, if it has slots.
     pub fn of(flags: u32) -> Option<SlotKind>
         ensures { result ≡ slot_kind flags }
     {
@@ -49,7 +49,7 @@ impl SlotKind {
         }
     }
 
-    // How many bytes a slot of a section has.
+    // Returns the size of a slot in bytes.
     fn len(self, ctx: Ctx, section: &Section64) -> u64
         ensures { result ≡ slot_len ctx.container self section.now }
     {
@@ -60,7 +60,7 @@ impl SlotKind {
     }
 }
 
-/// The slots of a section: one behind the other, as many as there is room for.
+/// The slots of a section, one after another, as many as it has room for.
 #[derive(Clone, Copy, Debug)]
 pub struct SlotRun {
     /// The number of the section's segment, from 0.
@@ -70,16 +70,16 @@ pub struct SlotRun {
     pub kind: SlotKind,
     /// The address of the first slot.
     pub address: u64,
-    /// How many bytes a slot has.
+    /// The size of a slot in bytes.
     pub len: u64,
-    /// The number of the first slot's entry in the table of indirect symbols.
+    /// The number of the first slot's entry in the indirect symbol table.
     pub first: u32,
     /// How many slots there are.
     pub count: u64,
 }
 
 impl SlotRun {
-    // The slots of a section with slots of a kind. Refused where a slot has no size.
+    // Returns the slots of a section whose slots are of this kind. Fails if their size is 0.
     fn of_kind(ctx: Ctx, n: &NumberedSection, kind: SlotKind) -> Result<SlotRun>
         ensures { Reads (λ r. r) result (slot_run ctx.container n.now kind) }
     {
@@ -98,7 +98,7 @@ impl SlotRun {
         })
     }
 
-    /// The slots of a section, if it has any. Refused where a slot has no size.
+    /// Returns the slots of a section, if it has any. Fails if their size is 0.
     pub fn of(ctx: Ctx, n: &NumberedSection) -> Result<Option<SlotRun>>
         ensures { Reads (λ r. r) result (run_of ctx.container n.now) }
     {
@@ -112,7 +112,7 @@ impl SlotRun {
         Ok(Some(run))
     }
 
-    /// The address of a slot, if 64 bits have it.
+    /// Returns the address of slot `j`, if it fits 64 bits.
     #[inline(always)]
     pub fn address_of(&self, j: u64) -> Option<u64>
         ensures { result ≡ (if nat_lt (self.now.address + j * self.now.len) (2 ^ 64) then Some (self.now.address + j * self.now.len) else None) }
@@ -121,7 +121,7 @@ impl SlotRun {
         self.address.checked_add(before)
     }
 
-    /// The number of a slot's entry, if it is below `count`.
+    /// Returns the number of slot `j`'s entry, if it is below `count`.
     #[inline(always)]
     pub fn entry_of(&self, j: u64, count: u32) -> Option<u32>
         ensures { result ≡ (if nat_lt (self.now.first + j) count then Some (self.now.first + j) else None) }

@@ -1,4 +1,4 @@
-//! The slot of an address.
+//! Finds the slot at an address.
 
 ghost use Rattle.std.specs.Prelude.{◌≡◌, ◌<◌, find, map, option_map};
 ghost use Rattle.mach_base.specs.Answer.{Reads};
@@ -13,14 +13,14 @@ use crate::slots::kind::{SlotKind, SlotRun};
 use crate::slots::source::{HeldSource, SlotSource};
 use mach_base::Result;
 
-// Whether a section has slots, and an address lies in it.
+// Whether a section has slots and holds an address.
 fn holds_slots(section: &NumberedSection, address: u64) -> bool
     ensures { result ≡ holds_slots_at address section.now }
 {
     SlotKind::of(section.section.flags).is_some() && section.holds(address)
 }
 
-// The first of an image's sections that has slots and in which an address lies.
+// Finds the first section of an image that has slots and holds an address.
 fn section_of_slots(segments: &[Segment<'_>], address: u64) -> Option<NumberedSection>
     ensures { result ≡ find (holds_slots_at address) (readable_sections (map segment_view segments.now)) }
 {
@@ -32,7 +32,7 @@ fn section_of_slots(segments: &[Segment<'_>], address: u64) -> Option<NumberedSe
     None
 }
 
-// The slot of a section in which an address lies, if there is a whole one.
+// Returns the slot of a section that holds an address, if the slot is a whole one.
 fn slot_in<'a>(
     source: &HeldSource<'a>,
     run: &SlotRun,
@@ -54,8 +54,8 @@ fn slot_in<'a>(
     }
 }
 
-/// The stub or pointer in which an address lies, if there is one: that of the first section that has slots and holds
-/// the address. Refused where a slot of that section has no size, or this slot has no entry or no symbol.
+/// Finds the stub or pointer that holds an address, in the first section that has slots and holds the
+/// address. Fails if that section's slots have the size 0, or if the slot has no entry or no symbol.
 pub fn symbol_slot_at<'a>(
     source: SlotSource<'a, '_>,
     segments: &[Segment<'a>],

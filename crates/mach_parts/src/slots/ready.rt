@@ -1,4 +1,4 @@
-//! Slots of one section that are known to have entries: they are judged once.
+//! Slots of one section that are known to have entries, because that was tested once for all of them.
 
 ghost use Rattle.std.specs.Prelude.{◌≡◌, ◌+◌, ◌-◌, ◌*◌, ◌<◌, ◌≤◌, ◌%◌, ◌^◌, ◌++◌, suc, drop, IfNone, IfSome};
 ghost use Rattle.mach_parts.specs.SlotViews.{indirect_table_of};
@@ -9,18 +9,18 @@ use crate::indirect::IndirectSymbols;
 use crate::slot::SlotEntry;
 use crate::slots::kind::{SlotKind, SlotRun};
 
-/// Slots that lie one behind the other, whose entries are in the table and in the bytes.
+/// Slots that lie one after another, and whose entries are in the table and in the bytes.
 #[derive(Clone, Copy)]
 pub struct ReadySlots<'a> {
     pub run: SlotRun,
     /// The bytes of their entries.
     pub entries: &'a [u8],
-    /// The number of the first one's entry, and its address.
+    /// The number of the first slot's entry, and the slot's address.
     pub index: u32,
     pub address: u64,
 }
 
-// A number of slots of a section whose addresses, and that of the one behind them, have 64 bits.
+// Returns a number of slots whose addresses, and the address after them, fit 64 bits.
 fn count_addressed(run: &SlotRun) -> u64
     ensures { run.now.address + result * run.now.len < 2 ^ 64 }
 {
@@ -30,8 +30,8 @@ fn count_addressed(run: &SlotRun) -> u64
     }
 }
 
-// How many slots of a section, from the first on, surely have addresses of 64 bits, and entries among so many of a table and in so
-// many bytes from the first entry on.
+// Returns a number of slots, from the first on, that surely have addresses of 64 bits. Their
+// entries are among the first `count` of the table and within `room` bytes from the first entry on.
 fn count_ready(run: &SlotRun, count: u32, room: usize) -> u64
     ensures within { result ≤ run.now.count }
     ensures addresses { run.now.address + result * run.now.len < 2 ^ 64 }
@@ -44,7 +44,7 @@ fn count_ready(run: &SlotRun, count: u32, room: usize) -> u64
 }
 
 impl<'a> ReadySlots<'a> {
-    /// None.
+    /// Returns no slots.
     pub fn none() -> Self
         ensures { ready_count result ≡ 0 }
     {
@@ -64,7 +64,7 @@ impl<'a> ReadySlots<'a> {
         }
     }
 
-    /// Those of a section, from the first on.
+    /// Returns such slots of a section, from the first on.
     pub fn of(run: &SlotRun, table: &IndirectSymbols<'a>) -> Self
         ensures within { ready_count result ≤ run.now.count }
         ensures slots { (t : SlotTables) → t.indirect ≡ indirect_table_of table.now
@@ -82,14 +82,14 @@ impl<'a> ReadySlots<'a> {
         }
     }
 
-    /// How many there are.
+    /// Returns how many there are.
     pub fn len(&self) -> u64
         ensures { result ≡ ready_count self.now }
     {
         self.entries.len() as u64 / 4
     }
 
-    /// The first one's entry.
+    /// Returns the first slot's entry.
     #[inline(always)]
     pub fn first(&self, table: &IndirectSymbols<'a>) -> Option<SlotEntry>
         ensures none { IfNone result (ready_count self.now ≡ 0) }
@@ -106,7 +106,7 @@ impl<'a> ReadySlots<'a> {
         })
     }
 
-    /// Goes on behind the first one.
+    /// Goes on to the slot after the first.
     #[inline(always)]
     pub fn pass(&mut self)
         requires { 0 < ready_count self.old }

@@ -1,4 +1,4 @@
-//! What slots are read from.
+//! The tables from which slots are read.
 
 ghost use Rattle.std.specs.Prelude.{◌≡◌, IfSome, Ok};
 ghost use Rattle.mach_base.specs.Answer.{Reads};
@@ -11,7 +11,7 @@ use crate::slots::kind::SlotRun;
 use crate::symbols::{CopiedSymbols, Symbols};
 use mach_base::{Ctx, Error, Result};
 
-/// What slots are read from: the table of indirect symbols, the symbols if there are any, and how wide a pointer is.
+/// The tables from which slots are read: the indirect symbol table and the symbols, if there are any. `ctx` has the width of a pointer.
 #[derive(Clone, Copy)]
 pub struct SlotSource<'a, 'b> {
     pub indirect: IndirectSymbols<'a>,
@@ -20,7 +20,7 @@ pub struct SlotSource<'a, 'b> {
 }
 
 impl<'a, 'b> SlotSource<'a, 'b> {
-    /// The same, with the symbols themselves.
+    /// Returns the same tables, with the symbols by value.
     pub(crate) fn held(&self) -> HeldSource<'a>
         ensures { held_tables_of result ≡ slot_tables_of self.now }
     {
@@ -35,7 +35,7 @@ impl<'a, 'b> SlotSource<'a, 'b> {
     }
 }
 
-/// What slots are read from, with the symbols themselves.
+/// The tables from which slots are read, with the symbols by value.
 #[derive(Clone, Copy)]
 pub struct HeldSource<'a> {
     pub indirect: IndirectSymbols<'a>,
@@ -44,7 +44,7 @@ pub struct HeldSource<'a> {
 }
 
 impl<'a> HeldSource<'a> {
-    /// The entry of a slot of a section, or why it and all behind it have none.
+    /// Returns the entry of slot `j`. Fails if this slot and all later ones have none.
     #[inline(always)]
     pub(crate) fn entry(&self, run: &SlotRun, j: u64) -> Result<SlotEntry>
         ensures { Reads (λ e. e) result (slot_entry (held_tables_of self.now) run.now j) }
@@ -63,7 +63,7 @@ impl<'a> HeldSource<'a> {
         })
     }
 
-    // The symbol of a number, with its name.
+    // Reads the symbol of a number, with its name.
     #[inline(always)]
     fn named(&self, index: u32) -> Result<SlotSymbol<'a>>
         ensures { Reads slot_symbol_view result (named_symbol (held_tables_of self.now).symbols index) }
@@ -77,7 +77,7 @@ impl<'a> HeldSource<'a> {
         }
     }
 
-    // Whose a slot is, by what its entry says.
+    // Returns what a slot refers to, by its entry.
     #[inline(always)]
     fn symbol(&self, says: IndirectSymbol) -> Result<SlotSymbol<'a>>
         ensures { Reads slot_symbol_view result (slot_symbol (held_tables_of self.now).symbols says) }
@@ -90,7 +90,7 @@ impl<'a> HeldSource<'a> {
         }
     }
 
-    // The symbol of a number, with its name, wherever it is quickly found.
+    // Reads the symbol of a number, with its name, if the fast path finds it.
     #[inline(always)]
     fn quick_named(&self, index: u32) -> Option<SlotSymbol<'a>>
         ensures { IfSome result (λ s. named_symbol (held_tables_of self.now).symbols index ≡ Ok (slot_symbol_view s)) }
@@ -105,7 +105,7 @@ impl<'a> HeldSource<'a> {
         Some(SlotSymbol::Named { index, name })
     }
 
-    // Whose a slot is, wherever it is quickly found.
+    // Returns what a slot refers to, if the fast path finds it.
     #[inline(always)]
     fn quick_symbol(&self, says: IndirectSymbol) -> Option<SlotSymbol<'a>>
         ensures { IfSome result (λ s. slot_symbol (held_tables_of self.now).symbols says ≡ Ok (slot_symbol_view s)) }
@@ -118,7 +118,7 @@ impl<'a> HeldSource<'a> {
         }
     }
 
-    /// The slot of an entry, for a caller that asks `slot` where there is none.
+    /// Returns the slot of an entry. For `None` the caller tries `slot`.
     #[inline(always)]
     pub(crate) fn quick_slot(&self, run: &SlotRun, entry: &SlotEntry) -> Option<SymbolSlot<'a>>
         ensures { IfSome result (λ s. slot_of_entry (held_tables_of self.now) run.now entry.now ≡ Ok (slot_view s)) }
@@ -135,7 +135,7 @@ impl<'a> HeldSource<'a> {
         })
     }
 
-    /// The slot of an entry, or why its symbol can't be read.
+    /// Returns the slot of an entry. Fails if its symbol cannot be read.
     #[inline(always)]
     pub(crate) fn slot(&self, run: &SlotRun, entry: &SlotEntry) -> Result<SymbolSlot<'a>>
         ensures { Reads slot_view result (slot_of_entry (held_tables_of self.now) run.now entry.now) }

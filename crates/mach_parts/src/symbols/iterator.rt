@@ -1,4 +1,4 @@
-//! Symbols one after the other.
+//! Reads symbols one after another.
 
 ghost use Rattle.std.specs.Prelude.{◌≡◌, ◌<◌, ◌^◌, [], Ok, length, drop, IfSome};
 ghost use Rattle.mach_base.specs.Answer.{Reads};
@@ -9,10 +9,10 @@ use crate::symbols::Table;
 use crate::symbols::nlist::Nlist;
 use mach_base::{Ctx, KeptText, Result, quick_text};
 
-// In how many bytes the end of a name is sought first.
+// The number of bytes in which the end of a name is searched first.
 const FRONT: usize = 256;
 
-// The text at a place, if it ends within the bytes that are looked at. Their number is fixed, so that the search of them is fast.
+// Returns the text at a place if it ends within `FRONT` bytes. The fixed number makes the search fast.
 #[inline(always)]
 fn short_text(bytes: &[u8], place: usize) -> Option<&str>
     ensures { IfSome result (λ text. text_at bytes.now place ≡ Ok text.now) }
@@ -28,7 +28,7 @@ fn short_text(bytes: &[u8], place: usize) -> Option<&str>
     Some(text)
 }
 
-// The text at a place, however long. Few names are.
+// Reads the text at a place, of any length. Few names need it.
 #[cold]
 #[inline(never)]
 fn long_text<'a>(names: &mut KeptText<'a>, place: usize) -> Result<&'a str>
@@ -38,11 +38,11 @@ fn long_text<'a>(names: &mut KeptText<'a>, place: usize) -> Result<&'a str>
     names.read(place)
 }
 
-// A table whose names are read one after the other.
+// A table whose names are read one after another.
 #[derive(Clone, Copy)]
 struct NamedTable<'a> {
     table: Table<'a>,
-    // Reads the long names: those that end together are sought once.
+    // Reads the long names. The common end of several is searched once.
     names: KeptText<'a>,
     ghost same_bytes: { kept_bytes names ≡ table.bytes.now },
 }
@@ -51,7 +51,7 @@ impl<'a> NamedTable<'a> {
     ghost use Rattle.mach_parts.specs.Symbols.{symbol_at};
     ghost use Rattle.mach_parts.specs.SymbolViews.{table_view, symbol_read};
 
-    // A symbol with its name.
+    // Reads a symbol with its name.
     #[tactic(auto, unfolding(crate::specs::Symbols::symbol_at))]
     #[inline(always)]
     fn symbol(&mut self, index: usize) -> Result<(&'a str, Nlist)>
@@ -64,7 +64,7 @@ impl<'a> NamedTable<'a> {
         if let Some(name) = short_text(table.bytes, place) {
             return Ok((name, symbol));
         }
-        // A copy: by a reference to it the loop of a caller would keep the iterator in memory.
+        // A copy: with a reference the loop of a caller would keep the iterator in memory.
         let mut names = self.names;
         let name = long_text(&mut names, place);
         self.names = names;
@@ -72,7 +72,7 @@ impl<'a> NamedTable<'a> {
     }
 }
 
-/// Symbols one after the other, each as `get` gives it.
+/// An iterator over symbols. Each item is what `get` returns.
 #[derive(Clone, Drop)]
 pub struct SymbolIterator<'a> {
     source: NamedTable<'a>,
@@ -83,7 +83,7 @@ impl<'a> SymbolIterator<'a> {
     ghost use Rattle.mach_parts.specs.Symbols.{symbols_of};
     ghost use Rattle.mach_parts.specs.SymbolViews.{table_view, symbols_left};
 
-    // The symbols of a table, from the first.
+    // Builds an iterator over all symbols of a table.
     pub(super) fn new(table: Table<'a>) -> Self
         ensures items { symbols_left result ≡ symbols_of (table_view table.entry) }
         ensures bounded { length (symbols_left result) < 2 ^ 64 }
@@ -97,7 +97,7 @@ impl<'a> SymbolIterator<'a> {
         }
     }
 
-    // The symbols of a table from a number on.
+    // Builds an iterator over the symbols of a table from a number on.
     pub(super) fn from_number(table: Table<'a>, first: usize) -> Self
         ensures { symbols_left result ≡ drop first (symbols_of (table_view table.entry)) }
     {
@@ -116,7 +116,7 @@ impl<'a> Default for SymbolIterator<'a> {
 
     ghost is_default = { λ i. symbols_left i ≡ [] };
 
-    /// No symbols.
+    /// Returns an iterator without symbols.
     fn default() -> Self {
         SymbolIterator::new(Table {
             bytes: &[],
@@ -150,7 +150,7 @@ impl<'a> Iterator for SymbolIterator<'a> {
         Some(self.source.symbol(index))
     }
 
-    /// How many items are left, exactly.
+    /// Returns the exact number of items left, as both bounds.
     fn size_hint(&self) -> (usize, Option<usize>)
         ensures lower { IsWithinCount result.0 (item_count symbols_left self.now) }
         ensures upper { IfSome result.1 (UpTo (item_count symbols_left self.now)) }
@@ -162,7 +162,7 @@ impl<'a> Iterator for SymbolIterator<'a> {
 }
 
 impl<'a> ExactSizeIterator for SymbolIterator<'a> {
-    /// How many items are left.
+    /// Returns the number of items left.
     fn len(&self) -> usize {
         self.source.table.nsyms.saturating_sub(self.index)
     }

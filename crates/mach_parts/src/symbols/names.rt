@@ -1,33 +1,33 @@
-//! Types and flags of symbols, with the types' names (`mach-o/nlist.h`, `mach-o/stab.h`).
+//! The types and flags of symbols, with the names of the types (`mach-o/nlist.h`, `mach-o/stab.h`).
 
 ghost use Rattle.std.specs.Prelude.{◌≡◌};
 ghost use Rattle.mach_parts.specs.Symbols.{type_name};
 
-/// The bits of a type that only entries for a debugger have.
+/// The bits of a type that only debugging entries have.
 pub const N_STAB: u8 = 0xe0;
 
-/// Known outside its object file, and not outside the image.
+/// Visible outside its object file but not outside the image (private external).
 pub const N_PEXT: u8 = 0x10;
 
 /// The bits of a symbol's type.
 pub const N_TYPE: u8 = 0xe;
 
-/// Known outside the image.
+/// Visible outside the image (external).
 pub const N_EXT: u8 = 0x1;
 
-/// Undefined: found in another image.
+/// Undefined: defined in another image.
 pub const N_UNDF: u8 = 0x0;
 
-/// An absolute number.
+/// An absolute value.
 pub const N_ABS: u8 = 0x2;
 
 /// Defined in a section.
 pub const N_SECT: u8 = 0xe;
 
-/// Undefined, and bound beforehand.
+/// Undefined, and prebound.
 pub const N_PBUD: u8 = 0xc;
 
-/// The same as another symbol.
+/// An alias of another symbol (indirect).
 pub const N_INDR: u8 = 0xa;
 
 /// A global variable.
@@ -54,7 +54,7 @@ pub const N_PC: u8 = 0x30;
 /// The path of a syntax tree.
 pub const N_AST: u8 = 0x32;
 
-/// What the compiler was told.
+/// Options of the compiler.
 pub const N_OPT: u8 = 0x3c;
 
 /// A variable in a register.
@@ -99,13 +99,13 @@ pub const N_PSYM: u8 = 0xa0;
 /// The end of an included file.
 pub const N_EINCL: u8 = 0xa2;
 
-/// Another entry of a procedure.
+/// An alternate entry of a procedure.
 pub const N_ENTRY: u8 = 0xa4;
 
 /// A left bracket.
 pub const N_LBRAC: u8 = 0xc0;
 
-/// An included file that was left out.
+/// An included file that is omitted.
 pub const N_EXCL: u8 = 0xc2;
 
 /// A right bracket.
@@ -120,25 +120,25 @@ pub const N_ECOMM: u8 = 0xe4;
 /// The end of a local common block.
 pub const N_ECOML: u8 = 0xe8;
 
-/// How long the entry before it is.
+/// The length of the preceding entry.
 pub const N_LENG: u8 = 0xfe;
 
 /// No section.
 pub const NO_SECT: u8 = 0x0;
 
-/// The highest number of a section.
+/// The highest section number.
 pub const MAX_SECT: u8 = 0xff;
 
 /// The bits of a symbol's type.
 pub const NLIST_TYPE_MASK: u8 = 0xe;
 
-/// Known outside the image.
+/// Visible outside the image.
 pub const NLIST_TYPE_GLOBAL: u8 = 0x1;
 
-/// Known inside the image.
+/// Visible inside the image.
 pub const NLIST_TYPE_LOCAL: u8 = 0x0;
 
-/// The bits of `n_desc` that say how an undefined symbol is referred to.
+/// The bits of `n_desc` that hold the kind of reference of an undefined symbol.
 pub const REFERENCE_TYPE: u16 = 0xf;
 
 /// An undefined symbol, bound when the image is loaded.
@@ -150,7 +150,7 @@ pub const REFERENCE_FLAG_UNDEFINED_LAZY: u16 = 0x1;
 /// A symbol defined in this module.
 pub const REFERENCE_FLAG_DEFINED: u16 = 0x2;
 
-/// A symbol defined in this module, and known in its image alone.
+/// A symbol defined in this module, and visible only in its image.
 pub const REFERENCE_FLAG_PRIVATE_DEFINED: u16 = 0x3;
 
 /// A symbol of another module of the image, bound when it is loaded.
@@ -159,7 +159,7 @@ pub const REFERENCE_FLAG_PRIVATE_UNDEFINED_NON_LAZY: u16 = 0x4;
 /// A symbol of another module of the image, bound at its first use.
 pub const REFERENCE_FLAG_PRIVATE_UNDEFINED_LAZY: u16 = 0x5;
 
-/// Looked up by name at run time, so it isn't stripped.
+/// Looked up by name at run time, so it is not stripped.
 pub const REFERENCED_DYNAMICALLY: u16 = 0x10;
 
 /// For the dynamic linker at run time.
@@ -168,13 +168,13 @@ pub const N_DESC_DISCARDED: u16 = 0x20;
 /// Never stripped as unused, in an object file.
 pub const N_NO_DEAD_STRIP: u16 = 0x20;
 
-/// A weak reference: 0 where nothing defines it.
+/// A weak reference: 0 if nothing defines it.
 pub const N_WEAK_REF: u16 = 0x40;
 
-/// A weak definition: another one takes its place.
+/// A weak definition: another definition replaces it.
 pub const N_WEAK_DEF: u16 = 0x80;
 
-/// The name of a symbol's type, or `UNKNOWN_N_TYPE`.
+/// Returns the name of a symbol's type, or `UNKNOWN_N_TYPE`.
 pub fn n_type_to_str(n_type: u8) -> &'static str
     ensures { result.now ≡ type_name n_type }
 {

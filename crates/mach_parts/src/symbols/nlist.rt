@@ -17,15 +17,15 @@ pub const SIZEOF_NLIST_64: usize = 16;
 /// The record of a symbol in a 32-bit image (struct nlist).
 #[derive(Clone, Copy, Debug)]
 pub struct Nlist32 {
-    /// The place of its name, counted from the first one's.
+    /// The offset of its name in the string table.
     pub n_strx: u32,
-    /// Its type, and what it is known to.
+    /// Its type and visibility.
     pub n_type: u8,
     /// The number of its section, counted from 1, or `NO_SECT`.
     pub n_sect: u8,
     /// Flags.
     pub n_desc: u16,
-    /// Its value, mostly an address.
+    /// Its value, usually an address.
     pub n_value: u32,
 }
 
@@ -66,15 +66,15 @@ impl Record for Nlist32 {
 /// The record of a symbol in a 64-bit image (struct nlist_64).
 #[derive(Clone, Copy, Debug)]
 pub struct Nlist64 {
-    /// The place of its name, counted from the first one's.
+    /// The offset of its name in the string table.
     pub n_strx: u32,
-    /// Its type, and what it is known to.
+    /// Its type and visibility.
     pub n_type: u8,
     /// The number of its section, counted from 1, or `NO_SECT`.
     pub n_sect: u8,
     /// Flags.
     pub n_desc: u16,
-    /// Its value, mostly an address.
+    /// Its value, usually an address.
     pub n_value: u64,
 }
 
@@ -112,37 +112,37 @@ impl Record for Nlist64 {
     }
 }
 
-/// The record of a symbol, in the form of either width.
+/// The record of a symbol, for images of either width.
 #[derive(Clone, Debug, Drop)]
 pub struct Nlist {
-    /// The place of its name, counted from the first one's.
+    /// The offset of its name in the string table.
     pub n_strx: usize,
-    /// Its type, and what it is known to.
+    /// Its type and visibility.
     pub n_type: u8,
     /// The number of its section, counted from 1, or `NO_SECT`.
     pub n_sect: usize,
     /// Flags.
     pub n_desc: u16,
-    /// Its value, mostly an address.
+    /// Its value, usually an address.
     pub n_value: u64,
 }
 
 impl Nlist {
-    /// Its type: the bits of `N_TYPE`.
+    /// Returns its type: the bits of `N_TYPE`.
     pub fn get_type(&self) -> u8
         ensures { result ≡ type_of self.now.n_type }
     {
         self.n_type & N_TYPE
     }
 
-    /// The name of its type, or `UNKNOWN_N_TYPE`.
+    /// Returns the name of its type, or `UNKNOWN_N_TYPE`.
     pub fn type_str(&self) -> &'static str
         ensures { result.now ≡ type_name (type_of self.now.n_type) }
     {
         n_type_to_str(self.get_type())
     }
 
-    /// Whether it is known outside the image.
+    /// Whether it is visible outside the image.
     pub fn is_global(&self) -> bool
         ensures { IsTrue result ↔ IsGlobal self.now }
     {
@@ -156,21 +156,21 @@ impl Nlist {
         self.n_desc & (N_WEAK_REF | N_WEAK_DEF) != 0
     }
 
-    /// Whether it is in no section and of no type: another image defines it.
+    /// Whether it is undefined: it is in no section and of type `N_UNDF`. Another image defines it.
     pub fn is_undefined(&self) -> bool
         ensures { IsTrue result ↔ IsUndefined self.now }
     {
         self.n_sect == 0 && self.get_type() == N_UNDF
     }
 
-    /// Whether it is an entry for a debugger.
+    /// Whether it is a debugging entry.
     pub fn is_stab(&self) -> bool
         ensures { IsTrue result ↔ IsStab self.now }
     {
         self.n_type & N_STAB != 0
     }
 
-    /// The symbol's record at a place.
+    /// Reads the symbol's record at `offset`.
     pub(crate) fn read(bytes: &[u8], offset: usize, ctx: Ctx) -> Result<Nlist>
         ensures { Reads (λ symbol. symbol) result (nlist_at ctx bytes.now offset) }
     {
@@ -218,7 +218,7 @@ impl From<Nlist> for Nlist32 {
 
     ghost from_gives = { λ symbol narrow. narrow ≡ to_nlist32 symbol };
 
-    /// Of the name's place and the value the low 32 bits are kept, of the section's number the low 8.
+    /// Keeps the low 32 bits of the name's offset and of the value, and the low 8 bits of the section number.
     fn from(symbol: Nlist) -> Nlist32 {
         Nlist32 {
             n_strx: low_bits(symbol.n_strx as u64),
@@ -235,7 +235,7 @@ impl From<Nlist> for Nlist64 {
 
     ghost from_gives = { λ symbol wide. wide ≡ to_nlist64 symbol };
 
-    /// Of the name's place the low 32 bits are kept, of the section's number the low 8.
+    /// Keeps the low 32 bits of the name's offset, and the low 8 bits of the section number.
     fn from(symbol: Nlist) -> Nlist64 {
         Nlist64 {
             n_strx: low_bits(symbol.n_strx as u64),
@@ -282,7 +282,7 @@ impl TryIntoCtx<Ctx> for Nlist {
 
     ghost not_empty = { λ ctx _. elim ctx.container as (λ w. 0 < nlist_size w) [ Little ↦ zero-lt-suc _ | Big ↦ zero-lt-suc _ ] };
 
-    /// Writes the record in the width of the context.
+    /// Writes the record in the context's width.
     fn try_into_ctx(self, bytes: &mut [u8], ctx: Ctx) -> Result<usize> {
         match ctx.container {
             Container::Little => Nlist32::from(self).try_into_ctx(bytes, ctx.le),
