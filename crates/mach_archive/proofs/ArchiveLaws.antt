@@ -1,4 +1,4 @@
--- Laws of archives: where members begin, and that each is found at its place.
+-- Laws of archives: where members begin, and that `member_at` returns each at its place.
 use Rattle.std.proofs.Common.{◌≡◌, ◌==◌, ◌||◌, ℕ, ◌≤◌, ◌∷◌, ◌++◌, Bool, true, false, cond, List, [], length, Option, Some, None}
 use Rattle.std.proofs.Common.{Result, Ok, Err, is_some, nat_le, nat_lt, codes, inl, inr, refl, sym, ap, subst, ◌∙◌, arith}
 use Rattle.std.specs.Str.{bytes_eq}
@@ -38,7 +38,7 @@ at_its_place a from (Ok n ∷ items) m behind are among =
           rw (test, header) (ap Ok (sym is))
     ]
 
--- behind a header that stands behind the magic
+-- the place after the first header, which follows the magic, lies after the magic
 behind : (h : MemberHeader) (width : Option ℕ) → h.place ≡ 8 → 8 ≤ next_header h → 8 ≤ behind_index h width
 behind h None place next = omega (arith, place)
 behind h (Some w) place next = next
@@ -92,7 +92,7 @@ behind_magic bytes a e = elim (chosen (length bytes == 8) (Ok (empty_archive byt
       by_header bytes header.0 a stands.place (omega arith) header.2
 ]
 
--- an archive is of its bytes, and its members begin behind the magic
+-- an archive's view holds its bytes, and its members begin after the magic
 pub archive_begins : (bytes : List ℕ) (a : ArchiveView) → archive_in bytes ≡ Ok a → (a.bytes ≡ bytes) × (8 ≤ a.begin)
 unfolding archive_in
 archive_begins bytes a e =

@@ -1,4 +1,4 @@
--- Digits one after the other, and what is trimmed from the end.
+-- Digits, one after another, and what is trimmed from the end.
 use Rattle.std.proofs.Common.{◌≡◌, ℕ, ◌+◌, ◌-◌, ◌*◌, ◌^◌, ◌<◌, ◌≤◌, Bool, true, List, length, take, get_or, sym, ap, arith}
 use Rattle.std.specs.Char.{digit_value, is_digit}
 use Rattle.std.specs.List.{list_all, suffix_len}
@@ -41,20 +41,20 @@ one_more_digit base number digit i most low below short =
     let right : 10 ^ (i + 1) ≤ 10 ^ 16 = pow-le-pow_right (let some : 0 < 10 = omega arith in some) (let fits : i + 1 ≤ 16 = omega arith in fits) in
     (omega (arith, step, times, low), omega (arith, left, right))
 
--- of all digits the number is small
+-- the number of all digits is small
 pub digits_small : (base number i : ℕ) → base ≤ 10 → number < base ^ i → i ≤ 16 → number < 10 ^ 16
 digits_small base number i most below short =
     let left : base ^ i ≤ 10 ^ i = pow-le-pow_left most i in
     let right : 10 ^ i ≤ 10 ^ 16 = pow-le-pow_right (let some : 0 < 10 = omega arith in some) short in
     omega (arith, left, right)
 
--- one byte less that passes
+-- one more byte at the end passes the test
 pub trim_more : (test : ℕ → Bool) (s : List ℕ) (n : ℕ) → n ≤ length s → 0 < n → test (get_or s (n - 1) 0) ≡ true
     → n + suffix_len test s ≡ length s + suffix_len test (take n s) → n - 1 + suffix_len test s ≡ length s + suffix_len test (take (n - 1) s)
 trim_more test s n inside some passes trims =
     let one = suffix_len-take_yes test s n 0 some inside passes in omega (arith, one, trims)
 
--- no byte that passes is left at the end
+-- no byte at the end passes the test
 pub trim_stops : (test : ℕ → Bool) (s : List ℕ) (n : ℕ) → n ≤ length s → suffix_len test (take n s) ≡ 0
     → n + suffix_len test s ≡ length s + suffix_len test (take n s) → take n s ≡ without_end test s
 trim_stops test s n inside none trims =

@@ -1,4 +1,4 @@
--- What a header that was read says of the bytes.
+-- What follows from a header that was read.
 use Rattle.std.proofs.Common.{◌≡◌, ◌==◌, ℕ, ◌+◌, ◌≤◌, List, [], ◌∷◌, length, take, drop, Option, Some, None, unwrap_or, Result, Ok, Err, nat_le, cond}
 use Rattle.std.proofs.Common.{true, false, Bool, inl, inr, refl, sym, ap, ◌∙◌, subst, arith}
 use Rattle.std.specs.Str.{bytes_eq, is_utf8, IsUtf8}
@@ -17,7 +17,7 @@ use Rattle.mach_archive.specs.MemberHeaders.{long_name_len, named_len, some_len,
 use Rattle.mach_archive.specs.MemberHeaders.{at_most_or_malformed, has_long_name, end_field, size_field}
 use Rattle.std.specs.Prelude.{slice_range, ◌-◌}
 
--- so many bytes lie at a place where something was found in them
+-- a bounded read that succeeds lies within the bytes
 pub bounded_room : {A : Type 0} (n : ℕ) (bytes : List ℕ) (s : ℕ) (found y : A) → bounded n bytes s found ≡ Ok y → s + n ≤ length bytes
 bounded_room {A} n bytes s found y e =
     elim (chosen {A = A} (nat_le (length bytes) s) (Err (bad_offset s)) (if_room) (Ok y) e) [
@@ -31,7 +31,7 @@ bounded_room {A} n bytes s found y e =
     if_room : Result A Fault
     if_room = cond (nat_le (s + n) (length bytes)) (Ok found) (Err (too_big n (length bytes - s)))
 
--- a header stands at the place where it was read, its bytes behind it, and a long name among them
+-- the header is at the place where it was read, its bytes follow it, and they include a long name
 pub record StandsAt (bytes : List ℕ) (h : ℕ) (x : MemberHeader) : Type 0 where
   pub place : x.place ≡ h
   pub room : h + 60 + x.size ≤ length bytes
@@ -86,11 +86,11 @@ header_stands bytes h x e =
     let fields = bind_ok (slice_at 60 bytes h) (header_by_fields bytes h) x e in
     by_fields bytes h fields.0 x (bounded_room 60 bytes h (take 60 (drop h bytes)) fields.0 fields.1) fields.2
 
--- the next header stands behind this one
+-- the next header lies after this one
 pub further : (bytes : List ℕ) (from : ℕ) (h : MemberHeader) → member_header_at bytes from ≡ Ok h → from + 60 ≤ next_header h
 further bytes from h e = let there = header_stands bytes from h e in omega (arith, there.place)
 
--- what was found of a bounded read
+-- the value of a bounded read that succeeds
 bounded_found : {A : Type 0} (n : ℕ) (bytes : List ℕ) (s : ℕ) (found y : A) → bounded n bytes s found ≡ Ok y → found ≡ y
 bounded_found {A} n bytes s found y e =
     elim (chosen {A = A} (nat_le (length bytes) s) (Err (bad_offset s)) (if_room) (Ok y) e) [
@@ -104,14 +104,14 @@ bounded_found {A} n bytes s found y e =
     if_room : Result A Fault
     if_room = cond (nat_le (s + n) (length bytes)) (Ok found) (Err (too_big n (length bytes - s)))
 
--- so many bytes that were read are so many
+-- the slice has the requested length
 pub slice_len : (n : ℕ) (bytes : List ℕ) (s : ℕ) (found : List ℕ) → slice_at n bytes s ≡ Ok found → length found ≡ n
 slice_len n bytes s found e =
     let is : take n (drop s bytes) ≡ found = bounded_found n bytes s (take n (drop s bytes)) found e in
     let room = bounded_room n bytes s (take n (drop s bytes)) found e in
     ap length (sym is) ∙ length-take-le n (drop s bytes) (omega (arith, room, length-drop s bytes))
 
--- the text that a name is, or why it is none
+-- the text of a name that is UTF-8
 pub text_is : (name text : List ℕ) → (text ≡ name) × IsUtf8 name → text_or_fault name ≡ Ok text
 text_is name text good = let test : is_utf8 name ≡ true = is_utf8-from_IsUtf8 name good.1 in rw test (ap Ok (sym good.0))
 

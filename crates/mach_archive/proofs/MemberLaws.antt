@@ -1,4 +1,4 @@
--- Laws of members: they are one list, one behind the other, and no more than fit.
+-- Laws of members: there is only one list, its members lie one after another, and no more than fit.
 use Rattle.std.proofs.Common.{◌≡◌, ℕ, ◌+◌, ◌-◌, ◌*◌, ◌<◌, ◌≤◌, List, [], ◌∷◌, length, map, drop, Result, Ok, Err, unwrap_or, refl, sym, ap, ◌∙◌, subst, arith}
 use Rattle.std.proofs.lemmas.List.{length-take}
 use Rattle.mach_base.specs.Fault.{Fault}
@@ -7,7 +7,7 @@ use Rattle.mach_archive.specs.MemberHeaders.{MemberHeader, member_header_at, nex
 use Rattle.mach_archive.specs.Members.{LongNames, MemberView, member_of, AreMembers, IsMembers}
 use Rattle.mach_archive.proofs.HeadersRead.{header_stands, further}
 
--- one header
+-- only one header is at a place
 same_header : (bytes : List ℕ) (from : ℕ) (g h : MemberHeader) → member_header_at bytes from ≡ Ok g → member_header_at bytes from ≡ Ok h → g ≡ h
 same_header bytes from g h a b = same_ok (sym a ∙ b)
 
@@ -31,7 +31,7 @@ one_list bytes names from (Ok m ∷ xs) (Ok n ∷ ys) a b =
     let item : m ≡ n = a.1.2 ∙ (ap (member_of bytes names) same ∙ sym b.1.2) in
     cc
 
--- places of headers, one for a member
+-- the places of the headers, one for each member
 pub places_of_members : (bytes : List ℕ) (names : LongNames) (from : ℕ) (ms : List MemberView) → AreMembers bytes names from (map Ok ms)
     → IsMembers bytes from (map (λ m. m.offset) ms)
 places_of_members bytes names from [] a = a
@@ -41,7 +41,7 @@ places_of_members bytes names from (m ∷ ms) a =
     let place : m.offset ≡ from = ap (λ (v : MemberView). v.offset) a.1.2 ∙ there.place in
     (place, a.0, (h, a.1.1, places_of_members bytes names (next_header h) ms a.1.3))
 
--- and the members at places
+-- the members at such places
 pub members_at_places : (bytes : List ℕ) (names : LongNames) (from : ℕ) (places : List ℕ) → IsMembers bytes from places
     → (ms : List MemberView) × AreMembers bytes names from (map Ok ms) × (map (λ m. m.offset) ms ≡ places)
 members_at_places bytes names from [] a = ([], a, refl)
@@ -52,7 +52,7 @@ members_at_places bytes names from (place ∷ places) a =
     let is : h.place ≡ place = there.place ∙ sym a.0 in
     (member_of bytes names h ∷ others.0, (a.1, (h, a.2.1, refl, others.1)), cc (is, others.2))
 
--- 60 bytes for each, and at least one for a fault
+-- 60 bytes for each member, and at least one byte for a fault
 pub no_more_than_fit : (bytes : List ℕ) (names : LongNames) (from : ℕ) (items : List (Result MemberView Fault)) → AreMembers bytes names from items
     → from < length bytes → from + 60 * length items < length bytes + 60
 no_more_than_fit bytes names from [] a inside = omega arith
@@ -75,7 +75,7 @@ fit bytes from place (next ∷ places) a =
     let others = fit bytes (next_header a.2.0) next places a.2.2 in
     omega arith
 
--- all of them, where there is no fault
+-- all of them, if there is no fault
 pub members_fit : (bytes : List ℕ) (from : ℕ) (places : List ℕ) → IsMembers bytes from places → 60 * length places ≤ length bytes
 members_fit bytes from [] a = omega arith
 members_fit bytes from (place ∷ places) a = let within = fit bytes from place places a in omega arith

@@ -8,20 +8,20 @@ use Rattle.mach_archive.specs.Members.{LongNames, MemberView, member_of, then_it
 use Rattle.mach_archive.proofs.HeadersRead.{further}
 
 module _ (bytes : List ℕ) (names : LongNames) where
-  -- behind the end there is none
+  -- after the end there is none
   pub members_from-past : (most from : ℕ) → length bytes ≤ from → members_from bytes names most from ≡ []
   unfolding members_from
   members_from-past zero from past = refl
   members_from-past (suc most) from past = let test : nat_le (length bytes) from ≡ true = le-leb (length bytes) from past in rw test refl
 
-  -- before it there is the first one, and those behind it
+  -- before the end there is the first, followed by the others
   pub members_from-first : (most from : ℕ) → from < length bytes
       → members_from bytes names (suc most) from
       ≡ then_items (member_header_at bytes from) (member_of bytes names) (λ h. members_from bytes names most (next_header h))
   unfolding members_from
   members_from-first most from inside = let test : nat_le (length bytes) from ≡ false = lt-leb (length bytes) from inside in rw test refl
 
-  -- a member, and lists behind it that are the same
+  -- a member, followed by equal lists
   same_behind : (from m n : ℕ) → ((k : ℕ) → from + 60 ≤ k → members_from bytes names m k ≡ members_from bytes names n k)
       → (r : Result MemberHeader Fault) → member_header_at bytes from ≡ r
       → then_items r (member_of bytes names) (λ h. members_from bytes names m (next_header h))
@@ -30,7 +30,7 @@ module _ (bytes : List ℕ) (names : LongNames) where
   same_behind from m n same (Ok h) e =
       ap (λ (items : List (Result MemberView Fault)). Ok (member_of bytes names h) ∷ items) (same (next_header h) (further bytes from h e))
 
-  -- how many are asked for says nothing, where they are enough
+  -- the bound does not matter if it is large enough
   pub members_from-enough : (m n from : ℕ) → length bytes - from ≤ m → length bytes - from ≤ n
       → members_from bytes names m from ≡ members_from bytes names n from
   members_from-enough zero n from a b = members_from-past zero from (omega arith) ∙ sym (members_from-past n from (omega arith))
@@ -46,7 +46,7 @@ module _ (bytes : List ℕ) (names : LongNames) where
             ∙ (same_behind from m n same (member_header_at bytes from) refl ∙ sym (members_from-first n from inside))
       ]
 
-  -- a member, and those behind it
+  -- a member, followed by the others
   are_behind : (from most : ℕ) → from < length bytes
       → ((k : ℕ) → from + 60 ≤ k → AreMembers bytes names k (members_from bytes names most k)) → (r : Result MemberHeader Fault)
       → member_header_at bytes from ≡ r

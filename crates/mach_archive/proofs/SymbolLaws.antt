@@ -1,4 +1,4 @@
--- Laws of symbols: they are one list, and which one a name finds.
+-- Laws of symbols: there is only one list, and which symbol a search by name returns.
 use Rattle.std.proofs.Common.{◌≡◌, ◌≢◌, ℕ, ◌+◌, Bool, true, false, cond, List, [], ◌∷◌, Result, Ok, Err, Option, Some, None, refl, sym, ap, ◌∙◌, subst, arith}
 use Rattle.std.specs.Str.{bytes_eq}
 use Rattle.std.proofs.lemmas.Slice.Eq.{bytes_eq-Decides}
@@ -23,14 +23,14 @@ one_symbol_list t k (Ok s ∷ xs) (Ok r ∷ ys) a b =
     let others : xs ≡ ys = one_symbol_list t (k + 1) xs ys a.2 b.2 in
     cc
 
--- another symbol before those in which a name finds this
+-- a symbol of another name comes before those that are searched
 finds_behind : (name : List ℕ) (s : IndexSymbol) (items : List (Result IndexSymbol Fault)) (r : Result (Option IndexSymbol) Fault) → s.name ≢ name
     → FindsFirst name items r → FindsFirst name (Ok s ∷ items) r
 finds_behind name s items (Ok (Some found)) other a = (s ∷ a.0, a.1, ap (λ (l : List (Result IndexSymbol Fault)). Ok s ∷ l) a.2, (other, a.3), a.4)
 finds_behind name s items (Ok None) other a = (s ∷ a.0, ap (λ (l : List (Result IndexSymbol Fault)). Ok s ∷ l) a.1, (other, a.2))
 finds_behind name s items (Err f) other a = (s ∷ a.0, a.1, ap (λ (l : List (Result IndexSymbol Fault)). Ok s ∷ l) a.2, (other, a.3))
 
--- what a name finds is the first
+-- a search by name returns the first
 pub finds_first : (name : List ℕ) (items : List (Result IndexSymbol Fault)) → FindsFirst name items (first_named name items)
 finds_first name [] = ([], refl, tt)
 finds_first name (Err f ∷ items) = ([], items, refl, tt)
@@ -43,7 +43,7 @@ finds_first name (Ok s ∷ items) = by_test (bytes_eq s.name name) refl (finds_f
         finds_behind name s items (first_named name items)
         (λ same. let yes = (bytes_eq-Decides s.name name).1 same in absurd (let wrong : true ≡ false = sym yes ∙ e in cc)) others
 
--- a name and the first of some symbols
+-- the first of some symbols has the name
 pub named_here : (name : List ℕ) (s : IndexSymbol) (items others : List (Result IndexSymbol Fault)) → items ≡ Ok s ∷ others → bytes_eq s.name name ≡ true
     → first_named name items ≡ Ok (Some s)
 named_here name s items others is same = ap (first_named name) is ∙ rw same refl
@@ -58,7 +58,7 @@ named_fault name f items others is = ap (first_named name) is
 pub named_none : (name : List ℕ) (items : List (Result IndexSymbol Fault)) → items ≡ [] → first_named name items ≡ Ok None
 named_none name items is = ap (first_named name) is
 
--- the symbols of an archive's table are one list
+-- there is only one list of an archive's symbols
 pub found_items : (a : ArchiveView) (u t : IndexTable) (mine items : List (Result IndexSymbol Fault)) → archive_table a ≡ Ok (Some u)
     → AreIndexSymbols u 0 mine
     → archive_table a ≡ Ok (Some t) → AreIndexSymbols t 0 items → mine ≡ items
@@ -66,6 +66,6 @@ found_items a u t mine items is are there those =
     let same : u ≡ t = cc in
     one_symbol_list u 0 mine items are (subst (λ (v : IndexTable). AreIndexSymbols v 0 items) (sym same) those)
 
--- an archive has an index or none
+-- an archive does not both have an index and have none
 pub not_both : (a : ArchiveView) (t : IndexTable) → archive_table a ≡ Ok None → archive_table a ≡ Ok (Some t) → ⊥
 not_both a t none some = let wrong : ◌≡◌ {A = Option IndexTable} None (Some t) = same_ok (sym none ∙ some) in absurd (cc)

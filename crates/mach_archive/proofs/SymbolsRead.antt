@@ -1,4 +1,4 @@
--- The symbols of a table, and those of what is left of it.
+-- The symbols of a table, and those of its remaining part.
 use Rattle.std.proofs.Common.{◌≡◌, ℕ, zero, suc, ◌+◌, ◌-◌, ◌*◌, ◌<◌, ◌≤◌, Bool, cond, List, [], ◌∷◌, length, drop, Result, Ok, Err, nat_lt, inl, inr}
 use Rattle.std.proofs.Common.{refl, sym, ap, ◌∙◌, subst, arith}
 use Rattle.std.proofs.lemmas.Bool.{cases_lt, le-ltb, lt-ltb, ltb-true}
@@ -35,7 +35,7 @@ ended_is names s text e =
       | inr not_there ↦ absurd (let wrong = not_there.1 in cc)
     ]
 
--- a text behind the first names
+-- a text after the first names
 ended_behind : (names : List ℕ) (n s : ℕ) → n ≤ length names → ended_text (drop n names) s ≡ ended_text names (n + s)
 ended_behind names n s within =
     let run : run_at (drop n names) s ≡ run_at names (n + s) = ap (λ (rest : List ℕ). before_first is_zero rest) (drop-drop s n names) in
@@ -48,7 +48,7 @@ ended_behind names n s within =
     ap (λ (b : Bool). cond b (Ok (run_at (drop n names) s)) (Err malformed)) test
     ∙ ap (λ (r : List ℕ). cond (nat_lt (n + s + length (run_at names (n + s))) (length names)) (Ok r) (Err malformed)) run
 
--- the place of a name among those behind the first
+-- the place of a name among those after the first
 place_behind : (names : List ℕ) (k : ℕ) → length (run_at names 0) + 1 + gnu_name_place (drop (length (run_at names 0) + 1) names) k ≡ gnu_name_place
     names (suc k)
 unfolding gnu_name_place
@@ -62,7 +62,7 @@ place_behind names (suc k) =
     in
     omega arith
 
--- a number of the records behind the first
+-- a number in the records after the first
 number_behind : (le : Endian) (w n k j : ℕ) (records : List ℕ) → n + w * k ≡ w * j
     → number le w (drop (w * k) (drop n records)) ≡ number le w (drop (w * j) records)
 number_behind le w n k j records same =
@@ -71,7 +71,7 @@ number_behind le w n k j records same =
 abbrev symbol_of : List ℕ → ℕ → IndexSymbol
 symbol_of name member = record { name = name; member = member }
 
--- symbols of one text and one member
+-- symbols with the same text and the same member
 made_same : {a b : Result (List ℕ) Fault} {m n : ℕ} → a ≡ b → m ≡ n
     → (a >>= (λ name. Ok (symbol_of name m))) ≡ (b >>= (λ name. Ok (symbol_of name n)))
 made_same {a} {b} {m} {n} text member =
@@ -93,7 +93,7 @@ first_is kind t s e =
     made : List ℕ → Result IndexSymbol Fault
     made name = Ok (record { name = name; member = symbol_member kind t 0 })
 
--- behind the first symbol the others have one number less
+-- in the table after the first symbol the others have numbers that are one less
 symbol_behind : (kind : ArchiveKind) (t : IndexTable) (s : IndexSymbol) (k : ℕ) → index_symbol_by kind t 0 ≡ Ok s
     → index_symbol_by kind (record {
       kind = t.kind;
@@ -135,14 +135,14 @@ left_behind : (t : IndexTable) (s : IndexSymbol) (k : ℕ) → index_symbol_at t
 unfolding index_symbol_at
 left_behind t s k e = symbol_behind t.kind t s k e
 
--- a symbol, and those behind it
+-- a symbol, followed by the others
 first_and_behind : (u : IndexTable) (k : ℕ) (r : Result IndexSymbol Fault) (others : IndexSymbol → List (Result IndexSymbol Fault))
     → index_symbol_at u k ≡ r → k < u.count
     → ((s : IndexSymbol) → r ≡ Ok s → AreIndexSymbols u (k + 1) (others s)) → AreIndexSymbols u k (then_items r (λ s. s) others)
 first_and_behind u k (Err f) others is inside behind = (inside, is, refl)
 first_and_behind u k (Ok s) others is inside behind = (inside, is, behind s refl)
 
--- the symbols of a table, where what is left of it is another
+-- the symbols of a table whose remaining part is another table
 of_left : (t u : IndexTable) (k n : ℕ) → t.count ≡ n → u.count ≡ k + n → ((j : ℕ) → index_symbol_at t j ≡ index_symbol_at u (k + j))
     → AreIndexSymbols u k (index_symbols n t)
 unfolding index_symbols
@@ -158,7 +158,7 @@ of_left t u k (suc n) few all same =
 pub symbols_are : (t : IndexTable) → AreIndexSymbols t 0 (table_symbols t)
 symbols_are t = of_left t t 0 t.count refl (omega arith) (λ j. ap (index_symbol_at t) (let same : j ≡ 0 + j = omega arith in same))
 
--- the first of some symbols, and those behind it
+-- the first of some symbols, followed by the others
 index_symbols-first : (n : ℕ) (t : IndexTable) → 0 < n
     → index_symbols n t ≡ then_items (index_symbol_at t 0) (λ s. s) (λ s. index_symbols (n - 1) (behind_symbol t s.name))
 unfolding index_symbols
@@ -187,6 +187,6 @@ left_fault t u f some is none =
     ∙ (ap (λ (r : Result IndexSymbol Fault). then_items r (λ x. x) (λ x. index_symbols (t.count - 1) (behind_symbol t x.name))) (sym is)
     ∙ ap (λ (items : List (Result IndexSymbol Fault)). Err f ∷ items) (sym (left_none u none)))
 
--- behind the first there are fewer
+-- after the first there are fewer
 pub fewer_behind : {A : Type 0} (x : A) (xs ys : List A) → xs ≡ x ∷ ys → length ys < length xs
 fewer_behind x xs ys e = omega (arith, ap length e)

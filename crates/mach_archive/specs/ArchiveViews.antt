@@ -1,4 +1,4 @@
--- What contracts see of an archive, a member, and what goes over them.
+-- What contracts see of an archive, a member, and their iterators.
 use Rattle.std.specs.Prelude.{ℕ, ◌-◌, List, length, Option, option_map, Result}
 use Rattle.std.specs.Borrow.{Bor}
 use Rattle.mach_base.specs.declared.error.Error.{Error}
@@ -37,11 +37,11 @@ member_view m =
 abbrev pub archive_of : Archive → ArchiveView
 archive_of a = record { bytes = a.bytes.now; index = option_map index_view a.index; names = names_view a.names; begin = a.begin }
 
--- a member as it was read
+-- a member, as it was read
 abbrev pub member_read : Result Member Error → Result MemberView Fault
 member_read answer = read_as member_view answer
 
--- the members that an iterator has yet to give
+-- the remaining members of an iterator
 abbrev pub members_left : Members → List (Result MemberView Fault)
 members_left it = members_from it.bytes.now (names_view it.names) (length it.bytes.now - it.place) it.place
 
@@ -51,10 +51,10 @@ archive_symbol_view s = record { name = s.name.now; member = s.member }
 abbrev pub archive_symbol_read : Result ArchiveSymbol Error → Result IndexSymbol Fault
 archive_symbol_read answer = read_as archive_symbol_view answer
 
--- the table that an iterator has yet to go over
+-- the remaining table of an iterator
 abbrev pub table_left : ArchiveSymbols → IndexTable
 table_left it = index_table_view it.table
 
--- the symbols that an iterator has yet to give
+-- the remaining symbols of an iterator
 abbrev pub archive_symbols_left : ArchiveSymbols → List (Result IndexSymbol Fault)
 archive_symbols_left it = table_symbols (table_left it)

@@ -17,11 +17,11 @@ pub record IndexSymbol : Type 0 where
   pub name : List ℕ
   pub member : ℕ
 
--- the text from s on up to a zero, which has to be there
+-- the text from s on; a zero byte must end it
 abbrev pub ended_text : List ℕ → ℕ → Result (List ℕ) Fault
 ended_text names s = if nat_lt (s + length (run_at names s)) (length names) then Ok (run_at names s) else Err malformed
 
--- where the name of symbol k begins in GNU's form: behind the zero of the one before
+-- the place of symbol k's name in GNU's form: after the zero byte of the name before
 unfoldable pub gnu_name_place : List ℕ → ℕ → ℕ
 gnu_name_place names zero = 0
 gnu_name_place names (suc k) = let s = gnu_name_place names k in s + length (run_at names s) + 1
@@ -30,7 +30,7 @@ gnu_name_place names (suc k) = let s = gnu_name_place names k in s + length (run
 abbrev pub record_number : IndexTable → ℕ → ℕ
 record_number t k = number t.le t.width (drop (t.width * k) t.records)
 
--- where the name of symbol k begins, and the place of its member: BSD's records have both numbers
+-- the place of symbol k's name, and that of its member; in BSD's form a record holds both
 abbrev pub symbol_name_place : ArchiveKind → IndexTable → ℕ → ℕ
 symbol_name_place Gnu t k = gnu_name_place t.names k
 symbol_name_place Bsd t k = record_number t (2 * k)
@@ -47,28 +47,28 @@ index_symbol_by kind t k =
 unfoldable pub index_symbol_at : IndexTable → ℕ → Result IndexSymbol Fault
 index_symbol_at t k = index_symbol_by t.kind t k
 
--- these are the symbols of a table from number k on, up to the first fault, and this
+-- these are the symbols of a table from number k on; they end after the first fault
 abbrev pub AreIndexSymbols : IndexTable → ℕ → List (Result IndexSymbol Fault) → Type 0
 AreIndexSymbols t k [] = t.count ≤ k
 AreIndexSymbols t k (Ok s ∷ items) = (k < t.count) × (index_symbol_at t k ≡ Ok s) × AreIndexSymbols t (k + 1) items
 AreIndexSymbols t k (Err f ∷ items) = (k < t.count) × (index_symbol_at t k ≡ Err f) × (items ≡ [])
 
--- the first symbol of a name, or the fault before it
+-- the first symbol of a name, or a fault before it
 abbrev pub first_named : List ℕ → List (Result IndexSymbol Fault) → Result (Option IndexSymbol) Fault
 first_named name [] = Ok None
 first_named name (Ok s ∷ items) = if bytes_eq s.name name then Ok (Some s) else first_named name items
 first_named name (Err f ∷ items) = Err f
 
--- the member of a symbol that was found
+-- the member of a symbol, if one was found
 abbrev pub member_of_symbol : ArchiveView → Option IndexSymbol → Result (Option MemberView) Fault
 member_of_symbol a None = Ok None
 member_of_symbol a (Some s) = archive_member_at a s.member >>= (λ m. Ok (Some m))
 
--- the member that a name finds among some symbols
+-- the member that a search by name returns
 abbrev pub found_by_name : ArchiveView → List ℕ → List (Result IndexSymbol Fault) → Result (Option MemberView) Fault
 found_by_name a name items = first_named name items >>= member_of_symbol a
 
--- what is left of a table behind its first symbol
+-- the records of a table after its first symbol
 abbrev pub records_behind : ArchiveKind → IndexTable → List ℕ
 records_behind Gnu t = drop t.width t.records
 records_behind Bsd t = drop (2 * t.width) t.records
@@ -88,11 +88,11 @@ behind_symbol t name =
       names = names_behind t.kind t name;
     }
 
--- so many symbols of a table, up to the first fault
+-- the first n symbols of a table; they end after the first fault
 unfoldable pub index_symbols : ℕ → IndexTable → List (Result IndexSymbol Fault)
 index_symbols zero t = []
 index_symbols (suc n) t = then_items (index_symbol_at t 0) (λ s. s) (λ s. index_symbols n (behind_symbol t s.name))
 
--- all of them
+-- all symbols of a table
 abbrev pub table_symbols : IndexTable → List (Result IndexSymbol Fault)
 table_symbols t = index_symbols t.count t

@@ -1,4 +1,4 @@
--- The table of an index (`ranlib.h`, struct ranlib and ranlib_64; GNU's `/` and `/SYM64/`) and its own faults.
+-- The table of an index (`ranlib.h`, struct ranlib and ranlib_64; GNU's `/` and `/SYM64/`), and the faults of the table itself.
 use Rattle.std.specs.Prelude.{◌==◌, ℕ, ◌+◌, ◌-◌, ◌*◌, ◌/◌, ◌%◌, List, length, take, drop, Option, Some, None, Result, Ok, Err, nat_le, if◌then◌else◌, codes}
 use Rattle.mach_base.specs.declared.context.Endian.{Endian}
 use Rattle.mach_base.specs.declared.context.Endian.TheVariants.{Little, Big}
@@ -9,8 +9,8 @@ use Rattle.mach_archive.specs.declared.archive.ArchiveKind.{ArchiveKind}
 use Rattle.mach_archive.specs.declared.archive.ArchiveKind.TheVariants.{Gnu, Bsd}
 use Rattle.mach_archive.specs.Archives.{ArchiveView, ArchiveIndexView, archive_kind}
 
--- a table: its form, the byte order and the width of its numbers, how many symbols it has, the bytes from its first record on, and
--- those of names
+-- a table: its form, the byte order and the width of its numbers, the number of
+-- its symbols, the bytes from its first record on, and the bytes of the names
 pub record IndexTable : Type 0 where
   pub kind : ArchiveKind
   pub le : Endian
@@ -19,7 +19,7 @@ pub record IndexTable : Type 0 where
   pub records : List ℕ
   pub names : List ℕ
 
--- GNU's: a count, so many places of headers, and names up to the end
+-- GNU's form: a count, as many places of headers, and the names up to the end
 abbrev pub gnu_table_of : ℕ → List ℕ → ℕ → Result IndexTable Fault
 gnu_table_of w t n =
     if nat_le (w + w * n) (length t) then
@@ -29,7 +29,7 @@ gnu_table_of w t n =
 abbrev pub gnu_table : ℕ → List ℕ → Result IndexTable Fault
 gnu_table w t = number_at Big w t 0 >>= gnu_table_of w t
 
--- BSD's, the size of its records n and that of its names s: the names are the s bytes behind both
+-- BSD's form, with n bytes of records and s bytes of names: the names are the s bytes after both numbers and the records
 abbrev pub bsd_names : Endian → ℕ → List ℕ → (n s : ℕ) → Result IndexTable Fault
 bsd_names le w t n s =
     let left = length t - (w + n + w) in
@@ -47,13 +47,13 @@ bsd_table_of le w t n =
 abbrev pub bsd_table_in : Endian → ℕ → List ℕ → Result IndexTable Fault
 bsd_table_in le w t = number_at le w t 0 >>= bsd_table_of le w t
 
--- the first of two readings, where it has a fault the second, and where that has one too the first one's fault
+-- the first of two readings; if it fails, the second; if both fail, the first fault
 abbrev pub or_else_read : {A : Type 0} → Result A Fault → Result A Fault → Result A Fault
 or_else_read (Ok x) second = Ok x
 or_else_read (Err f) (Ok y) = Ok y
 or_else_read (Err f) (Err g) = Err f
 
--- little-endian, or else big-endian
+-- as little-endian, or else as big-endian
 abbrev pub bsd_table : ℕ → List ℕ → Result IndexTable Fault
 bsd_table w t = or_else_read (bsd_table_in Little w t) (bsd_table_in Big w t)
 

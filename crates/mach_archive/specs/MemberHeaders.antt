@@ -31,22 +31,22 @@ size_field fields = slice_range fields 48 58
 abbrev pub end_field : List ℕ → List ℕ
 end_field fields = slice_range fields 58 60
 
--- a header: its place, its bytes, the size that it says, and how many of these bytes are a long name, if it has one
+-- a header: its place, its bytes, its size field, and how many of the bytes that follow are a long name, if it has one
 pub record MemberHeader : Type 0 where
   pub place : ℕ
   pub fields : List ℕ
   pub size : ℕ
   pub long : Option ℕ
 
--- whether the name stands behind the header (AR_EFMT1)
+-- whether the name follows the header (AR_EFMT1)
 abbrev pub has_long_name : List ℕ → Bool
 has_long_name fields = starts_with nat_eq fields (codes "#1/")
 
--- a number that is at most another
+-- a number, if it is at most another
 abbrev pub at_most_or_malformed : ℕ → ℕ → Result ℕ Fault
 at_most_or_malformed most n = if nat_le n most then Ok n else Err malformed
 
--- how many bytes the long name has, which are among the `size` bytes
+-- the length of the long name, which is part of the `size` bytes
 abbrev pub named_len : List ℕ → ℕ → Result ℕ Fault
 named_len fields size = found_or_malformed (numeral 10 (word_of (slice_range fields 3 16))) >>= at_most_or_malformed size
 
@@ -56,11 +56,11 @@ some_len n = Ok (Some n)
 abbrev pub long_name_len : List ℕ → ℕ → Result (Option ℕ) Fault
 long_name_len fields size = if has_long_name fields then named_len fields size >>= some_len else Ok None
 
--- a header whose bytes and size were read
+-- a header whose fields were all read
 abbrev pub header_with : ℕ → List ℕ → ℕ → Option ℕ → Result MemberHeader Fault
 header_with h fields size long = Ok (record { place = h; fields = fields; size = size; long = long })
 
--- so many bytes behind a header, where they are more than none
+-- `size` bytes follow a header; a size of 0 is always accepted
 abbrev pub room_behind : List ℕ → ℕ → ℕ → Result ℕ Fault
 room_behind bytes h size = if size == 0 then Ok 0 else room_at size bytes (h + 60)
 
@@ -74,11 +74,11 @@ header_by_fields bytes h fields =
     found_or_malformed (field_number 10 (size_field fields)) >>= header_by_size bytes h fields
     else Err malformed
 
--- The header at a place, or the first fault of these: its 60 bytes are there; they end with ARFMAG; the size is a number; so many bytes
--- follow, where it isn't 0; a long name is among them.
+-- The header at a place, or the first fault of these: its 60 bytes are there; they end with
+-- ARFMAG; the size is a number; as many bytes follow, unless it is 0; they include a long name.
 unfoldable pub member_header_at : List ℕ → ℕ → Result MemberHeader Fault
 member_header_at bytes h = slice_at 60 bytes h >>= header_by_fields bytes h
 
--- where the next header stands: behind the bytes, and one more where they are of an odd number
+-- the place of the next header: after the bytes, and one more if their number is odd
 abbrev pub next_header : MemberHeader → ℕ
 next_header h = h.place + 60 + h.size + h.size % 2

@@ -17,13 +17,13 @@ is_newline b = b == 0x0a
 abbrev pub is_slash : ℕ → Bool
 is_slash b = b == 0x2f
 
--- the line that stands at a place, up to its end, which is there
+-- the line at a place, which must end with a newline
 abbrev pub line_at : List ℕ → ℕ → Result (List ℕ) Fault
 line_at names n =
     let line = before_first is_newline (drop n names) in
     if nat_lt (n + length line) (length names) then Ok line else Err malformed
 
--- bytes that end with a slash, without it
+-- bytes without the slash that must end them
 abbrev pub before_slash : List ℕ → Result (List ℕ) Fault
 before_slash line = if ends_with nat_eq line (codes "/") then Ok (take (length line - 1) line) else Err malformed
 
@@ -36,12 +36,12 @@ gnu_name names field =
     (found_or_malformed (numeral 10 (drop 1 word)) >>= line_at names) >>= before_slash
     else Ok (without_end is_space (before_first is_slash field)))
 
--- a name field, by the form of the archive
+-- a name field, decoded for the archive's form
 abbrev pub short_name : LongNames → List ℕ → Result (List ℕ) Fault
 short_name None field = Ok (word_of field)
 short_name (Some names) field = gnu_name names field
 
--- a long name less the zeros at its end, or else the short one
+-- a long name without the zeros at its end, or else the short name
 abbrev pub name_by : Option (List ℕ) → LongNames → List ℕ → Result (List ℕ) Fault
 name_by (Some long) names field = Ok (without_end is_zero long)
 name_by None names field = short_name names field
@@ -49,7 +49,7 @@ name_by None names field = short_name names field
 abbrev pub member_name_bytes : MemberView → Result (List ℕ) Fault
 member_name_bytes m = name_by m.long m.names (name_field m.fields)
 
--- bytes that are UTF-8
+-- bytes, if they are UTF-8
 abbrev pub text_or_fault : List ℕ → Result (List ℕ) Fault
 text_or_fault name = if is_utf8 name then Ok name else Err (bad_input (length name))
 

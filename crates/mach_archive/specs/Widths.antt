@@ -1,4 +1,4 @@
--- How many bytes the numbers and the records of an index have.
+-- The sizes of an index's numbers and records, in bytes.
 use Rattle.std.specs.Prelude.{ℕ, ◌*◌}
 use Rattle.mach_archive.specs.declared.archive.ArchiveKind.{ArchiveKind}
 use Rattle.mach_archive.specs.declared.archive.ArchiveKind.TheVariants.{Gnu, Bsd}

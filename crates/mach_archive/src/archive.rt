@@ -1,4 +1,4 @@
-//! An archive: its form, its index, its names and its members.
+//! An archive: its form, its index, its list of names and its members.
 
 ghost use Rattle.std.specs.Prelude.{◌≡◌, ◌≤◌, ◌<◌, ◌+◌, ◌-◌, ◌^◌, ℕ, List, Ok, Err, Some, None, Option, Result, IfOk, IfSome, length, option_map, unwrap_or};
 ghost use Rattle.mach_base.specs.Answer.{Reads};
@@ -21,37 +21,36 @@ use crate::table::{Index, Width};
 use mach_base::{ByteCount, Endian, Error, Result, bytes_at};
 use std::fmt;
 
-/// What an archive begins with (ARMAG).
+/// The magic of an archive (ARMAG).
 const MAGIC: &[u8] = b"!<arch>\n";
 
-/// What an archive of other files begins with.
+/// The magic of a thin archive, whose members are other files.
 const THIN_MAGIC: &[u8] = b"!<thin>\n";
 
-/// How the short names of an archive are spelled.
+/// How the short names of an archive are written.
 #[derive(Clone, Copy, Debug, PartialEq)]
 pub enum ArchiveKind {
-    /// Up to a slash; long ones stand in a list of names.
+    /// GNU: a short name ends with a slash, and long names are in a list of names.
     Gnu,
-    /// Up to a space; long ones stand behind their headers.
+    /// BSD: a short name ends with a space, and a long name follows its header.
     Bsd,
 }
 
-/// An archive (`ar.h`): members, each a file of its own, and maybe an index of their symbols (`ranlib.h`). It takes no
-/// memory.
+/// An archive (`ar.h`): members, each of which is a file, and possibly an index of their symbols (`ranlib.h`). It allocates no memory.
 #[derive(Clone, Copy)]
 pub struct Archive<'a> {
     pub(crate) bytes: &'a [u8],
     pub(crate) index: Option<Index<'a>>,
-    // The list of long names in GNU's form; none in BSD's.
+    // The list of long names in GNU's form; `None` in BSD's.
     pub(crate) names: Option<&'a [u8]>,
-    // Where the first header of a member stands.
+    // The place of the first member's header.
     pub(crate) begin: usize,
 }
 
 impl<'a> Archive<'a> {
-    /// The archive that these bytes are. Its magic and its front are read: the index and the list of names, if they are there,
-    /// or else the first member's header, whose fault is the answer. It is `BadMagic` of the first four bytes where it is no archive, and
-    /// `Malformed` where its members are other files.
+    /// Opens an archive. Reads its magic, and then the index and the list of names, if they are there,
+    /// or else the first member's header. Fails with the fault of a header that is read, as `BadMagic`
+    /// of the first four bytes if it is no archive, and as `Malformed` if it is a thin archive.
     #[tactic(auto, unfolding(crate::specs::Archives::archive_in))]
     pub fn parse(bytes: &'a [u8]) -> Result<Archive<'a>>
         ensures { Reads archive_of result (archive_in bytes.now) }
@@ -84,7 +83,7 @@ impl<'a> Archive<'a> {
         Archive::gnu(bytes, &first)
     }
 
-    // An archive in GNU's form, by its first header.
+    // Builds an archive in GNU's form, by its first header.
     fn gnu(bytes: &'a [u8], first: &Header<'a>) -> Result<Archive<'a>>
         requires room { first.now.place + 60 + first.now.size ≤ length bytes.now }
         requires long { unwrap_or first.now.long 0 ≤ first.now.size }
@@ -100,7 +99,7 @@ impl<'a> Archive<'a> {
         })
     }
 
-    /// How short names are spelled.
+    /// Returns how short names are written.
     pub fn kind(&self) -> ArchiveKind
         ensures { result ≡ archive_kind (archive_of self.now).names }
     {
@@ -110,15 +109,15 @@ impl<'a> Archive<'a> {
         }
     }
 
-    /// The members in order, behind the index and the list of names, up to the first fault.
+    /// Returns an iterator over the members in order, after the index and the list of names. It ends after the first fault.
     pub fn members(&self) -> Members<'a>
         ensures { let a = archive_of self.now in AreMembers a.bytes a.names a.begin (members_left result) }
     {
         Members::new(self.bytes, self.names, self.begin)
     }
 
-    /// The member whose header stands at a place, wherever the other members stand. It is `Malformed` at a place below 8, and else refused with
-    /// the header's fault.
+    /// Reads the member whose header is at `place`. The other members do not matter.
+    /// Fails as `Malformed` if the place is below 8, or else with the header's fault.
     pub fn member_at(&self, place: usize) -> Result<Member<'a>>
         ensures { Reads member_view result (archive_member_at (archive_of self.now) place) }
     {
@@ -129,8 +128,8 @@ impl<'a> Archive<'a> {
         Ok(Member::of(self.bytes, self.names, &header))
     }
 
-    /// The symbols of the index, if there is one. The table's own faults are told here, those of names at each symbol. Whether a symbol's
-    /// member is one isn't tested: `member_at` tells.
+    /// Returns an iterator over the symbols of the index, if there is one. Fails with a fault of the table itself; a
+    /// fault of a name is reported at its symbol. Whether a symbol's member exists is not tested: `member_at` does that.
     pub fn symbols(&self) -> Result<Option<ArchiveSymbols<'a>>>
         ensures table { Reads (λ symbols. option_map table_left symbols) result (archive_table (archive_of self.now)) }
         ensures items { IfOk result (λ symbols. IfSome symbols (λ it. AreIndexSymbols (table_left it) 0 (archive_symbols_left it))) }
@@ -141,8 +140,8 @@ impl<'a> Archive<'a> {
         }
     }
 
-    /// The member of the first symbol of a name, as `member_at` gives it, if the index has one; an error that is met before it is the
-    /// answer, and none behind it.
+    /// Finds the member that defines `name`: the member of the first symbol of that name in the index, if there is one.
+    /// An error before that symbol is returned; later symbols are not read. Also fails with the error of `member_at`.
     pub fn find_symbol(&self, name: &str) -> Result<Option<Member<'a>>>
         ensures found { (t : IndexTable) (items : List (Result IndexSymbol Fault)) → archive_table (archive_of self.now) ≡ Ok (Some t)
             → AreIndexSymbols t 0 items
@@ -157,7 +156,7 @@ impl<'a> Archive<'a> {
         }
     }
 
-    // The member of the first symbol of a name among some.
+    // Finds the member of the first of some symbols with this name.
     fn find_among(&self, symbols: ArchiveSymbols<'a>, name: &str) -> Result<Option<Member<'a>>>
         ensures { Reads (option_map member_view) result (found_by_name (archive_of self.now) name.now (archive_symbols_left symbols.entry)) }
     {
@@ -169,7 +168,7 @@ impl<'a> Archive<'a> {
 }
 
 impl fmt::Debug for Archive<'_> {
-    /// Its form, and where members begin; of the bytes only how many they are.
+    /// Prints its form and where members begin, and only the number of the bytes.
     fn fmt<W: fmt::Write>(&self, f: &mut fmt::Formatter<W>) -> fmt::Result {
         f.debug_struct("Archive")
             .field("bytes", &ByteCount(self.bytes))
@@ -179,7 +178,7 @@ impl fmt::Debug for Archive<'_> {
     }
 }
 
-// The long name less the zeros at its end, or else the name field less its spaces.
+// Returns the long name without the zeros at its end, or else the name field without its trailing spaces.
 fn index_name<'a>(bytes: &'a [u8], header: &Header<'a>) -> &'a [u8]
     requires room { header.now.place + 60 + header.now.size ≤ length bytes.now }
     requires long { unwrap_or header.now.long 0 ≤ header.now.size }
@@ -191,7 +190,7 @@ fn index_name<'a>(bytes: &'a [u8], header: &Header<'a>) -> &'a [u8]
     }
 }
 
-// The width of the numbers in an index of this name, in BSD's form.
+// Returns the width of the numbers in an index with this name, in BSD's form. `None` if the name is none of an index.
 fn bsd_width(name: &[u8]) -> Option<Width>
     ensures { option_map number_width result ≡ bsd_width name.now }
 {
@@ -204,7 +203,7 @@ fn bsd_width(name: &[u8]) -> Option<Width>
     }
 }
 
-// The width of the numbers in an index of this name, in GNU's form.
+// Returns the width of the numbers in an index with this name, in GNU's form. `None` if the name is none of an index.
 fn gnu_width(word: &[u8]) -> Option<Width>
     ensures { option_map number_width result ≡ gnu_width word.now }
 {
@@ -217,7 +216,7 @@ fn gnu_width(word: &[u8]) -> Option<Width>
     }
 }
 
-// The index that a member is, if its numbers have a width.
+// Returns the index, if the member is one: then its numbers have a width.
 fn index_of<'a>(bytes: &'a [u8], header: &Header<'a>, width: Option<Width>) -> Option<Index<'a>>
     requires room { header.now.place + 60 + header.now.size ≤ length bytes.now }
     requires long { unwrap_or header.now.long 0 ≤ header.now.size }
@@ -232,7 +231,7 @@ fn index_of<'a>(bytes: &'a [u8], header: &Header<'a>, width: Option<Width>) -> O
     }
 }
 
-// Behind a member that is an index, or else where it stands.
+// Returns the place after the member if it is an index, or else the member's place.
 fn behind_index(header: &Header<'_>, width: Option<Width>) -> usize
     requires { header.now.place + 60 + header.now.size < 2 ^ 64 - 1 }
     ensures { result ≡ behind_index (header_view header.now) (option_map number_width width) }
@@ -243,7 +242,7 @@ fn behind_index(header: &Header<'_>, width: Option<Width>) -> usize
     }
 }
 
-// The list of names that stands at a place, and the place behind it; or none, and the place.
+// Reads the list of names at a place, and returns it with the place after it. If none is there, returns an empty list and the same place.
 fn names_at(bytes: &[u8], from: usize) -> Result<(&[u8], usize)>
     ensures { Reads (λ found. (found.0.now, found.1)) result (names_at bytes.now from) }
 {

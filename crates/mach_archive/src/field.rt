@@ -1,4 +1,4 @@
-//! The fields of a member's header: texts that spaces fill up.
+//! The fields of a member's header: texts that are padded with spaces.
 
 ghost use Rattle.std.specs.Prelude.{◌≡◌, ◌<◌, ◌≤◌, ◌^◌, length, IfSome, true};
 ghost use Rattle.std.specs.List.{before_first, list_all};
@@ -8,7 +8,7 @@ ghost use Rattle.mach_archive.specs.Fields.{numeral, field_number, without_end, 
 
 use memchr::memchr;
 
-/// Some bytes up to the first of a value, or all of them.
+/// Returns the bytes before the first that equals `end`, or all of them.
 #[inline(always)]
 pub(crate) fn up_to(bytes: &[u8], end: u8) -> &[u8]
     ensures run { result.now ≡ before_first (is_byte end) bytes.now }
@@ -17,7 +17,7 @@ pub(crate) fn up_to(bytes: &[u8], end: u8) -> &[u8]
     &bytes[..memchr(end, bytes).unwrap_or(bytes.len())]
 }
 
-/// A field up to its first space.
+/// Returns a field up to its first space.
 pub(crate) fn word(field: &[u8]) -> &[u8]
     ensures word { result.now ≡ word_of field.now }
     ensures within { length result.now ≤ length field.now }
@@ -25,7 +25,7 @@ pub(crate) fn word(field: &[u8]) -> &[u8]
     up_to(field, b' ')
 }
 
-/// Some bytes less those of a value at their end.
+/// Returns the bytes without those at their end that equal `filler`.
 pub(crate) fn trimmed(bytes: &[u8], filler: u8) -> &[u8]
     ensures front { result.now ≡ without_end (is_byte filler) bytes.now }
     ensures within { length result.now ≤ length bytes.now }
@@ -37,7 +37,7 @@ pub(crate) fn trimmed(bytes: &[u8], filler: u8) -> &[u8]
     &bytes[..len]
 }
 
-/// The number that a text of at most 16 bytes spells: digits alone, in a base of at most 10.
+/// Returns the number of a text of at most 16 bytes. The text must be digits only, in a base of at most 10.
 pub(crate) fn number_of(text: &[u8], base: u8) -> Option<u64>
     requires base { base ≤ 10 }
     requires short { length text.now ≤ 16 }
@@ -58,7 +58,7 @@ fn are_digits(text: &[u8], base: u8) -> bool
     text.iter().all(|c| is_digit(*c, base))
 }
 
-// The number that digits spell.
+// Returns the number of some digits.
 fn value_of(text: &[u8], base: u8) -> u64
     requires base { base ≤ 10 }
     requires short { length text.now ≤ 16 }
@@ -73,7 +73,7 @@ fn value_of(text: &[u8], base: u8) -> u64
     number
 }
 
-/// The number of a field of at most 16 bytes, whose trailing spaces count for nothing.
+/// Returns the number in a field of at most 16 bytes. Trailing spaces are ignored.
 pub(crate) fn number_in(field: &[u8], base: u8) -> Option<u64>
     requires base { base ≤ 10 }
     requires short { length field.now ≤ 16 }

@@ -16,10 +16,10 @@ ghost use Rattle.mach_archive.specs.Members.{body_of, body_place, long_name_of};
 use crate::field::{number_in, number_of, word};
 use mach_base::{Error, Result, bytes_at};
 
-/// How many bytes a header has.
+/// The size of a header in bytes.
 pub(crate) const SIZE: usize = 60;
 
-/// What every header ends with (ARFMAG).
+/// The two bytes that end every header (ARFMAG).
 const END: &[u8] = b"`\n";
 
 /// A header that was read at its place.
@@ -27,14 +27,14 @@ const END: &[u8] = b"`\n";
 pub(crate) struct Header<'a> {
     pub(crate) place: usize,
     pub(crate) fields: &'a [u8; SIZE],
-    /// How many bytes follow, the long name among them.
+    /// How many bytes follow the header, including the long name.
     pub(crate) size: usize,
-    /// How many of them are the long name, if there is one.
+    /// How many of these are the long name, if there is one.
     pub(crate) long: Option<usize>,
 }
 
 impl<'a> Header<'a> {
-    /// The header at a place.
+    /// Reads the header at `place`.
     #[tactic(auto, unfolding(crate::specs::MemberHeaders::member_header_at))]
     pub(crate) fn read(bytes: &'a [u8], place: usize) -> Result<Header<'a>>
         ensures header { Reads header_view result (member_header_at bytes.now place) }
@@ -45,7 +45,7 @@ impl<'a> Header<'a> {
         Header::of_fields(bytes, place, fields)
     }
 
-    // The header whose bytes were read.
+    // Decodes the header from its bytes.
     fn of_fields(bytes: &'a [u8], place: usize, fields: &'a [u8; SIZE]) -> Result<Header<'a>>
         requires { place + 60 ≤ length bytes.now }
         ensures header { Reads header_view result (header_by_fields bytes.now place fields.now) }
@@ -59,7 +59,7 @@ impl<'a> Header<'a> {
         Header::of_size(bytes, place, fields, size)
     }
 
-    // The header whose bytes and size were read.
+    // Decodes the rest of the header, after its size.
     fn of_size(
         bytes: &'a [u8],
         place: usize,
@@ -81,7 +81,7 @@ impl<'a> Header<'a> {
         })
     }
 
-    /// Where the next header stands.
+    /// Returns the place of the next header.
     pub(crate) fn next(&self) -> usize
         requires { self.now.place + 60 + self.now.size < 2 ^ 64 - 1 }
         ensures { result ≡ next_header (header_view self.now) }
@@ -89,7 +89,7 @@ impl<'a> Header<'a> {
         self.place + SIZE + self.size + self.size % 2
     }
 
-    /// The name field.
+    /// Returns the name field.
     pub(crate) fn name_field(&self) -> &'a [u8]
         ensures field { result.now ≡ name_field self.now.fields.now }
         ensures len { length result.now ≡ 16 }
@@ -98,7 +98,7 @@ impl<'a> Header<'a> {
         &fields[..16]
     }
 
-    /// The long name, if there is one.
+    /// Returns the long name, if there is one.
     pub(crate) fn long_name(&self, bytes: &'a [u8]) -> Option<&'a [u8]>
         requires room { self.now.place + 60 + self.now.size ≤ length bytes.now }
         requires long { unwrap_or self.now.long 0 ≤ self.now.size }
@@ -111,7 +111,7 @@ impl<'a> Header<'a> {
         }
     }
 
-    /// The place of the member's bytes.
+    /// Returns the place of the member's bytes.
     pub(crate) fn start(&self) -> usize
         requires { self.now.place + 60 + unwrap_or self.now.long 0 < 2 ^ 64 }
         ensures { result ≡ body_place (header_view self.now) }
@@ -119,7 +119,7 @@ impl<'a> Header<'a> {
         self.place + SIZE + self.long.unwrap_or(0)
     }
 
-    /// The member's bytes.
+    /// Returns the member's bytes.
     pub(crate) fn body(&self, bytes: &'a [u8]) -> &'a [u8]
         requires room { self.now.place + 60 + self.now.size ≤ length bytes.now }
         requires long { unwrap_or self.now.long 0 ≤ self.now.size }
@@ -131,7 +131,7 @@ impl<'a> Header<'a> {
     }
 }
 
-// The bytes of a header.
+// Reads the bytes of a header.
 fn fields_at(bytes: &[u8], place: usize) -> Result<&[u8; SIZE]>
     ensures fields { Reads (λ fields. fields.now) result (slice_at 60 bytes.now place) }
     ensures room { OnOk result (place + 60 ≤ length bytes.now) }
@@ -143,7 +143,7 @@ fn fields_at(bytes: &[u8], place: usize) -> Result<&[u8; SIZE]>
     }
 }
 
-// So many bytes follow a header, where they are more than none.
+// Tests whether `size` bytes follow a header. A size of 0 is always accepted.
 fn test_room(bytes: &[u8], place: usize, size: usize) -> Result<()>
     requires { place + 60 ≤ length bytes.now }
     ensures room { IfErr result (λ e. room_behind bytes.now place size ≡ Err (fault_of e)) }
@@ -156,7 +156,7 @@ fn test_room(bytes: &[u8], place: usize, size: usize) -> Result<()>
     Ok(())
 }
 
-// The size that a header says.
+// Decodes the size field of a header.
 fn size_of(fields: &[u8; SIZE]) -> Result<usize>
     ensures size { Reads (λ n. n) result (found_or_malformed (field_number 10 (size_field fields.now))) }
     ensures small { IfOk result (λ n. n < 10 ^ 16) }
@@ -167,7 +167,7 @@ fn size_of(fields: &[u8; SIZE]) -> Result<usize>
     }
 }
 
-// How many bytes the long name has, if there is one.
+// Decodes the length of the long name, if there is one.
 fn long_len(fields: &[u8; SIZE], size: usize) -> Result<Option<usize>>
     ensures len { Reads (λ long. long) result (long_name_len fields.now size) }
     ensures inside { IfOk result (λ long. unwrap_or long 0 ≤ size) }

@@ -1,4 +1,4 @@
-//! Static libraries: ar archives with GNU's and BSD's names and indices (`ar.h`, `ranlib.h`).
+//! Static libraries: `ar` archives with GNU's and BSD's names and indexes (`ar.h`, `ranlib.h`).
 #![tactic(auto)]
 
 mod archive;

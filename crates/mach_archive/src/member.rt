@@ -13,23 +13,23 @@ use crate::header::{Header, SIZE};
 use mach_base::{ByteCount, Error, Result, ScrollError};
 use std::fmt;
 
-/// A member of an archive: a file among its bytes.
+/// A member of an archive, which is a file.
 #[derive(Clone, Copy)]
 pub struct Member<'a> {
     /// The place of its header in the archive.
     pub offset: usize,
-    /// The place of its bytes, behind the header and a long name.
+    /// The place of its bytes, after the header and a long name.
     pub start: usize,
     /// Its bytes, without a long name.
     pub bytes: &'a [u8],
-    // The header, the long name if there is one, and the archive's names, where it has GNU's form.
+    // The header, the long name if there is one, and the archive's list of names if that has GNU's form.
     fields: &'a [u8; SIZE],
     long: Option<&'a [u8]>,
     names: Option<&'a [u8]>,
 }
 
 impl<'a> Member<'a> {
-    /// The member of a header that was read in these bytes.
+    /// Builds the member of a header that was read from these bytes.
     pub(crate) fn of(bytes: &'a [u8], names: Option<&'a [u8]>, header: &Header<'a>) -> Member<'a>
         requires room { header.now.place + 60 + header.now.size ≤ length bytes.now }
         requires long { unwrap_or header.now.long 0 ≤ header.now.size }
@@ -45,8 +45,8 @@ impl<'a> Member<'a> {
         }
     }
 
-    /// Its name. It is `Malformed` where a header in GNU's form speaks of a long name that isn't there; the
-    /// member's bytes can be read none the less.
+    /// Returns its name. Fails as `Malformed` if a header in GNU's form refers
+    /// to a long name that is not there. The member's bytes can still be read.
     pub fn name_bytes(&self) -> Result<&'a [u8]>
         ensures { Reads (λ name. name.now) result (member_name_bytes (member_view self.now)) }
     {
@@ -59,8 +59,7 @@ impl<'a> Member<'a> {
         }
     }
 
-    /// Its name as a text. It is refused as `name_bytes` refuses it, and with `BadInput` of its length where it isn't
-    /// UTF-8.
+    /// Returns its name as a text. Fails like `name_bytes`, or as `BadInput` of the name's length if the name is not UTF-8.
     pub fn name(&self) -> Result<&'a str>
         ensures { Reads (λ name. name.now) result (member_name (member_view self.now)) }
     {
@@ -74,7 +73,7 @@ impl<'a> Member<'a> {
         }
     }
 
-    /// When the file was changed, in seconds from 1970, if the field is a number.
+    /// Returns when the file was changed, in seconds since 1970, if the field is a number.
     pub fn date(&self) -> Option<u64>
         ensures { result ≡ field_number 10 (date_field (member_view self.now).fields) }
     {
@@ -82,7 +81,7 @@ impl<'a> Member<'a> {
         number_in(&fields[16..28], 10)
     }
 
-    /// The number of the file's owner, if the field is a number.
+    /// Returns the user id of the file's owner, if the field is a number.
     pub fn uid(&self) -> Option<u64>
         ensures { result ≡ field_number 10 (uid_field (member_view self.now).fields) }
     {
@@ -90,7 +89,7 @@ impl<'a> Member<'a> {
         number_in(&fields[28..34], 10)
     }
 
-    /// The number of the file's group, if the field is a number.
+    /// Returns the id of the file's group, if the field is a number.
     pub fn gid(&self) -> Option<u64>
         ensures { result ≡ field_number 10 (gid_field (member_view self.now).fields) }
     {
@@ -98,7 +97,7 @@ impl<'a> Member<'a> {
         number_in(&fields[34..40], 10)
     }
 
-    /// The file's kind and permissions, if the field is a number: its digits are octal.
+    /// Returns the file's type and permissions, if the field is an octal number.
     pub fn mode(&self) -> Option<u64>
         ensures { result ≡ field_number 8 (mode_field (member_view self.now).fields) }
     {
@@ -108,7 +107,7 @@ impl<'a> Member<'a> {
 }
 
 impl fmt::Debug for Member<'_> {
-    /// Where it stands; of the bytes only how many they are.
+    /// Prints its places, and only the number of the bytes.
     fn fmt<W: fmt::Write>(&self, f: &mut fmt::Formatter<W>) -> fmt::Result {
         f.debug_struct("Member")
             .field("offset", &self.offset)
@@ -118,7 +117,7 @@ impl fmt::Debug for Member<'_> {
     }
 }
 
-// The name that a field of 16 bytes says in GNU's form.
+// Decodes a name field in GNU's form, of at most 16 bytes.
 fn gnu_name<'a>(names: &'a [u8], field: &'a [u8]) -> Result<&'a [u8]>
     requires { length field.now ≤ 16 }
     ensures { Reads (λ name. name.now) result (gnu_name names.now field.now) }
@@ -136,7 +135,7 @@ fn gnu_name<'a>(names: &'a [u8], field: &'a [u8]) -> Result<&'a [u8]>
     before_slash(line_at(names, place as usize)?)
 }
 
-// A word behind its first byte, if it has one.
+// Returns a word without its first byte.
 fn digits_of(word: &[u8]) -> &[u8]
     ensures digits { result.now ≡ drop 1 word.now }
     ensures within { length result.now ≤ length word.now }
@@ -147,7 +146,7 @@ fn digits_of(word: &[u8]) -> &[u8]
     }
 }
 
-// The line that stands at a place among the names.
+// Returns the line at a place of the list of names.
 fn line_at(names: &[u8], place: usize) -> Result<&[u8]>
     ensures { Reads (λ line. line.now) result (line_at names.now place) }
 {
@@ -161,7 +160,7 @@ fn line_at(names: &[u8], place: usize) -> Result<&[u8]>
     Err(Error::Malformed("a long name ends with its line"))
 }
 
-// A line that ends with a slash, without it.
+// Returns a line without the slash that must end it.
 fn before_slash(line: &[u8]) -> Result<&[u8]>
     ensures { Reads (λ name. name.now) result (before_slash line.now) }
 {

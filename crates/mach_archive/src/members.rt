@@ -9,18 +9,17 @@ use crate::member::Member;
 use mach_base::{ByteCount, Result};
 use std::fmt;
 
-/// The members of an archive in order, up to the first header with a fault; then its error; then nothing more. It
-/// takes no memory.
+/// An iterator over the members of an archive, in order. It ends at the first faulty header, after that error. It allocates no memory.
 #[derive(Clone, Copy)]
 pub struct Members<'a> {
     bytes: &'a [u8],
     names: Option<&'a [u8]>,
-    // Where the next header stands; the end of the bytes or behind it where there is none.
+    // The place of the next header. If there is none, it is at or past the end of the bytes.
     place: usize,
 }
 
 impl<'a> Members<'a> {
-    /// The members from a place on.
+    /// Builds an iterator over the members from a place on.
     pub(crate) fn new(bytes: &'a [u8], names: Option<&'a [u8]>, place: usize) -> Members<'a>
         ensures { AreMembers bytes.now (names_view names.entry) place (members_left result) }
     {
@@ -60,7 +59,7 @@ impl<'a> Iterator for Members<'a> {
 }
 
 impl fmt::Debug for Members<'_> {
-    /// Where the next header stands; of the bytes only how many they are.
+    /// Prints the place of the next header, and only the number of the bytes.
     fn fmt<W: fmt::Write>(&self, f: &mut fmt::Formatter<W>) -> fmt::Result {
         f.debug_struct("Members")
             .field("bytes", &ByteCount(self.bytes))

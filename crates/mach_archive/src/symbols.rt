@@ -14,24 +14,24 @@ use crate::table::{Index, Table};
 use mach_base::{ByteCount, Error, Result};
 use std::fmt;
 
-/// A symbol of an index: where it is defined.
+/// A symbol of an index, and the member that defines it.
 #[derive(Clone, Copy, Debug)]
 pub struct ArchiveSymbol<'a> {
     /// The symbol's name.
     pub name: &'a [u8],
-    /// The place of a member's header. Whether one stands there isn't tested.
+    /// The place of the member's header. Whether there is one is not tested.
     pub member: u64,
 }
 
-/// The symbols of an index in the table's order, up to the first whose name has a fault; then its error; then nothing
-/// more. It takes no memory.
+/// An iterator over the symbols of an index, in the table's order. It ends at the
+/// first symbol with a faulty name, after that error. It allocates no memory.
 #[derive(Clone, Copy)]
 pub struct ArchiveSymbols<'a> {
-    // What is left of the table.
+    // The remaining part of the table.
     pub(crate) table: Table<'a>,
 }
 
-// The text from a place on up to a zero, which has to be there.
+// Returns the text from a place on. A zero byte must end it.
 #[inline(always)]
 fn ended_text(names: &[u8], place: usize) -> Result<&[u8]>
     ensures text { Reads (λ text. text.now) result (ended_text names.now place) }
@@ -47,7 +47,7 @@ fn ended_text(names: &[u8], place: usize) -> Result<&[u8]>
     Err(Error::Malformed("a symbol's name ends with a zero"))
 }
 
-// The first symbol of a table.
+// Reads the first symbol of a table.
 #[tactic(auto, unfolding(crate::specs::IndexSymbols::index_symbol_at))]
 #[inline(always)]
 fn first<'a>(table: &Table<'a>) -> Result<ArchiveSymbol<'a>>
@@ -62,7 +62,7 @@ fn first<'a>(table: &Table<'a>) -> Result<ArchiveSymbol<'a>>
     })
 }
 
-// What is left of a table behind its first symbol.
+// Returns the remaining part of a table after its first symbol.
 #[inline(always)]
 fn behind<'a>(table: &Table<'a>, name: &[u8]) -> Table<'a>
     requires some { 0 < table.now.count }
@@ -85,7 +85,7 @@ fn behind<'a>(table: &Table<'a>, name: &[u8]) -> Table<'a>
 }
 
 impl<'a> ArchiveSymbols<'a> {
-    /// The symbols of an index in the form of its archive.
+    /// Builds an iterator over the symbols of an index in the archive's form.
     pub(crate) fn new(kind: ArchiveKind, index: &Index<'a>) -> Result<ArchiveSymbols<'a>>
         ensures table { Reads table_left result (index_table kind (index_view index.now)) }
         ensures items { IfOk result (λ it. AreIndexSymbols (table_left it) 0 (archive_symbols_left it)) }
@@ -95,7 +95,7 @@ impl<'a> ArchiveSymbols<'a> {
         })
     }
 
-    /// The first symbol of a name, or the fault before it.
+    /// Finds the first symbol of a name. Fails with a fault that comes before it.
     pub(crate) fn find(mut self, name: &[u8]) -> Result<Option<ArchiveSymbol<'a>>>
         ensures { Reads (option_map archive_symbol_view) result (first_named name.now (archive_symbols_left self.entry)) }
     {
@@ -141,7 +141,7 @@ impl<'a> Iterator for ArchiveSymbols<'a> {
 }
 
 impl fmt::Debug for ArchiveSymbols<'_> {
-    /// How many symbols are left; of the bytes only how many they are.
+    /// Prints how many symbols are left, and only the number of the bytes of the names.
     fn fmt<W: fmt::Write>(&self, f: &mut fmt::Formatter<W>) -> fmt::Result {
         f.debug_struct("ArchiveSymbols")
             .field("kind", &self.table.kind)

@@ -8,7 +8,7 @@ ghost use Rattle.mach_archive.specs.Widths.{number_width, record_width};
 use crate::archive::ArchiveKind;
 use mach_base::{Endian, Error, Result, ScrollError, bytes_at, read_u32};
 
-/// How many bytes a number of an index has.
+/// The width of an index's numbers.
 #[derive(Clone, Copy)]
 pub enum Width {
     Four,
@@ -34,22 +34,22 @@ pub struct Index<'a> {
     pub(crate) table: &'a [u8],
 }
 
-/// A table, or what is left of it behind some symbols.
+/// A table, or the remaining part of it.
 #[derive(Clone, Copy)]
 pub struct Table<'a> {
     pub(crate) kind: ArchiveKind,
     pub(crate) le: Endian,
     pub(crate) width: Width,
-    /// How many symbols there are.
+    /// The number of symbols.
     pub(crate) count: usize,
-    /// The bytes from the first one's record on.
+    /// The bytes from the first symbol's record on.
     pub(crate) records: &'a [u8],
-    /// The bytes of names: in GNU's form from the first one's on.
+    /// The bytes of the names. In GNU's form they begin with the first symbol's name.
     pub(crate) names: &'a [u8],
     ghost room: { count * record_width kind width ≤ length records.now },
 }
 
-// The number at a place, where it lies in the bytes.
+// Reads the number at a place of bytes that hold it.
 #[inline(always)]
 fn number_in(bytes: &[u8], place: usize, width: Width, le: Endian) -> u64
     requires { place + number_width width ≤ length bytes.now }
@@ -61,7 +61,7 @@ fn number_in(bytes: &[u8], place: usize, width: Width, le: Endian) -> u64
     }
 }
 
-// The number that a table begins with.
+// Reads the number with which a table begins.
 fn first_number(table: &[u8], width: Width, le: Endian) -> Result<u64>
     ensures number { Reads (λ n. n) result (number_at le (number_width width) table.now 0) }
     ensures room { OnOk result (number_width width ≤ length table.now) }
@@ -77,7 +77,7 @@ impl<'a> Table<'a> {
     ghost use Rattle.mach_archive.specs.IndexSymbols.{record_number, symbol_name_place, symbol_member};
     ghost use Rattle.mach_archive.specs.TableViews.{index_table_view, index_view};
 
-    /// The table of an index in the form of its archive.
+    /// Reads the table of an index in the archive's form.
     #[tactic(auto, unfolding(crate::specs::IndexTables::index_table))]
     pub(crate) fn read(kind: ArchiveKind, index: &Index<'a>) -> Result<Table<'a>>
         ensures { Reads index_table_view result (index_table kind (index_view index.now)) }
@@ -88,7 +88,7 @@ impl<'a> Table<'a> {
         }
     }
 
-    // Number k of the records.
+    // Returns number `k` of the records.
     #[inline(always)]
     fn number(&self, k: usize) -> u64
         requires { number_width self.now.width * k + number_width self.now.width ≤ length self.now.records.now }
@@ -97,7 +97,7 @@ impl<'a> Table<'a> {
         number_in(self.records, self.width.bytes() * k, self.width, self.le)
     }
 
-    /// Where the first symbol's name begins among the names.
+    /// Returns the place of the first symbol's name among the names.
     #[tactic(auto, unfolding(crate::specs::IndexSymbols::gnu_name_place))]
     #[inline(always)]
     pub(crate) fn name_place(&self) -> usize
@@ -110,7 +110,7 @@ impl<'a> Table<'a> {
         }
     }
 
-    /// The place of the first symbol's member.
+    /// Returns the place of the header of the first symbol's member.
     #[inline(always)]
     pub(crate) fn member(&self) -> u64
         requires { 0 < self.now.count }
@@ -122,7 +122,7 @@ impl<'a> Table<'a> {
         }
     }
 
-    /// No symbol of this table.
+    /// Returns this table with no symbols.
     pub(crate) fn none(self) -> Table<'a>
         ensures { result.count ≡ 0 }
     {
@@ -136,7 +136,7 @@ impl<'a> Table<'a> {
         }
     }
 
-    // GNU's: a count, so many places of headers, and names up to the end.
+    // Reads GNU's form: a count, as many places of headers, and the names up to the end.
     fn gnu(table: &'a [u8], width: Width) -> Result<Table<'a>>
         ensures { Reads index_table_view result (gnu_table (number_width width) table.now) }
     {
@@ -156,7 +156,7 @@ impl<'a> Table<'a> {
         })
     }
 
-    // BSD's, little-endian, or else big-endian; where both have a fault, the first one's.
+    // Reads BSD's form as little-endian, or else as big-endian. If both fail, returns the first error.
     fn bsd(table: &'a [u8], width: Width) -> Result<Table<'a>>
         ensures { Reads index_table_view result (bsd_table (number_width width) table.now) }
     {
@@ -169,7 +169,7 @@ impl<'a> Table<'a> {
         }
     }
 
-    // BSD's in one byte order: the size of the records, the records, the size of the names, the names.
+    // Reads BSD's form in one byte order: the size of the records, the records, the size of the names, and the names.
     fn bsd_in(table: &'a [u8], width: Width, le: Endian) -> Result<Table<'a>>
         ensures { Reads index_table_view result (bsd_table_in le (number_width width) table.now) }
     {
