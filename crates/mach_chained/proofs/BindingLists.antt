@@ -1,4 +1,4 @@
--- A list of bindings and the items that come one at a time.
+-- A list of bindings, and the items of an iterator.
 use Rattle.std.proofs.Common.{◌≡◌, ℕ, suc, List, [], ◌∷◌, ◌++◌, map, length, Option, Some, None, Result, Ok, Err, refl, sym, ap, subst, ◌∙◌, inl, inr}
 use Rattle.mach_base.specs.declared.error.Error.{Error}
 use Rattle.mach_base.specs.Among.{IsAmong}
@@ -31,7 +31,7 @@ among : (front : List Item) (f : Fault) (rest : List Item) → IsAmong (Err f) (
 among [] f rest = inl refl
 among (y ∷ front) f rest = inr (among front f rest)
 
--- ---- where there is a binding for each bind, no fault stands among the fixups
+-- ---- if there is a binding for each bind, there is no fault among the fixups
 
 none_before : (own : Option Item) (x : FixupInput) (libs : List (List ℕ)) (ps : List PlacedFixup) (stop : Option Fault) (list : List Binding)
     → ((more : List Binding) → bindings_of x libs (fixup_items ps stop) ≡ oks more → stop ≡ None)
@@ -64,7 +64,7 @@ listed x libs items list a e =
       subst (λ (s : Option Fault). bindings_of x libs (fixup_items fixups.0 s) ≡ oks list) none are,
     )
 
--- an image with a list has no other items
+-- the items of an image with a list are that list
 items_are : (x : FixupInput) (libs : List (List ℕ)) (items : List Item) (list : List Binding) → AreBindingItems x libs items → ListsBindings x libs list
     → items ≡ oks list
 items_are x libs items list a l =

@@ -1,4 +1,4 @@
--- How the bindings that are left go on.
+-- How the remaining bindings go on.
 use Rattle.std.proofs.Common.{◌≡◌, ℕ, suc, List, [], ◌∷◌, length, Bool, true, false, Option, Some, None, Result, Ok, refl, sym, ap, ◌∙◌, cond}
 use Rattle.mach_base.specs.Fault.{Fault}
 use Rattle.mach_chained.specs.declared.source.Source.{Source}
@@ -25,7 +25,7 @@ on_bindings ended s t libs items others on same is =
 pub off_bindings : (ended : Bool) (s : Source) (libs : List (List ℕ)) (items : Items) → ended ≡ true → left_by ended s libs items ≡ []
 off_bindings ended s libs items off = ap (λ (b : Bool). left_by b s libs items) off
 
--- behind a fixup come those behind it, and before them its own, if it has one
+-- after a fixup come those of the others, and before them its own, if it has one
 pub before_others : (x : FixupInput) (libs : List (List ℕ)) (f : Fixup) (rest : Items) (own : Option (Result Binding Fault)) → binding_in x libs f ≡ own
     → bindings_of x libs (Ok f ∷ rest) ≡ bindings_before own (bindings_of x libs rest)
 before_others x libs f rest own is = ap (λ (o : Option (Result Binding Fault)). bindings_before o (bindings_of x libs rest)) is
@@ -41,7 +41,7 @@ on_pointers ended items others on is = ap (λ (b : Bool). pointers_by b items) o
 pub off_pointers : (ended : Bool) (items : Items) → ended ≡ true → pointers_by ended items ≡ 0
 off_pointers ended items off = ap (λ (b : Bool). pointers_by b items) off
 
--- of the fixups with the fault behind them, as many as there are fixups
+-- fixups followed by the fault count as many as there are fixups
 pub fixups_counted : (ps : List PlacedFixup) (stop : Option Fault) → fixup_count (fixup_items ps stop) ≡ length ps
 fixups_counted [] None = refl
 fixups_counted [] (Some f) = refl

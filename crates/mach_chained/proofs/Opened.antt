@@ -14,11 +14,11 @@ use Rattle.mach_base.specs.Number.{says_yes}
 use Rattle.mach_chained.specs.Opened.{IsKnown, nothing_opened, span_or_nothing}
 use Rattle.std.proofs.lemmas.Bool.{le-leb}
 
--- nothing stands before the first
+-- nothing comes before the first
 first_behind : (chains : Chains) (s : SegmentView) → behind no_ends chains s ≡ Ok s
 first_behind chains s = rw (le-leb 0 chains.place (omega arith), le-leb 0 s.command.fileoff (omega arith)) refl
 
--- where a segment stands behind another, it is that segment
+-- if a segment lies after another one, it is that segment
 same_behind : (before : Ends) (chains : Chains) (s t : SegmentView) → behind before chains s ≡ Ok t → s ≡ t
 same_behind before chains s t e = by_tests (nat_le before.starts chains.place) (nat_le before.in_file s.command.fileoff) e
   where
@@ -27,7 +27,7 @@ same_behind before chains s t e = by_tests (nat_le before.starts chains.place) (
     by_tests true false e = absurd (cc)
     by_tests false q e = absurd (cc)
 
--- the segment behind another is the same behind none
+-- a segment that lies after another one is the same without that one
 abbrev then_span : Ends → ℕ → Chains → SegmentView → Result (Option Span) Fault
 then_span before k chains h = behind before chains h >>= λ (n : SegmentView). Ok (Some (span_of k chains n))
 
@@ -75,7 +75,7 @@ unfolding span_at
 opens_again x before k s e =
     let again = by_starts x before k s (starts_at x.fixups k) e in subst (λ (n : ℕ). span_at x no_ends n ≡ Ok (Some s)) again.1 again.0
 
--- a segment that is known is the one that opens by its number
+-- a known segment is the one that opens by its number
 pub known_span : (x : FixupInput) (b : Bool) (s : Span) (n : ℕ) → says_yes n ≡ b → IsKnown x b s
     → cond (n == 0) nothing_opened (span_or_nothing (span_at x no_ends s.number)) ≡ s
 known_span x b s n e known = by_test (n == 0) b e known

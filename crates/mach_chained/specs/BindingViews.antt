@@ -1,4 +1,4 @@
--- What an iterator over bindings has yet to give, and a list of them.
+-- What is left of an iterator over bindings, and a list of bindings.
 use Rattle.std.specs.Prelude.{◌≡◌, ℕ, suc, List, [], ◌∷◌, map, true, Result, Ok, Err, if◌then◌else◌}
 use Rattle.mach_base.specs.Fault.{Fault}
 use Rattle.mach_parts.specs.declared.binding.Binding as binding
@@ -17,7 +17,7 @@ unfoldable pub chained_bindings_left : ChainedBindIterator → List (Result Bind
 chained_bindings_left it =
     if it.ended then [] else bindings_of (fixup_input_of it.fixups.source) (texts it.libs.now) (fixups_left it.fixups)
 
--- it has ended: nothing is left, and it stays so
+-- it has ended: nothing is left, and that remains so
 pub record HasEndedChainedBindings (it : ChainedBindIterator) : Type 0 where
   pub ended : it.ended ≡ true
   pub left : chained_bindings_left it ≡ []
@@ -28,6 +28,6 @@ fixup_count [] = 0
 fixup_count (Err f ∷ items) = fixup_count items
 fixup_count (Ok f ∷ items) = suc (fixup_count items)
 
--- how many pointers are left to be read, that of a fault aside
+-- how many pointers are left to be read, not counting that of a fault
 unfoldable pub pointers_left : ChainedBindIterator → ℕ
 pointers_left it = if it.ended then 0 else fixup_count (fixups_left it.fixups)

@@ -1,4 +1,4 @@
--- The bindings of an image whose binds stand in chains, as dyld makes them.
+-- The bindings of an image whose binds are in chains, as dyld makes them.
 use Rattle.std.specs.Prelude.{◌≡◌, ◌^◌, ℕ, ℤ, pos, negsuc, ◌+ℤ◌, List, [], ◌∷◌, map, false, Option, Some, None, Result, Ok, Err, nat_lt}
 use Rattle.std.specs.Prelude.{slice_get, if◌then◌else◌}
 use Rattle.mach_base.specs.Among.{IsAmong}
@@ -12,17 +12,17 @@ use Rattle.mach_chained.specs.Pointers.{KindOfFixup, rebase, bind, value}
 use Rattle.mach_chained.specs.Fixups.{FixupInput, Fixup}
 use Rattle.mach_chained.specs.Chained.{PlacedFixup, AreFixups, fixup_items, AreFixupItems}
 
--- where an offset in a segment lies in the file
+-- the file offset of an offset in a segment
 abbrev pub place_in_file : List SegmentView → ℕ → ℕ → Result ℕ Fault
 place_in_file segments number offset =
     found_or_malformed (slice_get segments number) >>= (λ segment. sum_of segment.command.fileoff offset)
 
--- a number of 64 bits with a sign
+-- a signed number, if it fits 64 bits
 abbrev pub signed_or_malformed : ℤ → Result ℤ Fault
 signed_or_malformed (pos n) = if nat_lt n (2 ^ 63) then Ok (pos n) else Err malformed
 signed_or_malformed (negsuc n) = if nat_lt n (2 ^ 63) then Ok (negsuc n) else Err malformed
 
--- the binding of a bind: its import names symbol and library, and both it and the pointer have an addend
+-- the binding of a bind: its import gives symbol and library, and both the import and the pointer have an addend
 unfoldable pub chained_binding_of : FixupInput → List (List ℕ) → Fixup → ℕ → ℤ → Result Binding Fault
 chained_binding_of x libs f import inline = do
   found ← import_at x.fixups import
@@ -39,7 +39,7 @@ chained_binding_of x libs f import inline = do
     is_lazy = false;
   })
 
--- what comes of a fixup, if it is a bind
+-- the binding of a fixup, if it is a bind
 abbrev pub binding_by : FixupInput → List (List ℕ) → Fixup → KindOfFixup → Option (Result Binding Fault)
 binding_by x libs f (rebase target) = None
 binding_by x libs f (value number) = None
@@ -48,28 +48,28 @@ binding_by x libs f (bind import inline) = Some (chained_binding_of x libs f imp
 abbrev pub binding_in : FixupInput → List (List ℕ) → Fixup → Option (Result Binding Fault)
 binding_in x libs f = binding_by x libs f f.kind
 
--- what comes of a fixup before what comes of others: nothing, its binding, or its fault alone
+-- the binding of a fixup, if there is one, before those of others; a fault ends them
 abbrev pub bindings_before : Option (Result Binding Fault) → List (Result Binding Fault) → List (Result Binding Fault)
 bindings_before None rest = rest
 bindings_before (Some (Err f)) rest = Err f ∷ []
 bindings_before (Some (Ok b)) rest = Ok b ∷ rest
 
--- what comes of the binds among some fixups, in order, up to the first fault
+-- the bindings of the binds among some fixups, in order; they end after the first fault
 abbrev pub bindings_of : FixupInput → List (List ℕ) → List (Result Fixup Fault) → List (Result Binding Fault)
 bindings_of x libs [] = []
 bindings_of x libs (Err f ∷ items) = Err f ∷ []
 bindings_of x libs (Ok f ∷ items) = bindings_before (binding_in x libs f) (bindings_of x libs items)
 
--- these are the bindings of an image's chains, over these libraries, up to the first fault
+-- these are the bindings of an image's chains with these libraries; they end after the first fault
 abbrev pub AreBindingItems : FixupInput → List (List ℕ) → List (Result Binding Fault) → Type 0
 AreBindingItems x libs items =
     (fixups : List (Result Fixup Fault)) × AreFixupItems x fixups × (items ≡ bindings_of x libs fixups)
 
--- this is the list of all bindings: no fault stands among the fixups, and each bind has one
+-- this is the list of all bindings: there is no fault among the fixups, and each bind has a binding
 abbrev pub ListsBindings : FixupInput → List (List ℕ) → List Binding → Type 0
 ListsBindings x libs list =
     (ps : List PlacedFixup) × AreFixups x ps None × (bindings_of x libs (fixup_items ps None) ≡ map Ok list)
 
--- a fault stands among the bindings
+-- there is this fault among the bindings
 abbrev pub BindingFault : FixupInput → List (List ℕ) → Fault → Type 0
 BindingFault x libs f = (items : List (Result Binding Fault)) × AreBindingItems x libs items × IsAmong (Err f) items

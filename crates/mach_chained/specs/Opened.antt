@@ -4,7 +4,7 @@ use Rattle.mach_base.specs.Fault.{Fault}
 use Rattle.mach_chained.specs.Fixups.{FixupInput, Span, no_ends, span_at}
 use Rattle.mach_chained.specs.declared.format.PointerFormat.TheVariants.{Generic64}
 
--- what stands for it before the first
+-- a placeholder for it before the first segment
 abbrev pub nothing_opened : Span
 nothing_opened = record {
   number = 0;
@@ -14,12 +14,12 @@ nothing_opened = record {
   chains = record { page_size = 0; format = Generic64; segment_offset = 0; greatest = 0; page_count = 0; place = 0; upto = 0; room = 0 };
 }
 
--- what is kept is that segment, which opens again by its number, or what stands for it before the first
+-- the segment is one that opens again by its number, or the placeholder before the first
 abbrev pub IsKnown : FixupInput → Bool → Span → Type 0
 IsKnown x true span = span_at x no_ends span.number ≡ Ok (Some span)
 IsKnown x false span = span ≡ nothing_opened
 
--- the segment, if there is one
+-- the segment, if there is one, or the placeholder
 abbrev pub span_or_nothing : Result (Option Span) Fault → Span
 span_or_nothing (Ok (Some span)) = span
 span_or_nothing (Ok None) = nothing_opened

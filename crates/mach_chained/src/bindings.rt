@@ -1,4 +1,4 @@
-//! The bindings of an image whose binds stand in chains.
+//! The bindings of an image whose binds are in chains.
 
 ghost use Rattle.std.specs.Prelude.{◌≡◌, ◌+◌, ◌≤◌, ◌+ℤ◌, [], List, length, map, Option, Some, None, IfOk, IfErr, IfNone, IfSome, OnOk, OnErr, MatchOption};
 ghost use Rattle.std.specs.Iterator.{YieldsFirstBy};
@@ -24,7 +24,7 @@ use mach_parts::binding::{Binding, Provider};
 use mach_parts::segment::Segment;
 use std::alloc::Allocator;
 
-// Where an offset in a segment lies in the file.
+// Returns the file offset of an offset in a segment.
 #[inline(always)]
 fn place_in_file(segments: &[Segment<'_>], number: u32, offset: u64) -> Result<u64>
     ensures { Reads (λ n. n) result (place_in_file (map segment_view segments.now) number offset) }
@@ -36,7 +36,7 @@ fn place_in_file(segments: &[Segment<'_>], number: u32, offset: u64) -> Result<u
     }
 }
 
-// The sum of an import's addend and a pointer's.
+// Returns the sum of an import's addend and a pointer's addend.
 #[inline(always)]
 fn whole_addend(addend: i64, inline: i32) -> Result<i64>
     ensures { Reads (λ n. n) result (signed_or_malformed (addend +ℤ inline)) }
@@ -47,13 +47,13 @@ fn whole_addend(addend: i64, inline: i32) -> Result<i64>
     }
 }
 
-/// The bindings one at a time, one for each bind of the chains, in order, up to the first fault; then
-/// its error; then nothing more. It takes no memory.
+/// An iterator over the bindings, one for each bind of the chains, in order.
+/// It ends at the first fault, after that error. It allocates no memory.
 #[derive(Drop)]
 pub struct ChainedBindIterator<'a, 'b> {
     pub(crate) fixups: FixupIterator<'a, 'b>,
     pub(crate) libs: &'b [&'a str],
-    // How the names of imports are read: a long one that many binds have is sought once.
+    // Reads the names of imports. A long name that many binds have is searched for its end only once.
     pub(crate) names: Names<'a>,
     pub(crate) ended: bool,
     ghost of_the_data: { kept_bytes names.texts ≡ fixups.source.fixups.payload.now },
@@ -62,9 +62,9 @@ pub struct ChainedBindIterator<'a, 'b> {
 impl<'a> ChainedFixups<'a> {
     ghost use Rattle.mach_chained.specs.BindingViews.{chained_bindings_left, pointers_left};
 
-    /// The bindings one at a time, one for each bind of the chains, in order, up to the first fault, and
-    /// its error last. `libs` are the image's libraries, by ordinal, `segments` its segments, and `base`
-    /// is the address of its first byte in memory. It takes no memory.
+    /// Returns an iterator over the bindings, one for each bind of the chains, in order. It ends at
+    /// the first fault, after that error. `libs` are the image's libraries, by ordinal, `segments`
+    /// its segments, and `base` is the address of its first byte in memory. It allocates no memory.
     pub fn bindings<'b>(
         &self,
         libs: &'b [&'a str],
@@ -76,7 +76,7 @@ impl<'a> ChainedFixups<'a> {
         self.start_bindings(libs, segments, base)
     }
 
-    // The same, with how many pointers are left to be read.
+    // Does the same, and also says how many pointers are left to be read.
     fn start_bindings<'b>(
         &self,
         libs: &'b [&'a str],
@@ -101,9 +101,8 @@ impl<'a> ChainedFixups<'a> {
 impl<'a> ChainedFixups<'a> {
     ghost use Rattle.mach_chained.specs.BindingViews.{bindings_seen};
 
-    /// The bindings of all binds of the chains, in order. `libs` are the image's libraries, by ordinal,
-    /// `segments` its segments, and `base` is the address of its first byte in memory. Each refusal but
-    /// `Error::Memory` is a fault that stands among the fixups or the binds.
+    /// Returns the bindings of all binds of the chains, in order. `libs` are the image's libraries, by ordinal, `segments` its segments,
+    /// and `base` is the address of its first byte in memory. Each error except `Error::Memory` is a fault among the fixups or the binds.
     pub fn binds<A: Allocator>(
         &self,
         alloc: A,
@@ -121,8 +120,8 @@ impl<'a> ChainedFixups<'a> {
         self.binds_counted(alloc, libs, segments, base, &mut Steps::new())
     }
 
-    /// The same, with the pointers that are read added to a count: as many as there are fixups, and where
-    /// the answer is refused at most one more. The count never falls.
+    /// Does the same, and adds the number of pointers that are read to a count. It is the
+    /// number of fixups, and at most one more on an error. The count never decreases.
     pub fn binds_counted<A: Allocator>(
         &self,
         alloc: A,
@@ -158,7 +157,7 @@ impl<'a> ChainedFixups<'a> {
 }
 
 impl<'a> Source<'a, '_> {
-    // The binding of a bind.
+    // Returns the binding of a bind.
     #[tactic(auto, unfolding(crate::specs::Bindings::chained_binding_of))]
     #[inline(always)]
     fn bound(
@@ -188,7 +187,7 @@ impl<'a> Source<'a, '_> {
         })
     }
 
-    // What comes of a fixup, if it is a bind.
+    // Returns the binding of a fixup, if it is a bind.
     #[inline(always)]
     fn binding(
         &self,
@@ -216,8 +215,8 @@ impl<'a> Source<'a, '_> {
 }
 
 impl<'a> ChainedFixups<'a> {
-    /// What comes of a fixup of the chains, if it is a bind: its binding, or why it has none. `libs` are the image's
-    /// libraries, by ordinal, `segments` its segments, and `base` is the address of its first byte in memory.
+    /// Returns the binding of a fixup of the chains, if it is a bind. Fails with the reason if a bind has no binding. `libs`
+    /// are the image's libraries, by ordinal, `segments` its segments, and `base` is the address of its first byte in memory.
     #[inline(always)]
     pub fn binding(
         &self,
@@ -242,7 +241,7 @@ impl<'a> ChainedFixups<'a> {
 impl<'a> ChainedBindIterator<'a, '_> {
     ghost use Rattle.mach_chained.specs.BindingViews.{chained_bindings_left, pointers_left, HasEndedChainedBindings};
 
-    // Ends.
+    // Ends the iterator.
     fn end(&mut self)
         ensures items { chained_bindings_left self.new ≡ [] }
         ensures ended { HasEndedChainedBindings self.new }
@@ -250,7 +249,7 @@ impl<'a> ChainedBindIterator<'a, '_> {
         self.ended = true;
     }
 
-    // The next binding, or the fault that ends them, with a count of the pointers read.
+    // Returns the next binding, or the fault that ends them, and counts the pointers that are read.
     #[inline(always)]
     fn step(&mut self, steps: &mut Steps) -> Option<Result<Binding<'a>>>
         ensures items { YieldsFirstBy binding_read chained_bindings_left self.old result self.new }
@@ -314,7 +313,7 @@ impl<'a, 'b> Default for ChainedBindIterator<'a, 'b> {
 
     ghost is_default = { λ it. chained_bindings_left it ≡ [] };
 
-    /// No bindings.
+    /// Returns an iterator without bindings.
     #[tactic(auto, unfolding(crate::specs::BindingViews::chained_bindings_left))]
     fn default() -> Self {
         let fixups = FixupIterator::default();

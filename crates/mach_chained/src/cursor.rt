@@ -1,4 +1,4 @@
-//! How far the walk along chains has come, as numbers.
+//! The position of the walk along chains, as plain numbers.
 
 ghost use Rattle.std.specs.Prelude.{◌≡◌};
 ghost use Rattle.mach_chained.specs.FixupCursors.{next_place_said, span_in, fixups_behind, IsOverFixups};
@@ -13,40 +13,39 @@ use crate::header::ChainedFixups;
 use crate::source::{NextPlace, PagePlace, Source, Span};
 use mach_parts::segment::Segment;
 
-/// How far the walk along chains has come: numbers alone, which go with the bytes and the chained fixups. Whatever
-/// they are, going on from them gives fixups, or an error, or nothing.
+/// The position of the walk along chains. It consists of numbers only, and belongs to the bytes and the
+/// chained fixups. Whatever the numbers are, going on from them returns fixups, an error, or nothing.
 #[derive(Clone, Copy, Debug)]
 #[repr(C)]
 pub struct FixupCursor {
-    /// The number of the segment that is opened next.
+    /// The number of the segment to open next.
     pub segment: u32,
-    /// That of the one that is being read.
+    /// The number of the current segment.
     pub number: u32,
-    /// Where the next fixup stands in its page, or the place that it doesn't lie before.
+    /// The place of the next fixup in its page, or a lower bound for it.
     pub at: usize,
-    /// The number of a start of the page.
+    /// The number of one of the page's starts.
     pub index: u32,
-    /// The page that is looked at next.
+    /// The page to look at next.
     pub next_page: u16,
-    /// The page that is being read.
+    /// The current page.
     pub page: u16,
-    /// 1 where the next fixup stands at `at`, 2 where it stands at the start `index`, and else in another page.
+    /// 1 if the next fixup is at `at`, 2 if it is at the start `index`; otherwise it is in another page.
     pub next: u8,
-    /// Whether the start `index` comes behind the chain, whether a segment is being read, and whether all was given:
-    /// 0 says no.
+    /// Whether the start `index` follows the chain, whether there is a current segment, and whether everything was returned: 0 means no.
     pub has_more: u8,
     pub opened: u8,
     pub ended: u8,
 }
 
-// A number that says whether.
+// Returns 1 for yes and 0 for no.
 fn flag(yes: bool) -> u8
     ensures { says_yes result ≡ yes }
 {
     if yes { 1 } else { 0 }
 }
 
-// The numbers of a place: its kind, the place in the page, whether a start comes behind the chain, and its number.
+// Returns the numbers of a place: its kind, the place in the page, whether a start follows the chain, and that start's number.
 fn numbers_of(next: NextPlace) -> (u8, usize, u8, u32)
     ensures { next_place_said result.0 result.1 result.2 result.3 ≡ next }
 {
@@ -61,7 +60,7 @@ fn numbers_of(next: NextPlace) -> (u8, usize, u8, u32)
 }
 
 impl FixupCursor {
-    // The place that its numbers say.
+    // Decodes the place from its numbers.
     fn next_place(&self) -> NextPlace
         ensures { result ≡ next_place_said self.now.next self.now.at self.now.has_more self.now.index }
     {
@@ -84,7 +83,7 @@ impl FixupCursor {
 }
 
 impl<'a, 'b> Source<'a, 'b> {
-    // The segment of a number, and whether there is one with chains.
+    // Opens the segment of a number, and returns whether there is one with chains.
     fn span_again(&self, number: u32) -> (Span<'a>, bool)
         ensures span { span_view result.0 ≡ span_or_nothing (span_at (fixup_input_of self.now) no_ends number) }
         ensures known { IsKnown (fixup_input_of self.now) result.1 (span_view result.0) }
@@ -96,7 +95,7 @@ impl<'a, 'b> Source<'a, 'b> {
         }
     }
 
-    // The segment that a cursor is in, and whether there is one.
+    // Opens the current segment of a cursor, and returns whether there is one.
     fn span_of(&self, cursor: &FixupCursor) -> (Span<'a>, bool)
         ensures span { span_view result.0 ≡ span_in (fixup_input_of self.now) cursor.now }
         ensures known { IsKnown (fixup_input_of self.now) result.1 (span_view result.0) }
@@ -109,7 +108,7 @@ impl<'a, 'b> Source<'a, 'b> {
 }
 
 impl<'a> ChainedFixups<'a> {
-    /// The fixups that come behind a cursor of such an iterator.
+    /// Returns an iterator over the fixups that follow a cursor of such an iterator.
     pub fn fixups_from<'b>(
         &self,
         segments: &'b [Segment<'a>],
@@ -139,7 +138,7 @@ impl<'a> ChainedFixups<'a> {
 }
 
 impl FixupIterator<'_, '_> {
-    /// A cursor of the fixups that are left.
+    /// Returns a cursor for the remaining fixups.
     pub fn cursor(&self) -> FixupCursor
         ensures { (x : FixupInput) → IsOverFixups x self.now → fixups_behind x result ≡ fixups_left self.now }
     {

@@ -1,4 +1,4 @@
-//! What dyld reads of chained fixups (`mach-o/fixup-chains.h`).
+//! Chained fixups, as dyld reads them (`mach-o/fixup-chains.h`).
 #![tactic(auto)]
 
 mod bindings;

@@ -1,4 +1,4 @@
-//! What fixups are read from: the segments with their chains, the starts of pages, the pointers.
+//! The sources of fixups: segments with their chains, the starts of pages, and pointers.
 
 ghost use Rattle.std.specs.Prelude.{◌≡◌, ◌+◌, ◌<◌, ◌≤◌, ◌^◌, length, drop, Some, Ok, Err, IfSome, MatchOption};
 ghost use Rattle.mach_base.specs.Answer.{Reads};
@@ -26,22 +26,22 @@ use mach_parts::segment::Segment;
 /// The start of a page that has no chain.
 pub const DYLD_CHAINED_PTR_START_NONE: u16 = 0xffff;
 
-/// The bit of a page's start that says that the page has several, which stand behind those of the pages.
+/// The bit of a page's start that means that the page has several. These follow the starts of all pages.
 pub const DYLD_CHAINED_PTR_START_MULTI: u16 = 0x8000;
 
 /// The bit of the last of several starts.
 pub const DYLD_CHAINED_PTR_START_LAST: u16 = 0x8000;
 
-/// A pointer that dyld corrects.
+/// A pointer that dyld fixes up.
 #[derive(Clone, Copy, Debug)]
 pub struct Fixup {
     /// The number of the segment.
     pub segment: u32,
-    /// The place in the segment.
+    /// The offset in the segment.
     pub offset: u64,
     /// The address in memory.
     pub address: u64,
-    /// What is asked for.
+    /// What the pointer represents.
     pub kind: FixupKind,
     /// How the pointer is signed, if it is.
     pub auth: Option<PointerAuth>,
@@ -65,15 +65,14 @@ pub struct Span<'a> {
     pub chains: Chains,
 }
 
-// A place in a page, and where its chain is not the last of the page the number of the next one's start.
+// A place in a page. If its chain is not the last of the page, `more` is the number of the next chain's start.
 #[derive(Clone, Copy)]
 pub struct PagePlace {
     pub at: usize,
     pub more: Option<u32>,
 }
 
-// Where the next fixup of a page stands: nowhere, at a place, or at one of several starts that does not
-// lie before a place.
+// The place of the next fixup of a page: none, a known place, or one of several starts, which must not lie before `least`.
 #[derive(Clone, Copy)]
 pub enum NextPlace {
     Nothing,
@@ -81,7 +80,7 @@ pub enum NextPlace {
     Start { index: u32, least: usize },
 }
 
-/// The segment of a number.
+/// Returns the segment with this number.
 #[tactic(auto, using(mach_parts::proofs::SegmentViews::segment_seen))]
 #[inline(always)]
 pub fn nth_segment<'b, 'a>(segments: &'b [Segment<'a>], number: u32) -> Result<&'b Segment<'a>>
@@ -93,8 +92,7 @@ pub fn nth_segment<'b, 'a>(segments: &'b [Segment<'a>], number: u32) -> Result<&
     }
 }
 
-// The number that stands at a place of a segment's data, if it lies there: the one read of a pointer, which
-// counts.
+// Reads the number at a place of a segment's data, if it lies there. This is the read of a pointer that is counted.
 #[inline(always)]
 fn raw_at(
     le: Endian,
@@ -118,14 +116,14 @@ fn raw_at(
     }
 }
 
-// The number of two bytes at a place.
+// Reads the two-byte number at a place.
 fn read_u16(bytes: &[u8], place: usize, le: Endian) -> Result<u16>
     ensures { Reads (λ n. n) result (number_at le 2 bytes.now place) }
 {
     Ok(le.u16_at(bytes_at(bytes, place, 2)?, 0))
 }
 
-// The place of one of several starts, which does not lie before another one.
+// Decodes one of several starts, which must not lie before `least`.
 fn start_place(index: u32, least: usize, start: u16) -> Result<PagePlace>
     requires { index + 1 < 2 ^ 32 }
     ensures { Reads (λ p. Some (spot_view p)) result (spot_by_start index least start) }
@@ -143,7 +141,7 @@ fn start_place(index: u32, least: usize, start: u16) -> Result<PagePlace>
 }
 
 impl<'a> Span<'a> {
-    // What stands for the segment before the first: it has no pages, and ends where all begins.
+    // Returns a placeholder for the segment before the first. It has no pages and ends at 0.
     pub fn before_all() -> Self
         ensures ends { ends_of (span_view result) ≡ no_ends }
         ensures pages { result.chains.page_count ≡ 0 }
@@ -167,7 +165,7 @@ impl<'a> Span<'a> {
         }
     }
 
-    // Where the next fixup stands, `skip` bytes further or where the chain ends at the next start.
+    // Returns the place of the next fixup: `skip` bytes further, or at the next start if the chain ends.
     #[inline(always)]
     pub fn next_place(&self, place: PagePlace, skip: u32) -> NextPlace
         requires { place.at < 2 ^ 16 }
@@ -190,7 +188,7 @@ impl<'a> Span<'a> {
 }
 
 impl<'a, 'b> Source<'a, 'b> {
-    // The segment, where its chains know its place in memory.
+    // Tests whether the chains give the segment's address correctly.
     fn in_memory(&self, chains: &Chains, segment: &'b Segment<'a>) -> Result<&'b Segment<'a>>
         ensures { Reads (λ s. segment_view s.now) result (in_memory (fixup_input_of self.now) (chains_view chains.now) (segment_view segment.now)) }
     {
@@ -201,7 +199,7 @@ impl<'a, 'b> Source<'a, 'b> {
         Ok(segment)
     }
 
-    // The segment, where its starts and its data lie behind those of the one before.
+    // Tests whether the segment's starts and its data lie after those of the segment before.
     fn behind(
         &self,
         before: &Span<'a>,
@@ -220,7 +218,7 @@ impl<'a, 'b> Source<'a, 'b> {
         Ok(segment)
     }
 
-    // A segment with its chains, if it has any, behind the one before.
+    // Opens a segment with its chains, if it has any. It must lie after the one before.
     #[tactic(auto, unfolding(crate::specs::Fixups::span_at))]
     pub fn span(&self, before: &Span<'a>, number: u32) -> Result<Option<Span<'a>>>
         ensures { Reads span_seen result (span_at (fixup_input_of self.now) (ends_of (span_view before.now)) number) }
@@ -241,7 +239,7 @@ impl<'a, 'b> Source<'a, 'b> {
         }))
     }
 
-    // A start of a segment: those of its pages come first.
+    // Reads a start of a segment. The starts of its pages come first.
     fn start(&self, span: &Span<'a>, index: u32) -> Result<u16>
         ensures { Reads (λ n. n) result (start_at (fixup_input_of self.now) (span_view span.now) index) }
     {
@@ -250,7 +248,7 @@ impl<'a, 'b> Source<'a, 'b> {
         read_u16(self.fixups.payload, place, self.fixups.le)
     }
 
-    // The place of one of several starts, which does not lie before another one.
+    // Reads one of several starts, which must not lie before `least`.
     pub fn start_among(&self, span: &Span<'a>, index: u32, least: usize) -> Result<PagePlace>
         ensures { Reads (λ p. Some (spot_view p)) result (start_among (fixup_input_of self.now) (span_view span.now) index least) }
     {
@@ -261,7 +259,7 @@ impl<'a, 'b> Source<'a, 'b> {
         start_place(index, least, start)
     }
 
-    // The first place of a page, if it has one.
+    // Returns the first place of a page, if it has one.
     #[tactic(auto, unfolding(crate::specs::Fixups::first_in_page))]
     pub fn first_in_page(&self, span: &Span<'a>, page: u16) -> Result<Option<PagePlace>>
         ensures { Reads spot_seen result (first_in_page (fixup_input_of self.now) (span_view span.now) page) }
@@ -281,8 +279,8 @@ impl<'a, 'b> Source<'a, 'b> {
         Ok(Some(place))
     }
 
-    // The fixup at a place of a page, and how far the next one is, 0 at the last; none where there is a fault.
-    // Its pointer is read once.
+    // Reads the fixup at a place of a page, and the distance to the next one, or
+    // 0 for the last. Returns `None` if it is faulty. Its pointer is read once.
     #[tactic(auto, unfolding(crate::specs::Fixups::fixup_at))]
     #[inline(always)]
     pub fn fixup(
@@ -331,7 +329,7 @@ impl<'a, 'b> Source<'a, 'b> {
         Some((fixup, pointer.skip))
     }
 
-    // Why there is no fixup at a place of a page. The pointer is not read again.
+    // Returns the reason why there is no fixup at a place of a page. The pointer is not read again.
     pub fn reason(&self, span: &Span<'a>, page: u16, at: usize) -> &'static str {
         let size = usize::from(span.chains.page_size);
         if size <= at {
