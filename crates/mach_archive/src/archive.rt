@@ -168,7 +168,7 @@ impl<'a> Archive<'a> {
 }
 
 impl fmt::Debug for Archive<'_> {
-    /// Prints its form and where members begin, and only the number of the bytes.
+    /// Prints its form and where members begin, with the number of bytes instead of the bytes.
     fn fmt<W: fmt::Write>(&self, f: &mut fmt::Formatter<W>) -> fmt::Result {
         f.debug_struct("Archive")
             .field("bytes", &ByteCount(self.bytes))

@@ -107,7 +107,7 @@ impl<'a> Member<'a> {
 }
 
 impl fmt::Debug for Member<'_> {
-    /// Prints its places, and only the number of the bytes.
+    /// Prints its places, with the number of bytes instead of the bytes.
     fn fmt<W: fmt::Write>(&self, f: &mut fmt::Formatter<W>) -> fmt::Result {
         f.debug_struct("Member")
             .field("offset", &self.offset)

@@ -59,7 +59,7 @@ impl<'a> Iterator for Members<'a> {
 }
 
 impl fmt::Debug for Members<'_> {
-    /// Prints the place of the next header, and only the number of the bytes.
+    /// Prints the place of the next header, with the number of bytes instead of the bytes.
     fn fmt<W: fmt::Write>(&self, f: &mut fmt::Formatter<W>) -> fmt::Result {
         f.debug_struct("Members")
             .field("bytes", &ByteCount(self.bytes))

@@ -141,7 +141,7 @@ impl<'a> Iterator for ArchiveSymbols<'a> {
 }
 
 impl fmt::Debug for ArchiveSymbols<'_> {
-    /// Prints how many symbols are left, and only the number of the bytes of the names.
+    /// Prints how many symbols are left, with the number of bytes instead of the names.
     fn fmt<W: fmt::Write>(&self, f: &mut fmt::Formatter<W>) -> fmt::Result {
         f.debug_struct("ArchiveSymbols")
             .field("kind", &self.table.kind)

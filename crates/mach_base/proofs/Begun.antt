@@ -47,7 +47,7 @@ begun_front item first (suc count) begun past = elim (cases_lt first begun) [
       rw (test, none) refl
 ]
 
--- Of items given by their number let exactly those below a number begin within the bytes. Then the remaining items that do are these.
+-- If exactly the items below number `begun` begin within the bytes, the remaining ones that do are those from `next` up to `begun`.
 pub begun-items_from : {A : Type 0} (item : ℕ → Result A Fault) (next count begun : ℕ) → ((k : ℕ) → is_past_the_end (item k) ≡ nat_le begun k)
     → items_from item next (min count begun - next) ≡ begun_items (items_from item next (count - next))
 begun-items_from item next count begun past =

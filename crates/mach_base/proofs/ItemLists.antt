@@ -1,4 +1,4 @@
--- Lists whose items are given by their number.
+-- Lists whose items are computed from their number.
 use Rattle.std.proofs.Common.{◌≡◌, ℕ, zero, suc, ◌+◌, ◌-◌, ◌<◌, ◌∷◌, length, drop, Result, Ok, Err, Some, slice_get, refl, sym, ap, ◌∙◌, arith}
 use Rattle.mach_base.specs.declared.error.Error.{Error}
 use Rattle.mach_base.specs.Answer.{Reads}

@@ -1,4 +1,4 @@
--- Lists whose items are given by their number, as the sections of a segment are, and items that may fail.
+-- Lists whose items are computed from their number, as the sections of a segment are, and items that may fail.
 use Rattle.std.specs.Prelude.{ℕ, zero, suc, ◌+◌, ◌-◌, ◌/◌, List, [], ◌∷◌, Bool, true, false, Result, Ok, Err, if◌then◌else◌}
 use Rattle.mach_base.specs.declared.error.Error.{Error}
 use Rattle.mach_base.specs.Answer.{◌>>=◌}

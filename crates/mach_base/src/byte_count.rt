@@ -1,8 +1,8 @@
-//! Byte strings as `Debug` shows them.
+//! Byte strings as `Debug` prints them.
 
 use std::fmt;
 
-/// Bytes of which `Debug` shows only the number.
+/// Bytes of which `Debug` prints only the number.
 #[derive(Clone, Copy)]
 pub struct ByteCount<'a>(pub &'a [u8]);
 

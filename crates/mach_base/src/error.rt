@@ -61,7 +61,7 @@ impl<T: Drop> From<AllocFailed<T>> for Error {
     }
 }
 
-/// An error with its message.
+/// An error that `{}` prints as a message.
 #[derive(Clone, Copy, Debug)]
 pub struct Description<'a> {
     error: &'a Error,

@@ -142,7 +142,7 @@ impl<'a, 'b> Default for BuildToolIterator<'a, 'b> {
 }
 
 impl fmt::Debug for BuildToolIterator<'_, '_> {
-    /// Prints how far it has come, and only the number of the bytes.
+    /// Prints how far it has come, with the number of bytes instead of the bytes.
     fn fmt<W: fmt::Write>(&self, f: &mut fmt::Formatter<W>) -> fmt::Result {
         f.debug_struct("BuildToolIterator")
             .field("bytes", &ByteCount(self.bytes))

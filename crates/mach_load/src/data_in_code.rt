@@ -110,7 +110,7 @@ impl<'a> Default for DataInCodeIterator<'a> {
 }
 
 impl fmt::Debug for DataInCodeIterator<'_> {
-    /// Prints where the entries begin and how far it has come, and only the number of the bytes.
+    /// Prints where the entries begin and how far it has come, with the number of bytes instead of the bytes.
     fn fmt<W: fmt::Write>(&self, f: &mut fmt::Formatter<W>) -> fmt::Result {
         f.debug_struct("DataInCodeIterator")
             .field("bytes", &ByteCount(self.bytes))

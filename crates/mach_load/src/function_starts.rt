@@ -48,7 +48,7 @@ impl<'a> FunctionStarts<'a> {
 }
 
 impl fmt::Debug for FunctionStarts<'_> {
-    /// Prints the range, and only the number of the bytes.
+    /// Prints the range, with the number of bytes instead of the bytes.
     fn fmt<W: fmt::Write>(&self, f: &mut fmt::Formatter<W>) -> fmt::Result {
         f.debug_struct("FunctionStarts")
             .field("bytes", &ByteCount(self.bytes))
@@ -155,7 +155,7 @@ impl<'a> Default for FunctionStartIterator<'a> {
 }
 
 impl fmt::Debug for FunctionStartIterator<'_> {
-    /// Prints how far it has come, and only the number of the bytes.
+    /// Prints how far it has come, with the number of bytes instead of the bytes.
     fn fmt<W: fmt::Write>(&self, f: &mut fmt::Formatter<W>) -> fmt::Result {
         f.debug_struct("FunctionStartIterator")
             .field("bytes", &ByteCount(self.bytes))

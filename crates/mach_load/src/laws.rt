@@ -28,7 +28,7 @@ pub fn starts_are_sums()
         → (numbers : List ℕ) × AreDistances r.bytes r.upto r.from numbers × AreSums base numbers items }
 {}
 
-/// Data-in-code entries are given by their number. There are as many as the table
+/// Data-in-code entries are addressed by number. There are as many as the table
 /// has room for, and entry k is the one at its own place, whatever the others are.
 pub fn data_in_code_by_number()
     ensures count { (le : Endian) (bytes : List ℕ) (dataoff datasize : ℕ) → length (data_in_code_in le bytes dataoff datasize) ≡ datasize / 8 }

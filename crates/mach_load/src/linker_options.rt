@@ -150,7 +150,7 @@ impl<'a, 'b> Default for LinkerOptionIterator<'a, 'b> {
 }
 
 impl fmt::Debug for LinkerOptionIterator<'_, '_> {
-    /// Prints how far it has come, and only the number of the bytes.
+    /// Prints how far it has come, with the number of bytes instead of the bytes.
     fn fmt<W: fmt::Write>(&self, f: &mut fmt::Formatter<W>) -> fmt::Result {
         f.debug_struct("LinkerOptionIterator")
             .field("bytes", &ByteCount(self.bytes))

@@ -112,7 +112,7 @@ impl<'a, 'b> Default for NoteIterator<'a, 'b> {
 }
 
 impl fmt::Debug for NoteIterator<'_, '_> {
-    /// Prints how many commands are left, and only the number of the bytes.
+    /// Prints how many commands are left, with the number of bytes instead of the bytes.
     fn fmt<W: fmt::Write>(&self, f: &mut fmt::Formatter<W>) -> fmt::Result {
         f.debug_struct("NoteIterator")
             .field("bytes", &ByteCount(self.bytes))

@@ -11,7 +11,7 @@ use Rattle.mach_parts.specs.FatRecords.{fat_arch_64_fields, fat_arch_64_of_value
 use Rattle.mach_parts.specs.declared.fat64.FatArch64.{FatArch64}
 
 -- The form of a table's records: the size in bytes, the fields, and the record of some values. Also what a
--- record says of its entry: the CPU type and subtype, the offset, the size, and the alignment as a power of 2.
+-- record says of its entry: the CPU type and subtype, the offset, the size, and the alignment as an exponent of 2.
 pub record ArchForm (R : Type 0) : Type 0 where
   pub stride : ℕ
   pub fields : List Field

@@ -73,7 +73,7 @@ impl FatHeader {
     }
 }
 
-/// One entry of a fat file: an image or an archive for one cpu (struct fat_arch).
+/// One entry of a fat file: an image or an archive for one CPU (struct fat_arch).
 #[derive(Clone, Copy, Debug, Default)]
 pub struct FatArch {
     /// The CPU type, one of the `CPU_TYPE_` constants.
@@ -84,7 +84,7 @@ pub struct FatArch {
     pub offset: u32,
     /// Its size in bytes.
     pub size: u32,
-    /// The alignment of its offset, as a power of 2.
+    /// The alignment of its offset: 2 to this power, in bytes.
     pub align: u32,
 }
 

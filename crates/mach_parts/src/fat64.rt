@@ -27,7 +27,7 @@ pub struct FatArch64 {
     pub offset: u64,
     /// Its size in bytes.
     pub size: u64,
-    /// The alignment of its offset, as a power of 2.
+    /// The alignment of its offset: 2 to this power, in bytes.
     pub align: u32,
     /// Unused.
     pub reserved: u32,

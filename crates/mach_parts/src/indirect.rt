@@ -143,7 +143,7 @@ impl<'a> IndirectSymbols<'a> {
 }
 
 impl fmt::Debug for IndirectSymbols<'_> {
-    /// Prints where the entries lie, and only the number of the bytes.
+    /// Prints where the entries lie, with the number of bytes instead of the bytes.
     fn fmt<W: fmt::Write>(&self, f: &mut fmt::Formatter<W>) -> fmt::Result {
         f.debug_struct("IndirectSymbols")
             .field("bytes", &ByteCount(self.bytes))

@@ -99,7 +99,7 @@ pub struct Symbols<'a> {
 }
 
 impl fmt::Debug for Symbols<'_> {
-    /// Prints where the symbols lie, and only the number of the bytes.
+    /// Prints where the symbols lie, with the number of bytes instead of the bytes.
     fn fmt<W: fmt::Write>(&self, f: &mut fmt::Formatter<W>) -> fmt::Result {
         f.debug_struct("Symbols")
             .field("bytes", &ByteCount(self.table.bytes))

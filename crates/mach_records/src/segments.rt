@@ -25,7 +25,7 @@ pub struct Section32 {
     pub size: u32,
     /// Its file offset.
     pub offset: u32,
-    /// Its alignment, as a power of 2.
+    /// Its alignment: 2 to this power, in bytes.
     pub align: u32,
     /// The file offset of its relocations.
     pub reloff: u32,
@@ -100,7 +100,7 @@ pub struct Section64 {
     pub size: u64,
     /// Its file offset.
     pub offset: u32,
-    /// Its alignment, as a power of 2.
+    /// Its alignment: 2 to this power, in bytes.
     pub align: u32,
     /// The file offset of its relocations.
     pub reloff: u32,

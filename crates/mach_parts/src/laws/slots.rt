@@ -9,7 +9,7 @@ ghost use Rattle.mach_parts.specs.SlotLookUp.{holds_slots_at, slot_of_address};
 ghost use Rattle.mach_parts.specs.SlotPlaces.{IsSlotOfSection};
 ghost use Rattle.mach_parts.specs.Slots.{SlotTables, Slot, read_slots};
 
-/// Indirect symbols are given by their number. There are as many as the table
+/// Indirect symbols are addressed by number. There are as many as the table
 /// claims, and entry k is the one that `get` returns, whatever the others are.
 #[tactic(auto, using(crate::proofs::SlotLaws::entries_counted, crate::proofs::SlotLaws::entry_by_number))]
 pub fn indirect_symbols_by_number()

@@ -17,7 +17,7 @@ pub fn bits_together(r: RelocationInfo) -> u32
         + u32::from(r.r_type()) * (1 << 28)
 }
 
-/// Relocations are given by their number. There are `count`, and relocation k is the one at its own place, whatever the others are.
+/// Relocations are addressed by number. There are `count`, and relocation k is the one at its own place, whatever the others are.
 pub fn relocations_by_number()
     ensures count { (le : Endian) (bytes : List ℕ) (reloff count : ℕ) → length (relocations_at le bytes reloff count) ≡ count }
     ensures item { (le : Endian) (bytes : List ℕ) (reloff count k : ℕ) → k < count

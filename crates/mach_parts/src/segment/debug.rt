@@ -5,7 +5,7 @@ use mach_base::ByteCount;
 use std::fmt;
 
 impl fmt::Debug for Segment<'_> {
-    /// Prints the fields, and only the numbers of the bytes of the data and of the file.
+    /// Prints the fields, with the number of bytes instead of the data and of the file.
     fn fmt<W: fmt::Write>(&self, f: &mut fmt::Formatter<W>) -> fmt::Result {
         f.debug_struct("Segment")
             .field("cmd", &self.cmd)

@@ -21,7 +21,7 @@ pub fn section_written_and_read(section: Section, bytes: &mut [u8], ctx: Ctx) ->
     Ok(again)
 }
 
-/// Sections are given by their number. There are `count`, and section k is the one at its own place, whatever the others are.
+/// Sections are addressed by number. There are `count`, and section k is the one at its own place, whatever the others are.
 pub fn sections_by_number()
     ensures count { (ctx : Ctx) (file : List ℕ) (offset count : ℕ) → length (sections_at ctx file offset count) ≡ count }
     ensures item { (ctx : Ctx) (file : List ℕ) (offset count k : ℕ) → k < count

@@ -31,7 +31,7 @@ pub struct Section {
     pub size: u64,
     /// The file offset.
     pub offset: u32,
-    /// The alignment of the address, as a power of 2.
+    /// The alignment of the address: 2 to this power, in bytes.
     pub align: u32,
     /// The file offset of the relocations.
     pub reloff: u32,

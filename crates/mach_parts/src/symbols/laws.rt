@@ -7,7 +7,7 @@ ghost use Rattle.mach_parts.specs.SymbolViews.{table_of};
 
 use crate::symbols::Symbols;
 
-/// Symbols are given by their number. There are as many as the table claims,
+/// Symbols are addressed by number. There are as many as the table claims,
 /// and symbol k is the one that `get` returns, whatever the others are.
 pub fn symbols_by_number()
     ensures count { (t : SymbolTable) → length (symbols_of t) ≡ t.nsyms }
