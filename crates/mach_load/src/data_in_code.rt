@@ -43,7 +43,7 @@ impl<'a> DataInCodeIterator<'a> {
         }
     }
 
-    /// Restricts it to the entries that begin within the bytes. No byte of any later entry can be read.
+    /// Returns the same iterator restricted to the entries that begin within the bytes. No byte of any later entry can be read.
     pub fn begun(&self) -> Self
         ensures { data_in_code_left result ≡ begun_items (data_in_code_left self.now) }
     {

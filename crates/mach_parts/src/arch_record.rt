@@ -31,7 +31,7 @@ pub trait ArchRecord: Record {
     fn entry_size(&self) -> u64
         ensures { result ≡ arch_form.size self.now };
 
-    /// Returns the exponent of the offset's alignment: that is 2 to this power, in bytes.
+    /// Returns the alignment of the offset, as an exponent of 2.
     fn entry_align(&self) -> u32
         ensures { result ≡ arch_form.align self.now };
 

@@ -87,7 +87,7 @@ impl<'a> IndirectSymbols<'a> {
         self.count
     }
 
-    /// Restricts the table to the entries that begin within the bytes. No byte of any later entry can be read.
+    /// Returns the same table restricted to the entries that begin within the bytes. No byte of any later entry can be read.
     pub fn begun(&self) -> IndirectSymbols<'a>
         ensures { indirect_table_of result ≡ begun_table (indirect_table_of self.now) }
     {
@@ -163,7 +163,7 @@ pub struct IndirectSymbolIterator<'a> {
 }
 
 impl IndirectSymbolIterator<'_> {
-    /// Restricts it to the entries that begin within the bytes. No byte of any later entry can be read.
+    /// Returns the same iterator restricted to the entries that begin within the bytes. No byte of any later entry can be read.
     pub fn begun(&self) -> Self
         ensures { indirect_left result ≡ begun_items (indirect_left self.now) }
     {

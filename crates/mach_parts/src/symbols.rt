@@ -211,7 +211,7 @@ impl<'a> Symbols<'a> {
         self.table.ctx
     }
 
-    /// Restricts the table to the symbols whose records begin within the bytes. No byte of any later symbol can be read.
+    /// Returns the same table restricted to the symbols whose records begin within the bytes. No byte of any later symbol can be read.
     pub fn begun(&self) -> Symbols<'a>
         ensures { table_of result ≡ begun_of (table_of self.now) }
     {

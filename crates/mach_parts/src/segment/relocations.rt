@@ -36,7 +36,7 @@ impl<'a> RelocationIterator<'a> {
         }
     }
 
-    /// Restricts it to the relocations whose record begins within the bytes. No byte of any later relocation can be read.
+    /// Returns the same iterator restricted to the relocations whose record begins within the bytes. No byte of any later relocation can be read.
     pub fn begun(&self) -> Self
         ensures { relocations_left result ≡ begun_items (relocations_left self.now) }
     {

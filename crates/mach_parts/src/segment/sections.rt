@@ -54,7 +54,7 @@ impl<'a> SectionIterator<'a> {
         }
     }
 
-    /// Restricts it to the sections whose record begins within the bytes. No byte of any later section can be read.
+    /// Returns the same iterator restricted to the sections whose record begins within the bytes. No byte of any later section can be read.
     pub fn begun(&self) -> Self
         ensures { sections_left result ≡ begun_items (sections_left self.now) }
     {
