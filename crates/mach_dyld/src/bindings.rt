@@ -1,4 +1,4 @@
-//! The bindings of bind opcodes, as dyld makes them, one at a time.
+//! Bindings from bind opcodes, as dyld reads them, one at a time.
 
 ghost use Rattle.std.specs.Prelude.{◌≡◌, ◌+◌, ◌<◌, ◌≤◌, List, [], ◌∷◌, Ok, Err, IsErr, MatchOption, IfOk, length, map, nat_le, bit_and};
 ghost use Rattle.std.specs.Prelude.{IfSome, IfNone, OnOk, OnErr};
@@ -33,17 +33,17 @@ use mach_base::{Ctx, Error, Result, ScrollError, Steps};
 use mach_parts::binding::{Binding, Provider};
 use mach_parts::segment::Segment;
 
-/// The bindings one at a time: those of the non-lazy stream, then those of the lazy one, up to the first
-/// fault; then its error; then nothing more. It takes no memory.
+/// An iterator over bindings: those of the non-lazy stream, then those of the lazy stream. The first fault is its last item.
+/// It allocates nothing.
 #[derive(Drop)]
 pub struct OpcodeBindingIterator<'a, 'b> {
     pub(crate) stream: Stream<'a, 'b, Extra>,
 }
 
 impl<'a> BindInterpreter<'a> {
-    /// The bindings one at a time, as dyld makes them: those of the non-lazy stream, then those of the
-    /// lazy one, up to the first fault, and its error last. `libs` are the image's libraries, by ordinal,
-    /// and `segments` its segments. It takes no memory.
+    /// Returns the bindings one at a time, as dyld reads them: those of the non-lazy stream, then those of the lazy stream.
+    /// The first fault is the last item. `libs` are the image's libraries, by ordinal, and `segments` its segments. It
+    /// allocates nothing.
     pub fn bindings<'b>(
         &self,
         libs: &'b [&'a str],
@@ -65,7 +65,7 @@ impl<'a> BindInterpreter<'a> {
     }
 }
 
-/// Where an offset in a segment lies in the file and in memory, if a pointer there lies in the segment.
+/// Returns the place in the file and the address of an offset in a segment, if a pointer there lies in the segment.
 #[tactic(auto, using(mach_parts::proofs::SegmentViews::segment_seen), unfolding(crate::specs::Bindings::spot_of))]
 #[inline(always)]
 pub fn spot(pointer: u8, segments: &[Segment<'_>], number: u8, offset: u64) -> Option<(u64, u64)>
@@ -81,7 +81,7 @@ pub fn spot(pointer: u8, segments: &[Segment<'_>], number: u8, offset: u64) -> O
     Some((in_file, address))
 }
 
-// Where it goes on behind a DONE, which is the instruction that comes next.
+// Returns the place of the instruction after a DONE: the next one in the bytes.
 #[inline(always)]
 fn behind_done(state: &State<'_>) -> usize
     requires { state.now.place < state.now.upto }
@@ -94,7 +94,7 @@ fn behind_done(state: &State<'_>) -> usize
     }
 }
 
-// The highest opcode of a stream.
+// Returns the highest opcode allowed in a stream.
 #[inline(always)]
 fn highest(is_lazy: bool) -> Opcode
     ensures { result ≡ highest_opcode is_lazy }
@@ -115,7 +115,7 @@ pub fn holds_all(size: u64, offset: u64, len: u8) -> bool
     size >= len && offset <= size - len
 }
 
-// The ordinal that opcode 3 sets by its immediate.
+// Returns the ordinal that opcode 3 sets by its immediate.
 #[inline(always)]
 fn special_ordinal(imm: u8) -> i64
     ensures { result ≡ defined.special_ordinal imm }
@@ -123,21 +123,21 @@ fn special_ordinal(imm: u8) -> i64
     if imm == 0 { 0 } else { i64::from(imm) - 16 }
 }
 
-/// The settings that dyld's binds have beside those of a bind.
+/// The settings of dyld's binds beyond those in `Settings`.
 #[derive(Clone, Copy)]
 pub struct Extra {
-    /// The special ordinal, where it was set after the library.
+    /// The special ordinal, if one was set after the library.
     pub special: Option<i64>,
     /// The type.
     pub kind: u8,
-    /// Whether an ordinal was set, and whether a name and a segment were.
+    /// Whether an ordinal was set; the next two fields say the same of a name and a segment.
     pub has_ordinal: bool,
     pub has_name: bool,
     pub has_segment: bool,
 }
 
 impl Extra {
-    // The provider by the ordinal that was set last.
+    // Returns the provider that the ordinal set last names.
     #[inline(always)]
     fn provider<'a>(self, libs: &[&'a str], library: u64) -> Option<Provider<'a>>
         ensures { MatchOption result
@@ -230,7 +230,7 @@ impl<'a> Makes<'a> for Extra {
         state.execute(bytes, pointer, opcode, imm, operands)
     }
 
-    // Why the instruction at the state's place can't be read.
+    // Returns why the instruction at the state's place can't be read.
     #[tactic(auto, unfolding(crate::specs::Bindings::opcode_at, crate::specs::Instructions::byte_at))]
     fn unreadable(state: &State<'a>, bytes: &[u8], pointer: u8, byte: u8) -> Error {
         if state.place >= bytes.len() {
@@ -243,7 +243,7 @@ impl<'a> Makes<'a> for Extra {
         instruction_error(bytes, pointer, state.place, byte)
     }
 
-    // Why a bind has no binding.
+    // Returns why a bind has no binding.
     fn refusal(self, source: &Source<'a, '_>, settings: &Settings<'a>) -> Error {
         if !self.has_ordinal {
             return Error::Malformed("a bind has an ordinal");
@@ -283,8 +283,8 @@ impl<'a> Makes<'a> for Extra {
 }
 
 impl<'a> OpcodeBindingIterator<'a, '_> {
-    /// The next binding, with the opcodes that are read added to a count: where a fault comes at most one more than are left. The
-    /// count never falls.
+    /// Returns the next binding. Adds the number of opcodes read to `steps`: in all, at most one more than the opcodes that
+    /// are left, and that one only at a fault.
     #[inline(always)]
     pub fn next_counted(&mut self, steps: &mut Steps) -> Option<Result<Binding<'a>>>
         ensures items { YieldsFirstBy binding_read opcode_bindings_left self.old result self.new }
@@ -318,7 +318,7 @@ impl<'a> Iterator for OpcodeBindingIterator<'a, '_> {
 impl Default for OpcodeBindingIterator<'_, '_> {
     ghost is_default = { λ it. opcode_bindings_left it ≡ [] };
 
-    /// No bindings.
+    /// Returns an iterator without bindings.
     fn default() -> Self {
         OpcodeBindingIterator {
             stream: Stream::none(<Extra as Makes<'_>>::first(true)),

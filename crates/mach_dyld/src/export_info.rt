@@ -1,4 +1,4 @@
-//! What an export stands for, by its flags.
+//! The meaning of an export, by its flags.
 
 ghost use Rattle.std.specs.Prelude.{◌≡◌, codes};
 ghost use Rattle.mach_base.specs.Answer.{Reads};
@@ -9,22 +9,22 @@ ghost use Rattle.mach_dyld.specs.SymbolKind.{symbol_kind, kind_name};
 
 use mach_base::{Error, Result, Uleb128, read_text, uleb};
 
-/// The bits of an export's flags that tell its kind.
+/// The bits of an export's flags that hold its kind.
 pub const EXPORT_SYMBOL_FLAGS_KIND_MASK: u64 = 0x03;
 
-/// The kind of a symbol like most.
+/// The kind of an ordinary symbol.
 pub const EXPORT_SYMBOL_FLAGS_KIND_REGULAR: u64 = 0x00;
 
-/// The kind of a symbol that every thread has for itself.
+/// The kind of a symbol of which every thread has its own copy.
 pub const EXPORT_SYMBOL_FLAGS_KIND_THREAD_LOCAL: u64 = 0x01;
 
 /// The kind of a symbol whose address doesn't move with the image.
 pub const EXPORT_SYMBOL_FLAGS_KIND_ABSOLUTE: u64 = 0x02;
 
-/// The definition is weak: another may stand in its place.
+/// The definition is weak: another may replace it.
 pub const EXPORT_SYMBOL_FLAGS_WEAK_DEFINITION: u64 = 0x04;
 
-/// The export is one of another library.
+/// The export comes from another library.
 pub const EXPORT_SYMBOL_FLAGS_REEXPORT: u64 = 0x08;
 
 /// The export is a stub with a resolver.
@@ -33,18 +33,18 @@ pub const EXPORT_SYMBOL_FLAGS_STUB_AND_RESOLVER: u64 = 0x10;
 /// The kind of an exported symbol.
 #[derive(Clone, Copy, Debug)]
 pub enum SymbolKind {
-    /// Kind 0: a symbol like most.
+    /// Kind 0: an ordinary symbol.
     Regular,
     /// Kind 2: its address doesn't move with the image.
     Absolute,
-    /// Kind 1: every thread has its own.
+    /// Kind 1: every thread has its own copy.
     ThreadLocal,
-    /// Kind 3, with the whole of the flags.
+    /// Kind 3, with all the flags.
     UnknownSymbolKind(u64),
 }
 
 impl SymbolKind {
-    /// The kind that an export's flags tell by their low two bits.
+    /// Returns the kind in the low two bits of an export's flags.
     pub fn new(flags: u64) -> SymbolKind
         ensures { result ≡ symbol_kind flags }
     {
@@ -56,7 +56,7 @@ impl SymbolKind {
         }
     }
 
-    /// The name of the kind.
+    /// Returns the name of the kind.
     pub fn to_str(&self) -> &'static str
         ensures { result.now ≡ kind_name self.now }
     {
@@ -69,10 +69,10 @@ impl SymbolKind {
     }
 }
 
-/// What an export stands for.
+/// The meaning of an export.
 #[derive(Debug, Drop)]
 pub enum ExportInfo<'a> {
-    /// An address in the image, counted from its start.
+    /// An address in the image, as an offset from the image's start.
     Regular {
         address: u64,
         flags: u64,
@@ -83,7 +83,7 @@ pub enum ExportInfo<'a> {
         lib_symbol_name: Option<&'a str>,
         flags: u64,
     },
-    /// A stub, and a resolver to be called for the address to use, both counted from the image's start.
+    /// A stub, and a resolver that returns the address to use. Both are offsets from the image's start.
     Stub {
         stub_offset: Uleb128,
         resolver_offset: Uleb128,
@@ -92,9 +92,9 @@ pub enum ExportInfo<'a> {
 }
 
 impl<'a> ExportInfo<'a> {
-    /// What an export with these flags stands for, as it is spelled at an offset, or the first fault that
-    /// reading it in order meets. `libs` are the image's libraries, by ordinal; an ordinal at or past their
-    /// end is `Error::Malformed`, and it is looked up once the text of the re-export is read.
+    /// Reads an export with these flags, whose data begin at an offset, or returns the first fault in reading order. `libs`
+    /// are the image's libraries, by ordinal. An ordinal past their end is `Error::Malformed`; it is looked up after the
+    /// name of the re-export is read.
     #[tactic(auto, unfolding(crate::specs::Nodes::info_at))]
     pub fn parse(
         bytes: &'a [u8],
@@ -115,7 +115,7 @@ impl<'a> ExportInfo<'a> {
     }
 }
 
-// The library of an ordinal.
+// Returns the library with an ordinal.
 fn library<'a>(libs: &[&'a str], ordinal: u64) -> Result<&'a str>
     ensures { Reads (λ lib. lib.now) result (library (texts libs.now) ordinal) }
 {
@@ -125,7 +125,7 @@ fn library<'a>(libs: &[&'a str], ordinal: u64) -> Result<&'a str>
     }
 }
 
-// The name in the other library, where it is not the export's own.
+// Returns the name in the other library, if it differs from the export's own.
 fn name_of(text: &str) -> Option<&str>
     ensures { text_in result ≡ name_of text.now }
 {
@@ -160,7 +160,7 @@ fn reexport<'a>(
     })
 }
 
-// A stub's two offsets, one behind the other.
+// Reads a stub's two offsets, one after the other.
 #[tactic(auto, unfolding(crate::specs::Nodes::stub_at))]
 fn stub(bytes: &[u8], flags: u64, place: usize) -> Result<ExportInfo<'_>>
     ensures { Reads info_of result (stub_at bytes.now flags place) }

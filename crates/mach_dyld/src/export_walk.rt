@@ -1,4 +1,4 @@
-//! The exports of a trie one at a time, as callers walk over them.
+//! The exports of a trie one at a time.
 
 ghost use Rattle.std.specs.Prelude.{◌≡◌, ℕ, List, [], IsNone};
 ghost use Rattle.mach_dyld.specs.Trie.{Entry};
@@ -11,10 +11,10 @@ use crate::trie::walk::Walker;
 use mach_base::{Result, Steps};
 use std::alloc::{Allocator, Global};
 
-/// The exports of a trie one at a time, depth first: each node's own before those of its children. It
-/// takes a bit for each byte of the trie, a stack of the nodes that are open, and one name. No linker known writes a list
-/// of branches that all lead nowhere: from the first on it takes four bytes for each of the bytes, and
-/// reads none that it knows by then.
+/// A walk over the exports of a trie, depth first: each node's own export before those of its children. Its memory is one
+/// bit for each byte of the trie, a stack of the open nodes, and one name. When it meets the first list of branches that all
+/// lead nowhere, it also takes four bytes for each byte of the trie, and from then on skips the lists that it knows. No
+/// known linker writes such a list.
 #[derive(Drop)]
 pub struct ExportWalk<'a, 'b, A: Allocator = Global> {
     pub(crate) walker: Walker<'a, 'b, A>,
@@ -30,8 +30,8 @@ impl<'a, 'b, A: Allocator> ExportWalk<'a, 'b, A> {
     ghost use denote.Follow.{follows_so};
     ghost use mir.Syntax.{named};
 
-    /// The next export: its name, which is lent until the next call, and what it stands for. Where the trie has no
-    /// list, an error ends the walk. Then there is nothing more.
+    /// Returns the next export: its name, lent until the next call, and its meaning. If the trie has no list of exports, an
+    /// error ends the walk. After the end it returns None.
     #[inline(always)]
     pub fn next(&mut self) -> Option<Result<(&str, ExportInfo<'a>)>>
         ensures says { (t : TrieRange) (libs : List (List ℕ)) (found : List Entry) → HasGiven t libs found self.old
@@ -49,7 +49,7 @@ impl<'a, 'b, A: Allocator> ExportWalk<'a, 'b, A> {
         self.next_counted(&mut Steps::new())
     }
 
-    /// The same, with the nodes visited added to a count: over all calls never more than the trie has bytes.
+    /// Like `next`, and adds the number of nodes visited to `steps`: over all calls at most one for each byte of the trie.
     #[inline(always)]
     pub fn next_counted(&mut self, steps: &mut Steps) -> Option<Result<(&str, ExportInfo<'a>)>>
         ensures says { (t : TrieRange) (libs : List (List ℕ)) (found : List Entry) → HasGiven t libs found self.old

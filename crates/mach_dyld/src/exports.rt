@@ -29,18 +29,18 @@ use std::marker::Model;
 #[derive(Drop)]
 #[derive_where(Debug)]
 pub struct Export<'a, A: Allocator = Global> {
-    /// The name, joined from the labels on the way to it.
+    /// The name, joined from the labels on its path.
     pub name: String<A>,
-    /// What it stands for.
+    /// Its meaning.
     pub info: ExportInfo<'a>,
-    /// 0: a trie doesn't tell sizes.
+    /// Always 0: a trie holds no sizes.
     pub size: usize,
-    /// The address of a regular export, counted from the image's start; else 0.
+    /// The offset of a regular export from the image's start, else 0.
     pub offset: u64,
 }
 
 impl<'a, A: Allocator> Export<'a, A> {
-    /// An export of a name.
+    /// Builds an export with a name.
     #[inline(always)]
     pub fn new(name: String<A>, info: ExportInfo<'a>) -> Self
         ensures name { result.name ≡ name }
@@ -61,7 +61,7 @@ impl<'a, A: Allocator> Export<'a, A> {
     }
 }
 
-/// An export trie in a range of the bytes, with its root at the range's start.
+/// An export trie in a range of the bytes. Its root is at the range's start.
 #[derive(Drop)]
 pub struct ExportTrie<'a> {
     pub(crate) bytes: &'a [u8],
@@ -81,7 +81,7 @@ impl<'a> Model for ExportTrie<'a> {
 }
 
 impl fmt::Debug for ExportTrie<'_> {
-    /// The range; of the bytes only how many they are.
+    /// Formats the range and, of the bytes, only their number.
     fn fmt<W: fmt::Write>(&self, f: &mut fmt::Formatter<W>) -> fmt::Result {
         f.debug_struct("ExportTrie")
             .field("bytes", &ByteCount(self.bytes))
@@ -92,21 +92,21 @@ impl fmt::Debug for ExportTrie<'_> {
 }
 
 impl<'a> ExportTrie<'a> {
-    /// The trie that a command with the dynamic linker's information brings.
+    /// Returns the trie that an `LC_DYLD_INFO` or `LC_DYLD_INFO_ONLY` command names.
     pub fn new(bytes: &'a [u8], command: &DyldInfoCommand) -> Self
         ensures { result ≡ range_in bytes.now command.now.export_off command.now.export_size }
     {
         ExportTrie::in_range(bytes, command.export_off, command.export_size)
     }
 
-    /// The trie that a command of its own brings.
+    /// Returns the trie that an `LC_DYLD_EXPORTS_TRIE` command names.
     pub fn new_from_linkedit_data_command(bytes: &'a [u8], command: &LinkeditDataCommand) -> Self
         ensures { result ≡ range_in bytes.now command.now.dataoff command.now.datasize }
     {
         ExportTrie::in_range(bytes, command.dataoff, command.datasize)
     }
 
-    /// The trie of no bytes, which has no exports.
+    /// Returns the trie of no bytes, which has no exports.
     pub fn empty() -> Self
         ensures { result ≡ empty_range }
     {
@@ -117,7 +117,7 @@ impl<'a> ExportTrie<'a> {
         }
     }
 
-    /// The trie from a place of the bytes up to another; an empty one where these don't lie in the bytes.
+    /// Returns the trie in a range of the bytes, or an empty trie if the range doesn't lie in the bytes.
     pub fn at(bytes: &'a [u8], from: usize, upto: usize) -> Self
         ensures { result ≡ range_upto bytes.now from upto }
     {
@@ -132,21 +132,21 @@ impl<'a> ExportTrie<'a> {
         }
     }
 
-    /// Where the trie begins.
+    /// Returns the place where the trie begins.
     pub fn from(&self) -> usize
         ensures { result ≡ self.now.from }
     {
         self.from
     }
 
-    /// The place behind it.
+    /// Returns the place after the trie's last byte.
     pub fn upto(&self) -> usize
         ensures { result ≡ self.now.upto }
     {
         self.upto
     }
 
-    // The trie in `size` bytes from an offset on; an empty one where they don't lie in the bytes.
+    // Returns the trie in `size` bytes from an offset on, or an empty one if they don't lie in the bytes.
     fn in_range(bytes: &'a [u8], offset: u32, size: u32) -> Self
         ensures { result ≡ range_in bytes.now offset size }
     {
@@ -163,8 +163,8 @@ impl<'a> ExportTrie<'a> {
         }
     }
 
-    /// The exports one at a time, in the order of `exports`: a walk whose `next` lends each name. It takes a mark for
-    /// each byte of the trie, and no allocation for an export.
+    /// Starts a walk over the exports, in the order of `exports`. Its `next` lends each name. It takes a mark for each byte
+    /// of the trie, and no allocation for an export.
     pub fn walk<'b, A: Allocator + Clone>(
         &self,
         alloc: A,
@@ -184,8 +184,8 @@ impl<'a> ExportTrie<'a> {
         Ok(ExportWalk { walker })
     }
 
-    /// The exports, depth first: each node's own before those of its children. `libs` are the image's
-    /// libraries, by ordinal. Each refusal but `Error::Memory` is a fault that stands in the trie.
+    /// Returns the exports, depth first: each node's own export before those of its children. `libs` are the image's
+    /// libraries, by ordinal. Each error except `Error::Memory` is a fault in the trie.
     pub fn exports<A: Allocator + Clone>(
         &self,
         alloc: A,
@@ -199,8 +199,8 @@ impl<'a> ExportTrie<'a> {
         self.exports_counted(alloc, libs, &mut Steps::new())
     }
 
-    /// The same, with the nodes visited added to a count: where the answer is Ok as many as there are paths
-    /// to nodes, and never more than there are different nodes to which paths lead.
+    /// Like `exports`, and adds the number of nodes visited to `steps`. If the result is Ok, that is the number of paths to
+    /// nodes. It is never more than the number of different nodes to which paths lead.
     pub fn exports_counted<A: Allocator + Clone>(
         &self,
         alloc: A,

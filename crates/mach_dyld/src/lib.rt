@@ -8,7 +8,7 @@ mod export_walk;
 pub mod exports;
 mod trie;
 
-// The machine that reads opcodes; imports, as the Rust crate goblin has them; and bindings, as dyld makes them.
+// The machine that reads opcodes; imports, as the Rust crate goblin has them; and bindings, as dyld reads them.
 pub mod bind_opcodes;
 pub mod bindings;
 pub mod imports;

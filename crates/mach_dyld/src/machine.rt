@@ -1,4 +1,4 @@
-//! The machine of streams, for instances of it in other crates: imports and bindings are two.
+//! The machine that reads streams, for use by other crates: imports and bindings are two instances of it.
 
 pub use crate::imports::instruction::instruction_error;
 pub use crate::imports::settings::Settings;

@@ -15,7 +15,7 @@ pub const REBASE_OPCODE_MASK: u8 = 0xf0;
 /// The half of a byte that is the immediate.
 pub const REBASE_IMMEDIATE_MASK: u8 = 0x0f;
 
-/// The stream is at its end.
+/// The stream ends.
 pub const REBASE_OPCODE_DONE: u8 = 0x00;
 
 /// The type is the immediate.
@@ -33,11 +33,11 @@ pub const REBASE_OPCODE_ADD_ADDR_IMM_SCALED: u8 = 0x40;
 /// As many times as the immediate says: rebase, then advance by a pointer.
 pub const REBASE_OPCODE_DO_REBASE_IMM_TIMES: u8 = 0x50;
 
-/// So many times as a ULEB128 number says: rebase, then advance by a pointer.
+/// As many times as a ULEB128 number says: rebase, then advance by a pointer.
 pub const REBASE_OPCODE_DO_REBASE_ULEB_TIMES: u8 = 0x60;
 
 /// Rebase, then advance by a ULEB128 number and a pointer.
 pub const REBASE_OPCODE_DO_REBASE_ADD_ADDR_ULEB: u8 = 0x70;
 
-/// So many times as a ULEB128 number says: rebase, then advance by a second one and a pointer.
+/// As many times as a ULEB128 number says: rebase, then advance by a second number and a pointer.
 pub const REBASE_OPCODE_DO_REBASE_ULEB_TIMES_SKIPPING_ULEB: u8 = 0x80;

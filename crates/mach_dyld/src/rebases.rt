@@ -1,4 +1,4 @@
-//! The rebases of an image's opcodes, as dyld makes them, one at a time.
+//! Rebases from opcodes, as dyld reads them, one at a time.
 
 ghost use Rattle.std.specs.Prelude.{◌≡◌, ◌⊎◌, ◌<◌, ◌+◌, ◌≤◌, ◌%◌, ◌^◌, ◌∷◌, ℕ, List, [], true, false, length, map, Ok, Err, IsOk, IsErr, IfOk, IfErr};
 ghost use Rattle.std.specs.Prelude.{IfSome, IfNone, MatchOption, OnOk};
@@ -37,7 +37,7 @@ use mach_records::DyldInfoCommand;
 use std::fmt;
 use std::marker::Model;
 
-/// What is corrected at a place.
+/// The kind of value that is corrected.
 #[derive(Clone, Copy, Debug, PartialEq)]
 pub enum RebaseKind {
     /// A pointer.
@@ -48,7 +48,7 @@ pub enum RebaseKind {
     TextRelative32,
 }
 
-/// A place in memory whose number dyld corrects by how far the image was moved.
+/// A place in memory whose value dyld corrects by the distance that the image was moved.
 #[derive(Clone, Copy, Debug)]
 pub struct Rebase {
     /// The number of the segment.
@@ -57,9 +57,9 @@ pub struct Rebase {
     pub offset: u64,
     /// The address in memory.
     pub address: u64,
-    /// The number that stands there before it is corrected.
+    /// The value at that place before it is corrected.
     pub target: u64,
-    /// What is corrected.
+    /// The kind of value.
     pub kind: RebaseKind,
     /// How the pointer is signed, if it is.
     pub auth: Option<PointerAuth>,
@@ -81,7 +81,7 @@ impl<'a> Model for RebaseStream<'a> {
 }
 
 impl fmt::Debug for RebaseStream<'_> {
-    /// The range; of the bytes only how many they are.
+    /// Formats the range and, of the bytes, only their number.
     fn fmt<W: fmt::Write>(&self, f: &mut fmt::Formatter<W>) -> fmt::Result {
         f.debug_struct("RebaseStream")
             .field("bytes", &ByteCount(self.cut.bytes))
@@ -92,7 +92,7 @@ impl fmt::Debug for RebaseStream<'_> {
 }
 
 impl<'a> RebaseStream<'a> {
-    /// The stream that a command with the dynamic linker's information brings. Nothing of it is tested.
+    /// Returns the stream that an `LC_DYLD_INFO` or `LC_DYLD_INFO_ONLY` command names. Nothing is tested.
     pub fn new(bytes: &'a [u8], command: &DyldInfoCommand) -> Self
         ensures { result ≡ cut_stream bytes.now command.now.rebase_off command.now.rebase_size }
     {
@@ -101,7 +101,7 @@ impl<'a> RebaseStream<'a> {
         }
     }
 
-    /// The rebases one at a time, up to the first fault, and its error last. `segments` are the image's. It takes no memory.
+    /// Returns the rebases one at a time. The first fault is the last item. `segments` are the image's. It allocates nothing.
     pub fn iter<'b>(&self, segments: &'b [Segment<'a>], ctx: Ctx) -> OpcodeRebaseIterator<'a, 'b>
         ensures { (ps : List Placed)
             × AreOpcodeRebases (cut_input self.now (pointer_size ctx.container) (map segment_view segments.now)) ctx.le (cut_range self.now) ps
@@ -120,7 +120,7 @@ impl<'a> RebaseStream<'a> {
     }
 }
 
-/// The settings that rebases have beside those of a bind.
+/// The settings of rebases beyond those in `Settings`.
 #[derive(Clone, Copy)]
 pub struct Rebasing {
     /// The byte order of the image's numbers.
@@ -132,7 +132,7 @@ pub struct Rebasing {
 }
 
 impl Rebasing {
-    // Those where a stream begins.
+    // Returns the settings at the start of a stream.
     fn new(le: Endian) -> Self
         ensures { result ≡ first_rebasing le }
     {
@@ -145,7 +145,7 @@ impl Rebasing {
 }
 
 impl RebaseKind {
-    // The type of a number.
+    // Returns the kind with a number.
     #[inline(always)]
     fn of(number: u8) -> Option<Self>
         ensures { result ≡ rebase_kind_of number }
@@ -158,7 +158,7 @@ impl RebaseKind {
         }
     }
 
-    // How many bytes are corrected.
+    // Returns the number of bytes that are corrected.
     #[inline(always)]
     fn width(self, pointer: u8) -> u8
         ensures width { result ≡ rebase_width pointer self }
@@ -171,7 +171,7 @@ impl RebaseKind {
     }
 }
 
-// So many rebases, after each of which it advances by the skip and a pointer.
+// Sets `count` rebases; after each, the offset advances by the skip and a pointer.
 #[inline(always)]
 fn repeat(state: &mut State<'_>, count: u64, skip: u64, pointer: u8)
     ensures { state.new ≡ record state.old { count = count; stride = (skip + pointer) % 2 ^ 64 } }
@@ -180,8 +180,8 @@ fn repeat(state: &mut State<'_>, count: u64, skip: u64, pointer: u8)
     state.stride = skip.wrapping_add(u64::from(pointer));
 }
 
-// Reads the operands of an opcode with its immediate, which stand at a place, and takes the settings and the rebases of the
-// instruction; None where they can't be read, or the opcode is none. A DONE is read elsewhere.
+// Reads the operands of an opcode with its immediate, which begin at a place, and sets the settings and the rebases of the
+// instruction. Returns None if they can't be read, or if the opcode is unknown. A DONE is read elsewhere.
 #[tactic(auto, unfolding(crate::specs::Rebases::rebase_row, crate::specs::Instructions::with_uleb, crate::specs::Instructions::times_at, crate::specs::Machine::set_by, crate::specs::Machine::executed))]
 #[inline(always)]
 fn execute<'a>(
@@ -251,7 +251,7 @@ fn execute<'a>(
     Some(())
 }
 
-// Tests that an opcode is one, and that its operands, which stand at a place, can be read.
+// Tests that an opcode is known, and that its operands, which begin at a place, can be read.
 #[tactic(auto, unfolding(crate::specs::Rebases::rebase_row, crate::specs::Instructions::with_uleb, crate::specs::Instructions::times_at))]
 fn test_opcode(bytes: &[u8], pointer: u8, opcode: Opcode, imm: u8, place: usize) -> Result<()>
     ensures ok { (r : Range) → IfOk result (λ _. IsOk (rebase_row r pointer bytes.now opcode imm place)) }
@@ -296,7 +296,7 @@ impl<'a> Makes<'a> for Rebasing {
 
     ghost reads = { rebase_reads };
 
-    // The byte order is set where a stream begins.
+    // The byte order is set when the iterator is built.
     fn first(_is_lazy: bool) -> Self
         ensures { result ≡ first_rebasing order.Little }
     {
@@ -337,7 +337,7 @@ impl<'a> Makes<'a> for Rebasing {
         }
     }
 
-    // Why there is no rebase.
+    // Returns why there is no rebase.
     fn refusal(self, _source: &Source<'a, '_>, _settings: &Settings<'a>) -> Error {
         if !self.has_segment || RebaseKind::of(self.kind).is_none() {
             return Error::Malformed("a rebase has a segment and a type");
@@ -369,17 +369,17 @@ impl<'a> Makes<'a> for Rebasing {
     }
 }
 
-/// The rebases of a stream one at a time, up to the first fault; then its error; then nothing more. It takes no memory.
+/// An iterator over the rebases of a stream. The first fault is its last item. It allocates nothing.
 #[derive(Drop)]
 pub struct OpcodeRebaseIterator<'a, 'b> {
-    /// Those that were judged.
+    /// The rebases that were checked and are not yet returned.
     pub(crate) run: Run<'a>,
     pub(crate) stream: Stream<'a, 'b, Rebasing>,
 }
 
 impl OpcodeRebaseIterator<'_, '_> {
-    /// The next rebase, with the opcodes that are read added to a count: where a fault comes at most one more than are left.
-    /// The count never falls.
+    /// Returns the next rebase. Adds the number of opcodes read to `steps`: in all, at most one more than the opcodes that
+    /// are left, and that one only at a fault.
     #[inline(always)]
     pub fn next_counted(&mut self, steps: &mut Steps) -> Option<Result<Rebase>>
         ensures items { YieldsFirstBy rebase_read opcode_rebases_left self.old result self.new }
@@ -400,8 +400,8 @@ impl OpcodeRebaseIterator<'_, '_> {
         Some(Ok(self.run.next()))
     }
 
-    // Reads on up to an instruction that makes rebases, and judges those from the first on: false where none comes any more.
-    // The error is why none comes.
+    // Reads on to an instruction that makes rebases, and checks its rebases from the first on. Returns false if no more
+    // come. The error is why none comes.
     #[inline(always)]
     fn refill(&mut self, steps: &mut Steps) -> std::result::Result<bool, Stop>
         requires { self.old.run.left ≡ 0 }
@@ -453,7 +453,7 @@ impl Iterator for OpcodeRebaseIterator<'_, '_> {
 impl Default for OpcodeRebaseIterator<'_, '_> {
     ghost is_default = { λ it. opcode_rebases_left it ≡ [] };
 
-    /// No rebases.
+    /// Returns an iterator without rebases.
     fn default() -> Self {
         OpcodeRebaseIterator {
             run: Run::none(),

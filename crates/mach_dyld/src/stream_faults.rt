@@ -1,5 +1,5 @@
-//! Whether a fault stands among the items of streams. An instruction may make 2^64 - 1 binds: they are judged at once, so that the
-//! work goes by the instructions and not by the binds.
+//! Whether a fault occurs among the items of streams. One instruction may make 2^64 - 1 binds. They are checked together, so
+//! that the time depends on the instructions and not on the binds.
 
 ghost use Rattle.std.specs.Prelude.{◌≡◌, ◌+◌, ◌<◌, ◌≤◌, ◌++◌, true, false, not};
 ghost use Rattle.mach_dyld.specs.BindingFaults.{first_made, has_fault, made_by, still_made};
@@ -10,9 +10,9 @@ use crate::imports::source::Source;
 use crate::imports::stream::{Makes, Stream};
 use mach_base::Steps;
 
-/// Rules by which all binds of one instruction are judged at once.
+/// Rules by which all binds of one instruction are checked together.
 pub trait JudgesAll<'a>: Makes<'a> {
-    /// Whether each of `count` binds makes an item, the first with these settings, and each next one a stride further.
+    /// Whether each of `count` binds makes an item. The first has these settings, and each next one is a stride further.
     fn all_make(
         self,
         source: &Source<'a, '_>,
@@ -25,7 +25,7 @@ pub trait JudgesAll<'a>: Makes<'a> {
 }
 
 impl<'a, 'b, M: JudgesAll<'a>> Stream<'a, 'b, M> {
-    // Whether each bind that the last instruction still makes has an item.
+    // Whether each bind left of the last instruction makes an item.
     fn all_make(&self) -> bool
         requires { 0 < self.now.state.count }
         ensures { has_fault (still_made M.rules self.now) ≡ not result }
@@ -35,7 +35,7 @@ impl<'a, 'b, M: JudgesAll<'a>> Stream<'a, 'b, M> {
             .all_make(&self.source, &self.state.settings, stride, count)
     }
 
-    /// Goes on behind so many of the binds that the last instruction still makes.
+    /// Skips `count` of the binds left of the last instruction.
     #[inline(always)]
     pub fn pass(&mut self, count: u64)
         requires on { self.old.state.ended ≡ false }
@@ -51,8 +51,8 @@ impl<'a, 'b, M: JudgesAll<'a>> Stream<'a, 'b, M> {
         self.state.count -= count;
     }
 
-    /// Whether a fault stands among the items that are left, with the instructions that are read added to a count: at most those
-    /// that can be read, and one more. It takes no memory, and of each instruction as long as its binds are judged.
+    /// Whether a fault occurs among the items that are left. Adds the number of instructions read to `steps`: at most one
+    /// more than can be read. It allocates nothing, and its time for an instruction is that of `all_make`.
     pub fn has_fault_counted(self, steps: &mut Steps) -> bool
         ensures fault { result ≡ has_fault (items_left M.rules self.entry) }
         ensures bounded { steps.new ≤ steps.old + opcodes_left M.rules self.entry + 1 }

@@ -1,4 +1,4 @@
-//! Bytes that are cut behind the range of one stream.
+//! Bytes that are cut after the range of one stream.
 
 ghost use Rattle.std.specs.Prelude.{◌≡◌, map};
 ghost use Rattle.mach_base.specs.Context.{pointer_size};
@@ -12,7 +12,7 @@ use crate::machine::Source;
 use mach_base::Ctx;
 use mach_parts::segment::Segment;
 
-/// Bytes that are cut behind the range of a stream.
+/// Bytes that are cut after the range of a stream.
 #[derive(Clone, Copy)]
 pub struct Cut<'a> {
     pub bytes: &'a [u8],
@@ -21,7 +21,7 @@ pub struct Cut<'a> {
 }
 
 impl<'a> Cut<'a> {
-    /// By the place and the size that a command says.
+    /// Cuts the bytes after the range that a command states.
     pub fn new(bytes: &'a [u8], off: u32, size: u32) -> Self
         ensures { cut_view result ≡ cut_stream bytes.now off size }
     {
@@ -34,7 +34,7 @@ impl<'a> Cut<'a> {
         }
     }
 
-    /// What the stream is read from, over these segments.
+    /// Returns what the stream is read from: these bytes and these segments.
     pub fn source<'b>(&self, segments: &'b [Segment<'a>], ctx: Ctx) -> Source<'a, 'b>
         ensures { input_of result ≡ cut_input (cut_view self.now) (pointer_size ctx.container) (map segment_view segments.now) }
     {

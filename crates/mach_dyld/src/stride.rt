@@ -1,10 +1,10 @@
-//! Whether one of many places on a ring, each a step behind the one before it, lies at its start.
+//! Whether one of many places on a ring, each a step after the one before it, lies at its start.
 
 ghost use Rattle.std.specs.Prelude.{◌≡◌, ◌<◌, ◌≤◌, ◌+◌, ◌-◌, ◌*◌, ◌/◌, ◌^◌, ◌↔◌, ℕ, IsTrue, true, false};
 ghost use Rattle.mach_dyld.specs.BindingFaults.{offset_at};
 ghost use Rattle.mach_dyld.specs.Turns.{AnyBelow, IsRing, last_turn_place};
 
-/// So many places on a ring, counted from 0: the first, and each next one a step further.
+/// A number of places on a ring, counted from 0: the first, and each next one a step further.
 #[derive(Clone, Copy)]
 pub struct Turns {
     pub count: u128,
@@ -14,7 +14,7 @@ pub struct Turns {
 }
 
 impl Turns {
-    // Where the last one is, if the ring is not gone round but laid out.
+    // Returns the place of the last one, if the steps are not reduced modulo the ring's size.
     fn last(self) -> u128
         requires ring { IsRing self }
         requires some { 0 < self.count }
@@ -23,7 +23,7 @@ impl Turns {
         self.first + (self.count - 1) * self.step
     }
 
-    // The same places by the shorter way round.
+    // Returns the same places with the shorter step of the two directions.
     fn shorter(self) -> Turns
         requires ring { IsRing self }
         requires some { 0 < self.count }
@@ -43,7 +43,7 @@ impl Turns {
         }
     }
 
-    // The place behind each start of a new round, on a ring of a step's size.
+    // Returns the first place of each new round, as places on a ring of a step's size.
     fn behind_starts(self) -> Turns
         requires ring { IsRing self }
         requires some { 0 < self.count }
@@ -61,7 +61,7 @@ impl Turns {
         }
     }
 
-    /// Whether one of the places is below a limit. The ring is at most half as large at each turn of the loop.
+    /// Whether one of the places is below a limit. Each turn of the loop at least halves the ring.
     pub fn any_below(self, limit: u128) -> bool
         requires { IsRing self }
         ensures { IsTrue result ↔ AnyBelow limit self }
@@ -86,7 +86,7 @@ pub fn none_above(highest: u64, offset: u64, stride: u64, count: u64) -> bool
     ensures yes { result ≡ true → (j : ℕ) → j < count → offset_at offset stride j ≤ highest }
     ensures no { result ≡ false → (j : ℕ) × (j < count) × (highest < offset_at offset stride j) }
 {
-    // The offsets above the highest are moved to the start of the ring.
+    // Move the offsets above the highest to the start of the ring.
     let above = u64::MAX - highest;
     let turns = Turns {
         count: u128::from(count),

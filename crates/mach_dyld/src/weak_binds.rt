@@ -1,4 +1,4 @@
-//! The weak binds of an image, as dyld makes them, one at a time.
+//! The weak binds of an image, as dyld reads them, one at a time.
 
 ghost use Rattle.std.specs.Prelude.{◌≡◌, ◌+◌, ◌≤◌, ◌%◌, ◌^◌, ℕ, List, [], length, map, Ok, Err, IsErr, IfSome, IfNone, MatchOption, OnOk, OnErr, bit_and};
 ghost use Rattle.std.specs.Iterator.{YieldsFirstBy};
@@ -31,7 +31,7 @@ use std::marker::Model;
 /// A row of the stream of weak binds.
 #[derive(Clone, Copy, Debug)]
 pub enum WeakBind<'a> {
-    /// The image defines this name itself, and not weakly: others take its definition.
+    /// The image itself defines this name, and not weakly: other images take its definition.
     Strong {
         /// The symbol's name.
         name: &'a str,
@@ -56,7 +56,7 @@ impl<'a> Model for WeakBindStream<'a> {
 }
 
 impl fmt::Debug for WeakBindStream<'_> {
-    /// The range; of the bytes only how many they are.
+    /// Formats the range and, of the bytes, only their number.
     fn fmt<W: fmt::Write>(&self, f: &mut fmt::Formatter<W>) -> fmt::Result {
         f.debug_struct("WeakBindStream")
             .field("bytes", &ByteCount(self.cut.bytes))
@@ -67,7 +67,7 @@ impl fmt::Debug for WeakBindStream<'_> {
 }
 
 impl<'a> WeakBindStream<'a> {
-    /// The stream that a command with the dynamic linker's information brings. Nothing of it is tested.
+    /// Returns the stream that an `LC_DYLD_INFO` or `LC_DYLD_INFO_ONLY` command names. Nothing is tested.
     pub fn new(bytes: &'a [u8], command: &DyldInfoCommand) -> Self
         ensures { result ≡ cut_stream bytes.now command.now.weak_bind_off command.now.weak_bind_size }
     {
@@ -76,7 +76,7 @@ impl<'a> WeakBindStream<'a> {
         }
     }
 
-    /// The rows one at a time, up to the first fault, and its error last. `segments` are the image's. It takes no memory.
+    /// Returns the rows one at a time. The first fault is the last item. `segments` are the image's. It allocates nothing.
     pub fn iter<'b>(&self, segments: &'b [Segment<'a>], ctx: Ctx) -> WeakBindIterator<'a, 'b>
         ensures { (ps : List Placed)
             × AreWeakBinds (cut_input self.now (pointer_size ctx.container) (map segment_view segments.now)) (cut_range self.now) ps (weak_binds_left result)
@@ -93,15 +93,15 @@ impl<'a> WeakBindStream<'a> {
     }
 }
 
-/// The settings that weak binds have beside those of a bind.
+/// The settings of weak binds beyond those in `Settings`.
 #[derive(Clone, Copy)]
 pub struct WeakExtra {
     /// The type.
     pub kind: u8,
-    /// Whether a name and a segment were set.
+    /// Whether a name was set; the next field says the same of a segment.
     pub has_name: bool,
     pub has_segment: bool,
-    /// Whether the opcode names a symbol that the image defines itself.
+    /// Whether the opcode names a symbol that the image itself defines.
     pub is_own: bool,
 }
 
@@ -115,7 +115,7 @@ impl WeakExtra {
     }
 }
 
-// Whether the flags of a name say that the image defines the symbol itself.
+// Whether the flags of a name mean that the image itself defines the symbol.
 #[inline(always)]
 fn is_own(flags: u8) -> bool
     ensures { result ≡ defined.is_own flags }
@@ -123,8 +123,8 @@ fn is_own(flags: u8) -> bool
     flags & BIND_SYMBOL_FLAGS_NON_WEAK_DEFINITION != 0
 }
 
-// Reads the name that stands at a place, and takes it with these flags; the name of a symbol that the image defines itself is
-// a row. None where it can't be read.
+// Reads the name at a place and sets it with these flags. The name of a symbol that the image itself defines makes a row.
+// Returns None if the name can't be read.
 #[tactic(auto, unfolding(crate::specs::WeakBinds::weak_name_at, crate::specs::Machine::set_by, crate::specs::Machine::executed))]
 #[inline(always)]
 fn execute_name<'a>(state: &mut State<'a>, bytes: &'a [u8], flags: u8, place: usize) -> Option<()>
@@ -156,7 +156,7 @@ fn execute_name<'a>(state: &mut State<'a>, bytes: &'a [u8], flags: u8, place: us
     Some(())
 }
 
-// Why the name at a place can't be read.
+// Returns why the name at a place can't be read.
 #[tactic(auto, unfolding(crate::specs::WeakBinds::weak_name_at))]
 fn name_error(bytes: &[u8], flags: u8, place: usize) -> Error
     requires { IsErr (weak_name_at flags bytes.now place) }
@@ -205,7 +205,7 @@ impl<'a> Makes<'a> for WeakExtra {
     {
         let imm = byte & BIND_IMMEDIATE_MASK;
         self.is_own = false;
-        // No opcode from here on sets anything here.
+        // The opcodes from here on change no setting here.
         if byte >= BIND_OPCODE_ADD_ADDR_ULEB {
             return;
         }
@@ -262,7 +262,7 @@ impl<'a> Makes<'a> for WeakExtra {
         instruction_error(bytes, pointer, state.place, byte)
     }
 
-    // Why a bind has no row.
+    // Returns why a bind has no row.
     fn refusal(self, _source: &Source<'a, '_>, _settings: &Settings<'a>) -> Error {
         if !self.is_complete() {
             return Error::Malformed("a bind has a name, a segment and a type");
@@ -299,21 +299,20 @@ impl<'a> Makes<'a> for WeakExtra {
     }
 }
 
-// The opcodes between which those of the stream lie, DONE aside.
+// The lowest and the highest opcode of the stream, apart from DONE.
 const LOWEST_WEAK: Opcode = BIND_OPCODE_SET_SYMBOL_TRAILING_FLAGS_IMM;
 
 const HIGHEST_WEAK: Opcode = BIND_OPCODE_DO_BIND_ULEB_TIMES_SKIPPING_ULEB;
 
-/// The rows of a stream of weak binds one at a time, up to the first fault; then its error; then nothing more. It takes no
-/// memory.
+/// An iterator over the rows of a stream of weak binds. The first fault is its last item. It allocates nothing.
 #[derive(Drop)]
 pub struct WeakBindIterator<'a, 'b> {
     pub(crate) stream: Stream<'a, 'b, WeakExtra>,
 }
 
 impl<'a> WeakBindIterator<'a, '_> {
-    /// The next row, with the opcodes that are read added to a count: where a fault comes at most one more than are left. The
-    /// count never falls.
+    /// Returns the next row. Adds the number of opcodes read to `steps`: in all, at most one more than the opcodes that are
+    /// left, and that one only at a fault.
     #[inline(always)]
     pub fn next_counted(&mut self, steps: &mut Steps) -> Option<Result<WeakBind<'a>>>
         ensures items { YieldsFirstBy weak_bind_read weak_binds_left self.old result self.new }
@@ -346,7 +345,7 @@ impl<'a> Iterator for WeakBindIterator<'a, '_> {
 impl Default for WeakBindIterator<'_, '_> {
     ghost is_default = { λ it. weak_binds_left it ≡ [] };
 
-    /// No weak binds.
+    /// Returns an iterator without weak binds.
     fn default() -> Self {
         WeakBindIterator {
             stream: Stream::none(<WeakExtra as Makes<'_>>::first(true)),

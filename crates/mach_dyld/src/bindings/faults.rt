@@ -1,4 +1,4 @@
-//! Whether a fault stands among bindings: those of one instruction are judged at once, by where the places of its turns lie.
+//! Whether a fault occurs among bindings. The bindings of one instruction are checked together, by their range of offsets.
 
 ghost use Rattle.std.specs.Prelude.{◌≡◌, ◌+◌, ◌<◌, ◌≤◌, ◌^◌, ℕ, Ok, Err, map, true, false, slice_get, IfSome, IfNone};
 ghost use Rattle.mach_base.specs.Fault.{malformed};
@@ -16,7 +16,7 @@ use crate::stride::none_above;
 use mach_base::Steps;
 use mach_parts::segment::Segment;
 
-/// The segment of a number.
+/// Returns the segment with a number.
 #[tactic(auto, using(mach_parts::proofs::SegmentViews::segment_seen))]
 pub fn segment_at<'a, 'b>(segments: &'b [Segment<'a>], number: u8) -> Option<&'b Segment<'a>>
     ensures some { IfSome result (λ s. slice_get (map segment_view segments.now) number ≡ Some (segment_view s.now)) }
@@ -25,7 +25,8 @@ pub fn segment_at<'a, 'b>(segments: &'b [Segment<'a>], number: u8) -> Option<&'b
     segments.get(usize::from(number))
 }
 
-// The highest offset at which a segment holds a pointer, at places of 64 bits; None where it is smaller than one.
+// Returns the highest offset at which a segment holds a pointer whose place and address fit into 64 bits; None if the
+// segment is smaller than a pointer.
 fn highest_offset(pointer: u8, segment: &Segment<'_>) -> Option<u64>
     ensures some { IfSome result (λ h. h ≡ defined.highest_offset pointer (segment_view segment.now)) }
     ensures large { IfSome result (λ h. pointer ≤ segment.now.vmsize) }
@@ -38,8 +39,8 @@ fn highest_offset(pointer: u8, segment: &Segment<'_>) -> Option<u64>
     Some(room.min(in_file.min(address)))
 }
 
-/// Whether each of `count` turns, the first at an offset and each next one a stride further, modulo 2^64, is at a place of
-/// a segment where a pointer lies in it.
+/// Whether each of `count` binds lies in a segment with its whole pointer. The first is at an offset, and each next one a
+/// stride further, modulo 2^64.
 pub fn all_lie(
     pointer: u8,
     segments: &[Segment<'_>],
@@ -90,15 +91,15 @@ impl<'a> JudgesAll<'a> for Extra {
 }
 
 impl OpcodeBindingIterator<'_, '_> {
-    /// Whether a fault stands among the bindings that are left. It takes no memory, and of each instruction a bounded time:
-    /// so it is linear in the bytes of the streams, however many bindings there are.
+    /// Whether a fault occurs among the bindings that are left. It allocates nothing and takes bounded time for each
+    /// instruction. So its time is linear in the bytes of the streams, however many bindings there are.
     pub fn has_fault(self) -> bool
         ensures { result ≡ has_fault (opcode_bindings_left self.entry) }
     {
         self.has_fault_counted(&mut Steps::new())
     }
 
-    /// The same, with the instructions that are read added to a count: at most those that can be read, and one more.
+    /// Like `has_fault`, and adds the number of instructions read to `steps`: at most one more than can be read.
     pub fn has_fault_counted(self, steps: &mut Steps) -> bool
         ensures fault { result ≡ has_fault (opcode_bindings_left self.entry) }
         ensures bounded { steps.new ≤ steps.old + binding_reads_left self.entry + 1 }

@@ -1,4 +1,4 @@
-//! How far the reading of binds has come, as numbers, and imports and bindings with the places of their names.
+//! The position of a reader of binds, as numbers; and imports and bindings with the places of their names.
 
 ghost use Rattle.std.specs.Prelude.{◌≡◌, ◌∷◌, ℕ, List, map, false, IfOk, IfSome, IfNone, OnErr, bit_and};
 ghost use Rattle.std.specs.Iterator.{YieldsFirstBy};
@@ -30,26 +30,26 @@ use mach_base::{Ctx, Result, read_text};
 use mach_parts::binding::Binding;
 use mach_parts::segment::Segment;
 
-/// How far the reading of binds has come: numbers alone, which go with the bytes and the binds. Whatever they are,
-/// reading on from them gives items, or an error, or nothing.
+/// The position of a reader of binds: numbers only, which belong to the bytes and the binds. Whatever the numbers are,
+/// reading on from them returns items, an error or None.
 #[derive(Clone, Copy, Debug)]
 #[repr(C)]
 pub struct BindCursor {
-    /// Where the stream that is read begins.
+    /// The start of the stream that is read.
     pub from: usize,
-    /// The place behind it.
+    /// The place after the stream's last byte.
     pub upto: usize,
     /// The place of the next instruction.
     pub place: usize,
-    /// The binds that the last instruction still makes.
+    /// The number of binds left of the last instruction.
     pub count: u64,
-    /// How far it advances after each.
+    /// The distance from each of these binds to the next.
     pub stride: u64,
-    /// Where the symbol's name stands: no name was set where no text stands there.
+    /// The place of the symbol's name. No name was set if no text is there.
     pub name_place: usize,
     /// The library's number.
     pub library: u64,
-    /// The special ordinal, where one was set after the library.
+    /// The special ordinal, if one was set after the library.
     pub special: i64,
     /// The offset in the segment.
     pub offset: u64,
@@ -58,12 +58,12 @@ pub struct BindCursor {
     pub sequence: u64,
     pub segment: u8,
     pub flags: u8,
-    /// For bindings, whether an ordinal was set (bit 0) and is a special one (bit 1).
+    /// For bindings: whether an ordinal was set (bit 0), and whether it is a special one (bit 1).
     pub ordinal: u8,
-    /// Whether the lazy stream is read, and whether all was given: 0 says no.
+    /// Whether the lazy stream is read, and whether the iterator has ended: 0 means no.
     pub is_lazy: u8,
     pub ended: u8,
-    /// The type, and whether a name and a segment were set, for bindings.
+    /// For bindings: the type, and whether a name and a segment were set.
     pub kind: u8,
     pub has_name: u8,
     pub has_segment: u8,
@@ -73,7 +73,7 @@ pub struct BindCursor {
 #[derive(Debug, Drop)]
 pub struct PlacedImport<'a> {
     pub import: Import<'a>,
-    /// Where its name stands; no such place where it has no name.
+    /// The place of its name, or a place outside the bytes if it has no name.
     pub name_place: usize,
     /// Its library's ordinal.
     pub library: u64,
@@ -83,18 +83,18 @@ pub struct PlacedImport<'a> {
 #[derive(Clone, Copy, Debug)]
 pub struct PlacedBinding<'a> {
     pub binding: Binding<'a>,
-    /// Where its name stands; no such place where it has no name.
+    /// The place of its name, or a place outside the bytes if it has no name.
     pub name_place: usize,
 }
 
-// A number that says whether.
+// Returns 1 for true and 0 for false.
 fn flag(yes: bool) -> u8
     ensures { says_yes result ≡ yes }
 {
     if yes { 1 } else { 0 }
 }
 
-// A number whose two lowest bits say whether.
+// Returns a number with `first` as bit 0 and `second` as bit 1.
 fn flags(first: bool, second: bool) -> u8
     ensures { (says_yes (bit_and result 1) ≡ first) × (says_yes (bit_and result 2) ≡ second) }
 {
@@ -106,7 +106,7 @@ fn flags(first: bool, second: bool) -> u8
     }
 }
 
-// The text at a place, and the place; no text and the last place there is where none stands there.
+// Returns the text at a place, with the place. If there is none, returns an empty text and the last place of 64 bits.
 fn name_at(bytes: &[u8], place: usize) -> (&str, usize)
     ensures text { result.0.now ≡ text_or_none (text_at bytes.now place) }
     ensures stands { IsNamed bytes.now result.0.now result.1 }
@@ -118,7 +118,7 @@ fn name_at(bytes: &[u8], place: usize) -> (&str, usize)
     }
 }
 
-// The place of a name, or one outside the bytes where none was set.
+// Returns the place of a name, or a place outside the bytes if none was set.
 fn place_in(bytes: &[u8], place: usize) -> usize
     ensures text { (name : List ℕ) → IsNamed bytes.now name place → text_or_none (text_at bytes.now result) ≡ name }
     ensures place { (name : List ℕ) → IsNamed bytes.now name place → place_named (text_at bytes.now result) result ≡ place }
@@ -131,7 +131,7 @@ fn place_in(bytes: &[u8], place: usize) -> usize
 }
 
 impl<'a> State<'a> {
-    // Its numbers.
+    // Returns the state as numbers.
     fn cursor(&self, bytes: &[u8], more: Extra) -> BindCursor
         ensures state { NameStands bytes.now self.now.settings → state_in bytes.now result ≡ state_of self.now }
         ensures more { extra_in result ≡ more }
@@ -162,7 +162,7 @@ impl<'a> State<'a> {
         }
     }
 
-    // The state of these numbers.
+    // Returns the state with these numbers.
     fn at(bytes: &'a [u8], cursor: &BindCursor) -> State<'a>
         ensures state { state_of result ≡ state_in bytes.now cursor.now }
         ensures named { NameStands bytes.now result.settings }
@@ -192,7 +192,7 @@ impl<'a> State<'a> {
 }
 
 impl BindCursor {
-    // The settings of bindings beside those of a bind.
+    // Returns the settings of bindings beyond those in `Settings`.
     fn extra(&self) -> Extra
         ensures { result ≡ extra_in self.now }
     {
@@ -205,7 +205,7 @@ impl BindCursor {
         }
     }
 
-    // The special ordinal, if one was set.
+    // Returns the special ordinal, if one was set.
     fn special(&self) -> Option<i64>
         ensures { result ≡ special_in self.now }
     {
@@ -218,7 +218,7 @@ impl BindCursor {
 }
 
 impl<'a> BindInterpreter<'a> {
-    // The streams from a cursor on, with these settings beside those of a bind.
+    // Returns the streams from a cursor on, with these further settings.
     fn stream_from<'b, M: Makes<'a>>(
         &self,
         libs: &'b [&'a str],
@@ -244,7 +244,7 @@ impl<'a> BindInterpreter<'a> {
         }
     }
 
-    /// The imports that come behind a cursor of such an iterator.
+    /// Returns the imports after a cursor of such an iterator.
     pub fn imports_from<'b>(
         &self,
         libs: &'b [&'a str],
@@ -263,7 +263,7 @@ impl<'a> BindInterpreter<'a> {
         }
     }
 
-    /// The bindings that come behind a cursor of such an iterator.
+    /// Returns the bindings after a cursor of such an iterator.
     pub fn bindings_from<'b>(
         &self,
         libs: &'b [&'a str],
@@ -283,7 +283,7 @@ impl<'a> BindInterpreter<'a> {
         }
     }
 
-    /// The cursor of an iterator at the start, over imports or over bindings.
+    /// Returns the cursor of an iterator at the start, over imports or over bindings.
     pub fn cursor(&self) -> BindCursor
         ensures state { state_in self.now.bytes result ≡ start_of self.now.non_lazy }
         ensures more { extra_in result ≡ first_extra false }
@@ -297,7 +297,7 @@ impl<'a> BindInterpreter<'a> {
 }
 
 impl<'a> BindIterator<'a, '_> {
-    /// A cursor of the imports that are left.
+    /// Returns a cursor of the imports that are left.
     pub fn cursor(&self) -> BindCursor
         ensures items { (x : Input) (lazy : Range) → IsOverImports x lazy self.now → imports_behind x lazy result ≡ imports_left self.now }
         ensures sites { (x : Input) (lazy : Range) → IsOverImports x lazy self.now → import_sites_behind x lazy result ≡ import_sites_left self.now }
@@ -305,7 +305,7 @@ impl<'a> BindIterator<'a, '_> {
         self.stream.state.cursor(self.stream.source.bytes, <Extra as Makes<'_>>::first(false))
     }
 
-    /// The next import with its places, or the fault that ends them.
+    /// Returns the next import with its places, or the fault that ends the iterator.
     #[inline(always)]
     pub fn next_placed(&mut self) -> Option<Result<PlacedImport<'a>>>
         ensures items { YieldsFirstBy placed_read imports_left self.old result self.new }
@@ -328,7 +328,7 @@ impl<'a> BindIterator<'a, '_> {
 }
 
 impl<'a> OpcodeBindingIterator<'a, '_> {
-    /// A cursor of the bindings that are left.
+    /// Returns a cursor of the bindings that are left.
     pub fn cursor(&self) -> BindCursor
         ensures items { (x : Input) (lazy : Range) → IsOverBindings x lazy self.now → opcode_bindings_behind x lazy result ≡ opcode_bindings_left self.now }
         ensures sites { (x : Input) (lazy : Range) → IsOverBindings x lazy self.now → binding_sites_behind x lazy result ≡ binding_sites_left self.now }
@@ -338,7 +338,7 @@ impl<'a> OpcodeBindingIterator<'a, '_> {
             .cursor(self.stream.source.bytes, self.stream.more)
     }
 
-    /// The next binding with the place of its name, or the fault that ends them.
+    /// Returns the next binding with the place of its name, or the fault that ends the iterator.
     #[inline(always)]
     pub fn next_placed(&mut self) -> Option<Result<PlacedBinding<'a>>>
         ensures items { YieldsFirstBy placed_binding_read opcode_bindings_left self.old result self.new }

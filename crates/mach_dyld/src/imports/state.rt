@@ -1,4 +1,4 @@
-//! How far the reading of a stream has come.
+//! The state of a reader of one stream.
 
 ghost use Rattle.std.specs.Prelude.{◌≡◌, ◌+◌, ◌≤◌, ◌%◌, ◌^◌, ℕ, length, Ok, IsErr, false, IfNone, IfSome, MatchOption};
 ghost use Rattle.mach_dyld.specs.Instructions.{nothing, row_at};
@@ -11,13 +11,13 @@ use crate::imports::instruction::rare_sleb;
 use crate::imports::settings::Settings;
 use mach_base::{quick_text, quick_uleb};
 
-/// How far the reading of a stream has come.
+/// The state of a reader of one stream.
 #[derive(Clone, Copy)]
 pub struct State<'a> {
     pub from: usize,
     pub upto: usize,
     pub place: usize,
-    /// The binds that the last instruction still makes, and how far it advances after each.
+    /// The number of binds left of the last instruction, and the distance from each to the next.
     pub count: u64,
     pub stride: u64,
     pub settings: Settings<'a>,
@@ -25,7 +25,7 @@ pub struct State<'a> {
 }
 
 impl<'a> State<'a> {
-    /// The state where a range begins.
+    /// Returns the state at the start of a range.
     pub fn start(from: usize, upto: usize, is_lazy: bool) -> Self
         ensures state { state_of result
             ≡ start_of (record { from = from; upto = upto; is_lazy = is_lazy }) }
@@ -44,9 +44,8 @@ impl<'a> State<'a> {
         }
     }
 
-    /// Reads the operands of an opcode with its immediate, which stand at a place, and takes the
-    /// settings and the binds of the instruction; None where they can't be read. A pointer has `pointer`
-    /// bytes.
+    /// Reads the operands of an opcode with its immediate, which begin at a place, and sets the settings and the binds of
+    /// the instruction. Returns None if they can't be read. A pointer has `pointer` bytes.
     #[tactic(auto, unfolding(crate::specs::Instructions::row_at, crate::specs::Instructions::with_uleb, crate::specs::Instructions::symbol_operand_at, crate::specs::Instructions::addend_at, crate::specs::Instructions::times_at, crate::specs::Machine::set_by, crate::specs::Machine::executed))]
     #[inline(always)]
     pub fn execute(
@@ -135,7 +134,7 @@ impl<'a> State<'a> {
         Some(())
     }
 
-    /// Goes on at a place; nothing is set.
+    /// Moves to a place and sets nothing.
     #[tactic(auto, unfolding(crate::specs::Machine::set_by, crate::specs::Machine::executed))]
     #[inline(always)]
     pub fn go_to(&mut self, to: usize)
@@ -150,7 +149,7 @@ impl<'a> State<'a> {
         self.place = to;
     }
 
-    // So many binds, after each of which it advances by the skip and a pointer.
+    // Sets `count` binds; after each, the offset advances by the skip and a pointer.
     #[inline(always)]
     fn make(&mut self, count: u64, skip: u64, pointer: u8)
         ensures { self.new ≡ record self.old { count = count; stride = (skip + pointer) % 2 ^ 64 } }

@@ -18,14 +18,14 @@ use crate::imports::source::Source;
 use crate::imports::state::State;
 use mach_base::Steps;
 
-/// The settings that such streams have beside those of a bind, and the rules by which they make items.
+/// The settings of such streams beyond those in `Settings`, and the rules by which binds make items.
 pub trait Makes<'a>: Copy {
     type Item: Drop;
 
-    /// Why none comes.
+    /// Why no item comes.
     type Why: Drop;
 
-    // What contracts see of an item, and of why none comes.
+    // What contracts see of an item, and of the reason why none comes.
     ghost Seen: { Type 0 };
 
     ghost seen: { Self.Item → Seen };
@@ -34,19 +34,18 @@ pub trait Makes<'a>: Copy {
 
     ghost rules: { Rules Self Seen };
 
-    // That each instruction takes a byte at least.
+    // Each instruction takes at least one byte.
     ghost reads: { ReadsForward rules };
 
-    /// Those where a range begins.
+    /// Returns the settings at the start of a range.
     fn first(is_lazy: bool) -> Self
         ensures { result ≡ rules.first is_lazy };
 
-    /// Those after an instruction, by its opcode byte.
+    /// Changes the settings as an instruction does, by its opcode byte.
     fn set(&mut self, byte: u8)
         ensures { self.new ≡ rules.set byte self.old };
 
-    /// Executes the instruction that comes next, by its opcode byte; None where it can't be read. A pointer has `pointer`
-    /// bytes.
+    /// Executes the next instruction, by its opcode byte. Returns None if it can't be read. A pointer has `pointer` bytes.
     fn execute(state: &mut State<'a>, bytes: &'a [u8], pointer: u8, byte: u8) -> Option<()>
         requires count { state.old.count ≡ 0 }
         requires byte { byte_at bytes.now state.old.place ≡ Ok byte }
@@ -65,43 +64,42 @@ pub trait Makes<'a>: Copy {
         ensures site { IfSome result (λ _. site_by (state.old.place + 1) (rules.read (range_of state.old) pointer bytes.now state.old.place)
             (site_in state.old.settings) ≡ Ok (site_in state.new.settings)) };
 
-    /// What the bind with these settings makes, if anything.
+    /// Returns the item that the bind with these settings makes, if any.
     fn make(self, source: &Source<'a, '_>, settings: &Settings<'a>) -> Option<Self::Item>
         ensures { MatchOption result (rules.makes (input_of source.now) (bind_of settings.now) self ≡ Err malformed)
             (λ i. rules.makes (input_of source.now) (bind_of settings.now) self ≡ Ok (seen i)) };
 
-    /// Why the instruction at the state's place can't be read, whose opcode byte is this, if one stands there.
+    /// Returns why the instruction at the state's place can't be read. `byte` is its opcode byte, if the place lies in the bytes.
     fn unreadable(state: &State<'a>, bytes: &[u8], pointer: u8, byte: u8) -> Self::Why
         requires fault { IsErr (rules.read (range_of state.now) pointer bytes.now state.now.place) }
         requires byte { state.now.place < length bytes.now → byte_at bytes.now state.now.place ≡ Ok byte }
         ensures { rules.read (range_of state.now) pointer bytes.now state.now.place ≡ Err (fault result) };
 
-    /// Why a bind with these settings makes nothing.
+    /// Returns why a bind with these settings makes no item.
     fn refusal(self, source: &Source<'a, '_>, settings: &Settings<'a>) -> Self::Why
         ensures { fault result ≡ malformed };
 }
 
-/// Why no item comes: the instruction that comes next can't be read, whose opcode byte is this, if one stands there; or
-/// the bind that comes now makes nothing.
+/// Why no item comes: the next instruction, whose opcode byte this is if there is one, can't be read; or the next bind makes no item.
 #[derive(Drop)]
 pub enum Stop {
     Instruction(u8),
     Bind,
 }
 
-/// What is left of two streams. It takes no memory.
+/// The rest of two streams. It allocates nothing.
 #[derive(Drop)]
 pub struct Stream<'a, 'b, M> {
     pub source: Source<'a, 'b>,
     pub lazy_from: usize,
     pub lazy_upto: usize,
     pub state: State<'a>,
-    /// The settings beside those of a bind.
+    /// The settings beyond those in `Settings`.
     pub more: M,
 }
 
 impl<'a, 'b, M: Makes<'a>> Stream<'a, 'b, M> {
-    /// Two streams that have ended.
+    /// Returns two streams that have ended.
     #[tactic(auto, unfolding(crate::specs::Machine::items_left, crate::specs::Machine::items_of))]
     pub fn none(more: M) -> Self
         ensures { items_left M.rules result ≡ [] }
@@ -123,7 +121,7 @@ impl<'a, 'b, M: Makes<'a>> Stream<'a, 'b, M> {
         }
     }
 
-    /// One stream alone from its start, with these settings beside those of a bind. It is read as the later one of two.
+    /// Returns one stream alone, from its start, with these further settings. It is read as the later one of two.
     #[tactic(auto, unfolding(crate::specs::Machine::items_left, crate::specs::Machine::opcodes_left))]
     pub fn alone(source: Source<'a, 'b>, from: usize, upto: usize, more: M) -> Self
         ensures items { items_left M.rules result ≡ items_of M.rules (input_of source.entry) (last_range from upto) more (start_of (last_range from upto)) }
@@ -138,7 +136,7 @@ impl<'a, 'b, M: Makes<'a>> Stream<'a, 'b, M> {
         }
     }
 
-    /// What the bind that comes now makes, if anything, and moves on behind it.
+    /// Returns the item of the next bind, if it makes one, and moves past that bind.
     #[inline(always)]
     pub fn bind(&mut self) -> Option<M::Item>
         requires count { 0 < self.old.state.count }
@@ -158,7 +156,7 @@ impl<'a, 'b, M: Makes<'a>> Stream<'a, 'b, M> {
         Some(item)
     }
 
-    // Reads the instruction that comes next; the error is its opcode byte, if one stands there.
+    // Reads the next instruction. The error is its opcode byte, if there is one.
     #[inline(always)]
     fn read(&mut self, steps: &mut Steps) -> std::result::Result<(), u8>
         requires count { self.old.state.count ≡ 0 }
@@ -186,7 +184,7 @@ impl<'a, 'b, M: Makes<'a>> Stream<'a, 'b, M> {
         }
     }
 
-    // Goes over to the lazy stream.
+    // Moves to the lazy stream.
     fn go_over(&mut self)
         requires count { self.old.state.count ≡ 0 }
         requires on { self.old.state.ended ≡ false }
@@ -203,8 +201,8 @@ impl<'a, 'b, M: Makes<'a>> Stream<'a, 'b, M> {
         self.more = M::first(true);
     }
 
-    /// Reads on up to a bind: false where both streams are at their end, and an error at an instruction
-    /// that can't be read: its opcode byte, if one stands there.
+    /// Reads on to the next bind. Returns false if both streams are at their end, and an error at an instruction that can't
+    /// be read: its opcode byte, if there is one.
     #[inline(always)]
     pub fn arrive(&mut self, steps: &mut Steps) -> std::result::Result<bool, u8>
         requires on { self.old.state.ended ≡ false }
@@ -231,7 +229,7 @@ impl<'a, 'b, M: Makes<'a>> Stream<'a, 'b, M> {
         Ok(true)
     }
 
-    /// Ends.
+    /// Ends the streams.
     #[inline(always)]
     pub fn finish(&mut self)
         requires { IsAtEnd self.old }
@@ -245,7 +243,7 @@ impl<'a, 'b, M: Makes<'a>> Stream<'a, 'b, M> {
         self.state.ended = true;
     }
 
-    /// How much room the item that came last takes with those of its instruction that still come.
+    /// Returns the number of items to reserve room for: the last one, and those that its instruction still makes.
     #[inline(always)]
     pub fn room(&self) -> usize
         ensures { result ≡ min (self.now.state.count + 1) (2 ^ 64 - 1) }
@@ -253,7 +251,7 @@ impl<'a, 'b, M: Makes<'a>> Stream<'a, 'b, M> {
         (self.state.count as usize).saturating_add(1)
     }
 
-    /// The next item, or why there is none, with a count of the opcodes read. At a stop it has not ended yet.
+    /// Returns the next item, or why there is none, and counts the opcodes read. At a stop the streams have not ended yet.
     #[inline(always)]
     pub fn step(&mut self, steps: &mut Steps) -> Option<std::result::Result<M::Item, Stop>>
         ensures item { IfSome result (λ item. IfOk item (λ i. items_left M.rules self.old ≡ Ok (M.seen i) ∷ items_left M.rules self.new)) }
@@ -288,7 +286,7 @@ impl<'a, 'b, M: Makes<'a>> Stream<'a, 'b, M> {
         Some(Ok(item))
     }
 
-    // A copy.
+    // Returns a copy.
     #[inline(always)]
     fn copied(&self) -> Self
         ensures { result ≡ self.now }
@@ -302,7 +300,7 @@ impl<'a, 'b, M: Makes<'a>> Stream<'a, 'b, M> {
         }
     }
 
-    // Why no item comes. It is handed a copy, so that a loop that asks for items can keep the stream in registers.
+    // Returns why no item comes. It takes a copy, so that a loop over items can keep the stream in registers.
     #[cold]
     #[inline(never)]
     fn error(self, stop: Stop) -> M::Why
@@ -317,7 +315,7 @@ impl<'a, 'b, M: Makes<'a>> Stream<'a, 'b, M> {
         }
     }
 
-    /// Ends where no item comes, with the error.
+    /// Ends the streams at a stop, and returns the error.
     #[inline(always)]
     pub fn end_at(&mut self, stop: Stop) -> M::Why
         requires { StopsFor M.rules self.old stop }
@@ -330,8 +328,8 @@ impl<'a, 'b, M: Makes<'a>> Stream<'a, 'b, M> {
         error
     }
 
-    /// The next item, or the fault that ends them, with the opcodes that are read added to a count: where a fault comes at
-    /// most one more than can be read. The count never falls.
+    /// Returns the next item, or the fault that ends them. Adds the number of opcodes read to `steps`: in all, at most one
+    /// more than can be read, and that one only at a fault.
     #[inline(always)]
     pub fn next_counted(
         &mut self,
@@ -357,7 +355,7 @@ impl<'a, 'b, M: Makes<'a>> Stream<'a, 'b, M> {
         }
     }
 
-    /// The next item, or the fault that ends them.
+    /// Returns the next item, or the fault that ends them.
     #[inline(always)]
     pub fn next_item(&mut self) -> Option<std::result::Result<M::Item, M::Why>>
         ensures items { YieldsFirstBy (item_read M.seen M.fault) (items_left M.rules) self.old result self.new }

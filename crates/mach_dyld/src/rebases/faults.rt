@@ -1,4 +1,4 @@
-//! Whether a fault stands among rebases: those of one instruction are judged at once.
+//! Whether a fault occurs among rebases. The rebases of one instruction are checked together.
 
 ghost use Rattle.std.specs.Prelude.{◌≡◌, ◌+◌, ◌<◌, ◌≤◌, ◌^◌, IfSome, IfNone};
 ghost use Rattle.mach_parts.specs.Segment.{segment_view};
@@ -36,15 +36,15 @@ impl<'a> JudgesAll<'a> for Rebasing {
 }
 
 impl OpcodeRebaseIterator<'_, '_> {
-    /// Whether a fault stands among the rebases that are left. It takes no memory, and of each opcode a bounded time: so it is
-    /// linear in the bytes of the stream, however many rebases there are.
+    /// Whether a fault occurs among the rebases that are left. It allocates nothing and takes bounded time for each opcode.
+    /// So its time is linear in the bytes of the stream, however many rebases there are.
     pub fn has_fault(self) -> bool
         ensures { result ≡ has_fault (opcode_rebases_left self.entry) }
     {
         self.has_fault_counted(&mut Steps::new())
     }
 
-    /// The same, with the opcodes that are read added to a count: at most those that can be read, and one more.
+    /// Like `has_fault`, and adds the number of opcodes read to `steps`: at most one more than can be read.
     pub fn has_fault_counted(self, steps: &mut Steps) -> bool
         ensures fault { result ≡ has_fault (opcode_rebases_left self.entry) }
         ensures bounded { steps.new ≤ steps.old + rebase_reads_left self.entry + 1 }

@@ -1,4 +1,4 @@
-//! Numbers of a segment's memory: its data, and zeros behind them.
+//! Numbers in a segment's memory: its data, followed by zeros.
 
 ghost use Rattle.std.specs.Prelude.{◌≡◌, ◌⊎◌, ◌<◌, ◌+◌, length};
 ghost use Rattle.mach_base.specs.Number.{number};
@@ -7,7 +7,7 @@ ghost use Rattle.mach_dyld.specs.Rebases.{memory_word};
 
 use mach_base::{Endian, array_at};
 
-// The eight bytes at a place of a segment with these data, fewer than eight there, which has zeros behind them.
+// Returns the eight bytes at a place of a segment whose data end before the eighth. Zeros follow the data.
 fn padded(bytes: &[u8], offset: u64) -> [u8; 8]
     requires { length bytes.now < offset + 8 }
     ensures { result ≡ memory_word bytes.now offset }
@@ -21,7 +21,7 @@ fn padded(bytes: &[u8], offset: u64) -> [u8; 8]
     word
 }
 
-// The number of the first `width` of eight bytes.
+// Returns the number in the first `width` of eight bytes.
 #[inline(always)]
 fn number_of(le: Endian, width: u8, word: [u8; 8]) -> u64
     requires { (width ≡ 4) ⊎ (width ≡ 8) }
@@ -34,7 +34,7 @@ fn number_of(le: Endian, width: u8, word: [u8; 8]) -> u64
     }
 }
 
-// The number where the data end before its eighth byte.
+// Returns the number if the data end before its eighth byte.
 #[cold]
 #[inline(never)]
 fn padded_number(le: Endian, width: u8, bytes: &[u8], offset: u64) -> u64
@@ -45,7 +45,7 @@ fn padded_number(le: Endian, width: u8, bytes: &[u8], offset: u64) -> u64
     number_of(le, width, padded(bytes, offset))
 }
 
-/// The number of `width` bytes, 4 or 8, at a place of a segment with these data, which has zeros behind them.
+/// Returns the number of `width` bytes, 4 or 8, at a place of a segment with these data. Zeros follow the data.
 #[inline(always)]
 pub fn memory_number(le: Endian, width: u8, bytes: &[u8], offset: u64) -> u64
     requires { (width ≡ 4) ⊎ (width ≡ 8) }

@@ -1,4 +1,4 @@
-//! Rebases of one instruction that lie one behind the other in a segment: they are judged once.
+//! Rebases of one instruction that follow each other in a segment and are checked once.
 
 ghost use Rattle.std.specs.Prelude.{◌≡◌, ◌<◌, ◌≤◌, ◌+◌, ◌-◌, ◌*◌, ◌^◌, ◌∷◌, [], Ok, Err, IfSome, IfNone};
 ghost use Rattle.mach_parts.specs.Segment.{segment_view};
@@ -15,25 +15,25 @@ use crate::rebases::{Rebase, RebaseKind, Rebasing};
 use mach_base::Endian;
 use mach_parts::segment::Segment;
 
-/// A rebase that is known to be there, with what it needs of its segment.
+/// A rebase that was checked, with the data of its segment.
 #[derive(Drop)]
 pub struct Turn<'a> {
     /// The segment's data.
     pub bytes: &'a [u8],
     pub offset: u64,
     pub address: u64,
-    /// How far the next one lies behind it.
+    /// The distance to the next one.
     pub stride: u64,
     /// The segment's number.
     pub segment: u32,
     pub kind: RebaseKind,
-    /// Whether eight bytes are corrected, and not four.
+    /// Whether eight bytes are corrected rather than four.
     pub is_wide: bool,
     pub le: Endian,
 }
 
 impl Turn<'_> {
-    // The rebase.
+    // Returns the rebase.
     #[inline(always)]
     fn rebase(&self) -> Rebase
         ensures { rebase_view result ≡ turn_rebase self.now }
@@ -49,7 +49,7 @@ impl Turn<'_> {
         }
     }
 
-    // Goes on to the next one.
+    // Moves to the next one.
     #[tactic(auto, unfolding(crate::specs::RebaseRuns::turned))]
     #[inline(always)]
     fn advance(&mut self)
@@ -60,14 +60,15 @@ impl Turn<'_> {
     }
 }
 
-/// So many rebases.
+/// A run of rebases.
 #[derive(Drop)]
 pub struct Run<'a> {
     pub left: u64,
     pub turn: Turn<'a>,
 }
 
-/// The highest offset at which a segment holds a pointer, at an address of 64 bits; None where it is smaller than one.
+/// Returns the highest offset at which a segment holds a pointer whose address fits into 64 bits; None if the segment is
+/// smaller than a pointer.
 #[inline(always)]
 pub fn highest_offset(pointer: u8, segment: &Segment<'_>) -> Option<u64>
     ensures some { IfSome result (λ h. h ≡ highest_rebase pointer (segment_view segment.now)) }
@@ -79,7 +80,7 @@ pub fn highest_offset(pointer: u8, segment: &Segment<'_>) -> Option<u64>
     Some(room.min(u64::MAX - segment.vmaddr))
 }
 
-// How many of `count` turns lie up to a highest offset, from the first on, where each next one lies a stride behind.
+// Returns how many of `count` turns lie at or below a highest offset, from the first on. Each next one is a stride further.
 #[inline(always)]
 fn turns_upto(highest: u64, offset: u64, stride: u64, count: u64) -> u64
     requires some { 0 < count }
@@ -96,7 +97,7 @@ fn turns_upto(highest: u64, offset: u64, stride: u64, count: u64) -> u64
     }
 }
 
-// The same, where they are fewer, by how far the last may lie behind the first.
+// Like `turns_upto`, if not all of them do: `room` is how far the last may be from the first.
 #[cold]
 #[inline(never)]
 fn few_turns(room: u64, stride: u64, count: u64) -> u64
@@ -112,7 +113,7 @@ fn few_turns(room: u64, stride: u64, count: u64) -> u64
 }
 
 impl<'a> Run<'a> {
-    /// None.
+    /// Returns a run of no rebases.
     #[tactic(auto, unfolding(crate::specs::RebaseRuns::turn_rebases))]
     pub fn none() -> Self
         ensures { run_left result ≡ [] }
@@ -132,8 +133,7 @@ impl<'a> Run<'a> {
         }
     }
 
-    /// What the last instruction still makes, from the first on up to where the offsets leave the segment; None where the
-    /// first is no rebase.
+    /// Returns what the last instruction still makes, up to where the offsets leave the segment; None if the first is no rebase.
     #[inline(always)]
     pub fn of(stream: &Stream<'a, '_, Rebasing>) -> Option<Self>
         requires { 0 < stream.now.state.count }
@@ -170,7 +170,7 @@ impl<'a> Run<'a> {
         Some(Run { left, turn })
     }
 
-    /// The first, which goes.
+    /// Removes the first rebase and returns it.
     #[tactic(auto, unfolding(crate::specs::RebaseRuns::turn_rebases))]
     #[inline(always)]
     pub fn next(&mut self) -> Rebase

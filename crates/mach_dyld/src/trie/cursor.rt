@@ -1,8 +1,7 @@
-//! The walk of an export trie by a cursor of numbers. What it keeps in memory is the caller's: one name, and the
-//! nodes that are open.
+//! The walk of an export trie by a cursor of numbers. The caller owns its memory: one name, and the open nodes.
 //!
-//! It keeps no marks. A tree has no more nodes than its range has places, so a count of visits ends a walk that
-//! comes to nodes again and again.
+//! It keeps no marks. A tree has at most as many nodes as its range has places, so a count of visits ends a walk that comes
+//! to the same nodes again and again.
 
 ghost use Rattle.std.specs.Prelude.{◌≡◌, ◌≤◌, ◌<◌, ◌+◌, ◌-◌, ◌^◌, ◌++◌, ◌∷◌, [], ℕ, List, length, take, min, Option, Ok, Some, IfOk, IfNone, IfSome};
 ghost use Rattle.mach_base.specs.Answer.{Reads};
@@ -28,37 +27,37 @@ const ON_THE_WAY: usize = 1;
 
 const OVER: usize = 2;
 
-/// How far a walk of an export trie has come: numbers alone. It goes with its trie, and with the name and the open
-/// nodes that its calls are handed. Whatever the numbers are, a call reads and writes nothing else.
+/// The position of a walk of an export trie: numbers only. It belongs to its trie, and to the name and the open nodes that
+/// its calls are given. Whatever the numbers are, a call reads and writes nothing else.
 #[derive(Clone, Copy, Debug)]
 #[repr(C)]
 pub struct TrieCursor {
-    /// 0 where the root comes next, 1 on the way, and else nothing comes.
+    /// 0 if the root comes next, 1 on the way; any other number means that nothing comes.
     pub phase: usize,
-    /// How many more nodes may be visited.
+    /// The number of nodes that may still be visited.
     pub visits_left: usize,
-    /// How long the name is of the node that was met last.
+    /// The length of the name of the node met last.
     pub name_len: usize,
-    /// How many open nodes are kept below the top.
+    /// The number of open nodes kept below the top.
     pub depth: usize,
-    /// Where the node begins that was met last.
+    /// The place where the node met last begins.
     pub node: usize,
     /// The open node whose branch comes next.
     pub top: Open,
 }
 
-/// What a walk gives next.
+/// What a walk returns next.
 #[derive(Drop)]
 pub enum NextExport<'a> {
-    /// What the export stands for that has the name of the cursor.
+    /// The meaning of the export whose name is that of the cursor.
     Export(ExportInfo<'a>),
     /// There is nothing more.
     End,
-    /// A fault stands in the trie.
+    /// A fault occurs in the trie.
     Refused(Error),
-    /// The name needs this number of bytes. The walk is as it was.
+    /// The name needs this number of bytes. The walk is unchanged.
     NameTooLong(usize),
-    /// More nodes are open than there is memory for. The walk is as it was.
+    /// More nodes are open than the stack has room for. The walk is unchanged.
     StackTooShort,
 }
 
@@ -77,7 +76,7 @@ fn read_node<'a>(
     read_behind(source, size, place)
 }
 
-// Of a re-export of the node at a start: the ordinal, and the place behind it.
+// Reads the ordinal of the re-export of the node at a start, and returns it with the place after it.
 fn read_place(bytes: &[u8], start: usize) -> Result<(u64, usize)>
     ensures { Reads (λ found. found) result (place_at bytes.now start) }
 {
@@ -86,7 +85,7 @@ fn read_place(bytes: &[u8], start: usize) -> Result<(u64, usize)>
     number(bytes, place)
 }
 
-// Puts a label behind the front of a name.
+// Writes a label after the first `at` bytes of a name.
 #[inline(always)]
 fn put_label(name: &mut [u8], at: usize, label: &[u8])
     requires { at + length label.now ≤ length name.old }
@@ -97,7 +96,7 @@ fn put_label(name: &mut [u8], at: usize, label: &[u8])
     name[at..end].copy_from_slice(label);
 }
 
-// Puts an open node over those that are kept.
+// Pushes an open node on the first `depth` of the stack.
 #[inline(always)]
 fn keep_open(stack: &mut [Open], depth: usize, node: Open)
     requires { depth < length stack.old }
@@ -119,7 +118,7 @@ impl TrieCursor {
         NextExport::Refused(error)
     }
 
-    // Goes on behind the last branch of the node on top: to the one below, if there is one.
+    // Continues after the last branch of the node on top, with the node below it, if there is one.
     #[inline(always)]
     fn close<'a>(&mut self, stack: &[Open]) -> Option<NextExport<'a>>
         requires on { self.old.phase ≡ 1 }
@@ -146,7 +145,7 @@ impl TrieCursor {
         }
     }
 
-    // Goes on at a node of this name with these branches, beside what is left of the one before.
+    // Continues at a node of this name with these branches. `rest` is what is left of the node before.
     #[inline(always)]
     fn enter(
         &mut self,
@@ -189,7 +188,7 @@ impl TrieCursor {
         };
     }
 
-    // Goes along a branch of the node on top, of which this is left behind it.
+    // Follows a branch of the node on top. `rest` is what is left of that node after the branch.
     #[inline(always)]
     fn visit<'a>(
         &mut self,
@@ -274,7 +273,7 @@ impl TrieCursor {
         self.visit(source, name, stack, root, rest)
     }
 
-    // Goes on by one branch, or by the end of a node's branches.
+    // Advances by one branch, or by the end of a node's branches.
     #[inline(always)]
     fn turn<'a>(
         &mut self,
@@ -314,7 +313,7 @@ impl TrieCursor {
 }
 
 impl<'a> ExportTrie<'a> {
-    /// A cursor that has given nothing yet.
+    /// Returns a cursor at the start of the trie.
     pub fn cursor(&self) -> TrieCursor
         ensures { (libs : List (List ℕ)) (name : List ℕ) (stack : List Open) → HasGivenTo self.now libs result name stack [] }
     {
@@ -333,12 +332,12 @@ impl<'a> ExportTrie<'a> {
         }
     }
 
-    /// The next export, in the order of `exports`. Its name is then the first `cursor.name_len` bytes of `name`. The
-    /// cursor, the name and the open nodes are those of the call before. `libs` are the image's libraries, by ordinal.
+    /// Returns the next export, in the order of `exports`. Its name is then the first `cursor.name_len` bytes of `name`. The
+    /// cursor, the name and the open nodes must be those of the call before. `libs` are the image's libraries, by ordinal.
     ///
-    /// It takes no memory but what it is handed: where that is too short, the walk is as it was, and the call may be
-    /// made again with more, which begins with what was there. It has no marks of the nodes that were visited: two
-    /// paths to one node are noticed only once more nodes were visited than the range has places.
+    /// It allocates nothing. If the name or the stack is too short, the walk is unchanged, and the call may be repeated with
+    /// longer ones that begin with the same contents. It doesn't mark visited nodes. So it notices that two paths lead to
+    /// one node only after it has visited more nodes than the range has places.
     #[inline(always)]
     pub fn next_export(
         &self,
@@ -379,7 +378,7 @@ impl<'a> ExportTrie<'a> {
         }
         NextExport::End
     }
-    /// Of a re-export that a cursor gave last: the ordinal of its library, and where its name there stands in the bytes.
+    /// Returns, for a re-export that a cursor returned last, the ordinal of its library and the place of its name there.
     pub fn reexport_place(&self, cursor: &TrieCursor) -> Option<(u64, usize)>
         ensures told { (libs : List (List ℕ)) (lib : List ℕ) (name : Option (List ℕ)) (flags : ℕ)
             → IsOwnAt self.now.bytes libs self.now.from cursor.now.node (reexport lib name flags) → IsReexportAt self.now.bytes libs lib name result }

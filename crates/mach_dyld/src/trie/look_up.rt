@@ -1,8 +1,8 @@
 //! The look-up of one name in an export trie.
 //!
-//! It follows the one branch of each node that spells the name, and takes no memory. Where more branches of a
-//! node do, or a child doesn't stand behind its parent, it searches from that node on: the nodes visited there
-//! are marked, so that none is visited twice.
+//! It follows the one branch of each node that spells the name, and allocates nothing. If more than one branch of a node
+//! does, or a child doesn't lie after its parent, it searches from that node on. It marks the nodes that it visits there, so
+//! that none is visited twice.
 
 ghost use Rattle.std.specs.Prelude.{◌≡◌, ◌≢◌, ◌≤◌, ◌<◌, ◌+◌, ◌-◌, ◌*◌, ◌++◌, ◌∷◌, [], ℕ, List, length, IfOk, IfErr, IfSome, IfNone, OnOk, Some, None};
 ghost use Rattle.std.specs.Prelude.{IsTrue, IsFalse, ◌⊎◌, option_map, Option, Ok};
@@ -31,25 +31,25 @@ use crate::trie::walk::{Source, is_barren, visit};
 use mach_base::{Error, Result, Steps, quick_uleb, rest_at};
 use std::alloc::{AllocError, Allocator};
 
-/// Where the branches of a node go on with what is left of a name.
+/// Which branches of a node match the rest of a name.
 #[derive(Clone, Copy, Debug)]
 pub enum Way {
     Nowhere,
-    /// To one child, by a label of `len` bytes.
+    /// One child matches, by a label of `len` bytes.
     One { start: usize, len: usize },
     Several,
 }
 
-/// What a node says of what is left of a name.
+/// What a node has for the rest of a name.
 #[derive(Drop)]
 pub enum Outcome<'a> {
-    /// Its own export is the one that is sought.
+    /// Its own export is the one searched for.
     Found(ExportInfo<'a>),
-    /// None of its branches goes on.
+    /// None of its branches matches.
     Ends,
-    /// One branch goes on, by a label of `len` bytes, to a child behind the node.
+    /// One branch matches, by a label of `len` bytes; its child lies after the node.
     Child { start: usize, len: usize },
-    /// Its branches are to be searched.
+    /// Its branches must be searched.
     Open(BranchRun),
 }
 
@@ -60,7 +60,7 @@ pub struct Choice {
     pub at: usize,
 }
 
-// What is left of the rest behind a label, if the rest begins with it.
+// Returns what follows the label in the rest, if the rest begins with it.
 #[inline(always)]
 fn behind<'n>(rest: &'n [u8], label: &[u8]) -> Option<&'n [u8]>
     ensures some { IfSome result (λ others. rest.now ≡ label.now ++ others.now) }
@@ -78,7 +78,7 @@ fn leads(source: &Source<'_, '_>, rest: &[u8], branch: Branch<'_>) -> bool
     branch.start < source.upto && behind(rest, branch.label.as_bytes()).is_some()
 }
 
-// Where `count` branches go on, if all of them can be read.
+// Returns which of `count` branches match, if all of them can be read.
 #[inline(always)]
 fn quick_way(source: &Source<'_, '_>, rest: &[u8], count: usize, first: usize) -> Option<Way>
     ensures { IfSome result (λ way. (bs : List trie.Branch) × (branches_at source.now.bytes.now source.now.from count first ≡ Ok bs)
@@ -103,7 +103,7 @@ fn quick_way(source: &Source<'_, '_>, rest: &[u8], count: usize, first: usize) -
     Some(way)
 }
 
-// The same with the branches, behind their count.
+// Reads the count of branches, and returns the same with the branches.
 #[tactic(auto, unfolding(crate::specs::Nodes::children_at))]
 #[inline(always)]
 fn quick_branches(source: &Source<'_, '_>, rest: &[u8], place: usize) -> Option<(Way, BranchRun)>
@@ -120,7 +120,7 @@ fn quick_branches(source: &Source<'_, '_>, rest: &[u8], place: usize) -> Option<
     Some((way, BranchRun { left, place: first }))
 }
 
-// The exact reader of branches, for those that the quick one leaves.
+// The exact reader of branches, for those that the quick reader doesn't read.
 #[cold]
 #[inline(never)]
 fn rare_branches(source: &Source<'_, '_>, place: usize) -> Result<BranchRun>
@@ -130,7 +130,7 @@ fn rare_branches(source: &Source<'_, '_>, place: usize) -> Result<BranchRun>
     read_run(source.bytes, source.from, place)
 }
 
-// The branches behind their count, and where they go on.
+// Reads the count and the branches, and returns which match, with the branches.
 #[inline(always)]
 fn read_way(source: &Source<'_, '_>, rest: &[u8], place: usize) -> Result<(Way, BranchRun)>
     ensures value { Reads (λ x. branches_of source.now.bytes.now source.now.from x.1) result (children_at source.now.bytes.now source.now.from place) }
@@ -144,7 +144,7 @@ fn read_way(source: &Source<'_, '_>, rest: &[u8], place: usize) -> Result<(Way, 
     Ok((Way::Several, branches))
 }
 
-// The exact reader of an own export, for those that the quick one leaves.
+// The exact reader of an own export, for those that the quick reader doesn't read.
 #[cold]
 #[inline(never)]
 fn rare_place(source: &Source<'_, '_>, size: u64, place: usize) -> Result<usize>
@@ -155,7 +155,7 @@ fn rare_place(source: &Source<'_, '_>, size: u64, place: usize) -> Result<usize>
     Ok(after)
 }
 
-// The place behind a node's own export of `size` bytes, if there is one.
+// Returns the place after a node's own export of `size` bytes, if there is one.
 #[inline(always)]
 fn place_behind(source: &Source<'_, '_>, size: u64, place: usize) -> Result<usize>
     ensures behind { IfOk result (λ after. (own : Option trie.Info) × OwnEnds source.now size place own after) }
@@ -170,7 +170,7 @@ fn place_behind(source: &Source<'_, '_>, size: u64, place: usize) -> Result<usiz
     }
 }
 
-// A node behind its size, out of line: few nodes of a look-up are read whole.
+// Reads a node after its size. Out of line: a look-up reads few nodes whole.
 #[inline(never)]
 fn whole_node<'a>(
     source: &Source<'a, '_>,
@@ -183,7 +183,7 @@ fn whole_node<'a>(
     read_behind(source, size, place)
 }
 
-// Visits the node at a start, where so much is left of a name.
+// Visits the node at a start. `rest` is the rest of the name.
 #[inline(always)]
 fn turn<'a>(
     source: &Source<'a, '_>,
@@ -217,8 +217,8 @@ fn turn<'a>(
     }
 }
 
-// The branches from the first one on that spells a beginning of the rest and leads to a node. Where all are known to lead
-// nowhere none is read.
+// Drops the branches before the first that spells a prefix of the rest and leads to a node. If all are known to lead
+// nowhere, none is read.
 fn settle<A: Allocator>(
     source: &Source<'_, '_>,
     barren: &Runs<A>,
@@ -252,7 +252,7 @@ fn settle<A: Allocator>(
     left
 }
 
-// Tests whether so many branches can be read. Those that are known to lead nowhere aren't read, and what does so is learned.
+// Tests whether the branches of a list can be read. A list known to lead nowhere isn't read; one found to is recorded.
 fn test_run<A: Allocator>(
     source: &Source<'_, '_>,
     barren: &mut Runs<A>,
@@ -277,7 +277,7 @@ fn test_run<A: Allocator>(
     Ok(())
 }
 
-// The branches of the list whose count stands at a place.
+// Returns the branches of the list whose count is at a place.
 fn open_run<A: Allocator>(
     source: &Source<'_, '_>,
     barren: &mut Runs<A>,
@@ -295,7 +295,7 @@ fn open_run<A: Allocator>(
     Ok(list)
 }
 
-// Visits the node at a start: its own export, if it has one, and its branches.
+// Visits the node at a start, and returns its own export, if it has one, and its branches.
 fn read_node<'a, A: Allocator>(
     source: &Source<'a, '_>,
     barren: &mut Runs<A>,
@@ -319,7 +319,7 @@ fn read_node<'a, A: Allocator>(
     Ok((Some(own), branches))
 }
 
-// The own export, where nothing is left of the name.
+// Returns the own export if nothing is left of the name.
 #[inline(always)]
 fn here<'a>(own: Option<ExportInfo<'a>>, left: usize) -> Option<ExportInfo<'a>>
     ensures some { IfSome result (λ info. (left ≡ 0) × (option_map info_of own.entry ≡ Some (info_of info))) }
@@ -328,7 +328,7 @@ fn here<'a>(own: Option<ExportInfo<'a>>, left: usize) -> Option<ExportInfo<'a>>
     if left == 0 { own } else { None }
 }
 
-// Keeps a choice, where a branch is left of it.
+// Keeps a choice if branches are left of it.
 #[inline(always)]
 fn keep<A: Allocator>(
     choices: &mut Vec<Choice, A>,
@@ -343,7 +343,7 @@ fn keep<A: Allocator>(
     Ok(())
 }
 
-// What is found of a name from a node on, which was visited before and has these branches.
+// Searches a name from a node on, which was visited before and has these branches.
 #[cold]
 #[inline(never)]
 fn search<'a, A: Allocator + Clone>(
@@ -403,7 +403,7 @@ fn search<'a, A: Allocator + Clone>(
     }
 }
 
-// What the name is exported as: the first export of that name, or None, or a fault on its way.
+// Returns what the name is exported as: the first export of that name, None, or a fault on its way.
 fn look_up<'a, A: Allocator + Clone>(
     alloc: A,
     source: &Source<'a, '_>,
@@ -434,11 +434,12 @@ fn look_up<'a, A: Allocator + Clone>(
 }
 
 impl<'a> ExportTrie<'a> {
-    /// What a name is exported as: the first of its exports in the list, or None. Only nodes on the way of the
-    /// name are read, so it may answer where the trie has no list; what it then answers stands by the paths.
-    /// Each refusal but `Error::Memory` is a fault on that way, so one that stands in the trie. It takes memory only where two
-    /// branches of a node both spell a beginning of what is left of the name, or where the one that does leads
-    /// to a node that doesn't stand behind its parent.
+    /// Returns what a name is exported as: the first of its exports in the list, or None. It reads only nodes on the way of
+    /// the name. So it may return Ok although the trie has no list; the result then holds by the paths of the trie.
+    ///
+    /// Each error except `Error::Memory` is a fault on that way, and so a fault of the trie. It allocates only if two
+    /// branches of a node both spell a prefix of the rest of the name, or if a branch that does leads to a node that doesn't
+    /// lie after its parent.
     pub fn find<A: Allocator + Clone>(
         &self,
         alloc: A,
@@ -454,8 +455,8 @@ impl<'a> ExportTrie<'a> {
         self.find_counted(alloc, libs, name, &mut Steps::new())
     }
 
-    /// The same, with the nodes visited added to a count: no more than the different nodes to which paths lead,
-    /// and where a fault stands no more than twice as many.
+    /// Like `find`, and adds the number of nodes visited to `steps`: at most the number of different nodes to which paths
+    /// lead, and twice that number if a fault occurs.
     pub fn find_counted<A: Allocator + Clone>(
         &self,
         alloc: A,

@@ -1,4 +1,4 @@
-//! Marks of places, a bit for each.
+//! Marks of places, one bit each.
 
 ghost use Rattle.std.specs.Prelude.{◌≡◌, ◌≤◌, ◌<◌, ◌*◌, Bool, false, true, List, length, get_or, set, replicate, IfOk, OnOk};
 ghost use Rattle.mach_dyld.specs.Marks.{marks_of};
@@ -6,7 +6,7 @@ ghost use Rattle.mach_dyld.specs.Marks.{marks_of};
 use std::alloc::{AllocError, Allocator, Global};
 use std::marker::Model;
 
-/// Which of some places are marked: place p is bit p % 64 of word p / 64.
+/// The set of marked places: place p is bit p % 64 of word p / 64.
 #[derive(Drop)]
 pub struct Marks<A: Allocator = Global> {
     words: Vec<u64, A>,
@@ -23,7 +23,7 @@ impl<A: Allocator> Model for Marks<A> {
 }
 
 impl<A: Allocator> Marks<A> {
-    /// So many places, none of which is marked.
+    /// Returns marks for `len` places, none of which is marked.
     pub fn new(alloc: A, len: usize) -> Result<Self, AllocError>
         ensures { IfOk result (λ m. m ≡ replicate len false) }
     {
@@ -40,7 +40,7 @@ impl<A: Allocator> Marks<A> {
         self.words[at / 64] & (1 << (at % 64)) != 0
     }
 
-    /// Marks a place, and no other.
+    /// Marks one place.
     #[inline(always)]
     pub fn mark(&mut self, at: usize)
         requires { at < length self.old }

@@ -1,5 +1,5 @@
-//! One node of an export trie, as dyld reads it. Quick readers read what most nodes hold with no call; where one
-//! of them finds nothing, the exact reader says what is there, or why nothing is.
+//! One node of an export trie, as dyld reads it. Quick readers read what most nodes hold without a call. If one finds
+//! nothing, the exact reader reads it or returns the fault.
 
 ghost use Rattle.std.specs.Prelude.{◌≡◌, ◌≤◌, ◌<◌, ◌+◌, ℕ, List, length, IfOk, IfSome, IsTrue, IsOk, IsErr, MatchOption, Ok, Err, Some, true, false};
 ghost use Rattle.mach_base.specs.Answer.{Reads};
@@ -18,29 +18,29 @@ use crate::export_info::{
 use crate::trie::walk::Source;
 use mach_base::{Error, Result, quick_text, quick_uleb, read_text, uleb};
 
-/// A label, and where the child begins.
+/// A label, and the place where the child begins.
 #[derive(Clone, Copy, Debug)]
 pub struct Branch<'a> {
     pub label: &'a str,
     pub start: usize,
 }
 
-/// Branches that can be read, one after the other: how many, and the place of the first.
+/// Branches that can be read and follow each other: their number, and the place of the first.
 #[derive(Clone, Copy, Debug)]
 pub struct BranchRun {
     pub left: usize,
     pub place: usize,
 }
 
-/// Branches that can be read, of which the first is kept. A walk takes that one at once: so its label is read but once,
-/// and this is why a walk has a reader of its own, beside `read_behind` of cursor and look-up.
+/// Branches that can be read, with the first one decoded. A walk takes that branch at once, so its label is read only once.
+/// That is why a walk has a reader of its own, beside `read_behind` for the cursor and the look-up.
 #[derive(Clone, Copy, Debug)]
 pub struct Branches<'a> {
     pub first: Branch<'a>,
     pub behind: BranchRun,
 }
 
-// The exact reader of a number, for those that the quick one leaves.
+// The exact reader of a number, for those that the quick reader doesn't read.
 #[cold]
 #[inline(never)]
 fn rare_number(bytes: &[u8], place: usize) -> Result<(u64, usize)>
@@ -49,7 +49,7 @@ fn rare_number(bytes: &[u8], place: usize) -> Result<(u64, usize)>
     uleb(bytes, place)
 }
 
-/// The number at a place, and the place after it.
+/// Returns the number at a place, and the place after it.
 #[inline(always)]
 pub fn number(bytes: &[u8], place: usize) -> Result<(u64, usize)>
     ensures { Reads (λ found. found) result (uleb_at bytes.now place) }
@@ -60,7 +60,7 @@ pub fn number(bytes: &[u8], place: usize) -> Result<(u64, usize)>
     }
 }
 
-// The sum, where it has at most 64 bits.
+// Returns the sum, if it has at most 64 bits.
 #[inline(always)]
 fn sum(place: usize, n: u64) -> Result<usize>
     ensures { Reads (λ sum. sum) result (sum_of place n) }
@@ -71,7 +71,7 @@ fn sum(place: usize, n: u64) -> Result<usize>
     }
 }
 
-// A branch of a trie that begins at `from`, and the place after it.
+// Reads the branch at a place, of a trie that begins at `from`, and returns it with the place after it.
 #[tactic(auto, unfolding(crate::specs::Nodes::branch_at))]
 fn read_branch(bytes: &[u8], from: usize, place: usize) -> Result<(Branch<'_>, usize)>
     ensures { Reads (λ found. (branch_of found.0, found.1)) result (branch_at bytes.now from place) }
@@ -82,7 +82,7 @@ fn read_branch(bytes: &[u8], from: usize, place: usize) -> Result<(Branch<'_>, u
     Ok((Branch { label, start }, after))
 }
 
-// Whether `count` branches can be read, one after the other.
+// Tests whether `count` branches can be read, one after the other.
 #[cold]
 #[inline(never)]
 fn test_branches(bytes: &[u8], from: usize, count: usize, first: usize) -> Result<()>
@@ -96,7 +96,7 @@ fn test_branches(bytes: &[u8], from: usize, count: usize, first: usize) -> Resul
     Ok(())
 }
 
-// Why not all of `count` branches can be read.
+// Returns why not all of `count` branches can be read.
 #[cold]
 #[inline(never)]
 pub(crate) fn branches_error(bytes: &[u8], from: usize, count: usize, first: usize) -> Error
@@ -109,7 +109,7 @@ pub(crate) fn branches_error(bytes: &[u8], from: usize, count: usize, first: usi
     }
 }
 
-/// A branch and the place after it, wherever `read_branch` finds one.
+/// Returns a branch and the place after it, if one can be read there.
 #[tactic(auto, unfolding(crate::specs::Nodes::branch_at))]
 #[inline(always)]
 pub(crate) fn quick_branch(bytes: &[u8], from: usize, place: usize) -> Option<(Branch<'_>, usize)>
@@ -140,7 +140,7 @@ pub(crate) fn quick_test(bytes: &[u8], from: usize, count: usize, first: usize) 
     true
 }
 
-// So many branches, if all can be read.
+// Returns `count` branches, if all can be read.
 #[inline(always)]
 fn quick_branches(bytes: &[u8], from: usize, count: usize, place: usize) -> Option<Branches<'_>>
     requires { 0 < count }
@@ -161,7 +161,7 @@ fn quick_branches(bytes: &[u8], from: usize, count: usize, place: usize) -> Opti
     }
 }
 
-/// How many branches a list has, and where the first stands: no more of them than there are bytes.
+/// Returns the number of branches of a list, and the place of the first. The number is at most that of the bytes.
 #[inline(always)]
 pub fn read_count(bytes: &[u8], place: usize) -> Result<BranchRun>
     ensures value { Reads (λ run. (run.left, run.place)) result (count_at bytes.now place) }
@@ -175,7 +175,7 @@ pub fn read_count(bytes: &[u8], place: usize) -> Result<BranchRun>
     Ok(BranchRun { left, place })
 }
 
-/// So many branches from a place on, of which the first is kept: all of them can be read.
+/// Reads the branches of a list and decodes the first. If the result is Ok, all of them can be read.
 #[inline(always)]
 pub fn read_branches(bytes: &[u8], from: usize, list: BranchRun) -> Result<Branches<'_>>
     requires some { 0 < list.left }
@@ -189,7 +189,7 @@ pub fn read_branches(bytes: &[u8], from: usize, list: BranchRun) -> Result<Branc
     }
 }
 
-/// The branches behind their count: all of them can be read.
+/// Reads the count and returns the branches after it. If the result is Ok, all of them can be read.
 #[tactic(auto, unfolding(crate::specs::Nodes::children_at))]
 #[inline(always)]
 pub fn read_run(bytes: &[u8], from: usize, place: usize) -> Result<BranchRun>
@@ -208,7 +208,7 @@ pub fn read_run(bytes: &[u8], from: usize, place: usize) -> Result<BranchRun>
     Ok(BranchRun { left, place })
 }
 
-/// A node's own export of `size` bytes, and the place of the branches behind it.
+/// Reads a node's own export of `size` bytes, and returns it with the place of the branches after it.
 pub fn read_own<'a>(
     bytes: &'a [u8],
     libs: &[&'a str],
@@ -223,7 +223,7 @@ pub fn read_own<'a>(
     Ok((info, after))
 }
 
-// Whether the flags say a regular export, whatever its kind: neither a re-export nor a stub.
+// Whether the flags mean a regular export, whatever its kind: neither a re-export nor a stub.
 #[inline(always)]
 fn is_plain(flags: u64) -> bool
     ensures { IsTrue result → info_kind flags ≡ a_regular }
@@ -231,7 +231,7 @@ fn is_plain(flags: u64) -> bool
     flags & EXPORT_SYMBOL_FLAGS_REEXPORT == 0 && flags & EXPORT_SYMBOL_FLAGS_STUB_AND_RESOLVER == 0
 }
 
-/// The same of a regular export: its address, its flags, and the place of the branches behind it.
+/// Reads a regular own export of `size` bytes: returns its address, its flags, and the place of the branches after it.
 #[tactic(auto, unfolding(crate::specs::Nodes::info_at, crate::specs::Nodes::regular_at))]
 #[inline(always)]
 pub fn quick_own(bytes: &[u8], size: u64, place: usize) -> Option<(u64, u64, usize)>
@@ -248,7 +248,7 @@ pub fn quick_own(bytes: &[u8], size: u64, place: usize) -> Option<(u64, u64, usi
     }
 }
 
-// An own export of `size` bytes that the quick reader leaves, and the place of the branches.
+// The exact reader of an own export, for those that the quick reader doesn't read.
 #[cold]
 #[inline(never)]
 fn rare_own<'a>(source: &Source<'a, '_>, size: u64, place: usize) -> Result<(ExportInfo<'a>, usize)>
@@ -257,7 +257,7 @@ fn rare_own<'a>(source: &Source<'a, '_>, size: u64, place: usize) -> Result<(Exp
     read_own(source.bytes, source.libs, size, place)
 }
 
-/// An own export of `size` bytes, and the place of the branches.
+/// Returns an own export of `size` bytes, and the place of the branches.
 #[inline(always)]
 pub fn own_export<'a>(
     source: &Source<'a, '_>,
@@ -272,7 +272,7 @@ pub fn own_export<'a>(
     }
 }
 
-/// A node behind its size: its own export, if it has one, and its branches.
+/// Reads a node after its size: its own export, if it has one, and its branches.
 #[tactic(auto, unfolding(crate::specs::Nodes::inner_at, crate::specs::Nodes::terminal_at))]
 #[inline(always)]
 pub fn read_behind<'a>(
@@ -292,7 +292,7 @@ pub fn read_behind<'a>(
     Ok((Some(own), branches))
 }
 
-/// A branch that was tested, read again, and the place after it.
+/// Reads again a branch that was tested, and returns it with the place after it.
 #[inline(always)]
 pub fn read_again(bytes: &[u8], from: usize, place: usize) -> (Branch<'_>, usize)
     requires { IsOk (branch_at bytes.now from place) }

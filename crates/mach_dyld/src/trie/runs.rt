@@ -1,8 +1,8 @@
-//! Branches that lead nowhere, place by place: how many of them follow each other at least.
+//! Branches that lead nowhere: for each place, a number of them that certainly follow each other from there.
 //!
-//! No linker known writes such a list of branches. From the first one on the whole trie is gone over once, from behind, so that
-//! each further list is known by its count and the place of its first branch, and isn't read: whether nodes share a list, or
-//! lists begin within each other.
+//! No known linker writes a list of such branches. When the first one is met, the whole trie is scanned once, backwards.
+//! Each further list is then known by its count and the place of its first branch, and isn't read. That holds too if nodes
+//! share a list, or lists begin within each other.
 
 ghost use Rattle.std.specs.Prelude.{◌≡◌, ◌≢◌, ◌≤◌, ◌<◌, ◌+◌, ◌^◌, ℕ, max, true, List, length, get_or, nat_le, [], IfSome, OnOk};
 ghost use Rattle.mach_dyld.specs.Nodes.{branches_at};
@@ -15,8 +15,8 @@ use mach_base::quick_uleb;
 use std::alloc::{AllocError, Allocator, Global};
 use std::marker::Model;
 
-/// How many branches that lead nowhere follow each other at least from each place of some bytes on; of nothing, until the
-/// first is learned.
+/// For each place of some bytes, a number of branches that lead nowhere and follow each other from there; for no place until
+/// the first such list is recorded.
 #[derive(Drop)]
 pub struct Runs<A: Allocator = Global> {
     known: Vec<u32, A>,
@@ -29,18 +29,18 @@ impl<A: Allocator> Model for Runs<A> {
     ghost view = { λ r. r.known.items };
 }
 
-// What follows the places that were gone over, from behind.
+// What follows a place, as far as the backward scan knows it.
 #[derive(Clone, Copy)]
 struct Tail {
-    /// The first zero byte, or the end of the bytes: there a label ends.
+    /// The first zero byte, where a label ends, or the end of the bytes.
     end: usize,
-    /// The bytes from here up to that one are UTF-8, and from no place before.
+    /// The first place from which on the bytes up to `end` are UTF-8.
     low: usize,
-    /// What stands behind the child's number there, if it leads nowhere.
+    /// The place after the child's number there, if that child leads nowhere.
     after: Option<usize>,
 }
 
-// The place behind a branch whose label ends at a place, if it leads nowhere.
+// Returns the place after a branch whose label ends at a place, if the branch leads nowhere.
 fn after_label(source: &Source<'_, '_>, end: usize) -> Option<usize>
     requires { end < length source.now.bytes.now }
     ensures { IfSome result (LeadsNowhere source.now end) }
@@ -54,7 +54,7 @@ fn after_label(source: &Source<'_, '_>, end: usize) -> Option<usize>
 }
 
 impl Tail {
-    // Goes on to the place before.
+    // Returns the tail of the place before.
     fn back(self, source: &Source<'_, '_>, place: usize) -> Tail
         requires inside { place < length source.now.bytes.now }
         requires tail { IsTail source.now (place + 1) self }
@@ -75,7 +75,7 @@ impl Tail {
 }
 
 impl<A: Allocator> Runs<A> {
-    /// Nothing is known.
+    /// Returns the state in which nothing is known.
     pub fn new(alloc: A) -> Self
         ensures { result ≡ [] }
     {
@@ -84,7 +84,7 @@ impl<A: Allocator> Runs<A> {
         }
     }
 
-    // How many are known at a place.
+    // Returns how many are known at a place.
     #[inline(always)]
     fn at(&self, place: usize) -> usize
         ensures value { result ≡ get_or self.now place 0 }
@@ -97,7 +97,7 @@ impl<A: Allocator> Runs<A> {
         }
     }
 
-    /// Whether as many branches are known to lead nowhere.
+    /// Whether all branches of the run are known to lead nowhere.
     #[inline(always)]
     pub fn know(&self, run: BranchRun) -> bool
         ensures { result ≡ nat_le run.left (get_or self.now run.place 0) }
@@ -105,7 +105,7 @@ impl<A: Allocator> Runs<A> {
         run.left <= self.at(run.place)
     }
 
-    // How many lead nowhere from a place on, by what follows it and what is known of that.
+    // Returns how many branches lead nowhere from a place on, by what follows it and what is known of that.
     fn count_at(&self, source: &Source<'_, '_>, tail: Tail, place: usize) -> usize
         requires tail { IsTail source.now place tail }
         requires barren { AreBarren source.now self.now }
@@ -120,7 +120,7 @@ impl<A: Allocator> Runs<A> {
         }
     }
 
-    // So many lead nowhere from a place on.
+    // Records that `count` branches lead nowhere from a place on.
     fn raise(&mut self, place: usize, count: usize)
         ensures kept { AreKept self.old self.new }
         ensures raised { place < length self.old → count < 2 ^ 32 → count ≤ get_or self.new place 0 }
@@ -133,7 +133,7 @@ impl<A: Allocator> Runs<A> {
         }
     }
 
-    // Goes over all places of a trie, from behind, if nothing is known yet.
+    // Scans all places of a trie backwards, if nothing is known yet.
     fn fill(&mut self, source: &Source<'_, '_>) -> Result<(), AllocError>
         requires barren { AreBarren source.now self.old }
         requires room { HaveRoom source.now self.old }
@@ -160,7 +160,7 @@ impl<A: Allocator> Runs<A> {
         Ok(())
     }
 
-    /// Learns of branches that lead nowhere. The first time all places of the trie are gone over.
+    /// Records branches that lead nowhere. The first time, it scans all places of the trie.
     #[cold]
     #[inline(never)]
     pub fn learn(&mut self, source: &Source<'_, '_>, run: BranchRun) -> Result<(), AllocError>

@@ -1,4 +1,4 @@
-//! The walk of an export trie, on a stack of open nodes: its exports, one after the other.
+//! The walk of an export trie, with a stack of open nodes: its exports, one after the other.
 
 ghost use Rattle.std.specs.Prelude.{◌≡◌, ◌≤◌, ◌<◌, ◌+◌, ◌-◌, ◌^◌, ◌++◌, ◌∷◌, ℕ, List};
 ghost use Rattle.std.specs.Prelude.{[], length, reverse, IfOk, IfErr, IfSome, IfNone, OnOk, IsNone, true, false};
@@ -26,7 +26,7 @@ use crate::trie::runs::Runs;
 use mach_base::{Error, Result, Steps};
 use std::alloc::{AllocError, Allocator, Global};
 
-/// What exports are read from: some bytes, the libraries of the image, and where the trie begins and ends.
+/// The data that exports are read from: bytes, the libraries of the image, and the range of the trie.
 #[derive(Clone, Copy, Debug)]
 pub struct Source<'a, 'b> {
     pub bytes: &'a [u8],
@@ -39,16 +39,16 @@ pub struct Source<'a, 'b> {
 #[derive(Clone, Copy, Debug)]
 #[repr(C)]
 pub struct Open {
-    /// How many of its branches are left.
+    /// The number of its branches that are left.
     pub left: usize,
-    /// Where these begin.
+    /// The place where they begin.
     pub place: usize,
-    /// How long its name is.
+    /// The length of its name.
     pub name_len: usize,
 }
 
-// Reads how long the own export of the node at a start is: the one read that counts as a visit.
-// Answers that and the place behind.
+// Reads the size of the own export of the node at a start, and returns it with the place after it. This is the one read that
+// counts as a visit.
 #[inline(always)]
 pub(crate) fn visit(bytes: &[u8], start: usize, steps: &mut Steps) -> Result<(u64, usize)>
     ensures value { Reads (λ found. found) result (uleb_at bytes.now start) }
@@ -58,7 +58,7 @@ pub(crate) fn visit(bytes: &[u8], start: usize, steps: &mut Steps) -> Result<(u6
     number(bytes, start)
 }
 
-// Whether each of some branches leads nowhere.
+// Whether all of the branches lead nowhere.
 #[cold]
 #[inline(never)]
 fn all_lead_nowhere(source: &Source, branches: BranchRun) -> bool
@@ -76,7 +76,7 @@ fn all_lead_nowhere(source: &Source, branches: BranchRun) -> bool
     true
 }
 
-// Whether none of a list's branches leads to a node. That of most lists is seen by the first.
+// Whether none of a list's branches leads to a node. For most lists the first branch decides.
 #[inline(always)]
 pub(crate) fn is_barren(source: &Source<'_, '_>, list: Branches<'_>) -> bool
     requires { IsReadable source.now.bytes.now source.now.from list.behind }
@@ -85,7 +85,7 @@ pub(crate) fn is_barren(source: &Source<'_, '_>, list: Branches<'_>) -> bool
     list.first.start >= source.upto && all_lead_nowhere(source, list.behind)
 }
 
-// Reads the branches of a list behind its count: the one read that counts.
+// Reads the branches of a list after its count. This is the one read that is counted.
 #[inline(always)]
 fn read_list<'a>(
     source: &Source<'a, '_>,
@@ -103,8 +103,8 @@ fn read_list<'a>(
     read_branches(source.bytes, source.from, list)
 }
 
-// Opens the list of branches whose count stands at a place. Where all of them lead nowhere nothing is answered, and that is
-// learned: so such a list is read but once. Counts the lists that were read.
+// Opens the list of branches whose count is at a place. Returns None if all of them lead nowhere, and records that, so that
+// such a list is read only once. Counts the lists read.
 #[inline(always)]
 fn open_list<'a, A: Allocator>(
     source: &Source<'a, '_>,
@@ -165,7 +165,7 @@ fn read_node<'a, A: Allocator>(
     Ok((Some(own), branches))
 }
 
-// Keeps an open node on the stack, if it has branches left.
+// Pushes an open node on the stack, if it has branches left.
 #[inline(always)]
 fn keep_below<A: Allocator>(
     stack: &mut Vec<Open, A>,
@@ -180,20 +180,20 @@ fn keep_below<A: Allocator>(
     Ok(())
 }
 
-/// A walk of a trie, as far as it has come. It takes a bit for each byte of the trie, a stack of the nodes that
-/// are open, and one name; and, from the first list on whose branches all lead nowhere, four bytes for each of the bytes.
+/// A walk of a trie in progress. Its memory is one bit for each byte of the trie, a stack of the open nodes and one name;
+/// and four bytes for each byte of the trie from the first list on whose branches all lead nowhere.
 #[derive(Drop)]
 pub struct Walker<'a, 'b, A: Allocator = Global> {
     pub(crate) source: Source<'a, 'b>,
-    /// Which starts were met.
+    /// The starts that were met.
     pub(crate) marks: Marks<A>,
     /// What is known of branches that lead nowhere.
     pub(crate) barren: Runs<A>,
-    /// The name of the node that was met last.
+    /// The name of the node met last.
     pub(crate) name: Vec<u8, A>,
     /// The nodes below the top that have branches left.
     pub(crate) stack: Vec<Open, A>,
-    /// The node whose branch comes next, behind that branch.
+    /// The node whose branch comes next, after that branch.
     pub(crate) top: Open,
     /// The branch that comes next.
     pub(crate) next: Branch<'a>,
@@ -201,7 +201,7 @@ pub struct Walker<'a, 'b, A: Allocator = Global> {
 }
 
 impl<'a, 'b, A: Allocator> Walker<'a, 'b, A> {
-    /// A walk that has come nowhere yet: the root is the child of its next branch.
+    /// Returns a walk at its start: the root is the child of its next branch.
     pub(crate) fn start(alloc: &A, source: &Source<'a, 'b>) -> Result<Self>
     where
         A: Clone,
@@ -230,7 +230,7 @@ impl<'a, 'b, A: Allocator> Walker<'a, 'b, A> {
         })
     }
 
-    /// The name of the export that came last.
+    /// Returns the name of the last export.
     #[inline(always)]
     pub(crate) fn name(&self) -> &str
         requires { IsUtf8 self.now.name.items }
@@ -239,7 +239,7 @@ impl<'a, 'b, A: Allocator> Walker<'a, 'b, A> {
         unsafe { str::from_utf8_unchecked(self.name.as_slice()) }
     }
 
-    // Goes on to the next branch that is left, if there is one.
+    // Moves to the next branch that is left, if there is one.
     #[inline(always)]
     fn go_on(&mut self)
         requires between { ∥ ((found : List Entry) × (n : ℕ) × IsBetween found n self.old) ∥₁ }
@@ -266,7 +266,7 @@ impl<'a, 'b, A: Allocator> Walker<'a, 'b, A> {
         self.top.place = after;
     }
 
-    // Takes the branch that comes next: answers the own export of the node that it leads to, if there is one.
+    // Follows the next branch, and returns the own export of the node that it leads to, if there is one.
     #[inline(always)]
     fn take(&mut self, steps: &mut Steps) -> Result<Option<ExportInfo<'a>>>
         requires { ∥ ((found : List Entry) × (n : ℕ) × IsAtBranch found n self.old) ∥₁ }
@@ -309,7 +309,7 @@ impl<'a, 'b, A: Allocator> Walker<'a, 'b, A> {
         Ok(own)
     }
 
-    /// The next export, whose name is then that of the walk, or the fault that ends the walk.
+    /// Returns the next export, whose name is then that of the walk, or the fault that ends the walk.
     #[inline(always)]
     pub(crate) fn step(&mut self, steps: &mut Steps) -> Option<Result<ExportInfo<'a>>>
         requires { IsWalk self.old }
@@ -339,7 +339,7 @@ impl<'a, 'b, A: Allocator> Walker<'a, 'b, A> {
     }
 }
 
-// Lists an export. Its name takes one allocation, of exactly its length.
+// Appends an export to the list. Its name takes one allocation, of exactly its length.
 #[inline(always)]
 fn push_export<'a, A: Allocator + Clone>(
     alloc: &A,
@@ -353,7 +353,7 @@ fn push_export<'a, A: Allocator + Clone>(
     Ok(())
 }
 
-/// The exports of a trie, depth first, or a fault that stands there.
+/// Returns the exports of a trie, depth first, or a fault that occurs in it.
 pub fn list_all<'a, A: Allocator + Clone>(
     alloc: &A,
     source: &Source<'a, '_>,
