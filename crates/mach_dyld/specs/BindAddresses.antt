@@ -1,4 +1,4 @@
--- Where the imports of binds lie in memory.
+-- The addresses of the imports of binds.
 use Rattle.std.specs.Prelude.{◌≡◌, ◌+◌, ◌<◌, ◌≤◌, ℕ, List, All, Some, Result, Ok, IfOk, slice_get}
 use Rattle.mach_base.specs.Fault.{Fault}
 use Rattle.mach_parts.specs.Segment.{SegmentView}
@@ -34,7 +34,7 @@ abbrev pub ListLiesIn : Type 0
 ListLiesIn = (b : BindRanges) (pointer : ℕ) (libs : List (List ℕ)) (segments : List SegmentView) (list : List Import)
     → ListsImports b pointer libs segments list → All (λ i. LiesInSome segments i.address) list
 
--- so is each import that comes alone
+-- so is each import of an iterator
 abbrev pub ItemsLieIn : Type 0
 ItemsLieIn = (x : Input) (non_lazy lazy : Range) (ps qs : List Placed) (items : List (Result Import Fault))
     → AreBindItems x non_lazy lazy ps qs items

@@ -1,4 +1,4 @@
--- How far the reading of binds has come, as numbers.
+-- The position of a reader of binds, as numbers.
 use Rattle.std.specs.Prelude.{◌≡◌, ◌⊎◌, ℕ, ℤ, List, [], Option, Some, None, Result, Ok, Err, if◌then◌else◌, slice_get, bit_and}
 use Rattle.mach_base.specs.Fault.{Fault, fault_of}
 use Rattle.mach_base.specs.Text.{text_at}
@@ -21,7 +21,7 @@ use Rattle.mach_dyld.specs.declared.imports.cursor.PlacedBinding.{PlacedBinding}
 use Rattle.mach_dyld.specs.declared.imports.iterator.BindIterator.{BindIterator}
 use Rattle.mach_base.specs.Number.{says_yes}
 
--- the settings and the state that the numbers of a cursor say, over some bytes: the name is the text at its place, if there is one
+-- the settings and the state in the numbers of a cursor, over some bytes: the name is the text at its place, if there is one
 abbrev pub bind_in : List ℕ → BindCursor → Bind
 bind_in bytes c = record {
   is_lazy = says_yes c.is_lazy;
@@ -47,7 +47,7 @@ state_in bytes c = record {
 abbrev pub special_in : BindCursor → Option ℤ
 special_in c = if says_yes (bit_and c.ordinal 2) then Some c.special else None
 
--- the settings of bindings beside those of a bind
+-- the settings of bindings beyond those of a bind
 abbrev pub extra_in : BindCursor → Extra
 extra_in c = record {
   special = special_in c;
@@ -57,29 +57,29 @@ extra_in c = record {
   has_segment = says_yes c.has_segment;
 }
 
--- the imports that come behind a cursor, where this is the lazy stream
+-- the imports after a cursor, if this is the lazy stream
 abbrev pub imports_behind : Input → Range → BindCursor → List (Result Import Fault)
 imports_behind x lazy c = items_of import_rules x lazy (record {}) (state_in x.bytes c)
 
--- the bindings that come behind it
+-- the bindings after it
 abbrev pub opcode_bindings_behind : Input → Range → BindCursor → List (Result Binding Fault)
 opcode_bindings_behind x lazy c = items_of binding_rules x lazy (extra_in c) (state_in x.bytes c)
 
--- the iterator reads this, and knows where its name stands
+-- the iterator reads this input, and has the place of its name
 abbrev pub IsOverImports : Input → Range → BindIterator → Type 0
 IsOverImports x lazy it = machine.IsOver x lazy it.stream
 
 abbrev pub IsOverBindings : Input → Range → OpcodeBindingIterator → Type 0
 IsOverBindings x lazy it = machine.IsOver x lazy it.stream
 
--- it has ended: nothing is left, and it stays so
+-- it has ended: nothing is left, and nothing comes any more
 abbrev pub HasEndedImports : BindIterator → Type 0
 HasEndedImports it = machine.HasEnded import_rules it.stream
 
 abbrev pub HasEndedOpcodeBindings : OpcodeBindingIterator → Type 0
 HasEndedOpcodeBindings it = machine.HasEnded binding_rules it.stream
 
--- an import with its places, as it was read
+-- what was read, as an import without its places or a fault
 abbrev pub placed_read : Result PlacedImport Error → Result Import Fault
 placed_read (Ok p) = Ok (import_seen p.import)
 placed_read (Err e) = Err (fault_of e)
@@ -88,11 +88,11 @@ abbrev pub placed_binding_read : Result PlacedBinding Error → Result Binding F
 placed_binding_read (Ok p) = Ok (binding_view p.binding)
 placed_binding_read (Err e) = Err (fault_of e)
 
--- a text stands at a place; one of no bytes may stand nowhere
+-- a text is at a place; a text of no bytes may have no place
 abbrev pub TextStands : List ℕ → ℕ → List ℕ → Type 0
 TextStands bytes place text = (text ≡ []) ⊎ (text_at bytes place ≡ Ok text)
 
--- its name stands at its place, and its library is that of its number
+-- its name is at its place, and its library is the one with its number
 pub record IsPlaced (x : Input) (p : PlacedImport) : Type 0 where
   pub name : TextStands x.bytes p.name_place p.import.name.now
   pub library_is : slice_get x.libs p.library ≡ Some p.import.dylib.now

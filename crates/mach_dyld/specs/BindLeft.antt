@@ -1,5 +1,5 @@
--- The rules of imports, and what is left to an iterator over them. Callers don't need it: the contract of `iter` says
--- that the items at the start are those of the definitions.
+-- The rules of imports, and what is left of an iterator over them. Callers don't need it: the contract of `iter` says that
+-- the items at the start are those of the definitions.
 use Rattle.std.specs.Prelude.{ℕ, List, Result}
 use Rattle.mach_base.specs.Fault.{Fault, fault_of}
 use Rattle.mach_base.specs.declared.error.Error.{Error}
@@ -14,7 +14,7 @@ use Rattle.mach_dyld.specs.declared.imports.Import.{Import}
 use Rattle.mach_dyld.specs.declared.imports.iterator.BindIterator.{BindIterator}
 use Rattle.mach_dyld.specs.declared.imports.iterator.Plain.{Plain}
 
--- all opcodes are read, and a bind needs nothing beside its settings
+-- all opcodes are read, and a bind needs nothing beyond its settings
 abbrev pub import_rules : Rules Plain imports.Import
 import_rules = record {
   first = λ is_lazy. record {};
@@ -33,6 +33,6 @@ import_read = item_read import_seen fault_of
 abbrev pub imports_left : BindIterator → List (Result imports.Import Fault)
 imports_left it = items_left import_rules it.stream
 
--- how many instructions are left to be read
+-- the number of instructions left to read
 abbrev pub reads_left : BindIterator → ℕ
 reads_left it = opcodes_left import_rules it.stream

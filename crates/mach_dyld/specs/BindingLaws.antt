@@ -1,5 +1,4 @@
--- What holds of all bindings: how they follow from the instructions in order, where they lie, and when they are those
--- of the imports.
+-- Laws of all bindings: how they follow from the instructions in order, where they lie, and when they agree with the imports.
 use Rattle.std.specs.Prelude.{◌≡◌, ◌≢◌, ◌⊎◌, ◌<◌, ℕ, ℤ, pos, List, [], ◌∷◌, ◌++◌, map, All, reverse, bit_and}
 use Rattle.std.specs.Prelude.{Bool, true, false, Option, Some, None, Result, Ok, Err, IfOk}
 use Rattle.std.specs.List.{AllByRecursion, filter_map}
@@ -15,17 +14,17 @@ use Rattle.mach_parts.specs.Bindings.{Provider, of_library, itself, main_executa
 use Rattle.mach_parts.specs.Bindings.{Binding}
 use Rattle.mach_dyld.specs.Bindings.{SetBefore, binding_of, ordinal_in, last_ordinal, bindings_at, bindings_in, AreBindings}
 
--- the ordinal of a bind is the one that was set last before it, or 0: `IsLast` goes back to the last DONE, of which streams of bindings have none
--- (`bindings_row` reads an opcode 0x00 as `nothing`)
+-- The ordinal of a bind is the one set last before it, or 0. `IsLast` goes back to the last DONE. Streams of bindings have
+-- none: `bindings_row` reads an opcode 0x00 as `nothing`.
 abbrev pub FindsLastOrdinal : Type 0
 FindsLastOrdinal = (bytes : List ℕ) (ps : List Placed) → IsLast (pos 0) (ordinal_in bytes) ps (last_ordinal bytes (reverse ps))
 
--- the last instruction of a list adds what comes of it by looking back over those before it
+-- the last instruction of a list adds the bindings found by looking back over the instructions before it
 abbrev pub AddsBindings : Type 0
 AddsBindings = (x : Input) (r : Range) (ps : List Placed) (p : Placed)
     → bindings_in x r (ps ++ p ∷ []) ≡ bindings_in x r ps ++ bindings_at x r (reverse ps) p
 
--- two streams have one list of items
+-- two streams have at most one list of items
 abbrev pub StreamsHaveOneListOfBindings : Type 0
 StreamsHaveOneListOfBindings = (x : Input) (non_lazy lazy : Range) (ps qs ps' qs' : List Placed) (items others : List (Result Binding Fault))
     → AreBindings x non_lazy lazy ps qs items → AreBindings x non_lazy lazy ps' qs' others → items ≡ others
@@ -35,18 +34,18 @@ abbrev pub BindingLiesIn : Type 0
 BindingLiesIn = (x : Input) (g : SetBefore) (b : Bind) (found : Binding) → binding_of x g b ≡ Ok found
     → LiesWhole x.segments b.segment found.address x.pointer
 
--- that of each binding is in one of the segments
+-- the pointer of each binding is in one of the segments
 abbrev pub BindingsLieIn : Type 0
 BindingsLieIn = (x : Input) (non_lazy lazy : Range) (ps qs : List Placed) (items : List (Result Binding Fault))
     → AreBindings x non_lazy lazy ps qs items → All (λ item. IfOk item (λ b. LiesWholeInSome x.segments b.address x.pointer)) items
 
--- ---- beside imports
+-- ---- agreement with imports
 
 -- its opcode is not 3
 abbrev pub IsPlain : List ℕ → Placed → Type 0
 IsPlain bytes p = (byte : ℕ) → byte_at bytes p.place ≡ Ok byte → bit_and byte 0xf0 ≢ 0x30
 
--- what imports and bindings both tell, the library by its name
+-- what imports and bindings both have, the library by its name
 pub record Told : Type 0 where
   pub name : List ℕ
   pub library : Option (List ℕ)
@@ -67,7 +66,7 @@ told_by_import i = record {
   is_lazy = i.is_lazy;
 }
 
--- the name of a library; that of the image itself is the first of the list
+-- the name of a library; the image itself has the first name of the list
 abbrev pub library_name : List ℕ → Provider → Option (List ℕ)
 library_name first (of_library ordinal name) = Some name
 library_name first itself = Some first
@@ -90,36 +89,36 @@ abbrev pub told_item : {A : Type 0} → (A → Told) → Result A Fault → Resu
 told_item tell (Ok i) = Ok (tell i)
 told_item tell (Err f) = Err f
 
--- each binding tells what the import at its place tells, and the bindings end where the imports do, or at a fault
+-- each binding agrees with the import at its place, and the bindings end where the imports do, or at a fault
 abbrev pub EachTells : List ℕ → List (Result Import Fault) → List (Result Binding Fault) → Type 0
 EachTells first imports [] = imports ≡ []
 EachTells first imports (Err f ∷ bindings) = Unit {0}
 EachTells first [] (Ok b ∷ bindings) = ⊥
 EachTells first (i ∷ imports) (Ok b ∷ bindings) = (told_item told_by_import i ≡ Ok (told_by_binding first b)) × EachTells first imports bindings
 
--- behind the last DONE stands an instruction that has the operand: the list has the nearest first
+-- after the last DONE, an instruction has the operand: the list has the nearest first
 abbrev pub IsSetAnew : {A : Type 0} → (Placed → Option A) → List Placed → Type 0
 IsSetAnew operand back = filter_map operand (nearer_than is_done back) ≢ []
 
--- a library, a name with its flags and a segment are set there, and an addend is, or nowhere
+-- a library, a name with its flags and a segment are set there; an addend is set there, or nowhere
 pub record AreSetAnew (back : List Placed) : Type 0 where
   pub library : IsSetAnew library_in back
   pub name : IsSetAnew symbol_name_in back
   pub segment : IsSetAnew segment_in back
   pub addend : IsSetAnew addend_in back ⊎ (filter_map addend_in back ≡ [])
 
--- so they are before each instruction that binds
+-- this holds before each instruction that binds
 abbrev pub SetsAnew : List Placed → Type 0
 SetsAnew ps = (front : List Placed) (p : Placed) (behind : List Placed) → ps ≡ front ++ p ∷ behind → 0 < count_in p → AreSetAnew (reverse front)
 
--- behind the first DONE are only DONEs
+-- after the first DONE there are only DONEs
 abbrev pub EndsInDones : List Placed → Type 0
 EndsInDones ps =
     (front : List Placed) × (dones : List Placed) × (ps ≡ front ++ dones)
     × AllByRecursion (λ p. is_done p ≡ false) front × AllByRecursion (λ p. is_done p ≡ true) dones
 
--- the instructions of two streams, as imports read them, that bindings read alike: none of them has opcode 3; the non-lazy
--- ones are all of their range, and end in DONEs; and what a lazy bind has is set behind the last DONE
+-- The instructions of two streams, as imports read them, which bindings read alike. None of them has opcode 3. The non-lazy
+-- ones are all of their range, and end in DONEs. The settings of a lazy bind are made after the last DONE.
 pub record AreReadAlike (x : Input) (non_lazy lazy : Range) (ps qs : List Placed) : Type 0 where
   pub whole : IsStream x non_lazy ps
   pub lazy_stop : Option Fault
@@ -129,12 +128,12 @@ pub record AreReadAlike (x : Input) (non_lazy lazy : Range) (ps qs : List Placed
   pub ends : EndsInDones ps
   pub anew : SetsAnew qs
 
--- where bindings have no fault, both tell one for one, so that they are as many
+-- if bindings have no fault, they agree with the imports one for one, so there are equally many
 abbrev pub TellOneForOne : List ℕ → List (Result Import Fault) → List (Result Binding Fault) → Type 0
 TellOneForOne first imports bindings =
     (list : List Binding) → bindings ≡ map Ok list → map (told_item told_by_import) imports ≡ map (λ b. Ok (told_by_binding first b)) list
 
--- so do bindings and imports of streams that are read alike, over a list of libraries that has a first
+-- this holds for bindings and imports of streams that are read alike, over a list of libraries that isn't empty
 abbrev pub StreamsTellTheSame : Type 0
 StreamsTellTheSame = (x : Input) (non_lazy lazy : Range) (first : List ℕ) (others : List (List ℕ)) (ps qs ps' qs' us vs : List Placed)
     (imports : List (Result Import Fault)) (bindings : List (Result Binding Fault)) → x.libs ≡ first ∷ others → 0 < x.pointer → lazy.is_lazy ≡ true

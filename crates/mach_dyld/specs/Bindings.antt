@@ -1,4 +1,4 @@
--- The bindings of bind opcodes, as dyld makes them: the binds of `Binds`, each with its provider.
+-- The bindings of bind opcodes, as dyld reads them: the binds of `Binds`, each with its provider.
 use Rattle.std.specs.Prelude.{◌≡◌, ◌==◌, ◌-ℤ◌, ℕ, ℤ, pos, List, [], ◌∷◌, map, Bool, true, false, not, Option, Some, None, Result, Ok, Err}
 use Rattle.std.specs.Prelude.{◌+◌, ◌-◌, length, if◌then◌else◌, bit_and, nat_lt, nat_le, slice_get}
 use Rattle.mach_base.specs.Answer.{◌>>=◌}
@@ -13,9 +13,9 @@ use Rattle.mach_dyld.specs.Streams.{Input, Range, Placed, Reader}
 use Rattle.mach_dyld.specs.Binds.{Bind, binds_at, last_setting, all_from}
 use Rattle.mach_parts.specs.Bindings.{Provider, provider_of, Binding}
 
--- ---- one instruction: what `Instructions` reads as nothing may set a special ordinal, or a type
+-- ---- one instruction: what `Instructions` reads as `nothing` may set a special ordinal or a type
 
--- opcode 3's immediate is 0, or its ordinal and 16
+-- opcode 3's immediate is 0, or its ordinal plus 16
 abbrev pub special_ordinal : ℕ → ℤ
 special_ordinal imm = if imm == 0 then pos 0 else pos imm -ℤ pos 16
 
@@ -28,7 +28,7 @@ ordinal_by (library number) byte = Some (pos number)
 ordinal_by nothing byte = special_by byte
 ordinal_by _ byte = None
 
--- the ordinal that an instruction sets: opcodes 1 and 2 that of a library, as it stands there, opcode 3 a special one
+-- the ordinal that an instruction sets: opcodes 1 and 2 that of a library, as in the bytes, opcode 3 a special one
 abbrev pub ordinal_in : List ℕ → Placed → Option ℤ
 ordinal_in bytes p = ordinal_by p.instruction (byte_at bytes p.place)
 
@@ -58,14 +58,14 @@ sets_by gives (Ok byte) = if gives (bit_and byte 0xf0) then Some true else None
 abbrev pub sets_in : List ℕ → (ℕ → Bool) → Placed → Option Bool
 sets_in bytes gives p = sets_by gives (byte_at bytes p.place)
 
--- ---- what is read, as dyld reads it (`MachOAnalyzer::forEachBind_OpcodesRegular`, `_OpcodesLazy`). A DONE sets nothing,
--- and leads to the end of the non-lazy range: no instruction of bindings is `done`, and settings go on over it.
+-- ---- the instructions, as dyld reads them (`MachOAnalyzer::forEachBind_OpcodesRegular`, `_OpcodesLazy`). A DONE sets
+-- nothing and leads to the end of the non-lazy range: no instruction of bindings is `done`, so settings stay over it.
 
--- where it goes on behind a DONE
+-- the place of the instruction after a DONE
 abbrev pub done_leads_to : Range → ℕ → ℕ
 done_leads_to r place = if r.is_lazy then place else place + (r.upto - place)
 
--- the highest opcode that there is: threaded binds (0xd0) are none, and a lazy bind is 0x90 alone
+-- the highest opcode allowed: threaded binds (0xd0) are not, and a lazy bind is only 0x90
 abbrev pub highest_opcode : Bool → ℕ
 highest_opcode is_lazy = if is_lazy then 0x90 else 0xc0
 
@@ -82,11 +82,11 @@ opcode_at r pointer bytes place = do
 
 -- ---- bindings
 
--- the segment, where it holds `len` bytes from the offset on
+-- the segment, if it holds `len` bytes from the offset on
 abbrev pub holding_all : ℕ → ℕ → SegmentView → Result SegmentView Fault
 holding_all len offset segment = if nat_le (offset + len) segment.command.vmsize then Ok segment else Err malformed
 
--- where an offset in a segment, which holds a pointer there, lies in the file and in memory
+-- the place in the file and the address of an offset in a segment that holds a pointer there
 unfoldable pub spot_of : ℕ → List SegmentView → ℕ → ℕ → Result (ℕ × ℕ) Fault
 spot_of pointer segments number offset = do
   segment ← found_or_malformed (slice_get segments number)
@@ -106,8 +106,7 @@ binding_with b provider spot = record {
   is_lazy = b.is_lazy;
 }
 
--- what was set before a bind beside its settings: the ordinal and the type, and whether an ordinal, a name and a segment
--- were
+-- what was set before a bind, beyond its settings: the ordinal, the type, and whether an ordinal, a name and a segment were set
 pub record SetBefore : Type 0 where
   pub ordinal : ℤ
   pub kind : ℕ
@@ -128,11 +127,11 @@ binding_of x g b = if is_complete g then (do
   spot ← spot_of x.pointer x.segments b.segment b.offset
   Ok (binding_with b provider spot)) else Err malformed
 
--- the ordinal that was set last, or 0: the list has the nearest first
+-- the ordinal set last, or 0: the list has the nearest first
 abbrev pub last_ordinal : List ℕ → List Placed → ℤ
 last_ordinal bytes back = last_setting (pos 0) (ordinal_in bytes) back
 
--- the type where a range begins: binds of the lazy one are pointers, and set none
+-- the type at the start of a range: binds of the lazy stream are pointers, and set none
 abbrev pub first_kind : Bool → ℕ
 first_kind is_lazy = if is_lazy then 1 else 0
 
@@ -146,11 +145,11 @@ last_given bytes is_lazy back = record {
   has_segment = last_setting false (sets_in bytes gives_segment) back;
 }
 
--- what comes of an instruction, before which others stand, the nearest first
+-- the bindings of an instruction, after these others, the nearest first
 abbrev pub bindings_at : Input → Range → List Placed → Placed → List (Result Binding Fault)
 bindings_at x r back p = map (binding_of x (last_given x.bytes r.is_lazy (p ∷ back))) (binds_at x.pointer r back p)
 
--- what comes of the first instructions of a range
+-- the bindings of the first instructions of a range
 abbrev pub bindings_in : Input → Range → List Placed → List (Result Binding Fault)
 bindings_in x r ps = all_from (bindings_at x r) [] ps
 
@@ -160,7 +159,7 @@ bindings_in x r ps = all_from (bindings_at x r) [] ps
 abbrev pub AreBindings : Input → Range → Range → List Placed → List Placed → List (Result Binding Fault) → Type 0
 AreBindings x non_lazy lazy ps qs items = AreItems (λ r. opcode_at r x.pointer x.bytes) (bindings_in x) non_lazy lazy ps qs items
 
--- the longest beginnings of both streams have n opcodes
+-- the longest readable prefixes of both streams have n opcodes
 abbrev pub BindingsHave : Input → Range → Range → ℕ → Type 0
 BindingsHave x non_lazy lazy n =
     (ps : List Placed) × (qs : List Placed) × (items : List (Result Binding Fault))

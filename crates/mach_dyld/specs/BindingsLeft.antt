@@ -1,5 +1,5 @@
--- The rules of bindings, and what is left to an iterator over them. Callers don't need it: the contract of `bindings`
--- says that the items at the start are those of the definitions.
+-- The rules of bindings, and what is left of an iterator over them. Callers don't need it: the contract of `bindings` says
+-- that the items at the start are those of the definitions.
 use Rattle.std.specs.Prelude.{◌==◌, ℕ, ℤ, pos, List, Bool, true, false, Option, Some, None, Result, if◌then◌else◌, bit_and}
 use Rattle.mach_base.specs.Fault.{Fault}
 use Rattle.mach_parts.specs.Bindings.{Binding}
@@ -8,7 +8,7 @@ use Rattle.mach_dyld.specs.Machine.{Rules, items_left}
 use Rattle.mach_dyld.specs.declared.bindings.OpcodeBindingIterator.{OpcodeBindingIterator}
 use Rattle.mach_dyld.specs.declared.bindings.Extra.{Extra}
 
--- the ordinal by the special one, if one was set, else by the library
+-- the special ordinal, if one was set, else the one of the library
 abbrev pub ordinal_now : Option ℤ → ℕ → ℤ
 ordinal_now None library = pos library
 ordinal_now (Some special) library = special

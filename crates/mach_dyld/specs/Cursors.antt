@@ -1,4 +1,4 @@
--- What a walk of an export trie by a cursor has given, as its callers see it.
+-- What a cursor's walk of an export trie has returned, as callers see it.
 use Rattle.std.specs.Prelude.{◌≡◌, ◌++◌, ◌⊎◌, ◌∷◌, [], ℕ, List, Option, Some, None, Result, Ok, slice_get}
 use Rattle.mach_base.specs.Answer.{◌>>=◌}
 use Rattle.mach_base.specs.Fault.{Fault, malformed, fault_of}
@@ -17,22 +17,22 @@ use Rattle.mach_dyld.specs.declared.trie.cursor.TrieCursor.{TrieCursor}
 use Rattle.mach_dyld.specs.declared.export_info.ExportInfo.{ExportInfo}
 use Rattle.mach_dyld.specs.declared.trie.walk.Open.{Open}
 
--- The cursor goes over the trie of this range, with this name and these open nodes, and has given these exports: what is met first in
--- reading it as if it were a tree.
+-- The cursor walks the trie of this range, with this name and these open nodes, and has returned these exports. They are met
+-- first in reading the trie as if it were a tree.
 abbrev pub HasGivenTo : TrieRange → List (List ℕ) → TrieCursor → List ℕ → List Open → List Entry → Type 0
 HasGivenTo t libs c name stack found = HasCome t libs c name stack found
 
--- all that is met in reading the trie as if it were a tree
+-- these are all exports met in reading the trie as if it were a tree
 abbrev pub AreAllMet : TrieRange → List (List ℕ) → List Entry → Type 0
 AreAllMet t libs found = (n : ℕ) × Unfolds (trie_there t libs) t.from n found []
 
--- These exports are met in reading the trie as if it were a tree, and this fault, which stands in it, cuts that short.
+-- These exports are met in reading the trie as if it were a tree, and this fault, which occurs in it, cuts the reading short.
 pub record IsCutShort (t : TrieRange) (libs : List (List ℕ)) (found : List Entry) (f : Fault) : Type 0 where
   pub cut : IsCutBy (trie_there t libs) t.from found f
   pub stands : ExportsFault t libs f
 
--- what comes behind these exports: one more; at the end nothing, all is met, and they are the trie's list, if no two paths lead to one
--- node; the fault by which the reading is cut short; or nothing yet, for want of memory
+-- What comes after these exports: one more export; the end, if all were met, and then they are the trie's list unless two
+-- paths lead to one node; the fault that cuts the reading short; or nothing yet, because the memory is too short.
 abbrev pub NextGives : TrieRange → List (List ℕ) → List Entry → NextExport → TrieCursor → List ℕ → List Open → Type 0
 NextGives t libs found (Export info) c name stack = HasGivenTo t libs c name stack (found ++ entry (name_met_last c name) (info_of info) ∷ [])
 NextGives t libs found (End) c name stack =
@@ -41,13 +41,13 @@ NextGives t libs found (Refused e) c name stack = IsCutShort t libs found (fault
 NextGives t libs found (NameTooLong n) c name stack = HasGivenTo t libs c name stack found
 NextGives t libs found (StackTooShort) c name stack = HasGivenTo t libs c name stack found
 
--- ---- where an export stands
+-- ---- the place of an export
 
--- at this start stands a node whose own export is this
+-- the node at this start has this own export
 abbrev pub IsOwnAt : List ℕ → List (List ℕ) → ℕ → ℕ → Info → Type 0
 IsOwnAt bytes libs from start info = (branches : List Branch) × (node_at bytes libs from start ≡ Ok (record { own = Some info; branches = branches }))
 
--- an export that is given is that of the node at this start
+-- an export that was returned is that of the node at this start
 abbrev pub StandsAt : List ℕ → List (List ℕ) → ℕ → ℕ → Option NextExport → Type 0
 StandsAt bytes libs from start None = Unit {0}
 StandsAt bytes libs from start (Some (Export info)) = IsOwnAt bytes libs from start (info_of info)
@@ -56,20 +56,20 @@ StandsAt bytes libs from start (Some (Refused e)) = Unit {0}
 StandsAt bytes libs from start (Some (NameTooLong n)) = Unit {0}
 StandsAt bytes libs from start (Some (StackTooShort)) = Unit {0}
 
--- an export that is given behind these is that of the node which comes next there, and a path of its name leads to the node
+-- an export returned after these is that of the next node at this start, and a path of its name leads to the node
 abbrev pub IsLedTo : TrieRange → List (List ℕ) → List Entry → NextExport → TrieCursor → List ℕ → Type 0
 IsLedTo t libs found given c name =
     (info : ExportInfo) → given ≡ Export info → IsNextNode (trie_there t libs) t.from found (name_met_last c name) c.node
 
--- of a re-export of the node at this start: the ordinal, and the place behind it, behind the size of the export and its flags
+-- the ordinal of the re-export of the node at this start, and the place after it; the export's size and flags come first
 abbrev pub place_at : List ℕ → ℕ → Result (ℕ × ℕ) Fault
 place_at bytes start = do
   size ← uleb_at bytes start
   flags ← uleb_at bytes size.1
   uleb_at bytes flags.1
 
--- The library of this ordinal has this name, and the name there is the text at this place; it is empty where it is the export's
--- own.
+-- The library of this ordinal has this name, and the name there is the text at this place. The text is empty if the name is
+-- the export's own.
 abbrev pub IsReexportAt : List ℕ → List (List ℕ) → List ℕ → Option (List ℕ) → Option (ℕ × ℕ) → Type 0
 IsReexportAt bytes libs lib name None = ⊥
 IsReexportAt bytes libs lib name (Some found) =

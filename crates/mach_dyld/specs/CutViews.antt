@@ -1,4 +1,4 @@
--- What contracts see of bytes that are cut.
+-- Bytes that are cut, as contracts see them.
 use Rattle.mach_dyld.specs.Cut.{CutStream}
 use Rattle.mach_dyld.specs.declared.stream_prefix.Cut.{Cut}
 

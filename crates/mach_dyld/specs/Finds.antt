@@ -1,15 +1,14 @@
--- What is found of a name behind a node, branch by branch.
+-- What is found of a name from a node on, branch by branch.
 use Rattle.std.specs.Prelude.{◌≡◌, ◌≢◌, ◌≤◌, ℕ, List, [], ◌∷◌, ◌++◌, ◌⊎◌, Option, Some, None}
 use Rattle.mach_dyld.specs.Trie.{Info, Branch, Node, Trie, IsNode}
 
--- the own export is not the one that is sought: there is none, or some of the name is left
+-- the own export is not the one searched for: there is none, or some of the name is left
 abbrev pub IsElsewhere : List ℕ → Option Info → Type 0
 IsElsewhere rest own = (own ≡ None) ⊎ (rest ≢ [])
 
--- A start, what is left of the name there, and what is found: the least relation with these cases. Nothing
--- has no export. A node's own export is found where nothing is left of the name; else what its branches find,
--- tried in order: one is passed whose label isn't a beginning of the rest; the first one behind which
--- something is found decides.
+-- A start, the rest of the name there, and what is found: the least relation with these cases. Nothing has no export. A
+-- node's own export is found if nothing is left of the name. Otherwise its branches are tried in order. A branch is passed
+-- if its label isn't a prefix of the rest. The first branch through which something is found decides.
 mutual
   pub data Finds (t : Trie) : ℕ → List ℕ → Option Info → Type 0 where
     at_nothing : {start : ℕ} {rest : List ℕ} {found : Option Info} → t.upto ≤ start → found ≡ None → Finds t start rest found

@@ -1,4 +1,4 @@
--- How far a look-up in the export trie has come.
+-- The state of a look-up in the export trie.
 use Rattle.std.specs.Prelude.{◌≡◌, ◌≢◌, ◌<◌, ◌+◌, ◌++◌, [], ◌∷◌, ℕ, suc, List, length, drop, Option, Some, None, slice_get}
 use Rattle.std.specs.Prelude.{Ok}
 use Rattle.mach_base.specs.Among.{IsAmong}
@@ -16,23 +16,23 @@ use Rattle.mach_dyld.specs.declared.trie.look_up.Way.TheVariants.{Nowhere, One, 
 use Rattle.mach_dyld.specs.declared.trie.look_up.Outcome.{Outcome}
 use Rattle.mach_dyld.specs.declared.trie.look_up.Outcome.TheVariants.{Found, Ends, Child, Open}
 
--- the own export of `size` bytes, if there is one, and the place behind it
+-- the own export of `size` bytes, if there is one, and the place after it
 abbrev pub OwnEnds : Source → ℕ → ℕ → Option Info → ℕ → Type 0
 OwnEnds s size place None after = (size ≡ 0) × (after ≡ place)
 OwnEnds s size place (Some info) after = (size ≢ 0) × (own_in s size place ≡ Ok (info, after))
 
--- of some branches those from a number on, behind branches through which nothing is found
+-- some branches without the first few, through which nothing is found
 pub record Settles (t : Trie) (rest : List ℕ) (bs cs : List trie.Branch) : Type 0 where
   pub number : ℕ
   pub dropped : cs ≡ drop number bs
   pub finds : (found : Option Info) → BranchesFind t rest cs found → BranchesFind t rest bs found
 
--- the first branch, if there is one, spells a beginning of the rest and leads into the range
+-- the first branch, if there is one, spells a prefix of the rest and leads into the range
 abbrev pub FirstBranchLeads : Trie → List ℕ → List trie.Branch → Type 0
 FirstBranchLeads t rest [] = Unit {0}
 FirstBranchLeads t rest (b ∷ bs) = (b.start < t.upto) × (others : List ℕ) × (rest ≡ b.label ++ others)
 
--- one of the branches leads into the range, by a label of `len` bytes, and what is found there is found
+-- one of the branches leads into the range, by a label of `len` bytes, and what is found there decides
 pub record LeadsOn (t : Trie) (rest : List ℕ) (bs : List trie.Branch) (start len : ℕ) : Type 0 where
   pub number : ℕ
   pub branch : trie.Branch
@@ -44,13 +44,13 @@ pub record LeadsOn (t : Trie) (rest : List ℕ) (bs : List trie.Branch) (start l
   pub spells : rest ≡ branch.label ++ others
   pub finds : (found : Option Info) → Finds t start others found → BranchesFind t rest bs found
 
--- where the branches go on
+-- which of the branches match
 abbrev pub Goes : Trie → List ℕ → List trie.Branch → Way → Type 0
 Goes t rest bs (Nowhere) = BranchesFind t rest bs None
 Goes t rest bs (One start len) = LeadsOn t rest bs start len
 Goes t rest bs (Several) = Unit {0}
 
--- the node's own export is not the one that is sought, and this is so of its branches
+-- the node's own export is not the one searched for, and P holds of its branches
 abbrev pub IsPassed : Source → ℕ → List ℕ → (List trie.Branch → Type 0) → Type 0
 IsPassed s start rest P = (node : Node) × (node_in s start ≡ Ok node) × IsElsewhere rest node.own × P node.branches
 

@@ -1,4 +1,4 @@
--- Two streams of instructions that make items by rules, read one after the other: settings that run forward. Callers
+-- Two streams of instructions that make items by rules, read one after the other, with settings that run forward. Callers
 -- don't need it: the contracts of what they call say that the items at the start are those of the definitions.
 use Rattle.std.specs.Prelude.{◌≡◌, ◌+◌, ◌-◌, ◌%◌, ◌^◌, ◌<◌, ◌≤◌, ℕ, zero, suc, pos, List, [], ◌∷◌, ◌++◌, map, length, Bool, true, false}
 use Rattle.std.specs.Prelude.{Option, Some, None, Result, Ok, Err, IsErr, nat_lt, if◌then◌else◌}
@@ -21,9 +21,9 @@ use Rattle.mach_dyld.specs.declared.imports.stream.Stream.{Stream}
 
 -- ---- rules
 
--- The rules of streams that make items A, with settings M beside those of a bind: those where a range begins, by whether
--- it is the lazy one; those after an instruction, by its opcode byte; what is read at a place of a range; and what comes
--- of a bind.
+-- The rules of streams that make items A, with settings M beyond those of a bind: the settings at the start of a range, by
+-- whether it is the lazy one; the settings after an instruction, by its opcode byte; what is read at a place of a range; and
+-- the item of a bind.
 pub record Rules (M A : Type 0) : Type 0 where
   pub first : Bool → M
   pub set : ℕ → M → M
@@ -33,7 +33,7 @@ pub record Rules (M A : Type 0) : Type 0 where
 abbrev pub reader_by : {M A : Type 0} → Rules M A → Input → Range → Reader
 reader_by u x r = u.read r x.pointer x.bytes
 
--- each instruction ends behind its place
+-- each instruction ends after its place
 abbrev pub Moves : Reader → Type 0
 Moves reader = (place : ℕ) (found : instructions.Instruction × ℕ) → reader place ≡ Ok found → place < found.1
 
@@ -47,7 +47,7 @@ abbrev pub set_after : {M A : Type 0} → Rules M A → Result ℕ Fault → M �
 set_after u (Err f) m = m
 set_after u (Ok byte) m = u.set byte m
 
--- ---- the instructions that are read from a place on
+-- ---- the instructions read from a place on
 
 pub record ReadAhead : Type 0 where
   pub read : List Placed
@@ -86,7 +86,7 @@ fresh is_lazy sequence = record {
 unfoldable pub moved : ℕ → Bind → Bind
 moved by b = record b { offset = (b.offset + by) % 2 ^ 64 }
 
--- the settings after an instruction that ends so far from the range's start, its binds left aside
+-- the settings after an instruction that ends so far from the range's start, apart from its binds
 unfoldable pub set_by : instructions.Instruction → ℕ → Bind → Bind
 set_by done end b = fresh b.is_lazy end
 set_by (library number) end b = record b { library = number }
@@ -98,7 +98,7 @@ set_by (binds count skip) end b = b
 set_by nothing end b = b
 set_by (strong flags name) end b = record b { flags = flags; name = name }
 
--- a number of binds, each a stride further than the one before
+-- `count` binds, each a stride further than the one before
 unfoldable pub strides : Bind → ℕ → ℕ → List Bind
 strides b stride zero = []
 strides b stride (suc k) = b ∷ strides (moved stride b) stride k
@@ -107,7 +107,7 @@ unfoldable pub after_strides : Bind → ℕ → ℕ → Bind
 after_strides b stride zero = b
 after_strides b stride (suc k) = after_strides (moved stride b) stride k
 
--- what comes of instructions, by the settings before them
+-- the items of instructions, by the settings before them
 unfoldable pub run : {M A : Type 0} → Rules M A → Input → Range → Bind → M → List Placed → List (Result A Fault)
 run u x r b m [] = []
 run u x r b m (p ∷ ps) =
@@ -121,17 +121,17 @@ run u x r b m (p ∷ ps) =
 pub record State : Type 0 where
   pub range : Range
   pub settings : Bind
-  -- the rows that the last instruction still gives, and how far it advances after each
+  -- the rows left of the last instruction, and the advance after each
   pub count : ℕ
   pub stride : ℕ
   pub place : ℕ
   pub ended : Bool
 
--- that where a range begins
+-- the state at the start of a range
 abbrev pub start_of : Range → State
 start_of r = record { range = r; settings = fresh r.is_lazy 0; count = 0; stride = 0; place = r.from; ended = false }
 
--- that after an instruction
+-- the state after an instruction
 unfoldable pub executed : ℕ → instructions.Instruction → ℕ → State → State
 executed pointer i after s = record {
   range = s.range;
@@ -142,11 +142,11 @@ executed pointer i after s = record {
   ended = s.ended;
 }
 
--- that after what was read, if anything was
+-- the state after what was read, if anything was
 abbrev pub executed_by : ℕ → Result (instructions.Instruction × ℕ) Fault → State → Result State Fault
 executed_by pointer there s = there >>= λ found. Ok (executed pointer found.0 found.1 s)
 
--- what comes of the rest of its range
+-- the items of the rest of its range
 unfoldable pub rest_of : {M A : Type 0} → Rules M A → Input → M → State → List (Result A Fault)
 rest_of u x m s =
     let ahead = reading_from (reader_by u x s.range) s.range.upto s.place in
@@ -154,20 +154,20 @@ rest_of u x m s =
     ++ run u x s.range (after_strides s.settings s.stride s.count) m ahead.read
     ++ fault_item ahead.stop
 
--- what comes of the rest of its range and, after the non-lazy one, of the lazy one
+-- the items of the rest of its range and, after the non-lazy stream, of the lazy stream
 unfoldable pub items_of : {M A : Type 0} → Rules M A → Input → Range → M → State → List (Result A Fault)
 items_of u x lazy m s =
     if s.ended then []
     else upto_fault (rest_of u x m s ++ (if s.range.is_lazy then [] else rest_of u x (u.first true) (start_of lazy)))
 
--- how many instructions are still to be read
+-- the number of instructions left to read
 unfoldable pub reads_of : {M A : Type 0} → Rules M A → Input → Range → State → ℕ
 reads_of u x lazy s =
     if s.ended then 0
     else length (reading_from (reader_by u x s.range) s.range.upto s.place).read
     + (if s.range.is_lazy then 0 else length (reading_from (reader_by u x lazy) lazy.upto lazy.from).read)
 
--- ---- what the code's values stand for
+-- ---- the values of the code, as the definitions have them
 
 abbrev pub bind_of : Settings → Bind
 bind_of s = record {
@@ -204,11 +204,11 @@ lazy_of it = record { from = it.lazy_from; upto = it.lazy_upto; is_lazy = true }
 unfoldable pub items_left : {M A : Type 0} → Rules M A → Stream M → List (Result A Fault)
 items_left u it = items_of u (input_of it.source) (lazy_of it) it.more (state_of it.state)
 
--- how many instructions are left to be read
+-- the number of instructions left to read
 unfoldable pub opcodes_left : {M A : Type 0} → Rules M A → Stream M → ℕ
 opcodes_left u it = reads_of u (input_of it.source) (lazy_of it) (state_of it.state)
 
--- an item as it was read
+-- what was read, as an item or a fault
 abbrev pub item_read : {I E A : Type 0} → (I → A) → (E → Fault) → Result I E → Result A Fault
 item_read seen fault (Ok i) = Ok (seen i)
 item_read seen fault (Err e) = Err (fault e)
@@ -220,7 +220,7 @@ Fails u old new f = (items_left u old ≡ Err f ∷ []) × (items_left u new ≡
 abbrev pub next_read : {M A : Type 0} → Rules M A → Stream M → Result (instructions.Instruction × ℕ) Fault
 next_read u it = u.read (range_of it.state) it.source.pointer it.source.bytes.now it.state.place
 
--- the instruction that comes next can't be read, and this is its opcode byte, if one stands there
+-- the next instruction can't be read, and this is its opcode byte, if there is one
 pub record IsNextUnreadable {M A : Type 0} (u : Rules M A) (it : Stream M) (byte : ℕ) : Type 0 where
   pub count : it.state.count ≡ 0
   pub on : it.state.ended ≡ false
@@ -228,13 +228,13 @@ pub record IsNextUnreadable {M A : Type 0} (u : Rules M A) (it : Stream M) (byte
   pub fault : IsErr (next_read u it)
   pub opcode : it.state.place < length it.source.bytes.now → byte_at it.source.bytes.now it.state.place ≡ Ok byte
 
--- the bind that comes now makes nothing
+-- the next bind makes no item
 pub record MakesNothing {M A : Type 0} (u : Rules M A) (it : Stream M) : Type 0 where
   pub count : 0 < it.state.count
   pub on : it.state.ended ≡ false
   pub none : u.makes (input_of it.source) (bind_of it.state.settings) it.more ≡ Err malformed
 
--- no item comes, for this
+-- no item comes, for this reason
 abbrev pub StopsFor : {M A : Type 0} → Rules M A → Stream M → Stop → Type 0
 StopsFor u it (stops.Instruction byte) = IsNextUnreadable u it byte
 StopsFor u it stops.Bind = MakesNothing u it
@@ -246,7 +246,7 @@ pub record IsAtEnd {M : Type 0} (it : Stream M) : Type 0 where
   pub past : it.state.upto ≤ it.state.place
   pub is_lazy : it.state.settings.is_lazy ≡ true
 
--- the item is that of a bind with these settings, but for the offset
+-- the item is that of a bind with these settings, apart from the offset
 abbrev pub IsMadeBy : {M A : Type 0} → Rules M A → Stream M → A → Type 0
 IsMadeBy u it i = (offset : ℕ) × (u.makes (input_of it.source) (record (bind_of it.state.settings) { offset = offset }) it.more ≡ Ok i)
 
@@ -255,13 +255,13 @@ pub record HasEnded {M A : Type 0} (u : Rules M A) (it : Stream M) : Type 0 wher
   pub ended : it.state.ended ≡ true
   pub left : items_left u it ≡ []
 
--- it reads this, and knows where its name stands
+-- it reads this input, and has the place of its name
 pub record IsOver {M : Type 0} (x : Input) (lazy : Range) (it : Stream M) : Type 0 where
   pub source : input_of it.source ≡ x
   pub lazy_is : lazy_of it ≡ lazy
   pub named : NameStands it.source.bytes.now it.state.settings
 
--- it reads what it read, and knows where its name stands if it did
+-- it reads the same input as before, and has the place of its name if it had it before
 pub record Keeps {M : Type 0} (old new : Stream M) : Type 0 where
   pub source : new.source ≡ old.source
   pub lazy_is : lazy_of new ≡ lazy_of old

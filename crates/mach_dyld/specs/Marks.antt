@@ -7,6 +7,6 @@ use Rattle.std.specs.Int.{bit_at}
 abbrev pub mark_of : List ℕ → ℕ → Bool
 mark_of words at = bit_at (slice_index words (at / 64)) (at % 64) == 1
 
--- of `len` places, which are marked
+-- which of `len` places are marked
 unfoldable pub marks_of : List ℕ → ℕ → List Bool
 marks_of words len = map (mark_of words) (range_with_len 0 len)

@@ -1,10 +1,10 @@
--- Where the name of a bind's settings stands.
+-- The place of the name in a bind's settings.
 use Rattle.std.specs.Prelude.{◌≡◌, ◌⊎◌, ◌^◌, ◌-◌, ℕ, List, [], Result, Ok, Err}
 use Rattle.mach_base.specs.Fault.{Fault}
 use Rattle.mach_base.specs.Text.{text_at}
 use Rattle.mach_dyld.specs.declared.imports.settings.Settings.{Settings}
 
--- a name is the text at a place; or it has no bytes, and the place is the last that 64 bits have
+-- a name is the text at a place; or it has no bytes, and the place is the last of 64 bits
 abbrev pub IsNamed : List ℕ → List ℕ → ℕ → Type 0
 IsNamed bytes name place = ((name ≡ []) × (place ≡ 2 ^ 64 - 1)) ⊎ (text_at bytes place ≡ Ok name)
 

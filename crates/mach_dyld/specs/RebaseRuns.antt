@@ -1,4 +1,4 @@
--- Rebases that lie one behind the other in one segment, as an iterator keeps them. Callers don't need it: the contract of `iter`
+-- Rebases that follow each other in one segment, as an iterator keeps them. Callers don't need it: the contract of `iter`
 -- says that the items at the start are those of the definitions.
 use Rattle.std.specs.Prelude.{◌+◌, ◌%◌, ◌^◌, ℕ, zero, suc, List, [], ◌∷◌, map, None, Result, Ok, if◌then◌else◌}
 use Rattle.mach_base.specs.Fault.{Fault}
@@ -6,7 +6,7 @@ use Rattle.mach_dyld.specs.Rebases.{Rebase, memory_number}
 use Rattle.mach_dyld.specs.declared.rebases.run.Run.{Run}
 use Rattle.mach_dyld.specs.declared.rebases.run.Turn.{Turn}
 
--- how many bytes are corrected
+-- the number of bytes that are corrected
 abbrev pub turn_width : Turn → ℕ
 turn_width t = if t.is_wide then 8 else 4
 
@@ -25,11 +25,11 @@ turn_rebase t = record {
 unfoldable pub turned : Turn → Turn
 turned t = record t { offset = (t.offset + t.stride) % 2 ^ 64; address = (t.address + t.stride) % 2 ^ 64 }
 
--- the rebases of so many turns
+-- the rebases of `count` turns
 unfoldable pub turn_rebases : Turn → ℕ → List Rebase
 turn_rebases t zero = []
 turn_rebases t (suc k) = turn_rebase t ∷ turn_rebases (turned t) k
 
--- those that are left
+-- the rebases that are left
 abbrev pub run_left : Run → List (Result Rebase Fault)
 run_left r = map Ok (turn_rebases r.turn r.left)

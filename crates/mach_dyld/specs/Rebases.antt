@@ -1,6 +1,6 @@
 -- The stream of rebases, as dyld reads it (`mach-o/loader.h`, struct dyld_info_command, rebase_off, and the constants
--- REBASE_TYPE and REBASE_OPCODE; dyld, `MachOAnalyzer::forEachRebase_Opcodes`). A DONE ends it. What binds in a stream of
--- binds rebases here.
+-- REBASE_TYPE and REBASE_OPCODE; dyld, `MachOAnalyzer::forEachRebase_Opcodes`). A DONE ends it. An instruction that binds in
+-- a stream of binds rebases here.
 use Rattle.std.specs.Prelude.{◌==◌, ◌+◌, ◌*◌, ℕ, List, [], ◌∷◌, ◌++◌, drop, take, replicate, map, Bool, false, Option, Some, None, Result, Ok, Err}
 use Rattle.std.specs.Prelude.{if◌then◌else◌, bit_and, slice_get}
 use Rattle.mach_base.specs.Answer.{◌>>=◌}
@@ -19,20 +19,20 @@ use Rattle.mach_dyld.specs.WeakBinds.{range_end}
 use Rattle.mach_dyld.specs.declared.rebases.RebaseKind.{RebaseKind}
 use Rattle.mach_dyld.specs.declared.rebases.RebaseKind.TheVariants.{Pointer, TextAbsolute32, TextRelative32}
 
--- a place in memory whose number dyld corrects by how far the image was moved
+-- a place in memory whose value dyld corrects by the distance that the image was moved
 pub record Rebase : Type 0 where
   -- the number of the segment, and the place in it
   pub segment : ℕ
   pub offset : ℕ
   pub address : ℕ
-  -- the number that stands there before that
+  -- the value at that place before it is corrected
   pub target : ℕ
   pub kind : RebaseKind
   pub auth : Option Auth
 
 -- ---- one instruction
 
--- The table: by the opcode and the immediate, the instruction whose operands stand at the place, and the place after them.
+-- The table of opcodes, by the opcode and the immediate: the instruction whose operands begin at the place, and the place after them.
 unfoldable pub rebase_row : Range → ℕ → List ℕ → ℕ → ℕ → ℕ → Result (Instruction × ℕ) Fault
 rebase_row r pointer bytes opcode imm place =
     if opcode == 0x00 then Ok (nothing, range_end r place)
@@ -65,12 +65,12 @@ rebase_kind_in bytes p = rebase_kind_by (byte_at bytes p.place)
 abbrev pub gives_rebase_segment : ℕ → Bool
 gives_rebase_segment opcode = opcode == 0x20
 
--- what was set before a rebase beside the settings of a bind: the type, and whether a segment was
+-- what was set before a rebase beyond the settings of a bind: the type, and whether a segment was set
 pub record RebaseSet : Type 0 where
   pub kind : ℕ
   pub has_segment : Bool
 
--- the type of a number
+-- the kind with a number
 abbrev pub rebase_kind_of : ℕ → Option RebaseKind
 rebase_kind_of number =
     if number == 1 then Some Pointer
@@ -78,17 +78,17 @@ rebase_kind_of number =
     else (if number == 3 then Some TextRelative32
     else None))
 
--- how many bytes are corrected: of a pointer its 8 or 4
+-- the number of bytes that are corrected: 8 or 4 for a pointer
 abbrev pub rebase_width : ℕ → RebaseKind → ℕ
 rebase_width pointer Pointer = if pointer == 8 then 8 else 4
 rebase_width pointer TextAbsolute32 = 4
 rebase_width pointer TextRelative32 = 4
 
--- the eight bytes at a place of a segment's memory: its data, and zeros behind them
+-- the eight bytes at a place of a segment's memory: its data, followed by zeros
 abbrev pub memory_word : List ℕ → ℕ → List ℕ
 memory_word bytes offset = take 8 (drop offset bytes ++ replicate 8 0)
 
--- the number that the first of them make
+-- the number in the first bytes of them
 abbrev pub memory_number : Endian → ℕ → List ℕ → ℕ → ℕ
 memory_number le width bytes offset = number le width (memory_word bytes offset)
 
@@ -102,7 +102,8 @@ rebase_with x le b kind s address = record {
   auth = None;
 }
 
--- the rebase by what was set, if there is one: a pointer lies in the segment there, whatever the type, at an address of 64 bits
+-- The rebase by what was set, if there is one. Whatever the type, a pointer lies in the segment there, and its address fits
+-- into 64 bits.
 unfoldable pub rebase_of : Input → Endian → RebaseSet → Bind → Result Rebase Fault
 rebase_of x le g b = if g.has_segment then (do
   kind ← found_or_malformed (rebase_kind_of g.kind)
@@ -118,14 +119,14 @@ last_rebase_set bytes back = record {
   has_segment = last_setting false (sets_in bytes gives_rebase_segment) back;
 }
 
--- what comes of an instruction, before which others stand, the nearest first
+-- the rebases of an instruction, after these others, the nearest first
 abbrev pub rebases_at : Input → Endian → Range → List Placed → Placed → List (Result Rebase Fault)
 rebases_at x le r back p = map (rebase_of x le (last_rebase_set x.bytes (p ∷ back))) (binds_at x.pointer r back p)
 
--- what comes of the first instructions of a range
+-- the rebases of the first instructions of a range
 abbrev pub rebases_in : Input → Endian → Range → List Placed → List (Result Rebase Fault)
 rebases_in x le r ps = all_from (rebases_at x le r) [] ps
 
--- these are the rebases of a stream, whose longest beginning is given, up to the first fault
+-- these are the rebases of a stream, whose longest readable prefix is given, up to the first fault
 abbrev pub AreOpcodeRebases : Input → Endian → Range → List Placed → List (Result Rebase Fault) → Type 0
 AreOpcodeRebases x le r ps items = AreItemsAlone (rebase_opcode_at r x.pointer x.bytes) (rebases_in x le r) r ps items

@@ -1,4 +1,4 @@
--- The rules of rebases, and what is left to an iterator over them. Callers don't need it: the contract of `iter` says that
+-- The rules of rebases, and what is left of an iterator over them. Callers don't need it: the contract of `iter` says that
 -- the items at the start are those of the definitions.
 use Rattle.std.specs.Prelude.{◌==◌, ◌≡◌, ◌-◌, ◌^◌, ◌++◌, ℕ, List, min, true, false, Result, if◌then◌else◌, bit_and}
 use Rattle.mach_base.specs.Fault.{Fault, fault_of}
@@ -17,7 +17,7 @@ use Rattle.mach_dyld.specs.declared.rebases.OpcodeRebaseIterator.{OpcodeRebaseIt
 abbrev pub rebase_set_now : Rebasing → RebaseSet
 rebase_set_now m = record { kind = m.kind; has_segment = m.has_segment }
 
--- those where a stream begins
+-- the settings at the start of a stream
 abbrev pub first_rebasing : Endian → Rebasing
 first_rebasing le = record { le = le; kind = 0; has_segment = false }
 
@@ -50,19 +50,19 @@ rebase_view r = record {
 abbrev pub rebase_read : Result (declared.Rebase) Error → Result Rebase Fault
 rebase_read = item_read rebase_view fault_of
 
--- the rebases that are left, up to the first fault: those that were judged, and those of the opcodes behind them
+-- the rebases that are left, up to the first fault: those that were checked, and those of the opcodes after them
 abbrev pub opcode_rebases_left : OpcodeRebaseIterator → List (Result Rebase Fault)
 opcode_rebases_left it = run_left it.run ++ items_left rebase_rules it.stream
 
--- how many opcodes are left to be read
+-- the number of opcodes left to read
 abbrev pub rebase_reads_left : OpcodeRebaseIterator → ℕ
 rebase_reads_left it = opcodes_left rebase_rules it.stream
 
--- it has ended: nothing is left, and it stays so
+-- it has ended: nothing is left, and nothing comes any more
 pub record HasEndedRebases (it : OpcodeRebaseIterator) : Type 0 where
   pub run : it.run.left ≡ 0
   pub stream : HasEnded rebase_rules it.stream
 
--- the highest offset at which a segment holds a pointer, at an address of 64 bits
+-- the highest offset at which a segment holds a pointer whose address fits into 64 bits
 abbrev pub highest_rebase : ℕ → SegmentView → ℕ
 highest_rebase pointer s = min (s.command.vmsize - pointer) (2 ^ 64 - 1 - s.command.vmaddr)

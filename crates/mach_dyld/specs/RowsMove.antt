@@ -1,4 +1,4 @@
--- The instructions of imports and of bindings take a byte at least.
+-- Each instruction of imports and of bindings takes at least one byte.
 use Rattle.std.proofs.Common.{◌≡◌, ℕ, ◌+◌, ◌-◌, ◌<◌, ◌≤◌, ◌*◌, Bool, true, false, List, length, Option, Some, None, Result, Ok, Err, refl, cond, nat_le, nat_lt}
 use Rattle.std.proofs.Common.{bit_and, ap, arith, drop}
 use Rattle.std.specs.Prelude.{◌==◌}
@@ -53,7 +53,7 @@ past_sleb bytes s = past_leb is_short_signed signed_value bytes s
 
 -- ---- instructions
 
--- what is read behind a number
+-- what is read after a number
 past_then : {A V : Type 0} (place : ℕ) (r : Result (A × ℕ) Fault) (f : A × ℕ → Result (V × ℕ) Fault) → Past place r → ((x : A × ℕ) → Past x.1 (f x))
     → Past place (r >>= f)
 past_then place (Ok x) f h k = λ found e. let first = h x refl in let rest = k x found e in omega (arith, first, rest)
@@ -97,7 +97,7 @@ past_row pointer bytes opcode imm place =
     here : (i : Instruction) → Past place (Ok (i, place))
     here i = past_here i place place (omega arith)
 
--- an instruction takes a byte at least
+-- an instruction takes at least one byte
 pub ends_after : (pointer : ℕ) (bytes : List ℕ) (place : ℕ) (found : Instruction × ℕ) → instruction_at pointer bytes place ≡ Ok found → place < found.1
 unfolding instruction_at
 ends_after pointer bytes place found e =

@@ -1,4 +1,4 @@
--- The places of names and the numbers of libraries that come behind a cursor of binds.
+-- The places of names and the numbers of libraries after a cursor of binds.
 use Rattle.std.specs.Prelude.{◌-◌, ◌^◌, ℕ, List, Result, Ok, Err}
 use Rattle.mach_base.specs.Fault.{Fault}
 use Rattle.mach_base.specs.Text.{text_at}
@@ -14,30 +14,30 @@ use Rattle.mach_dyld.specs.declared.imports.cursor.BindCursor.{BindCursor}
 use Rattle.mach_dyld.specs.declared.imports.cursor.PlacedImport.{PlacedImport}
 use Rattle.mach_dyld.specs.declared.imports.iterator.BindIterator.{BindIterator}
 
--- the place, where a text stands there, or the last place that 64 bits have
+-- the place, if a text is there, else the last place of 64 bits
 abbrev pub place_named : Result (List ℕ) Fault → ℕ → ℕ
 place_named (Ok text) place = place
 place_named (Err f) place = 2 ^ 64 - 1
 
--- those that the numbers of a cursor say, over some bytes
+-- the site in the numbers of a cursor, over some bytes
 abbrev pub site_seen : List ℕ → BindCursor → Site
 site_seen bytes c = record { name_place = place_named (text_at bytes c.name_place) c.name_place; library = c.library }
 
 -- ---- imports
 
--- these are those of all binds of both streams
+-- these are the sites of all binds of both streams
 abbrev pub AreImportSites : Input → Range → Range → List Site → Type 0
 AreImportSites x non_lazy lazy sites = AreSites (λ r. instruction_at x.pointer x.bytes) non_lazy lazy sites
 
--- those of the imports that come behind a cursor, where this is the lazy stream
+-- the sites of the imports after a cursor, if this is the lazy stream
 abbrev pub import_sites_behind : Input → Range → BindCursor → List Site
 import_sites_behind x lazy c = sites_of (λ r. instruction_at x.pointer x.bytes) lazy (site_seen x.bytes c) (state_in x.bytes c)
 
--- those of the imports that are left
+-- the sites of the imports that are left
 abbrev pub import_sites_left : BindIterator → List Site
 import_sites_left it = sites_left import_rules it.stream
 
--- that of an import
+-- the site of an import
 abbrev pub site_of : PlacedImport → Site
 site_of p = record { name_place = p.name_place; library = p.library }
 

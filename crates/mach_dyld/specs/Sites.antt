@@ -1,4 +1,4 @@
--- Where the names of binds stand, and which numbers their libraries have.
+-- The places of the names of binds, and the numbers of their libraries.
 use Rattle.std.specs.Prelude.{◌≡◌, ◌+◌, ◌-◌, ◌^◌, ℕ, List, [], ◌∷◌, ◌++◌, Option, Some, None, Result, Ok, replicate, if◌then◌else◌}
 use Rattle.mach_base.specs.Answer.{◌>>=◌}
 use Rattle.mach_base.specs.Fault.{Fault}
@@ -16,7 +16,7 @@ pub record Site : Type 0 where
 
 -- ---- by looking back over the instructions before a bind: the list has the nearest first
 
--- a name stands behind the opcode of the instruction that sets it
+-- a name follows the opcode of the instruction that sets it
 abbrev pub place_by : Instruction → ℕ → Option ℕ
 place_by (symbol flags name) operands = Some operands
 place_by (strong flags name) operands = Some operands
@@ -25,18 +25,18 @@ place_by _ operands = None
 abbrev pub name_place_in : Placed → Option ℕ
 name_place_in p = place_by p.instruction (p.place + 1)
 
--- where the name was set last, or the last place that 64 bits have, and the library that was set last, or 0
+-- the place of the name set last, or the last place of 64 bits, and the library set last, or 0
 abbrev pub site_behind : List Placed → Site
 site_behind back = record { name_place = last_setting (2 ^ 64 - 1) name_place_in back; library = last_setting 0 library_in back }
 
 abbrev pub sites_at : List Placed → Placed → List Site
 sites_at back p = replicate (rows_in p) (site_behind (p ∷ back))
 
--- those of the binds of the first instructions of a range
+-- the sites of the binds of the first instructions of a range
 abbrev pub sites_in : List Placed → List Site
 sites_in ps = all_from sites_at [] ps
 
--- these are those of all binds of both streams, up to what can't be read of each
+-- these are the sites of all binds of both streams, up to what can't be read of each
 pub record AreSites (reader : Range → Reader) (non_lazy lazy : Range) (sites : List Site) : Type 0 where
   pub ps : List Placed
   pub qs : List Placed
@@ -48,11 +48,11 @@ pub record AreSites (reader : Range → Reader) (non_lazy lazy : Range) (sites :
 
 -- ---- by settings that run forward
 
--- where a range begins, and behind a DONE
+-- the site at the start of a range, and after a DONE
 abbrev pub no_site : Site
 no_site = record { name_place = 2 ^ 64 - 1; library = 0 }
 
--- that after an instruction whose operands stand at a place
+-- the site after an instruction whose operands are at a place
 abbrev pub site_after : ℕ → Instruction → Site → Site
 site_after operands done s = no_site
 site_after operands (library number) s = record { name_place = s.name_place; library = number }
@@ -60,7 +60,7 @@ site_after operands (symbol flags name) s = record { name_place = operands; libr
 site_after operands (strong flags name) s = record { name_place = operands; library = s.library }
 site_after operands _ s = s
 
--- that after what was read, if anything was
+-- the site after what was read, if anything was
 abbrev pub site_by : ℕ → Result (Instruction × ℕ) Fault → Site → Result Site Fault
 site_by operands there s = there >>= λ found. Ok (site_after operands found.0 s)
 
@@ -70,11 +70,11 @@ sites_run s (p ∷ ps) =
     let t = site_after (p.place + 1) p.instruction s in
     replicate (rows_in p) t ++ sites_run t ps
 
--- those of a range that is read from a place on
+-- the sites of a range that is read from a place on
 abbrev pub sites_from : (Range → Reader) → Site → Range → ℕ → List Site
 sites_from reader s r place = sites_run s (reading_from (reader r) r.upto place).read
 
--- those of the binds of the rest of a state's range and, after the non-lazy one, of the lazy one
+-- the sites of the binds of the rest of a state's range and, after the non-lazy stream, of the lazy stream
 unfoldable pub sites_of : (Range → Reader) → Range → Site → State → List Site
 sites_of reader lazy site s =
     if s.ended then []
@@ -83,6 +83,6 @@ sites_of reader lazy site s =
 abbrev pub site_in : Settings → Site
 site_in s = record { name_place = s.name_place; library = s.library }
 
--- those that are left
+-- the sites that are left
 unfoldable pub sites_left : {M A : Type 0} → Rules M A → Stream M → List Site
 sites_left u it = sites_of (reader_by u (input_of it.source)) (lazy_of it) (site_in it.state.settings) (state_of it.state)

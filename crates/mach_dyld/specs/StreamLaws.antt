@@ -1,5 +1,5 @@
--- What holds of all weak binds and rebases: they are one list, each follows from the instructions in order, and each lies in
--- its segment.
+-- Laws of all weak binds and rebases: a stream has one list of them, each follows from the instructions in order, and each
+-- lies in its segment.
 use Rattle.std.specs.Prelude.{◌≡◌, ℕ, List, [], ◌∷◌, ◌++◌, All, false, Result, IfOk, reverse}
 use Rattle.mach_base.specs.Fault.{Fault}
 use Rattle.mach_base.specs.declared.context.Endian.{Endian}
@@ -10,7 +10,7 @@ use Rattle.mach_dyld.specs.Streams.{Input, Range, Placed}
 use Rattle.mach_dyld.specs.WeakBinds.{AreWeakBinds, WeakBind, last_weak_set, strong_name, weak_binds_at, weak_binds_in, weakly_bound}
 use Rattle.mach_dyld.specs.Rebases.{AreOpcodeRebases, Rebase, gives_rebase_segment, last_rebase_set, rebase_kind_in, rebases_at, rebases_in}
 
--- a stream has one list of rows
+-- a stream has at most one list of rows
 abbrev pub StreamHasOneListOfWeakBinds : Type 0
 StreamHasOneListOfWeakBinds =
     (x : Input) (r : Range) (ps qs : List Placed) (items others : List (Result WeakBind Fault)) → AreWeakBinds x r ps items → AreWeakBinds x r qs others
@@ -21,7 +21,7 @@ StreamHasOneListOfRebases =
     (x : Input) (le : Endian) (r : Range) (ps qs : List Placed) (items others : List (Result Rebase Fault))
     → AreOpcodeRebases x le r ps items → AreOpcodeRebases x le r qs others → items ≡ others
 
--- of instructions in order, what looking back finds was set last
+-- what looking back finds was set last in these instructions in order
 pub record WeakSetsLast (bytes : List ℕ) (ps : List Placed) : Type 0 where
   pub kind : IsLast 0 (kind_set_by bytes) ps (last_weak_set bytes (reverse ps)).kind
   pub has_name : IsLast false (sets_in bytes gives_name) ps (last_weak_set bytes (reverse ps)).has_name
@@ -37,7 +37,7 @@ pub record RebaseSetsLast (bytes : List ℕ) (ps : List Placed) : Type 0 where
 abbrev pub FindsLastRebaseSet : Type 0
 FindsLastRebaseSet = (bytes : List ℕ) (ps : List Placed) → RebaseSetsLast bytes ps
 
--- the last instruction of a list adds what comes of it by looking back over those before it
+-- the last instruction of a list adds the rows found by looking back over the instructions before it
 abbrev pub AddsWeakBinds : Type 0
 AddsWeakBinds = (x : Input) (r : Range) (ps : List Placed) (p : Placed)
     → weak_binds_in x r (ps ++ p ∷ []) ≡ weak_binds_in x r ps ++ weak_binds_at x r (reverse ps) p
@@ -55,7 +55,7 @@ abbrev pub WeakBindsLieIn : Type 0
 WeakBindsLieIn = (x : Input) (r : Range) (ps : List Placed) (items : List (Result WeakBind Fault))
     → AreWeakBinds x r ps items → All (λ item. IfOk item (WeakBindLies x)) items
 
--- that of a rebase is in its segment
+-- the pointer of a rebase is in its segment
 abbrev pub RebasesLieIn : Type 0
 RebasesLieIn = (x : Input) (le : Endian) (r : Range) (ps : List Placed) (items : List (Result Rebase Fault))
     → AreOpcodeRebases x le r ps items → All (λ item. IfOk item (λ b. LiesWhole x.segments b.segment b.address x.pointer)) items

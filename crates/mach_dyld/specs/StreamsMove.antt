@@ -1,4 +1,4 @@
--- The opcodes of weak binds and of rebases take a byte at least.
+-- Each opcode of weak binds and of rebases takes at least one byte.
 use Rattle.std.proofs.Common.{◌≡◌, ℕ, ◌+◌, ◌<◌, ◌*◌, List, length, Ok, Err, refl, nat_lt, bit_and, arith}
 use Rattle.std.specs.Prelude.{◌==◌}
 use Rattle.mach_base.proofs.Binds.{bind_ok}

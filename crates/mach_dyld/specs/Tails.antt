@@ -1,4 +1,4 @@
--- What follows a place of the bytes of a trie, as far as a branch there goes by it.
+-- What follows a place in the bytes of a trie, as far as a branch there depends on it.
 use Rattle.std.specs.Prelude.{◌≡◌, ◌<◌, ◌≤◌, ◌-◌, ℕ, length, take, drop, false, true, get_or, IfSome}
 use Rattle.std.specs.Str.{IsUtf8}
 use Rattle.mach_base.specs.Text.{is_zero}
@@ -6,8 +6,8 @@ use Rattle.mach_dyld.specs.Nowhere.{LeadsNowhere}
 use Rattle.mach_dyld.specs.declared.trie.walk.Source.{Source}
 use Rattle.mach_dyld.specs.declared.trie.runs.Tail.{Tail}
 
--- The bytes up to the end have no zero byte, one stands there unless the bytes end, and those from low on are UTF-8. Behind the
--- end stands the number of a child that leads nowhere, if something is said to stand behind it.
+-- The bytes up to `end` hold no zero byte, and one is at `end` unless the bytes end there. Those from `low` on are UTF-8. If
+-- `after` is a place, the number of a child that leads nowhere follows `end`, and `after` is the place after it.
 pub record IsTail (s : Source) (place : ℕ) (t : Tail) : Type 0 where
   pub from_place : place ≤ t.low
   pub to_end : t.low ≤ t.end

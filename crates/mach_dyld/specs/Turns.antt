@@ -10,7 +10,7 @@ turn_place t j = (t.first + j * t.step) % t.size
 abbrev pub AnyBelow : ℕ → Turns → Type 0
 AnyBelow limit t = (j : ℕ) × (j < t.count) × (turn_place t j < limit)
 
--- where the last one is, if the ring is not gone round but laid out
+-- the place of the last one, if the steps are not reduced modulo the ring's size
 abbrev pub last_turn_place : Turns → ℕ
 last_turn_place t = t.first + (t.count - 1) * t.step
 

@@ -1,11 +1,11 @@
--- An export trie read as if it were a tree, depth first: a node to which two paths lead is met on each of them.
+-- An export trie read as if it were a tree, depth first: a node to which two paths lead is met once on each of them.
 use Rattle.std.specs.Prelude.{◌≡◌, ◌<◌, ◌≤◌, ◌-◌, ◌⊎◌, ℕ, suc, List, [], ◌∷◌, ◌++◌, map, Err}
 use Rattle.mach_base.specs.Fault.{Fault, malformed}
 use Rattle.mach_dyld.specs.Trie.{Branch, Node, Trie, IsNode, Entry, own_entries}
 use Rattle.mach_dyld.specs.Paths.{Leads}
 use Rattle.mach_dyld.specs.TerminalPaths.{IsNameOf}
 
--- a branch that is still to be taken: the name of its child, and where the child begins
+-- a branch still to be followed: the name of its child, and the place where the child begins
 pub record Ahead : Type 0 where
   pub name : List ℕ
   pub start : ℕ
@@ -17,8 +17,9 @@ ahead prefix branches = map (λ b. record { name = prefix ++ b.label; start = b.
 abbrev pub to_root : ℕ → Ahead
 to_root root = record { name = []; start = root }
 
--- So many nodes were read from the root on, these exports were met, and these branches are still to be taken, the next one first. A
--- branch to nothing is passed. A node's own export is met before those of its children, which come before what was ahead.
+-- This many nodes were read from the root on, these exports were met, and these branches are still to be followed, the next
+-- one first. A branch to nothing is skipped. A node's own export is met before those of its children, which come before what
+-- was ahead.
 pub data Unfolds (t : Trie) (root : ℕ) : ℕ → List Entry → List Ahead → Type 0 where
   nothing_read : Unfolds t root 0 [] (to_root root ∷ [])
   passed : {n : ℕ} {found : List Entry} {next : Ahead} {others : List Ahead} → Unfolds t root n found (next ∷ others) → t.upto ≤ next.start
@@ -31,15 +32,15 @@ pub data Unfolds (t : Trie) (root : ℕ) : ℕ → List Entry → List Ahead →
 abbrev pub LeadsByName : Trie → ℕ → List ℕ → ℕ → Type 0
 LeadsByName t from name to = (path : List ℕ) × Leads t path from to × IsNameOf t from path name
 
--- Behind these exports comes the node that begins here, and has this name: a path of the name leads to it.
+-- After these exports comes the node that begins here and has this name: a path of the name leads to it.
 pub record IsNextNode (t : Trie) (root : ℕ) (found : List Entry) (name : List ℕ) (at : ℕ) : Type 0 where
   pub nodes : ℕ
   pub others : List Ahead
   pub read : Unfolds t root nodes found (record { name = name; start = at } ∷ others)
   pub leads : LeadsByName t root name at
 
--- These exports were met, and the reading can't go on for this fault: the node that comes next is malformed; or it comes behind as many
--- nodes as the trie has places, of which two are then one.
+-- These exports were met, and the reading can't continue because of this fault. Either the next node is malformed; or it
+-- comes after as many nodes as the trie has places, so that two of these are one.
 pub record IsCutBy (t : Trie) (root : ℕ) (found : List Entry) (f : Fault) : Type 0 where
   pub nodes : ℕ
   pub next : Ahead
@@ -50,7 +51,7 @@ pub record IsCutBy (t : Trie) (root : ℕ) (found : List Entry) (f : Fault) : Ty
 
 -- ---- where a walk ends that reads no node twice
 
--- Behind this many nodes comes the one that begins here.
+-- After this many nodes comes the one that begins here.
 pub record ComesNext (t : Trie) (root nodes start : ℕ) : Type 0 where
   pub inside : start < t.upto
   pub met : List Entry
@@ -58,7 +59,7 @@ pub record ComesNext (t : Trie) (root nodes start : ℕ) : Type 0 where
   pub others : List Ahead
   pub read : Unfolds t root nodes met (record { name = name; start = start } ∷ others)
 
--- the node that begins here is one of these: it comes next behind fewer
+-- the node that begins here is one of these: it comes next after fewer of them
 abbrev pub WasRead : Trie → ℕ → ℕ → ℕ → Type 0
 WasRead t root nodes start = (fewer : ℕ) × (fewer < nodes) × ComesNext t root fewer start
 
@@ -66,7 +67,7 @@ WasRead t root nodes start = (fewer : ℕ) × (fewer < nodes) × ComesNext t roo
 abbrev pub AreReadOnce : Trie → ℕ → ℕ → Type 0
 AreReadOnce t root nodes = (fewer start : ℕ) → fewer < nodes → ComesNext t root fewer start → WasRead t root fewer start → ⊥
 
--- These exports were met, of nodes of which no two are one, and there the walk ends, for this fault: the node that comes next is
+-- These exports were met, of nodes that are all different, and there the walk ends, for this fault: the next node is
 -- malformed, or it was read before.
 pub record IsEndOfWalk (t : Trie) (root : ℕ) (found : List Entry) (f : Fault) : Type 0 where
   pub nodes : ℕ

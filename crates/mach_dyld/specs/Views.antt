@@ -1,4 +1,4 @@
--- What is seen of what was read of a trie: branches, nodes, and the source that they are read from.
+-- What was read of a trie, as contracts see it: branches, nodes, and the source that they are read from.
 use Rattle.std.specs.Prelude.{◌≡◌, ◌==◌, if◌then◌else◌, ℕ, List, [], ◌∷◌, Option, Some, None, option_map, Result, Ok, Err}
 use Rattle.mach_base.specs.Fault.{Fault}
 use Rattle.mach_base.specs.Text.{texts}
@@ -23,7 +23,7 @@ abbrev pub those_read : Result (List trie.Branch) Fault → List trie.Branch
 those_read (Ok bs) = bs
 those_read (Err f) = []
 
--- as many as are left from the place on
+-- the branches that are left, from the place on
 abbrev pub branches_of : List ℕ → ℕ → BranchRun → List trie.Branch
 branches_of bytes from b = those_read (branches_at bytes from b.left b.place)
 
@@ -31,7 +31,7 @@ branches_of bytes from b = those_read (branches_at bytes from b.left b.place)
 abbrev pub IsReadable : List ℕ → ℕ → BranchRun → Type 0
 IsReadable bytes from b = branches_at bytes from b.left b.place ≡ Ok (branches_of bytes from b)
 
--- the first branch, and those behind it
+-- the first branch, and those after it
 abbrev pub branches_in : List ℕ → ℕ → Option Branches → List trie.Branch
 branches_in bytes from None = []
 branches_in bytes from (Some b) = branch_of b.first ∷ branches_of bytes from b.behind
@@ -45,7 +45,7 @@ info_in own = option_map info_of own
 abbrev pub node_of : List ℕ → ℕ → Option ExportInfo × BranchRun → Node
 node_of bytes from read = record { own = info_in read.0; branches = branches_of bytes from read.1 }
 
--- the same, where the first branch is kept
+-- the same, with the first branch decoded
 abbrev pub node_with_first : List ℕ → ℕ → Option ExportInfo × Option Branches → Node
 node_with_first bytes from read = record { own = info_in read.0; branches = branches_in bytes from read.1 }
 
@@ -60,7 +60,7 @@ source_trie s = trie_of s.bytes.now (texts s.libs.now) s.from s.upto
 abbrev pub node_in : Source → ℕ → Result Node Fault
 node_in s start = node_at s.bytes.now (texts s.libs.now) s.from start
 
--- the node behind its size
+-- the node after its size
 abbrev pub node_behind : Source → ℕ → ℕ → Result Node Fault
 node_behind s size place = if size == 0 then inner_at s.bytes.now s.from place else terminal_at s.bytes.now (texts s.libs.now) s.from size place
 

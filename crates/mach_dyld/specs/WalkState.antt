@@ -1,5 +1,5 @@
--- How far a walk of the export trie has come: what it has read and marked, which nodes are open, and what is listed so far.
--- Callers don't need it: they see what a walk has given.
+-- The state of a walk of the export trie: what it has read and marked, which nodes are open, and what it has listed so far.
+-- Callers don't need it: they see what a walk has returned.
 use Rattle.std.specs.Prelude.{◌≡◌, ◌<◌, ◌≤◌, ◌+◌, ◌-◌, ◌*◌, ℕ, Bool, true, false, List, [], ◌∷◌, ◌++◌, ◌⊎◌, Option, Some, None, Result, Ok, Err}
 use Rattle.std.specs.Prelude.{length, reverse, take, sum_by, if◌then◌else◌}
 use Rattle.mach_base.specs.Answer.{Stands}
@@ -24,7 +24,7 @@ abbrev pub HaveMore : List Open → Type 0
 HaveMore [] = Unit {0}
 HaveMore (o ∷ os) = (0 < o.left) × HaveMore os
 
--- n nodes were visited and these exports found, these branches come next, and a node is open over others
+-- n nodes were visited and these exports found, these branches come next, and a node is open above others
 pub record Holds (s : Source) (name : List ℕ) (marks : List Bool) (next : List Ahead) (o : Open) (os : List Open) (found : List Entry) (n : ℕ) : Type 0 where
   pub is_read : IsReadSoFar (trie_range_of s) (texts s.libs.now) name next (o ∷ os) found n
   pub paths : List (List ℕ)
@@ -43,9 +43,9 @@ pub record HasListed (s : Source) (found : List Entry) (n : ℕ) : Type 0 where
   pub few_exports : length found ≤ s.upto - s.from
   pub few_visits : n ≤ s.upto - s.from
 
--- ---- how far a walk has come, which has found these exports by n visits
+-- ---- the state of a walk that has found these exports in n visits
 
--- the branch that comes next
+-- the next branch
 abbrev pub next_branch : {A : Type 0} → Walker A → Ahead
 next_branch w = record { name = take w.top.name_len w.name.items ++ w.next.label.now; start = w.next.start }
 
@@ -65,7 +65,7 @@ HasFound found n w = IsAtBranch found n w ⊎ ((w.over ≡ true) × HasListed w.
 abbrev pub IsWalk : {A : Type 0} → Walker A → Type 0
 IsWalk w = w.over ≡ false → ∥ ((found : List Entry) × (n : ℕ) × HasFound found n w) ∥₁
 
--- why a walk that had found these exports by n visits is refused, and how the count of visits grew
+-- why a walk that had found these exports in n visits fails, and how the count of visits grew
 pub record IsRefusedWalk (s : Source) (found : List Entry) (n old new : ℕ) (e : Error) : Type 0 where
   pub fault : Stands (fault_in s) e
   pub ends : Stands (IsEndOfWalk (source_trie s) s.from found) e
@@ -74,13 +74,13 @@ pub record IsRefusedWalk (s : Source) (found : List Entry) (n old new : ℕ) (e 
   pub few_visits : visited ≤ s.upto - s.from
   pub count : new + n ≡ old + visited
 
--- what a step of a walk gives that had found these exports by n visits: the next export, an error, or, at the end, nothing
+-- what a step of a walk gives after these exports and n visits: the next export, an error, or, at the end, nothing
 abbrev pub StepGives : {A : Type 0} → List Entry → ℕ → ℕ → ℕ → Source → Option (Result ExportInfo Error) → Walker A → Type 0
 StepGives found n old new s None w = (m : ℕ) × HasListed s found m × HasFound found m w × (new + n ≡ old + m)
 StepGives found n old new s (Some (Ok info)) w = (m : ℕ) × HasFound (found ++ entry w.name.items (info_of info) ∷ []) m w × (new + n ≡ old + m)
 StepGives found n old new s (Some (Err e)) w = IsRefusedWalk s found n old new e
 
--- ---- what is left to do: marks to be set, and the branches of the open nodes
+-- ---- the work left: marks to be set, and the branches of the open nodes
 
 abbrev pub unmarked : List Bool → ℕ
 unmarked marks = sum_by (λ b. if b then 0 else 1) marks
@@ -91,7 +91,7 @@ work most marks os = (most + 2) * unmarked marks + branches_left os
 abbrev pub work_ahead : {A : Type 0} → Walker A → ℕ
 work_ahead w = if w.over then 0 else work (length w.source.bytes.now) w.marks (w.top ∷ reverse w.stack.items)
 
--- how many places may have been marked and not visited: an error may have come between the two
+-- how many places may have been marked and not visited: an error may occur between the two
 abbrev pub unvisited : {X : Type 0} → Result X Error → ℕ
 unvisited (Ok x) = 0
 unvisited (Err e) = 1

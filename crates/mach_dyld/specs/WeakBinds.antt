@@ -12,19 +12,19 @@ use Rattle.mach_dyld.specs.Faults.{AreItemsAlone}
 use Rattle.mach_dyld.specs.Instructions.{Instruction, nothing, strong, symbol, byte_at, row_at}
 use Rattle.mach_dyld.specs.Streams.{Input, Range, Placed, Reader}
 
--- a row of the stream: a name that the image defines itself, and not weakly; or a place that takes the definition that
--- all images share
+-- a row of the stream: a name that the image itself defines, and not weakly; or a place that takes the definition that all
+-- images share
 pub data WeakBind : Type 0 where
   strong_name : (name : List ℕ) → WeakBind
   weakly_bound : (binding : Binding) → WeakBind
 
 -- ---- one instruction
 
--- where it goes on behind the DONE that ends it
+-- the place of the instruction after the DONE that ends it
 abbrev pub range_end : Range → ℕ → ℕ
 range_end r place = place + (r.upto - place)
 
--- bit 3 of the flags (BIND_SYMBOL_FLAGS_NON_WEAK_DEFINITION) says that the name is the image's own
+-- bit 3 of the flags (BIND_SYMBOL_FLAGS_NON_WEAK_DEFINITION) means that the image itself defines the name
 abbrev pub is_own : ℕ → Bool
 is_own flags = not (bit_and flags 8 == 0)
 
@@ -41,7 +41,7 @@ weak_name_at flags bytes place = do
   name ← name_before_end bytes place text
   Ok (name_set flags name, place + length name + 1)
 
--- ordinals (0x10 to 0x30) and opcodes above 0xc0 are none
+-- ordinals (0x10 to 0x30) and opcodes above 0xc0 are not allowed
 unfoldable pub weak_row : Range → ℕ → List ℕ → ℕ → ℕ → ℕ → Result (Instruction × ℕ) Fault
 weak_row r pointer bytes opcode imm place =
     if opcode == 0x00 then Ok (nothing, range_end r place)
@@ -57,7 +57,7 @@ weak_opcode_at r pointer bytes place = do
 
 -- ---- rows
 
--- what was set before a bind beside its settings: the type, and whether a name and a segment were
+-- what was set before a bind beyond its settings: the type, and whether a name and a segment were set
 pub record WeakSet : Type 0 where
   pub kind : ℕ
   pub has_name : Bool
@@ -78,7 +78,7 @@ weakly_bound_at b spot = weakly_bound (record {
   is_lazy = false;
 })
 
--- the row of a bind by what was set, if it has one: its pointer lies in its segment, at places of 64 bits
+-- the row of a bind by what was set, if it has one: its pointer lies in its segment, and its place and address fit into 64 bits
 unfoldable pub weak_bind_of : Input → WeakSet → Bind → Result WeakBind Fault
 weak_bind_of x g b = if is_weak_complete g then (do
   spot ← spot_of x.pointer x.segments b.segment b.offset
@@ -97,14 +97,14 @@ abbrev pub own_row : Instruction → List (Result WeakBind Fault)
 own_row (strong flags name) = Ok (strong_name name) ∷ []
 own_row _ = []
 
--- what comes of an instruction, before which others stand, the nearest first
+-- the rows of an instruction, after these others, the nearest first
 abbrev pub weak_binds_at : Input → Range → List Placed → Placed → List (Result WeakBind Fault)
 weak_binds_at x r back p = own_row p.instruction ++ map (weak_bind_of x (last_weak_set x.bytes (p ∷ back))) (binds_at x.pointer r back p)
 
--- what comes of the first instructions of a range
+-- the rows of the first instructions of a range
 abbrev pub weak_binds_in : Input → Range → List Placed → List (Result WeakBind Fault)
 weak_binds_in x r ps = all_from (weak_binds_at x r) [] ps
 
--- these are the rows of a stream, whose longest beginning is given, up to the first fault
+-- these are the rows of a stream, whose longest readable prefix is given, up to the first fault
 abbrev pub AreWeakBinds : Input → Range → List Placed → List (Result WeakBind Fault) → Type 0
 AreWeakBinds x r ps items = AreItemsAlone (weak_opcode_at r x.pointer x.bytes) (weak_binds_in x r) r ps items

@@ -1,5 +1,5 @@
--- The rules of weak binds, and what is left to an iterator over them. Callers don't need it: the contract of `iter` says that
--- the items at the start are those of the definitions.
+-- The rules of weak binds, and what is left of an iterator over them. Callers don't need it: the contract of `iter` says
+-- that the items at the start are those of the definitions.
 use Rattle.std.specs.Prelude.{◌==◌, ℕ, List, true, false, Result, Ok, if◌then◌else◌, bit_and}
 use Rattle.mach_base.specs.Fault.{Fault, fault_of}
 use Rattle.mach_base.specs.declared.error.Error.{Error}
@@ -29,7 +29,7 @@ weak_after opcode imm m = record {
   is_own = if opcode == 0x40 then is_own imm else false;
 }
 
--- a name of the image's own, or a bind
+-- a name that the image itself defines, or a bind
 abbrev pub weak_made : Input → Bind → WeakExtra → Result WeakBind Fault
 weak_made x b m = if m.is_own then Ok (strong_name b.name) else weak_bind_of x (set_now m) b
 
@@ -52,10 +52,10 @@ weak_bind_read = item_read weak_bind_view fault_of
 abbrev pub weak_binds_left : WeakBindIterator → List (Result WeakBind Fault)
 weak_binds_left it = items_left weak_rules it.stream
 
--- how many opcodes are left to be read
+-- the number of opcodes left to read
 abbrev pub weak_reads_left : WeakBindIterator → ℕ
 weak_reads_left it = opcodes_left weak_rules it.stream
 
--- it has ended: nothing is left, and it stays so
+-- it has ended: nothing is left, and nothing comes any more
 abbrev pub HasEndedWeakBinds : WeakBindIterator → Type 0
 HasEndedWeakBinds it = HasEnded weak_rules it.stream
