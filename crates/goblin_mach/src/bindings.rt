@@ -14,16 +14,16 @@ use mach_chained::ChainedBindIterator;
 use mach_dyld::bindings::OpcodeBindingIterator;
 use mach_parts::binding::Binding;
 
-/// The bindings of an image's chains, or why the front of its fixups can't be read.
+/// The bindings of an image's chains, or the error of the fixups' header.
 #[derive(Drop)]
 pub struct ChainBindings<'a, 'b> {
-    // As long as that was not told.
+    // The error, until it is returned.
     refusal: Option<Error>,
     bindings: ChainedBindIterator<'a, 'b>,
 }
 
 impl<'a, 'b> ChainBindings<'a, 'b> {
-    /// Those of the chains.
+    /// Returns the bindings of the chains.
     #[tactic(auto, unfolding(crate::specs::BindingsLeft::chain_bindings_left))]
     pub(crate) fn over(bindings: ChainedBindIterator<'a, 'b>) -> Self
         ensures { chain_bindings_left result ≡ chained.chained_bindings_left bindings.entry }
@@ -34,7 +34,7 @@ impl<'a, 'b> ChainBindings<'a, 'b> {
         }
     }
 
-    /// None but an error.
+    /// Returns an iterator with only an error.
     #[tactic(auto, unfolding(crate::specs::BindingsLeft::chain_bindings_left))]
     pub(crate) fn refused(error: Error) -> Self
         ensures { chain_bindings_left result ≡ Err (fault_of error) ∷ [] }
@@ -45,7 +45,7 @@ impl<'a, 'b> ChainBindings<'a, 'b> {
         }
     }
 
-    // The next binding, or an error.
+    // Returns the next binding, or an error.
     #[tactic(auto, unfolding(crate::specs::BindingsLeft::chain_bindings_left))]
     #[inline(always)]
     fn step(&mut self) -> Option<Result<Binding<'a>>>
@@ -58,9 +58,8 @@ impl<'a, 'b> ChainBindings<'a, 'b> {
     }
 }
 
-/// The bindings of an image one at a time, as dyld makes them: those of the non-lazy opcodes, then those of
-/// the lazy ones, then those of the chains, up to the first fault; then its error; then nothing more. It
-/// takes no memory.
+/// An iterator over the bindings of an image, as dyld reads them: those of the non-lazy opcodes, those of the lazy opcodes,
+/// then those of the chains. The first fault is its last item. It allocates nothing.
 #[derive(Drop)]
 pub struct BindingIterator<'a, 'b> {
     opcodes: OpcodeBindingIterator<'a, 'b>,
@@ -69,7 +68,7 @@ pub struct BindingIterator<'a, 'b> {
 }
 
 impl<'a, 'b> BindingIterator<'a, 'b> {
-    /// Those of the opcodes, and then those of the chains.
+    /// Returns the bindings of the opcodes, then those of the chains.
     #[tactic(auto, unfolding(crate::specs::BindingsLeft::bindings_left, crate::specs::BindingsLeft::all_bindings_left))]
     pub(crate) fn over(
         opcodes: OpcodeBindingIterator<'a, 'b>,
@@ -84,7 +83,7 @@ impl<'a, 'b> BindingIterator<'a, 'b> {
         }
     }
 
-    // What comes next, whether or not a fault came before.
+    // Returns the next item, whether or not a fault came before.
     #[tactic(auto, unfolding(crate::specs::BindingsLeft::all_bindings_left))]
     #[inline(always)]
     fn any(&mut self) -> Option<Result<Binding<'a>>>
@@ -97,7 +96,7 @@ impl<'a, 'b> BindingIterator<'a, 'b> {
         }
     }
 
-    // What comes next, up to the first fault.
+    // Returns the next item, up to the first fault.
     #[tactic(auto, unfolding(crate::specs::BindingsLeft::bindings_left))]
     #[inline(always)]
     fn step(&mut self) -> Option<Result<Binding<'a>>>
@@ -135,7 +134,7 @@ impl<'a, 'b> Iterator for BindingIterator<'a, 'b> {
 impl<'a, 'b> Default for BindingIterator<'a, 'b> {
     ghost is_default = { λ it. bindings_left it ≡ [] };
 
-    /// No bindings.
+    /// Returns an iterator without bindings.
     #[tactic(auto, unfolding(crate::specs::BindingsLeft::bindings_left))]
     fn default() -> Self {
         BindingIterator {

@@ -1,4 +1,4 @@
-//! Load commands one at a time, with no memory.
+//! Load commands one at a time, without memory.
 
 ghost use Rattle.std.specs.Prelude.{◌≡◌, ℕ, List, map, length, Ok};
 ghost use Rattle.mach_base.specs.declared.context.Endian as order;
@@ -9,22 +9,22 @@ ghost use Rattle.goblin_mach.specs.CommandItems.{commands_from, commands_left, c
 use mach_base::{Endian, Result};
 use mach_load::LoadCommand;
 
-/// The load commands one at a time, up to the first that can't be read; then its error; then nothing more. It takes
-/// no memory. It is made from numbers, and these are its numbers: one of the same numbers gives the same.
+/// An iterator over load commands. The first that can't be read ends it with an error. It allocates nothing. It is built
+/// from numbers, and its fields are these numbers: an iterator with the same numbers returns the same items.
 #[derive(Clone, Copy)]
 pub struct CommandIterator<'a> {
-    /// The bytes that the commands stand in.
+    /// The bytes that hold the commands.
     pub bytes: &'a [u8],
-    /// The place of the next one.
+    /// The place of the next command.
     pub place: usize,
-    /// How many are left.
+    /// The number of commands left.
     pub left: usize,
-    /// Their byte order.
+    /// The byte order of the commands.
     pub le: Endian,
 }
 
 impl<'a> CommandIterator<'a> {
-    /// So many commands from a place on.
+    /// Returns an iterator over `count` commands from a place on.
     pub fn at(bytes: &'a [u8], place: usize, count: usize, le: Endian) -> Self
         ensures { commands_left result ≡ commands_from le bytes.now place count }
     {
@@ -64,7 +64,7 @@ impl<'a> Iterator for CommandIterator<'a> {
     }
 }
 
-/// Each command of a chain is given, in order.
+/// Each command of a chain is returned, in order.
 #[tactic(auto, using(crate::proofs::CommandItems::one_by_one))]
 pub fn commands_one_by_one()
     ensures { (le : order.Endian) (bytes : List ℕ) (s : ℕ) (cs : List Command) → IsChain le bytes s cs → commands_from le bytes s (length cs) ≡ map Ok cs }

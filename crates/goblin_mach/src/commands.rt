@@ -10,7 +10,7 @@ use mach_base::{Endian, Result};
 use mach_load::LoadCommand;
 use std::alloc::Allocator;
 
-// Reads the load command at a place and moves the place behind it.
+// Reads the load command at a place, and moves the place to the end of the command.
 #[inline(always)]
 fn push_next<A: Allocator>(
     commands: &mut Vec<LoadCommand, A>,
@@ -28,7 +28,7 @@ fn push_next<A: Allocator>(
     Ok(())
 }
 
-// The same of any command, a thread among them, or the fault of one that can't be read.
+// Like `push_next`, for any command, including a thread, and for the fault of one that can't be read.
 #[cold]
 #[inline(never)]
 fn push_parsed<A: Allocator>(

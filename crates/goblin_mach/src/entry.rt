@@ -1,4 +1,4 @@
-//! Where an image begins to run.
+//! The address at which an image begins to run.
 
 ghost use Rattle.std.specs.Prelude.{◌≡◌, ℕ, Some, None, Ok, if◌then◌else◌, IfOk, IfErr, map};
 ghost use Rattle.mach_base.specs.Answer.{Reads, Stands};
@@ -10,7 +10,7 @@ use crate::readings::{Subject, first_read, first_readable};
 use mach_base::{Error, Result, read_text};
 use mach_load::{CommandVariant, LoadCommand};
 
-/// Where a segment is mapped.
+/// The address and the place in the file of a segment.
 #[derive(Clone, Copy)]
 pub struct Mapping {
     pub vmaddr: u64,
@@ -18,7 +18,7 @@ pub struct Mapping {
 }
 
 impl Mapping {
-    // The address of a place in the file.
+    // Returns the address of a place in the file.
     fn address(self, place: u64) -> Result<u64>
         ensures { Reads (λ address. address) result (address_in self place) }
     {
@@ -30,7 +30,7 @@ impl Mapping {
     }
 }
 
-/// Whether the name in the field of a segment is `__TEXT`: the text up to the first zero byte.
+/// Whether the name field of a segment holds `__TEXT`: the text up to the first zero byte.
 pub fn is_text(segname: &[u8; 16]) -> bool
     ensures { result ≡ is_text_name segname.now }
 {
@@ -40,7 +40,7 @@ pub fn is_text(segname: &[u8; 16]) -> bool
     }
 }
 
-// The mapping of a segment of the program's text, if it is one.
+// Returns the mapping of a segment, if it is the one of the program's text.
 fn text_mapping(segname: &[u8; 16], vmaddr: u64, fileoff: u64) -> Option<Mapping>
     ensures { result ≡ (if is_text_name segname.now then Some (record { vmaddr = vmaddr; fileoff = fileoff }) else None) }
 {
@@ -99,7 +99,7 @@ impl Subject for Mains {
     }
 }
 
-/// The states of threads with which an image begins: their instruction pointers, by the cpu.
+/// The thread states with which an image begins: their instruction pointers, by the cpu.
 #[derive(Clone, Copy)]
 pub struct Pointers {
     pub cputype: u32,
@@ -122,7 +122,7 @@ impl Subject for Pointers {
     }
 }
 
-// The address of the main program, by the segment of its text.
+// Returns the address of the main program, by the segment of its text.
 fn address_of_main(text: Option<Mapping>, entryoff: u64) -> Result<u64>
     ensures { Reads (λ address. address) result (main_address text entryoff) }
 {
@@ -132,8 +132,8 @@ fn address_of_main(text: Option<Mapping>, entryoff: u64) -> Result<u64>
     }
 }
 
-/// Where an image begins, and whether a thread's state says so: that of the first main program, else
-/// of the first thread, else 0.
+/// Returns the address at which an image begins, and whether a thread's state holds it. It is that of the first main
+/// program, else of the first thread, else 0.
 pub fn entry(commands: &[LoadCommand], cputype: u32) -> Result<(u64, bool)>
     ensures found { IfOk result (λ e. entry_point_in cputype (map command_of commands.now) ≡ Ok (record { address = e.0; old_style = e.1 })) }
     ensures threads { IfOk result (λ _. AllRead (pointer_by cputype) (map command_of commands.now)) }

@@ -8,7 +8,7 @@ ghost use Rattle.goblin_mach.specs.Facts.{IsExportedAt, IsNotExported, IsFirstEx
 use mach_dyld::exports::Export;
 use std::alloc::Allocator;
 
-/// The first export of a name; None where none of them has it.
+/// Finds the first export of a name. Returns None if there is none.
 pub fn find_export<'b, 'a, A: Allocator>(
     exports: &'b [Export<'a, A>],
     name: &str,
@@ -24,8 +24,7 @@ pub fn find_export<'b, 'a, A: Allocator>(
     None
 }
 
-/// Of each name a list has a first export, or none at all; and never both. The first is listed at its own
-/// offset.
+/// For each name, a list either has a first export or none. The first one is in the list, with the offset that it has there.
 pub fn exported_or_not()
     ensures either { (name : List ℕ) (list : List Entry) → ((i : ℕ) × (e : Entry) × IsFirstExport name list i e) ⊎ IsNotExported name list }
     ensures first { (name : List ℕ) (list : List Entry) (i : ℕ) (e : Entry) → IsFirstExport name list i e → IsExportedAt name e.offset list }

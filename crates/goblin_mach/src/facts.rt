@@ -1,6 +1,5 @@
-//! Laws between an image that was opened and the facts on the bytes that it was opened in: each of
-//! its fields and lists is what the bytes say, and nothing else is. An image in any memory is meant, so
-//! each law is a function of one.
+//! Laws between an opened image and the facts on the bytes in which it was opened: each of its fields and lists is exactly
+//! what the bytes say. They hold for an image in any memory, so each law is a function of an image.
 
 ghost use Rattle.std.specs.Prelude.{ℕ, List, option_map};
 ghost use Rattle.mach_base.specs.Context.{pointer_size};
@@ -61,7 +60,7 @@ pub fn segments_of_image<A: Allocator>(image: &MachO<'_, A>)
     ensures { HoldsAs image.now HasSegments (segments_held image.now) }
 {}
 
-/// What `MachO::relocations` answers is what the bytes say.
+/// The relocations that `MachO::relocations` returns are those of the bytes.
 pub fn relocations_of_image<A: Allocator>(image: &MachO<'_, A>)
     ensures { HoldsAs image.now HasRelocations (relocated_sections_in (ctx_held image.now) (bytes_held image.now) (segments_held image.now)) }
 {}
@@ -76,12 +75,12 @@ pub fn libraries_of_image<A: Allocator>(image: &MachO<'_, A>)
     ensures { HoldsAs image.now HasLibraries (texts image.now.libs.items) }
 {}
 
-/// The libraries that `MachO::libraries` gives are those of the bytes.
+/// The libraries that `MachO::libraries` returns are those of the bytes.
 pub fn libraries_by_kind_of_image<A: Allocator>(image: &MachO<'_, A>)
     ensures { HoldsAs image.now HasLibrariesByKind (libraries_in (ctx_held image.now).le (bytes_held image.now) (commands_held image.now)) }
 {}
 
-/// What `MachO::find_export` answers stands by the paths of the trie in the bytes.
+/// The export that `MachO::find_export` returns holds by the paths of the trie in the bytes.
 pub fn found_export_of_image<A: Allocator>(image: &MachO<'_, A>)
     ensures { (name : List ℕ)
         → Agrees image.now (λ bytes o. HasExportOf bytes o name) (StandsInImage (trie_held image.now) (texts image.now.libs.items) name) }
@@ -92,13 +91,13 @@ pub fn run_paths_of_image<A: Allocator>(image: &MachO<'_, A>)
     ensures { HoldsAs image.now HasRunPaths (texts image.now.rpaths.items) }
 {}
 
-/// Where an image that was opened begins to run is what the bytes say.
+/// The address at which an opened image begins to run is the one in the bytes.
 #[tactic(auto, using(crate::proofs::ImageFacts::entry_point_is))]
 pub fn entry_point_of_image<A: Allocator>(image: &MachO<'_, A>)
     ensures { HoldsAs image.now HasEntryPoint (record { address = image.now.entry; old_style = image.now.old_style_entry }) }
 {}
 
-/// All that is said of an image, as it holds it, is what the bytes say.
+/// All facts of an image, as it holds them, are those of the bytes.
 pub fn facts_of_image<A: Allocator>(image: &MachO<'_, A>)
     ensures { InBothModes image.now (λ bytes o. HasFacts bytes o (facts_held image.now)) }
 {}
@@ -109,8 +108,8 @@ pub fn exports_of_image<A: Allocator>(image: &MachO<'_, A>)
     ensures faults { Agrees image.now HasExportsFault (ImageExportsFault (trie_held image.now) (texts image.now.libs.items)) }
 {}
 
-/// What a walk of `MachO::walk_exports` says at its end, or by an error, is so of the bytes: what it gave is
-/// the list of the image's exports, or the fault stands in its trie, and a walk ends there for it.
+/// What a walk of `MachO::walk_exports` reports at its end holds of the bytes: what it returned is the list of the image's
+/// exports. So does what it reports by an error: the fault occurs in the trie, and a walk ends there for it.
 pub fn walked_exports_of_image<A: Allocator>(image: &MachO<'_, A>)
     ensures listed { InBothModes image.now (λ bytes o. (list : List trie.Entry)
         → ListsExports (trie_or_empty (trie_held image.now)) (texts image.now.libs.items) list → HasExports bytes o list) }
@@ -128,29 +127,29 @@ pub fn imports_of_image<A: Allocator>(image: &MachO<'_, A>)
         (ImageImportsFault (binds_held image.now) (pointer_size (ctx_held image.now).container) (texts image.now.libs.items) (segments_held image.now)) }
 {}
 
-/// The imports that `MachO::iter_imports` gives one at a time, up to the first fault, are those of the bytes.
+/// The imports that `MachO::iter_imports` returns, up to the first fault, are those of the bytes.
 pub fn import_items_of_image<A: Allocator>(image: &MachO<'_, A>)
     ensures { Agrees image.now HasImportItems
         (AreImageBindItems (binds_held image.now) (pointer_size (ctx_held image.now).container) (texts image.now.libs.items) (segments_held image.now)) }
 {}
 
-/// What `MachO::chained_fixups` answers is what the bytes say.
+/// The chained fixups that `MachO::chained_fixups` returns are those of the bytes.
 pub fn chained_fixups_of_image<A: Allocator>(image: &MachO<'_, A>)
     ensures { HoldsAs image.now HasChainedFixups (chained_held image.now) }
 {}
 
-/// The address that `MachO::base` answers is that of the bytes.
+/// The address that `MachO::base` returns is that of the bytes.
 #[tactic(auto, using(crate::proofs::ImageFacts::base_is))]
 pub fn base_of_image<A: Allocator>(image: &MachO<'_, A>)
     ensures { HoldsAs image.now HasBase (base_held image.now) }
 {}
 
-/// The fixups that `MachO::fixups` gives one at a time, up to the first fault, are those of the bytes.
+/// The fixups that `MachO::fixups` returns, up to the first fault, are those of the bytes.
 pub fn fixups_of_image<A: Allocator>(image: &MachO<'_, A>)
     ensures { Agrees image.now HasFixups (AreImageFixups (chained_held image.now) (segments_held image.now)) }
 {}
 
-/// The bindings that `MachO::bindings` gives one at a time, up to the first fault, are those of the bytes.
+/// The bindings that `MachO::bindings` returns, up to the first fault, are those of the bytes.
 pub fn bindings_of_image<A: Allocator>(image: &MachO<'_, A>)
     ensures { Agrees image.now HasBindings
         (AreImageBindings (binds_held image.now) (chained_held image.now) (pointer_size (ctx_held image.now).container) (texts image.now.libs.items)

@@ -1,4 +1,4 @@
-//! What strict and lossy mode read off the commands in their own ways.
+//! The fields that strict and lossy mode read from the commands in different ways.
 
 ghost use Rattle.std.specs.Prelude.{◌≡◌, ◌++◌, ◌∷◌, [], ℕ, List, map, IfOk, IfErr, OnOk};
 ghost use Rattle.mach_base.specs.Answer.{Stands, IsOkUnlessMemory};
@@ -18,7 +18,7 @@ use mach_load::LoadCommand;
 use mach_parts::segment::Segment;
 use std::alloc::Allocator;
 
-/// What strict and lossy mode read off the commands in their own ways.
+/// The fields that strict and lossy mode read from the commands in different ways.
 #[derive(Drop)]
 pub struct Fields<'a, A: Allocator> {
     pub segments: Vec<Segment<'a>, A>,
@@ -30,7 +30,7 @@ pub struct Fields<'a, A: Allocator> {
 impl<'a, A: Allocator + Clone> Fields<'a, A> {
     ghost use Rattle.goblin_mach.specs.OpenImage.{AreFields, AreTaken};
 
-    /// Everything, where all of it can be read.
+    /// Reads all fields. Fails if one can't be read.
     pub fn read(
         alloc: A,
         bytes: &'a [u8],
@@ -51,7 +51,7 @@ impl<'a, A: Allocator + Clone> Fields<'a, A> {
         Ok(fields)
     }
 
-    /// What can be read of it; data that are not in the bytes are empty.
+    /// Reads the fields that can be read. Data that aren't in the bytes are empty.
     pub fn read_lossy(
         alloc: A,
         bytes: &'a [u8],
@@ -71,7 +71,7 @@ impl<'a, A: Allocator + Clone> Fields<'a, A> {
         Ok(fields)
     }
 
-    // What no commands say.
+    // Returns the fields of no commands.
     fn empty(alloc: A) -> Result<Fields<'a, A>>
         ensures found { (ctx : Ctx) (bytes : List ℕ) (segment : Reading SegmentView) → IfOk result (AreTaken ctx bytes segment []) }
         ensures only { IsOkUnlessMemory result }
@@ -93,7 +93,7 @@ impl<'a, A: Allocator + Clone> Fields<'a, A> {
 impl<'a, A: Allocator> Fields<'a, A> {
     ghost use Rattle.goblin_mach.specs.OpenImage.{AreFields, AreTaken};
 
-    // Takes what one more command says.
+    // Adds what one more command says.
     #[inline(always)]
     fn take(
         &mut self,
@@ -115,7 +115,7 @@ impl<'a, A: Allocator> Fields<'a, A> {
         self.once.take(bytes, names, ctx, command)
     }
 
-    // Takes what can be read of it.
+    // Adds what can be read of one more command.
     fn take_readable(
         &mut self,
         bytes: &'a [u8],
@@ -140,7 +140,7 @@ impl<'a, A: Allocator> Fields<'a, A> {
         Ok(())
     }
 
-    // Puts the image's own name in front of its libraries.
+    // Inserts the image's own name before its libraries.
     fn put_name(&mut self) -> Result<()>
         ensures found { (ctx : Ctx) (bytes : List ℕ) (segment : Reading SegmentView) (cs : List Command) → AreTaken ctx bytes segment cs self.old
             → OnOk result (AreFields ctx bytes (read_of segment cs) (libs_in bytes cs) cs self.new) }

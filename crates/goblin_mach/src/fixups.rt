@@ -1,5 +1,4 @@
-//! The chained fixups of an image: where its commands place them, what they count from, and the fixups one
-//! at a time.
+//! The chained fixups of an image: the place that its commands give, their base address, and the fixups one at a time.
 
 ghost use Rattle.std.specs.Prelude.{◌≡◌, ◌∷◌, ℕ, [], Err, map, option_map};
 ghost use Rattle.std.specs.Iterator.{YieldsFirstBy};
@@ -35,7 +34,7 @@ impl Subject for ChainedPlaces {
 
     ghost reading = { λ _. chained_place_by };
 
-    /// It is never refused.
+    /// It never fails.
     fn read(&self, command: &LoadCommand) -> Option<Result<LinkeditDataCommand>> {
         match &command.command {
             CommandVariant::DyldChainedFixups(c) => Some(Ok(*c)),
@@ -44,7 +43,7 @@ impl Subject for ChainedPlaces {
     }
 }
 
-/// What the last readable command of a subject says.
+/// Returns what the last readable command on a subject says.
 pub fn last_readable<S: Subject>(subject: &S, commands: &[LoadCommand]) -> Option<S::Value>
     ensures { option_map S.seen result ≡ last_of (read_of (S.reading subject.now) (map command_of commands.now)) }
 {
@@ -55,7 +54,7 @@ pub fn last_readable<S: Subject>(subject: &S, commands: &[LoadCommand]) -> Optio
     last
 }
 
-/// The place and the size of the data that the last command brings, if one does.
+/// Returns the place and the size of the data that the last such command names, if there is one.
 pub fn chained_place(commands: &[LoadCommand]) -> Option<(u32, u32)>
     ensures { result ≡ chained_place_in (map command_of commands.now) }
 {
@@ -63,7 +62,7 @@ pub fn chained_place(commands: &[LoadCommand]) -> Option<(u32, u32)>
     Some((place.dataoff, place.datasize))
 }
 
-/// The chained fixups that the last command brings, if one does.
+/// Returns the chained fixups that the last such command names, if there is one.
 pub fn chained_fixups<'a>(
     bytes: &'a [u8],
     le: Endian,
@@ -78,7 +77,7 @@ pub fn chained_fixups<'a>(
     Ok(Some(found))
 }
 
-/// The address of an image's first byte in memory: that of its first segment named `__TEXT`, or 0.
+/// Returns the address of an image's first byte in memory: that of its first segment named `__TEXT`, or 0.
 pub fn base_of(segments: &[Segment<'_>]) -> u64
     ensures { result ≡ defined.base_of (map segment_view segments.now) }
 {
@@ -90,17 +89,17 @@ pub fn base_of(segments: &[Segment<'_>]) -> u64
     0
 }
 
-/// The fixups of an image one at a time: by segments, pages and along the chains, up to the first fault;
-/// then its error; then nothing more. It takes no memory.
+/// An iterator over the fixups of an image: by segments, by pages and along the chains. The first fault is its last item. It
+/// allocates nothing.
 #[derive(Drop)]
 pub struct FixupIterator<'a, 'b> {
-    // Why the front of the fixups can't be read, as long as that was not told.
+    // The error of the fixups' header, until it is returned.
     refusal: Option<Error>,
     chains: mach_chained::FixupIterator<'a, 'b>,
 }
 
 impl<'a, 'b> FixupIterator<'a, 'b> {
-    /// Those of the chains.
+    /// Returns the fixups of the chains.
     #[tactic(auto, unfolding(crate::specs::FixupsLeft::image_fixups_left))]
     pub(crate) fn over(chains: mach_chained::FixupIterator<'a, 'b>) -> Self
         ensures { image_fixups_left result ≡ walk.fixups_left chains.entry }
@@ -111,7 +110,7 @@ impl<'a, 'b> FixupIterator<'a, 'b> {
         }
     }
 
-    /// None but an error.
+    /// Returns an iterator with only an error.
     #[tactic(auto, unfolding(crate::specs::FixupsLeft::image_fixups_left))]
     pub(crate) fn refused(error: Error) -> Self
         ensures { image_fixups_left result ≡ Err (fault_of error) ∷ [] }
@@ -122,7 +121,7 @@ impl<'a, 'b> FixupIterator<'a, 'b> {
         }
     }
 
-    // The next fixup, or an error.
+    // Returns the next fixup, or an error.
     #[tactic(auto, unfolding(crate::specs::FixupsLeft::image_fixups_left))]
     #[inline(always)]
     fn step(&mut self) -> Option<Result<Fixup>>
@@ -153,7 +152,7 @@ impl<'a, 'b> Iterator for FixupIterator<'a, 'b> {
 impl<'a, 'b> Default for FixupIterator<'a, 'b> {
     ghost is_default = { λ it. image_fixups_left it ≡ [] };
 
-    /// No fixups.
+    /// Returns an iterator without fixups.
     fn default() -> Self {
         FixupIterator::over(mach_chained::FixupIterator::default())
     }

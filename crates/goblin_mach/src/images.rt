@@ -1,4 +1,4 @@
-//! What is within a file, one item after the other.
+//! The images and other items in a file, one after the other.
 
 ghost use Rattle.std.specs.Prelude.{◌≡◌, ◌∷◌, ◌++◌, ◌/◌, [], ℕ, List, Ok, Err, None, MatchOption, length, nat_le, true, false};
 ghost use Rattle.mach_archive.specs.ArchiveViews.{archive_of, member_read};
@@ -17,7 +17,7 @@ use mach_parts::fat::FatArch;
 use mach_parts::{ArchRecord, FatArch64, has_room_for, read_arch};
 use std::alloc::Allocator;
 
-// The entries of a fat file from one on.
+// The entries of a fat file from an index on.
 #[derive(Clone, Copy)]
 struct Table<'a> {
     bytes: &'a [u8],
@@ -25,7 +25,7 @@ struct Table<'a> {
     narches: usize,
 }
 
-// What is left of a file, beside the members of an archive.
+// The rest of a file, apart from the members of the current archive.
 #[derive(Clone, Copy)]
 enum Entries<'a> {
     None,
@@ -33,7 +33,7 @@ enum Entries<'a> {
     Archive(Archive<'a>),
     Narrow(Table<'a>),
     Wide(Table<'a>),
-    // A fat file of more entries than its bytes could hold.
+    // A fat file with more entries than its bytes could hold.
     TooMany(usize),
 }
 
@@ -45,18 +45,18 @@ enum Whole<'a> {
     Refused(Error),
 }
 
-/// What is within a file, one item after the other; it takes no memory. An entry of a fat file is one item, but where it is an
-/// archive: then each member is one. Nothing ends it early but the end: what can't be read is an item that tells why, of an
-/// archive the last one.
+/// An iterator over the items in a file. It allocates nothing. An entry of a fat file is one item; if it is an archive, each
+/// member is an item. It goes on to the end of the file: what can't be read is an item with the error. In an archive such an
+/// item is the last one.
 #[derive(Clone, Copy)]
 pub struct Images<'a> {
     entries: Entries<'a>,
-    // The members that are left of the archive that stands at this place.
+    // The place of the archive whose members are left.
     place: Place,
     members: Option<Members<'a>>,
 }
 
-// Nowhere in a fat file.
+// The place of a whole file.
 const ALONE: Place = Place {
     entry: None,
     cpu: None,
@@ -64,7 +64,7 @@ const ALONE: Place = Place {
 };
 
 impl<'a> Images<'a> {
-    // Those of a file, no member of which was given.
+    // Returns the items of a file, from the first on.
     fn of(entries: Entries<'a>) -> Images<'a>
         ensures { input_items_left result ≡ entries_items entries.entry }
     {
@@ -75,7 +75,7 @@ impl<'a> Images<'a> {
         }
     }
 
-    // The next member of the archive whose members are given.
+    // Returns the next member of the current archive.
     fn next_member(&mut self) -> Option<InputItem<'a>>
         ensures given { MatchOption result (items_of_begun self.old ≡ []) (λ item. items_of_begun self.old ≡ input_item_read item ∷ items_of_begun self.new) }
         ensures kept { self.new.entries ≡ self.old.entries }
@@ -86,7 +86,7 @@ impl<'a> Images<'a> {
         }
     }
 
-    // The first item of what stands at a place; the members behind it are left.
+    // Returns the first item at a place, and keeps the members after it.
     fn begin(&mut self, place: Place, whole: Whole<'a>) -> InputItem<'a>
         requires { self.old.members ≡ None }
         ensures given { whole_items place whole.entry ≡ input_item_read result ∷ items_of_begun self.new }
@@ -99,7 +99,7 @@ impl<'a> Images<'a> {
         }
     }
 
-    // The first item of bytes that are no fat file.
+    // Returns the first item of bytes that are not a fat file.
     fn begin_bytes(&mut self, place: Place, bytes: &'a [u8]) -> InputItem<'a>
         requires { self.old.members ≡ None }
         ensures given { items_of_whole place bytes.now ≡ input_item_read result ∷ items_of_begun self.new }
@@ -117,7 +117,7 @@ impl<'a> Images<'a> {
         }
     }
 
-    // The first item of an archive.
+    // Returns the first item of an archive.
     fn begin_archive(&mut self, place: Place, archive: Archive<'a>) -> InputItem<'a>
         ensures given { items_of_archive place (Ok (archive_of archive.entry)) ≡ input_item_read result ∷ items_of_begun self.new }
         ensures kept { self.new.entries ≡ self.old.entries }
@@ -136,7 +136,7 @@ impl<'a> Images<'a> {
     }
 }
 
-// The item of what can't be read.
+// Returns the item for what can't be read.
 fn refused<'a>(place: Place, error: Error) -> InputItem<'a>
     ensures { input_item_read result ≡ item_at place (Err (fault_of error)) }
 {
@@ -146,7 +146,7 @@ fn refused<'a>(place: Place, error: Error) -> InputItem<'a>
     }
 }
 
-// The item of a member of the archive that stands at a place.
+// Returns the item of a member of the archive at a place.
 fn member_item<'a>(place: Place, member: Result<Member<'a>>) -> InputItem<'a>
     ensures { input_item_read result ≡ item_at place (member_content (member_read member.entry)) }
 {
@@ -160,7 +160,7 @@ fn member_item<'a>(place: Place, member: Result<Member<'a>>) -> InputItem<'a>
 }
 
 impl<'a> Table<'a> {
-    // The next entry, with where it stands.
+    // Returns the next entry, with its place.
     fn next<R: ArchRecord>(&mut self) -> Option<(Place, Whole<'a>)>
         ensures { MatchOption result ((items_of_table R.arch_form self.old ≡ []) × (items_of_table R.arch_form self.new ≡ []))
             (λ found. items_of_table R.arch_form self.old ≡ whole_items found.0 found.1 ++ items_of_table R.arch_form self.new) }
@@ -195,7 +195,7 @@ impl<'a> Table<'a> {
 }
 
 impl<'a> Entries<'a> {
-    // What is next, with where it stands.
+    // Returns the next part, with its place.
     fn next(&mut self) -> Option<(Place, Whole<'a>)>
         ensures { MatchOption result ((entries_items self.old ≡ []) × (entries_items self.new ≡ []))
             (λ found. entries_items self.old ≡ whole_items found.0 found.1 ++ entries_items self.new) }
@@ -223,7 +223,7 @@ impl<'a> Entries<'a> {
     }
 }
 
-// The entries of a fat file.
+// Returns the entries of a fat file; None if there are more than its bytes could hold.
 fn table_of<'a, R: ArchRecord, A: Allocator>(file: &FatTable<'a, R, A>) -> Option<Table<'a>>
     ensures { let f = file_held file.now in MatchOption result (nat_le f.narches (length f.bytes / R.arch_form.stride) ≡ false)
         (λ table. (nat_le f.narches (length f.bytes / R.arch_form.stride) ≡ true)
@@ -241,7 +241,7 @@ fn table_of<'a, R: ArchRecord, A: Allocator>(file: &FatTable<'a, R, A>) -> Optio
 }
 
 impl<'a, A: Allocator> Input<'a, A> {
-    /// What is within the file, one item after the other.
+    /// Returns the items in the file, one after the other.
     pub fn images(&self) -> Images<'a>
         ensures { (bytes : List ℕ) → IsInput bytes self.now → input_items_left result ≡ items_in bytes }
     {

@@ -1,4 +1,4 @@
-//! What a file is, archives and fat files of 64 bits too.
+//! The kind of a file, including archives and fat files of 64 bits.
 
 ghost use Rattle.std.specs.Prelude.{◌≡◌, ◌↔◌, IfOk, IfErr, IsOk, IsTrue, true};
 ghost use Rattle.mach_base.specs.Answer.{Stands, IsOkUnlessMemory};
@@ -16,7 +16,7 @@ use mach_parts::FAT_MAGIC_64;
 use mach_parts::magic::peek;
 use std::alloc::{Allocator, Global};
 
-/// What a file is.
+/// A file of any kind that can hold images.
 #[derive(Drop)]
 #[derive_where(Debug)]
 pub enum Input<'a, A: Allocator = Global> {
@@ -24,13 +24,13 @@ pub enum Input<'a, A: Allocator = Global> {
     Image(MachO<'a, A>),
     /// Images and archives for several cpus.
     Fat(MultiArch<'a, A>),
-    /// The same, in a table whose places and lengths have 64 bits.
+    /// Images and archives for several cpus, in a table whose offsets and sizes have 64 bits.
     Fat64(MultiArch64<'a, A>),
-    /// A static library: files, and maybe an index of their symbols.
+    /// A static library: files, and possibly an index of their symbols.
     Archive(Archive<'a>),
 }
 
-/// Whether the bytes begin as an archive does, or as one whose members are other files.
+/// Whether the bytes begin like an archive, or like a thin archive, whose members are other files.
 pub fn begins_archive(bytes: &[u8]) -> bool
     ensures { result ≡ begins_any_archive bytes.now }
 {
@@ -50,9 +50,9 @@ fn has_fat_64_magic(bytes: &[u8]) -> bool
 impl<'a, A: Allocator + Clone> Input<'a, A> {
     ghost use Rattle.goblin_mach.specs.Inputs.{IsInput};
 
-    /// Opens a file: an archive or a fat file where its magic says so, neither of which takes memory, else an image,
-    /// strictly. Each refusal but `Error::Memory` is a fault that stands in it. Of all bytes but those of an archive
-    /// and of a fat file of 64 bits the answer is that of `Mach::parse`.
+    /// Opens a file: an archive or a fat file if its magic says so, which takes no memory, else an image, strictly. Each
+    /// error except `Error::Memory` is a fault in the file. For all bytes except archives and fat files of 64 bits, the
+    /// result is that of `Mach::parse`.
     pub fn parse(alloc: A, bytes: &'a [u8]) -> Result<Input<'a, A>>
         ensures opened { IfOk result (IsInput bytes.now) }
         ensures only { InputOpens bytes.now → IsOkUnlessMemory result }

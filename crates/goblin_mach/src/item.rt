@@ -1,4 +1,4 @@
-//! What stands in a file: images, and what isn't one.
+//! The items in a file: images, and what isn't one.
 
 ghost use Rattle.std.specs.Prelude.{◌≡◌, IfOk, IfErr};
 ghost use Rattle.mach_base.specs.Answer.{Stands, IsOkUnlessMemory};
@@ -11,39 +11,39 @@ use mach_archive::Member;
 use mach_base::Result;
 use std::alloc::Allocator;
 
-/// For which cpu an entry of a fat file is, as its record says.
+/// The cpu that an entry of a fat file is for, by its record.
 #[derive(Clone, Copy, Debug, PartialEq)]
 pub struct EntryCpu {
     /// The cpu, one of the `CPU_TYPE_` constants.
     pub cputype: u32,
-    /// The kind of this cpu, and its capabilities in the top 8 bits.
+    /// The subtype of this cpu, with its capabilities in the top 8 bits.
     pub cpusubtype: u32,
 }
 
-/// Where an item stands: what a program makes its label of.
+/// The place of an item. Programs build its label from this.
 #[derive(Clone, Copy, Debug)]
 pub struct Place {
     /// The index of its entry, in a fat file.
     pub entry: Option<usize>,
-    /// The cpu of its entry, where the record can be read.
+    /// The cpu of its entry, if the record can be read.
     pub cpu: Option<EntryCpu>,
-    /// Where its bytes begin in the file; of a member, where those of its archive do.
+    /// The place in the file where its bytes begin; for a member, where its archive begins.
     pub offset: u64,
 }
 
-/// What stands there.
+/// The content of an item.
 #[derive(Clone, Copy, Debug)]
 pub enum Content<'a> {
-    /// The file itself or an entry of it: an image, or whatever else is no archive.
+    /// The file itself or an entry of it: an image, or anything else except an archive.
     File(&'a [u8]),
-    /// A member of the archive that stands there: an image, or whatever else.
+    /// A member of the archive at that place: an image, or anything else.
     Member(Member<'a>),
     /// An archive that has no member.
     NoMember,
 }
 
 impl<'a> Content<'a> {
-    /// The bytes that may be an image; none of an archive with no member.
+    /// Returns the bytes that may be an image; none for an archive without members.
     pub fn bytes(&self) -> &'a [u8]
         ensures { result.now ≡ content_bytes (content_view self.now) }
     {
@@ -54,7 +54,7 @@ impl<'a> Content<'a> {
         }
     }
 
-    /// Opens the image that it is, strictly. Each refusal but `Error::Memory` is a fault that stands in its bytes.
+    /// Opens the image in it, strictly. Each error except `Error::Memory` is a fault in its bytes.
     pub fn open<A: Allocator + Clone>(&self, alloc: A) -> Result<MachO<'a, A>>
         ensures opened { IfOk result (IsImage (content_bytes (content_view self.now)) 0) }
         ensures only { Opens (content_bytes (content_view self.now)) 0 → IsOkUnlessMemory result }
@@ -67,8 +67,8 @@ impl<'a> Content<'a> {
 /// An item of a file.
 #[derive(Debug, Drop)]
 pub struct InputItem<'a> {
-    /// Where it stands.
+    /// The place of the item.
     pub place: Place,
-    /// What stands there, or why it can't be read.
+    /// Its content, or the error if it can't be read.
     pub content: Result<Content<'a>>,
 }

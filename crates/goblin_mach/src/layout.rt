@@ -12,7 +12,7 @@ use crate::macho::MachO;
 use mach_layout::Layout;
 use std::alloc::Allocator;
 
-/// What the rules read of an image, which was opened at the first of its bytes.
+/// Returns what the rules read of an image that was opened at the first of its bytes.
 pub fn layout_of<'a, 'b, A: Allocator>(image: &'b MachO<'a, A>) -> Layout<'a, 'b>
     ensures { laid_of result ≡ laid_held image.now }
 {

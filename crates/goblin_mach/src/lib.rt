@@ -1,5 +1,5 @@
-//! Reads Apple's Mach-O images: every answer is a stated slice, text or record of the bytes handed
-//! in, and every refusal a fault that stands in them.
+//! Reads Apple's Mach-O images. Every result is a stated slice, text or record of the given bytes, and every error is a
+//! fault that occurs in them.
 #![tactic(auto)]
 
 // The image: its header, its commands, and what they say, as slices, texts and records of the bytes.
@@ -22,7 +22,7 @@ mod subjects;
 pub mod table_places;
 mod weak_binds;
 
-// A file: an image, a fat file, or whatever else has images in it.
+// A file: an image, a fat file, or anything else that holds images.
 mod fat_file;
 mod images;
 mod input;
@@ -30,10 +30,10 @@ mod item;
 mod mach;
 mod view;
 
-// Whether the parts of an image lie as the format and its readers demand.
+// Whether the parts of an image lie as the format and its readers require.
 pub mod layout;
 
-// Laws, and what is known of an image's answers.
+// Laws, and what is known of an image's results.
 mod facts;
 pub mod laws;
 
@@ -88,7 +88,7 @@ pub mod chained_fixups {
     pub use mach_parts::binding::PointerAuth;
 }
 
-/// Indirect symbols, and the stubs and pointers that stand for symbols.
+/// Indirect symbols, and the stubs and pointers that belong to symbols.
 pub mod slots {
     pub use mach_parts::{
         IndirectSymbol, IndirectSymbolIterator, IndirectSymbols, SlotIterator, SlotKind,

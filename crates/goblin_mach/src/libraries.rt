@@ -1,4 +1,4 @@
-//! The libraries of an image, each with how the image brings it in.
+//! The libraries of an image, each with the way the image loads it.
 
 ghost use Rattle.std.specs.Prelude.{◌≡◌, ◌+◌, ◌∷◌, [], ℕ, List, map, option_map, unwrap_or, codes, slice_get, Some};
 ghost use Rattle.mach_base.specs.Text.{texts};
@@ -22,36 +22,36 @@ use std::fmt;
 use std::fmt::{Debug, Formatter, Write};
 use std::slice::Iter;
 
-/// How an image brings a library in: by which of the five library commands (`mach-o/loader.h`).
+/// The way an image loads a library: which of the five library commands it uses (`mach-o/loader.h`).
 #[derive(Clone, Copy, Debug, PartialEq)]
 pub enum LibraryKind {
     /// `LC_LOAD_DYLIB`: the image needs it.
     Required,
     /// `LC_LOAD_WEAK_DYLIB`: it may be missing.
     Weak,
-    /// `LC_REEXPORT_DYLIB`: what it exports the image exports as well.
+    /// `LC_REEXPORT_DYLIB`: the image re-exports what it exports.
     Reexport,
     /// `LC_LOAD_UPWARD_DYLIB`: it may need the image in turn.
     Upward,
-    /// `LC_LAZY_LOAD_DYLIB`: it is to be loaded when it is first used.
+    /// `LC_LAZY_LOAD_DYLIB`: it is loaded when it is first used.
     Lazy,
 }
 
-/// How a library is used (struct dylib_use_command): by the flags of its command where it has some, else by its number.
+/// How a library is used (struct dylib_use_command): by the flags of its command if it has any, else by the command's number.
 #[derive(Clone, Copy, Debug, PartialEq)]
 pub struct LibraryAttributes {
     /// It may be missing.
     pub is_weak: bool,
-    /// What it exports the image exports as well.
+    /// The image re-exports what it exports.
     pub is_reexport: bool,
     /// It may need the image in turn.
     pub is_upward: bool,
-    /// It is set up when it is first used.
+    /// It is initialized when it is first used.
     pub is_delayed: bool,
 }
 
 impl LibraryAttributes {
-    // What the flags of a command say.
+    // Returns the attributes in the flags of a command.
     fn of_flags(flags: u32) -> LibraryAttributes
         ensures { result ≡ attributes_of_flags flags }
     {
@@ -63,7 +63,7 @@ impl LibraryAttributes {
         }
     }
 
-    // What the number of a command says.
+    // Returns the attributes that a kind of command means.
     fn of_kind(kind: LibraryKind) -> LibraryAttributes
         ensures { result ≡ attributes_of_kind kind }
     {
@@ -75,8 +75,8 @@ impl LibraryAttributes {
         }
     }
 
-    /// How the library is used that a command of this kind brings in: by the four bytes at 24, where the command has the
-    /// marker of a struct dylib_use_command, else by the kind.
+    /// Returns how the library of a command of this kind is used: by the four bytes at 24, if the command has the marker of
+    /// a struct dylib_use_command, else by the kind.
     pub fn of(
         bytes: &[u8],
         le: Endian,
@@ -96,26 +96,26 @@ impl LibraryAttributes {
     }
 }
 
-/// A library that an image brings in (struct dylib).
+/// A library that an image loads (struct dylib).
 #[derive(Clone, Copy, Debug)]
 pub struct Library<'a> {
-    /// Its place in the image's `libs`, by which imports and re-exports speak of it: 1 for the first.
+    /// Its place in the image's `libs`, by which imports and re-exports name it: 1 for the first.
     pub ordinal: usize,
     /// Its name: a slice of the image's bytes.
     pub name: &'a str,
-    /// How the image brings it in: the number of its command alone.
+    /// The way the image loads it, by the number of its command only.
     pub kind: LibraryKind,
     /// When it was built, in seconds since 1970.
     pub timestamp: u32,
     /// Its version when the image was linked, X.Y.Z in 16, 8 and 8 bits.
     pub current_version: u32,
-    /// The oldest version that the image takes, X.Y.Z in 16, 8 and 8 bits.
+    /// The oldest version that the image accepts, X.Y.Z in 16, 8 and 8 bits.
     pub compatibility_version: u32,
     /// How it is used.
     pub attributes: LibraryAttributes,
 }
 
-/// How a command brings a library in, and its struct dylib, if it brings one in.
+/// Returns the way a command loads a library, with its struct dylib, if it loads one.
 #[inline(always)]
 pub fn brought(command: &LoadCommand) -> Option<(LibraryKind, Dylib)>
     ensures { let c = command_of command.now in result ≡ option_map (λ kind. (kind, dylib_of_values c.values)) (library_kind c.kind) }
@@ -130,10 +130,10 @@ pub fn brought(command: &LoadCommand) -> Option<(LibraryKind, Dylib)>
     }
 }
 
-// The timestamp of a command that has flags behind its record.
+// The timestamp of a command that has flags after its record.
 const DYLIB_USE_MARKER: u32 = 0x1a74_1800;
 
-// Whether a command has flags that say how its library is used.
+// Whether a command has flags that state how its library is used.
 fn has_use_flags(command: &LoadCommand) -> bool
     ensures { result ≡ has_use_flags (command_of command.now) }
 {
@@ -145,8 +145,7 @@ fn has_use_flags(command: &LoadCommand) -> bool
     }
 }
 
-/// The libraries of an image one after the other, by ordinal. It goes once over the load commands, and takes no
-/// memory.
+/// An iterator over the libraries of an image, by ordinal. It scans the load commands once and allocates nothing.
 #[derive(Clone, Drop)]
 pub struct LibraryIterator<'a, 'b> {
     source: NamedBytes<'a>,
@@ -156,7 +155,7 @@ pub struct LibraryIterator<'a, 'b> {
 }
 
 impl<'a, 'b> LibraryIterator<'a, 'b> {
-    // The libraries that these commands bring in, from ordinal 1 on.
+    // Returns the libraries that these commands load, from ordinal 1 on.
     pub(crate) fn new(bytes: &'a [u8], le: Endian, commands: &'b [LoadCommand]) -> Self
         ensures { libraries_left result ≡ libraries_in le bytes.now (map command_of commands.now) }
     {
@@ -171,7 +170,7 @@ impl<'a, 'b> LibraryIterator<'a, 'b> {
         }
     }
 
-    // The library that a command brings in, with the ordinal that comes now, if its name can be read.
+    // Returns the library that a command loads, with the current ordinal, if its name can be read.
     #[inline(always)]
     fn library(&mut self, command: &LoadCommand) -> Option<Library<'a>>
         ensures library { option_map library_view result ≡ option_map (of_ordinal self.old.ordinal)
@@ -202,7 +201,7 @@ impl<'a, 'b> LibraryIterator<'a, 'b> {
 impl<'a, 'b> Default for LibraryIterator<'a, 'b> {
     ghost is_default = { λ it. libraries_left it ≡ [] };
 
-    /// No libraries.
+    /// Returns an iterator without libraries.
     fn default() -> Self {
         LibraryIterator {
             source: NamedBytes {
@@ -241,7 +240,7 @@ impl<'a, 'b> Iterator for LibraryIterator<'a, 'b> {
 }
 
 impl Debug for LibraryIterator<'_, '_> {
-    /// How far it has come: how many commands are left, and the next ordinal; of the bytes only how many they are.
+    /// Formats the number of commands left, the next ordinal and, of the bytes, only their number.
     fn fmt<W: Write>(&self, f: &mut Formatter<W>) -> fmt::Result {
         f.debug_struct("LibraryIterator")
             .field("bytes", &ByteCount(self.source.bytes))
@@ -251,8 +250,8 @@ impl Debug for LibraryIterator<'_, '_> {
     }
 }
 
-/// The libraries with their kinds are those of `libs`: the names are the same, in the same order, and each library's
-/// ordinal is its place there.
+/// The libraries with their kinds are those of `libs`: the names are the same, in the same order, and each library's ordinal
+/// is its place there.
 pub fn libraries_by_ordinal()
     ensures names { (le : Endian) (bytes : List ℕ) (cs : List Command)
         → libs_in bytes cs ≡ unwrap_or (own_name_in bytes cs) (codes "self") ∷ map (λ l. l.name) (libraries_in le bytes cs) }
@@ -260,7 +259,7 @@ pub fn libraries_by_ordinal()
         → slice_get (libraries_in le bytes cs) k ≡ Some l → l.ordinal ≡ k + 1 }
 {}
 
-/// What an image that was opened holds in `libs` at the ordinal of a library is that library's name.
+/// The name that an opened image holds in `libs` at the ordinal of a library is that library's name.
 pub fn libraries_in_libs<A: Allocator>(image: &MachO<'_, A>)
     ensures { InBothModes image.now (λ bytes o. (k : ℕ) (l : LibraryView)
         → slice_get (libraries_in (ctx_held image.now).le (bytes_held image.now) (commands_held image.now)) k ≡ Some l

@@ -1,4 +1,4 @@
-//! What a file is.
+//! The kind of a file: an image or a fat file.
 
 ghost use Rattle.std.specs.Prelude.{IfOk, IfErr, IsOk};
 ghost use Rattle.mach_base.specs.Answer.{Stands, IsOkUnlessMemory};
@@ -11,7 +11,7 @@ use mach_base::{Endian, Error, Result};
 use mach_parts::fat::FAT_MAGIC;
 use std::alloc::{Allocator, Global};
 
-/// What a file is.
+/// A file: an image or a fat file.
 #[derive(Drop)]
 #[derive_where(Debug)]
 pub enum Mach<'a, A: Allocator = Global> {
@@ -25,8 +25,8 @@ impl<'a, A: Allocator + Clone> Mach<'a, A> {
     ghost use Rattle.goblin_mach.specs.OpenImage.{IsImage, IsLossyImage};
     ghost use Rattle.goblin_mach.specs.File.{IsMach};
 
-    /// Opens a file: a fat file where its magic says so, which takes no memory, else an image. Each refusal
-    /// but `Error::Memory` is a fault that stands in it.
+    /// Opens a file: a fat file if its magic says so, which takes no memory, else an image. Each error except
+    /// `Error::Memory` is a fault in the file.
     pub fn parse(alloc: A, bytes: &'a [u8]) -> Result<Mach<'a, A>>
         ensures opened { IfOk result (IsMach IsImage bytes.now) }
         ensures only { MachOpens Opens bytes.now → IsOkUnlessMemory result }
@@ -42,8 +42,8 @@ impl<'a, A: Allocator + Clone> Mach<'a, A> {
         Ok(Mach::Binary(MachO::parse(alloc, bytes, 0)?))
     }
 
-    /// Opens a file, and passes over what can't be read of its image, as `MachO::parse_lossy` does. The
-    /// images of a fat file are opened strictly all the same.
+    /// Opens a file, and skips what can't be read of its image, as `MachO::parse_lossy` does. The images of a fat file are
+    /// still opened strictly.
     pub fn parse_lossy(alloc: A, bytes: &'a [u8]) -> Result<Mach<'a, A>>
         ensures opened { IfOk result (IsMach IsLossyImage bytes.now) }
         ensures only { MachOpens LossyOpens bytes.now → IsOkUnlessMemory result }

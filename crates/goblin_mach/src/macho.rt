@@ -34,22 +34,22 @@ use std::alloc::{Allocator, Global};
 /// A Mach-O image: an executable, a library or an object file for one cpu.
 #[derive(Drop)]
 pub struct MachO<'a, A: Allocator = Global> {
-    /// The header, in the form of either width.
+    /// The header, in one form for 32 and 64 bits.
     pub header: Header,
     /// The load commands, in order.
     pub load_commands: Vec<LoadCommand, A>,
     /// The segments, in the order of their commands.
     pub segments: Segments<'a, A>,
-    /// The symbols, if a command describes them: those of the last one that does.
+    /// The symbols of the last command that names any, if there is one.
     pub symbols: Option<Symbols<'a>>,
-    /// The image's own name or "self", and then the libraries that it names, in the order of their commands:
-    /// a library's place here is its ordinal.
+    /// The image's own name or "self", then the libraries that it names, in the order of their commands. A library's place
+    /// here is its ordinal.
     pub libs: Vec<&'a str, A>,
-    /// The paths on which its libraries are sought, in order.
+    /// The paths on which its libraries are searched, in order.
     pub rpaths: Vec<&'a str, A>,
     /// The address at which it begins to run, or 0.
     pub entry: u64,
-    /// Whether the state of a thread says where it begins to run.
+    /// Whether a thread's state holds the address at which it begins to run.
     pub old_style_entry: bool,
     /// The name by which the image is known as a library, if it has one.
     pub name: Option<&'a str>,
@@ -66,7 +66,7 @@ pub struct MachO<'a, A: Allocator = Global> {
 impl<'a, A: Allocator + Clone> MachO<'a, A> {
     ghost use Rattle.goblin_mach.specs.OpenImage.{IsImage, IsLossyImage};
 
-    /// Opens the image at a place of the bytes. Each refusal but `Error::Memory` is a fault that stands there.
+    /// Opens the image at a place of the bytes. Each error except `Error::Memory` is a fault there.
     pub fn parse(alloc: A, bytes: &'a [u8], offset: usize) -> Result<MachO<'a, A>>
         ensures opened { IfOk result (IsImage bytes.now offset) }
         ensures only { Opens bytes.now offset → IsOkUnlessMemory result }
@@ -75,9 +75,9 @@ impl<'a, A: Allocator + Clone> MachO<'a, A> {
         MachO::open(alloc, bytes, offset)
     }
 
-    /// Opens the image at a place of the bytes, and passes over what can't be read of it: data that are
-    /// not in the bytes are empty, and symbol tables, names, ids and run paths are left out. Each refusal
-    /// but `Error::Memory` is a fault that stands there all the same.
+    /// Opens the image at a place of the bytes, and skips what can't be read of it. Data that aren't in the bytes are empty;
+    /// symbol tables, names, ids and run paths are left out. Each error except `Error::Memory` is a fault there, also in
+    /// lossy mode.
     pub fn parse_lossy(alloc: A, bytes: &'a [u8], offset: usize) -> Result<MachO<'a, A>>
         ensures opened { IfOk result (IsLossyImage bytes.now offset) }
         ensures only { LossyOpens bytes.now offset → IsOkUnlessMemory result }
@@ -108,7 +108,7 @@ impl<'a, A: Allocator + Clone> MachO<'a, A> {
 impl<'a, A: Allocator> MachO<'a, A> {
     ghost use Rattle.goblin_mach.specs.OpenImage.{IsMadeOf};
 
-    // The image of what was read.
+    // Builds the image from what was read.
     fn of(bytes: &'a [u8], opened: Opened<A>, fields: Fields<'a, A>) -> MachO<'a, A>
         ensures { IsMadeOf bytes.now opened fields.entry result }
     {
@@ -137,7 +137,7 @@ impl<'a, A: Allocator> MachO<'a, A> {
     ghost use Rattle.mach_parts.specs.SymbolViews.{symbols_left};
     ghost use Rattle.goblin_mach.specs.Subjects.{symbols_held};
 
-    /// The symbols that the image holds at the call, one after the other; none where it holds no table.
+    /// Returns the symbols that the image holds, one after the other; none if it holds no table.
     pub fn symbols(&self) -> SymbolIterator<'a>
         ensures items { symbols_left result ≡ symbols_held self.now.symbols }
         ensures bounded { length (symbols_left result) < 2 ^ 64 }
@@ -148,8 +148,8 @@ impl<'a, A: Allocator> MachO<'a, A> {
         }
     }
 
-    /// The exports of the image, over the libraries that it holds at the call; none where no command
-    /// brings a trie. Each refusal but `Error::Memory` is a fault that stands in the trie.
+    /// Returns the exports of the image, over the libraries that it holds; none if no command names a trie. Each error
+    /// except `Error::Memory` is a fault in the trie.
     pub fn exports<B: Allocator + Clone>(&self, alloc: B) -> Result<Vec<Export<'a, B>, B>>
         ensures listed { IfOk result (λ v. ListsImageExports (trie_held self.now) (texts self.now.libs.items) (entries v.items)) }
         ensures only { (list : List Entry) → ListsImageExports (trie_held self.now) (texts self.now.libs.items) list → IsOkUnlessMemory result }
@@ -162,9 +162,9 @@ impl<'a, A: Allocator> MachO<'a, A> {
         }
     }
 
-    /// The exports of the image one at a time, over the libraries that it holds, in the order of `exports`; none where
-    /// no command brings a trie. `next` lends each name until it is called again. It takes a mark for each byte of the
-    /// trie, the open nodes and one name, and no allocation for an export.
+    /// Starts a walk over the exports of the image, over the libraries that it holds, in the order of `exports`. There are
+    /// none if no command names a trie. `next` lends each name until it is called again. The walk takes a mark for each byte
+    /// of the trie, the open nodes and one name, and no allocation for an export.
     pub fn walk_exports<'b, B: Allocator + Clone>(
         &'b self,
         alloc: B,
@@ -178,8 +178,8 @@ impl<'a, A: Allocator> MachO<'a, A> {
         }
     }
 
-    /// The imports of the image, over the libraries and the segments that it holds at the call; none where
-    /// no command brings binds. Each refusal but `Error::Memory` is a fault that stands in the binds.
+    /// Returns the imports of the image, over the libraries and the segments that it holds; none if no command names binds.
+    /// Each error except `Error::Memory` is a fault in the binds.
     pub fn imports<B: Allocator>(&self, alloc: B) -> Result<Vec<Import<'a>, B>>
         ensures listed { IfOk result (λ v. ListsImageImports (binds_held self.now) (pointer_size (ctx_held self.now).container)
             (texts self.now.libs.items) (segments_held self.now) (imports_seen v.items)) }
@@ -204,9 +204,9 @@ impl<'a, A: Allocator> MachO<'a, A> {
     ghost use Rattle.mach_dyld.specs.BindLeft.{imports_left};
     ghost use Rattle.goblin_mach.specs.Subjects.{AreImageBindItems};
 
-    /// The imports of the image one at a time, over the libraries and the segments that it holds: those of
-    /// the non-lazy stream, then those of the lazy one, up to the first fault, and its error last; none
-    /// where no command brings binds. It takes no memory.
+    /// Returns the imports of the image one at a time, over the libraries and the segments that it holds: those of the
+    /// non-lazy stream, then those of the lazy stream. The first fault is the last item. There are none if no command names
+    /// binds. It allocates nothing.
     pub fn iter_imports<'b>(&'b self) -> BindIterator<'a, 'b>
         ensures { AreImageBindItems (binds_held self.now) (pointer_size (ctx_held self.now).container)
             (texts self.now.libs.items) (segments_held self.now) (imports_left result) }
@@ -228,9 +228,9 @@ impl<'a, A: Allocator> MachO<'a, A> {
     ghost use Rattle.mach_base.specs.Answer.{Gives};
     ghost use Rattle.goblin_mach.specs.Relocations.{relocated_view, relocated_sections_in};
 
-    /// The sections that have relocations, over the segments that the image holds at the call: each
-    /// with its number in its segment, counted from 0, and an iterator over its relocations. The first
-    /// unreadable section of any segment refuses them all.
+    /// Returns the sections that have relocations, over the segments that the image holds: each with its number in its
+    /// segment, counted from 0, and an iterator over its relocations. The first unreadable section of any segment is the
+    /// error of the whole.
     pub fn relocations<B: Allocator>(&self, alloc: B) -> Result<Vec<RelocatedSection<'a>, B>>
         ensures { Gives (λ v. map relocated_view v.items) result (relocated_sections_in (ctx_held self.now) (bytes_held self.now) (segments_held self.now)) }
     {

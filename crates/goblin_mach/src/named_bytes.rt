@@ -1,4 +1,4 @@
-//! The bytes of an image, with what reads their texts.
+//! The bytes of an image, with the reader of their texts.
 
 ghost use Rattle.std.specs.Prelude.{◌≡◌};
 ghost use Rattle.mach_base.specs.Answer.{Reads};
@@ -7,7 +7,7 @@ ghost use Rattle.mach_base.specs.Text.{text_at};
 
 use mach_base::{KeptText, Result};
 
-/// The bytes of an image, with what reads their texts: long ones that end together are sought once.
+/// The bytes of an image, with the reader of their texts. Long texts that end together are scanned once.
 #[derive(Clone, Copy)]
 pub(crate) struct NamedBytes<'a> {
     pub(crate) bytes: &'a [u8],
@@ -16,7 +16,7 @@ pub(crate) struct NamedBytes<'a> {
 }
 
 impl<'a> NamedBytes<'a> {
-    /// The text at a place.
+    /// Reads the text at a place.
     #[inline(always)]
     pub(crate) fn read(&mut self, place: usize) -> Result<&'a str>
         ensures text { Reads (λ text. text.now) result (text_at self.old.bytes.now place) }

@@ -1,4 +1,4 @@
-//! What strict and lossy mode read alike: the header, the commands and the entry.
+//! What strict and lossy mode read in the same way: the header, the commands and the entry.
 
 ghost use Rattle.std.specs.Prelude.{◌≡◌, Ok, IfOk, IfErr};
 ghost use Rattle.mach_base.specs.Answer.{Stands};
@@ -15,18 +15,18 @@ use mach_parts::header::Header;
 use mach_parts::magic::parse_magic_and_ctx;
 use std::alloc::Allocator;
 
-/// What strict and lossy mode read alike.
+/// What strict and lossy mode read in the same way.
 #[derive(Drop)]
 pub struct Opened<A: Allocator> {
     pub ctx: Ctx,
     pub header: Header,
     pub load_commands: Vec<LoadCommand, A>,
-    /// Where the image begins, as `entry` answers it.
+    /// The address at which the image begins, as `entry` returns it.
     pub address: u64,
     pub old_style_entry: bool,
 }
 
-// The context and the header of the image at a place, where its counts can be those of an image.
+// Returns the context and the header of the image at a place, if its counts can be those of an image.
 fn read_header(bytes: &[u8], offset: usize) -> Result<(Ctx, Header)>
     ensures found { IfOk result (λ found. HasHeader bytes.now offset found.0) }
     ensures counts { IfOk result (λ found. CountsFit bytes.now offset found.0) }

@@ -1,4 +1,4 @@
-//! What is read off the commands of an image, subject by subject.
+//! What is read from the commands of an image, subject by subject.
 
 ghost use Rattle.std.specs.Prelude.{◌≡◌, ◌++◌, ℕ, List, map, option_map, IfOk, IfErr, OnOk};
 ghost use Rattle.mach_base.specs.Answer.{Stands, IsOkUnlessMemory};
@@ -12,7 +12,7 @@ use mach_base::{KeptText, Result};
 use mach_load::LoadCommand;
 use std::alloc::Allocator;
 
-/// A subject of an image's commands: what is read off those that speak of it.
+/// A subject of an image's commands: what is read from those that concern it.
 pub trait Subject {
     type Value: Drop;
 
@@ -21,15 +21,15 @@ pub trait Subject {
 
     ghost seen: { Self.Value → Seen };
 
-    // What is read off each command.
+    // What is read from each command.
     ghost reading: { Self → Reading Seen };
 
-    /// What is read off a command, if it speaks of the subject.
+    /// Reads a command, if it concerns the subject.
     fn read(&self, command: &LoadCommand) -> Option<Result<Self::Value>>
         ensures { seen_of seen result ≡ reading self.now (command_of command.now) };
 }
 
-/// Adds to a list what a command says of a subject.
+/// Adds what a command says on a subject to a list.
 #[inline(always)]
 pub fn add<S: Subject, A: Allocator>(
     values: &mut Vec<S::Value, A>,
@@ -46,7 +46,7 @@ pub fn add<S: Subject, A: Allocator>(
     Ok(())
 }
 
-/// Adds what can be read of it.
+/// Adds what a command says on a subject to a list, if it can be read.
 pub fn add_readable<S: Subject, A: Allocator>(
     values: &mut Vec<S::Value, A>,
     subject: &S,
@@ -61,7 +61,7 @@ pub fn add_readable<S: Subject, A: Allocator>(
     Ok(())
 }
 
-/// Puts what a command says of a subject in the place of what an earlier one said.
+/// Replaces what an earlier command said on a subject by what this one says.
 pub fn put<S: Subject>(
     last: &mut Option<S::Value>,
     subject: &S,
@@ -77,7 +77,7 @@ pub fn put<S: Subject>(
     Ok(())
 }
 
-/// Puts what can be read of it.
+/// Replaces what an earlier command said on a subject by what this one says, if it can be read.
 pub fn put_readable<S: Subject>(last: &mut Option<S::Value>, subject: &S, command: &LoadCommand)
     ensures { option_map S.seen last.new ≡ last_or (option_map S.seen last.old) (said (S.reading subject.now (command_of command.now))) }
 {
@@ -86,20 +86,20 @@ pub fn put_readable<S: Subject>(last: &mut Option<S::Value>, subject: &S, comman
     }
 }
 
-/// A subject of commands that give texts of some bytes.
+/// A subject of commands that name texts in some bytes.
 pub(crate) trait TextSubject {
     // The bytes.
     ghost bytes: { Self → List ℕ };
 
-    // What is read off each command.
+    // What is read from each command.
     ghost reading: { Self → Reading (List ℕ) };
 
-    /// Where the text that a command gives stands, if the command speaks of the subject.
+    /// Returns the place of the text that a command names, if the command concerns the subject.
     fn place(&self, command: &LoadCommand) -> Option<usize>
         ensures { reading self.now (command_of command.now) ≡ option_map (text_at (bytes self.now)) result };
 }
 
-/// Adds to a list the text that a command gives.
+/// Adds the text that a command names to a list.
 #[inline(always)]
 pub(crate) fn add_text<'a, S: TextSubject, A: Allocator>(
     values: &mut Vec<&'a str, A>,
@@ -119,7 +119,7 @@ pub(crate) fn add_text<'a, S: TextSubject, A: Allocator>(
     Ok(())
 }
 
-/// Adds it, if it can be read.
+/// Adds the text that a command names to a list, if it can be read.
 pub(crate) fn add_readable_text<'a, S: TextSubject, A: Allocator>(
     values: &mut Vec<&'a str, A>,
     subject: &S,
@@ -139,7 +139,7 @@ pub(crate) fn add_readable_text<'a, S: TextSubject, A: Allocator>(
     Ok(())
 }
 
-/// Puts the text that a command gives in the place of what an earlier one gave.
+/// Replaces the text of an earlier command by the text that this one names.
 pub(crate) fn put_text<'a, S: TextSubject>(
     last: &mut Option<&'a str>,
     subject: &S,
@@ -159,7 +159,7 @@ pub(crate) fn put_text<'a, S: TextSubject>(
     Ok(())
 }
 
-/// Puts it, if it can be read.
+/// Replaces the text of an earlier command by the text that this one names, if it can be read.
 pub(crate) fn put_readable_text<'a, S: TextSubject>(
     last: &mut Option<&'a str>,
     subject: &S,
@@ -177,7 +177,7 @@ pub(crate) fn put_readable_text<'a, S: TextSubject>(
     }
 }
 
-/// What the first command of a subject says, where all that speak of it can be read.
+/// Returns what the first command on a subject says. Fails if a command on it can't be read.
 pub fn first_read<S: Subject>(subject: &S, commands: &[LoadCommand]) -> Result<Option<S::Value>>
     ensures found { IfOk result (λ first. option_map S.seen first ≡ first_of (read_of (S.reading subject.now) (map command_of commands.now))) }
     ensures all { IfOk result (λ _. AllRead (S.reading subject.now) (map command_of commands.now)) }
@@ -197,7 +197,7 @@ pub fn first_read<S: Subject>(subject: &S, commands: &[LoadCommand]) -> Result<O
     Ok(first)
 }
 
-/// What the first readable command of a subject says.
+/// Returns what the first readable command on a subject says.
 pub fn first_readable<S: Subject>(subject: &S, commands: &[LoadCommand]) -> Option<S::Value>
     ensures { option_map S.seen result ≡ first_of (read_of (S.reading subject.now) (map command_of commands.now)) }
 {

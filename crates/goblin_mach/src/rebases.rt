@@ -1,4 +1,4 @@
-//! What dyld rebases of an image, one rebase at a time.
+//! What dyld rebases in an image, one rebase at a time.
 
 ghost use Rattle.std.specs.Prelude.{◌≡◌, ◌++◌, [], option_map};
 ghost use Rattle.std.specs.Iterator.{YieldsFirstBy};
@@ -33,7 +33,7 @@ impl<'a> Subject for RebaseStreams<'a> {
 
     ghost reading = { λ s. rebase_stream_by s.bytes.now };
 
-    /// It is never refused.
+    /// It never fails.
     fn read(&self, command: &LoadCommand) -> Option<Result<RebaseStream<'a>>> {
         match &command.command {
             CommandVariant::DyldInfo(c) | CommandVariant::DyldInfoOnly(c) => {
@@ -44,7 +44,7 @@ impl<'a> Subject for RebaseStreams<'a> {
     }
 }
 
-// The rebase that a fixup is, if it is one.
+// Returns the rebase that a fixup is, if it is one.
 #[inline(always)]
 fn rebase_of(fixup: &Fixup) -> Option<Rebase>
     ensures { option_map rebase_view result ≡ rebase_in (fixup_view fixup.now) }
@@ -70,7 +70,7 @@ pub struct ChainRebases<'a, 'b> {
 }
 
 impl<'a, 'b> ChainRebases<'a, 'b> {
-    // The next rebase, or an error.
+    // Returns the next rebase, or an error.
     #[tactic(auto, unfolding(crate::specs::RebasesLeft::chain_rebases_left))]
     #[inline(always)]
     fn step(&mut self) -> Option<Result<Rebase>>
@@ -90,8 +90,8 @@ impl<'a, 'b> ChainRebases<'a, 'b> {
     }
 }
 
-/// The rebases of an image one at a time: those of its opcodes, then those of its chains, up to the first fault; then its
-/// error; then nothing more. It takes no memory.
+/// An iterator over the rebases of an image: those of its opcodes, then those of its chains. The first fault is its last
+/// item. It allocates nothing.
 #[derive(Drop)]
 pub struct RebaseIterator<'a, 'b> {
     opcodes: OpcodeRebaseIterator<'a, 'b>,
@@ -100,7 +100,7 @@ pub struct RebaseIterator<'a, 'b> {
 }
 
 impl<'a, 'b> RebaseIterator<'a, 'b> {
-    /// Those of the opcodes, and then those among the fixups.
+    /// Returns the rebases of the opcodes, then those among the fixups.
     #[tactic(auto, unfolding(crate::specs::RebasesLeft::rebases_left, crate::specs::RebasesLeft::all_rebases_left, crate::specs::RebasesLeft::chain_rebases_left))]
     pub(crate) fn over(opcodes: OpcodeRebaseIterator<'a, 'b>, fixups: FixupIterator<'a, 'b>) -> Self
         ensures { rebases_left result ≡ upto_fault (opcode_rebases_left opcodes.entry ++ rebases_among (image_fixups_left fixups.entry)) }
@@ -112,7 +112,7 @@ impl<'a, 'b> RebaseIterator<'a, 'b> {
         }
     }
 
-    // What comes next, whether or not a fault came before.
+    // Returns the next item, whether or not a fault came before.
     #[tactic(auto, unfolding(crate::specs::RebasesLeft::all_rebases_left))]
     #[inline(always)]
     fn any(&mut self) -> Option<Result<Rebase>>
@@ -125,7 +125,7 @@ impl<'a, 'b> RebaseIterator<'a, 'b> {
         }
     }
 
-    // What comes next, up to the first fault.
+    // Returns the next item, up to the first fault.
     #[tactic(auto, unfolding(crate::specs::RebasesLeft::rebases_left))]
     #[inline(always)]
     fn step(&mut self) -> Option<Result<Rebase>>
@@ -163,7 +163,7 @@ impl<'a, 'b> Iterator for RebaseIterator<'a, 'b> {
 impl<'a, 'b> Default for RebaseIterator<'a, 'b> {
     ghost is_default = { λ it. rebases_left it ≡ [] };
 
-    /// No rebases.
+    /// Returns an iterator without rebases.
     #[tactic(auto, unfolding(crate::specs::RebasesLeft::rebases_left))]
     fn default() -> Self {
         RebaseIterator {

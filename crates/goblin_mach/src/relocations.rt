@@ -12,8 +12,8 @@ use std::alloc::Allocator;
 /// A section with its number in its segment, counted from 0, and the iterator over its relocations.
 pub type RelocatedSection<'a> = (usize, RelocationIterator<'a>, Section);
 
-/// The sections that have relocations, segment by segment in order, each with its number in its
-/// segment, counted from 0. The first section of all that is out of the bytes refuses them all.
+/// Returns the sections that have relocations, segment by segment in order, each with its number in its segment, counted
+/// from 0. The first section of all that isn't in the bytes is the error of the whole.
 pub fn relocations<'a, A: Allocator>(
     alloc: A,
     bytes: &'a [u8],

@@ -1,4 +1,4 @@
-//! What an image has once: the last command that speaks of it says what it is.
+//! The fields of which an image has one: the last command on each decides.
 
 ghost use Rattle.std.specs.Prelude.{◌≡◌, ℕ, List, None, false, IfErr, OnOk};
 ghost use Rattle.mach_base.specs.Answer.{Stands};
@@ -16,7 +16,7 @@ use mach_dyld::imports::BindInterpreter;
 use mach_load::{CommandVariant, LoadCommand};
 use mach_parts::symbols::Symbols;
 
-/// What an image has once.
+/// The fields of which an image has one.
 #[derive(Drop)]
 pub struct Once<'a> {
     pub symbols: Option<Symbols<'a>>,
@@ -25,7 +25,7 @@ pub struct Once<'a> {
     pub bind_interpreter: Option<BindInterpreter<'a>>,
 }
 
-// Whether a command may speak of any of it.
+// Whether a command may concern one of them.
 #[inline(always)]
 fn speaks_of_one(command: &LoadCommand) -> bool
     ensures symbols { result ≡ false → (ctx : Ctx) (bytes : List ℕ) → table_by ctx bytes (command_of command.now) ≡ None }
@@ -44,7 +44,7 @@ fn speaks_of_one(command: &LoadCommand) -> bool
 }
 
 impl<'a> Once<'a> {
-    /// Takes what one more command says, where it can be read.
+    /// Takes what one more command says. Fails if it can't be read.
     #[inline(always)]
     pub(crate) fn take(
         &mut self,
@@ -66,7 +66,7 @@ impl<'a> Once<'a> {
         self.take_one(bytes, names, ctx, command)
     }
 
-    // The same out of line: few commands speak of any of it.
+    // Like `take`, out of line: few commands concern any of them.
     #[inline(never)]
     fn take_one(
         &mut self,
@@ -89,7 +89,7 @@ impl<'a> Once<'a> {
         Ok(())
     }
 
-    /// Takes what can be read of it.
+    /// Takes what can be read of one more command.
     pub(crate) fn take_readable(
         &mut self,
         bytes: &'a [u8],

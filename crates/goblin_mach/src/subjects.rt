@@ -1,5 +1,4 @@
-//! The subjects of an image's commands: segments, libraries, its own name, run paths, symbols, the
-//! export trie and the binds.
+//! The subjects of an image's commands: segments, libraries, its own name, run paths, symbols, the export trie and the binds.
 
 ghost use Rattle.std.specs.Prelude.{◌≡◌, List, ℕ, Some, None, if◌then◌else◌};
 ghost use Rattle.mach_base.specs.Number.{place_after};
@@ -16,14 +15,14 @@ use mach_load::{CommandVariant, LoadCommand};
 use mach_parts::segment::Segment;
 use mach_parts::symbols::Symbols;
 
-// The place `offset` bytes after another, or the last place there is.
+// Returns the place `offset` bytes after another, or the last place there is.
 fn place_of(start: usize, offset: u32) -> usize
     ensures { result ≡ place_after start offset }
 {
     start.saturating_add(offset as usize)
 }
 
-/// Where the name of a library stands in the bytes, if the command brings one in.
+/// Returns the place of the library name in the bytes, if the command loads a library.
 pub fn library_place(command: &LoadCommand) -> Option<usize>
     ensures { let c = command_of command.now in result ≡ (if is_library c.kind then Some (name_place c) else None) }
 {
@@ -37,7 +36,7 @@ pub fn library_place(command: &LoadCommand) -> Option<usize>
     }
 }
 
-/// Where the image's own name stands in the bytes, if the command gives one.
+/// Returns the place of the image's own name in the bytes, if the command gives one.
 pub fn id_place(command: &LoadCommand) -> Option<usize>
     ensures { let c = command_of command.now in result ≡ (if is_id c.kind then Some (name_place c) else None) }
 {
@@ -47,7 +46,7 @@ pub fn id_place(command: &LoadCommand) -> Option<usize>
     }
 }
 
-/// Where the path on which libraries are sought stands in the bytes, if the command names one.
+/// Returns the place of the path on which libraries are searched, if the command gives one.
 pub fn run_path_place(command: &LoadCommand) -> Option<usize>
     ensures { let c = command_of command.now in result ≡ (if is_run_path c.kind then Some (name_place c) else None) }
 {
@@ -90,7 +89,7 @@ impl<'a> TextSubject for Ids<'a> {
     }
 }
 
-/// The paths on which the image's libraries are sought.
+/// The paths on which the image's libraries are searched.
 #[derive(Clone, Copy)]
 pub struct RunPaths<'a> {
     pub bytes: &'a [u8],
@@ -141,7 +140,7 @@ impl<'a> Subject for SegmentData<'a> {
     }
 }
 
-/// The segments of the image; data that are not in the bytes are empty.
+/// The segments of the image. Data that aren't in the bytes are empty.
 #[derive(Clone, Copy)]
 pub struct LossySegmentData<'a> {
     pub bytes: &'a [u8],
@@ -160,7 +159,7 @@ impl<'a> Subject for LossySegmentData<'a> {
 
     ghost reading = { λ s. lossy_segment_by s.ctx s.bytes.now };
 
-    /// It is never refused.
+    /// It never fails.
     fn read(&self, command: &LoadCommand) -> Option<Result<Segment<'a>>> {
         let offset = command.offset;
         match &command.command {
@@ -220,7 +219,7 @@ impl<'a> Subject for Tries<'a> {
 
     ghost reading = { λ s. trie_by s.bytes.now };
 
-    /// It is never refused.
+    /// It never fails.
     fn read(&self, command: &LoadCommand) -> Option<Result<ExportTrie<'a>>> {
         match &command.command {
             CommandVariant::DyldInfo(c) | CommandVariant::DyldInfoOnly(c) => {
@@ -252,7 +251,7 @@ impl<'a> Subject for Binds<'a> {
 
     ghost reading = { λ s. binds_by s.bytes.now };
 
-    /// It is never refused.
+    /// It never fails.
     fn read(&self, command: &LoadCommand) -> Option<Result<BindInterpreter<'a>>> {
         match &command.command {
             CommandVariant::DyldInfo(c) | CommandVariant::DyldInfoOnly(c) => {

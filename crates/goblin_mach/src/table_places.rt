@@ -1,4 +1,4 @@
-//! The commands that place function starts, and those that place a table of data among code.
+//! The commands that place function starts, and those that place a data-in-code table.
 
 ghost use Rattle.std.specs.Prelude.{ℕ};
 ghost use Rattle.goblin_mach.specs.Tables.{data_place_by, starts_place_by};
@@ -21,7 +21,7 @@ impl Subject for StartPlaces {
 
     ghost reading = { λ _. starts_place_by };
 
-    /// It is never refused.
+    /// It never fails.
     fn read(&self, command: &LoadCommand) -> Option<Result<LinkeditDataCommand>> {
         match &command.command {
             CommandVariant::FunctionStarts(c) => Some(Ok(*c)),
@@ -30,7 +30,7 @@ impl Subject for StartPlaces {
     }
 }
 
-/// The commands that place a table of data among code.
+/// The commands that place a data-in-code table.
 #[derive(Clone, Copy)]
 pub struct DataPlaces;
 
@@ -43,7 +43,7 @@ impl Subject for DataPlaces {
 
     ghost reading = { λ _. data_place_by };
 
-    /// It is never refused.
+    /// It never fails.
     fn read(&self, command: &LoadCommand) -> Option<Result<LinkeditDataCommand>> {
         match &command.command {
             CommandVariant::DataInCode(c) => Some(Ok(*c)),

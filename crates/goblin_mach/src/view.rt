@@ -25,9 +25,9 @@ use std::fmt::{Debug, Formatter, Write};
 pub enum LinkView<'a, A: Allocator = Global> {
     /// An image.
     Image {
-        /// What it gives to others.
+        /// The symbols that it gives to others.
         exports: Vec<Export<'a, A>, A>,
-        /// What it takes from others.
+        /// The symbols that it takes from others.
         imports: Vec<Import<'a>, A>,
     },
     /// An archive: its bytes.
@@ -35,7 +35,7 @@ pub enum LinkView<'a, A: Allocator = Global> {
 }
 
 impl<'a, A: Allocator> Debug for LinkView<'a, A> {
-    /// The two lists of an image, or of an archive only how many bytes it has.
+    /// Formats the two lists of an image, or, for an archive, only its number of bytes.
     fn fmt<W: Write>(&self, f: &mut Formatter<W>) -> fmt::Result {
         match self {
             LinkView::Image { exports, imports } => f
@@ -57,7 +57,7 @@ struct Links<'a, A: Allocator> {
     imports: Vec<Import<'a>, A>,
 }
 
-// Lists both of an image.
+// Lists the exports and the imports of an image.
 fn links_of<'a, A: Allocator, B: Allocator + Clone>(
     alloc: B,
     image: &MachO<'a, A>,
@@ -70,7 +70,7 @@ fn links_of<'a, A: Allocator, B: Allocator + Clone>(
     Ok(Links { exports, imports })
 }
 
-// An error that an item may tell of; want of memory is answered for the whole.
+// Returns an error that an item may hold. Out of memory is the error of the whole.
 fn told(error: Error) -> Result<Error>
     ensures same { IfOk result (λ e. (e ≡ error) × IsTold e) }
     ensures only { IsOkUnlessMemory result }
@@ -81,7 +81,7 @@ fn told(error: Error) -> Result<Error>
     }
 }
 
-// The item of an image that opened strictly at 0 of some bytes.
+// Returns the item of an image that opened strictly at 0 of some bytes.
 fn image_item<'a, A: Allocator, B: Allocator + Clone>(
     alloc: B,
     opened: &MachO<'a, A>,
@@ -95,7 +95,7 @@ fn image_item<'a, A: Allocator, B: Allocator + Clone>(
     }
 }
 
-// The item of an entry that opened.
+// Returns the item of an entry that opened.
 fn opened_item<'a, A: Allocator, B: Allocator + Clone>(
     alloc: B,
     entry: &SingleArch<'a, A>,
@@ -109,7 +109,7 @@ fn opened_item<'a, A: Allocator, B: Allocator + Clone>(
     }
 }
 
-// The item of an entry of a fat file.
+// Returns the item of an entry of a fat file.
 fn entry_item<'a, A: Allocator + Clone, B: Allocator + Clone>(
     alloc: B,
     container: &MultiArch<'a, A>,
@@ -124,7 +124,7 @@ fn entry_item<'a, A: Allocator + Clone, B: Allocator + Clone>(
     }
 }
 
-// The items of all entries of a fat file, in order.
+// Returns the items of all entries of a fat file, in order.
 fn entry_items<'a, A: Allocator + Clone, B: Allocator + Clone>(
     alloc: B,
     container: &MultiArch<'a, A>,
@@ -139,7 +139,7 @@ fn entry_items<'a, A: Allocator + Clone, B: Allocator + Clone>(
     Ok(items)
 }
 
-// The items of a file that opened strictly.
+// Returns the items of a file that opened strictly.
 fn file_items<'a, A: Allocator + Clone, B: Allocator + Clone>(
     alloc: B,
     file: &Mach<'a, A>,
@@ -161,10 +161,10 @@ fn file_items<'a, A: Allocator + Clone, B: Allocator + Clone>(
     }
 }
 
-/// What a file links: an item for its one image, or one for each entry of a fat file, in order, and
-/// never fewer. An item is an archive's bytes, or the exports and the imports of an image that opens
-/// strictly; else an error that tells of a fault in that entry alone. The whole is refused where the
-/// file does not open, where the table of a fat file can't be read, and for want of memory.
+/// Returns what a file links: an item for its one image, or one for each entry of a fat file, in order, and never fewer. An
+/// item is the bytes of an archive, or the exports and the imports of an image that opens strictly, or else an error for a
+/// fault in that entry alone. The whole fails if the file does not open, if the table of a fat file can't be read, or if
+/// memory runs out.
 pub fn link_view<'a, A: Allocator + Clone>(
     alloc: A,
     bytes: &'a [u8],

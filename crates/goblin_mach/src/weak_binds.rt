@@ -1,4 +1,4 @@
-//! Where the stream of weak binds of an image stands.
+//! The stream of weak binds of an image.
 
 ghost use Rattle.goblin_mach.specs.ImageStreams.{weak_stream_by};
 
@@ -24,7 +24,7 @@ impl<'a> Subject for WeakBindStreams<'a> {
 
     ghost reading = { λ s. weak_stream_by s.bytes.now };
 
-    /// It is never refused.
+    /// It never fails.
     fn read(&self, command: &LoadCommand) -> Option<Result<WeakBindStream<'a>>> {
         match &command.command {
             CommandVariant::DyldInfo(c) | CommandVariant::DyldInfoOnly(c) => {

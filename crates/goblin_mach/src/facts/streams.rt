@@ -1,4 +1,4 @@
-//! Laws of the rebases and the weak binds of an image: that what an image answers is what the bytes say, and what holds of it.
+//! Laws of the rebases and the weak binds of an image: they are those of its bytes, and what holds of them.
 
 ghost use Rattle.mach_base.specs.Context.{pointer_size};
 ghost use Rattle.goblin_mach.specs.Fixups.{chained_held};
@@ -11,21 +11,21 @@ ghost use Rattle.goblin_mach.specs.StreamFacts.{EachIsToldOnce, RebasesComeOfFix
 use crate::macho::MachO;
 use std::alloc::Allocator;
 
-/// The rebases that `MachO::rebases` gives one at a time, up to the first fault, are those of the bytes.
+/// The rebases that `MachO::rebases` returns, up to the first fault, are those of the bytes.
 pub fn rebases_of_image<A: Allocator>(image: &MachO<'_, A>)
     ensures { Agrees image.now HasRebases
         (AreImageRebases (rebase_stream_in (bytes_held image.now) (commands_held image.now)) (chained_held image.now) (ctx_held image.now).le
         (pointer_size (ctx_held image.now).container) (segments_held image.now)) }
 {}
 
-/// The weak binds that `MachO::weak_binds` gives one at a time, up to the first fault, are those of the bytes.
+/// The weak binds that `MachO::weak_binds` returns, up to the first fault, are those of the bytes.
 pub fn weak_binds_of_image<A: Allocator>(image: &MachO<'_, A>)
     ensures { Agrees image.now HasWeakBinds
         (AreImageWeakBinds (weak_stream_in (bytes_held image.now) (commands_held image.now)) (pointer_size (ctx_held image.now).container)
         (segments_held image.now)) }
 {}
 
-/// An image has one list of rebases up to the first fault.
+/// An image has at most one list of rebases up to the first fault.
 pub fn one_list_of_image_rebases()
     ensures { HasOneListOfRebases }
 {
@@ -33,14 +33,14 @@ pub fn one_list_of_image_rebases()
     mach_chained::laws::one_list_of_fixups();
 }
 
-/// It has one list of weak binds up to the first fault.
+/// It has at most one list of weak binds up to the first fault.
 pub fn one_list_of_image_weak_binds()
     ensures { HasOneListOfWeakBinds }
 {
     mach_dyld::laws::one_list_of_weak_binds();
 }
 
-/// An image that no command brings opcodes has no weak binds.
+/// An image without a command that names opcodes has no weak binds.
 pub fn no_weak_binds_without_opcodes()
     ensures { HasNoWeakBindsThen }
 {}
@@ -52,13 +52,12 @@ pub fn rebases_are_fixups_without_opcodes()
     mach_chained::laws::one_list_of_fixups();
 }
 
-/// Each fixup of chains is a number, and neither a binding nor a rebase comes of it; or one of both comes of it, and not the
-/// other.
+/// Each fixup of chains is a number, and gives neither a binding nor a rebase; or it gives exactly one of the two.
 pub fn fixups_are_told_once()
     ensures { EachIsToldOnce }
 {}
 
-/// The rebases among fixups are those that come of them, and no others.
+/// The rebases among fixups are those that the fixups give, and no others.
 pub fn rebases_come_of_fixups()
     ensures { RebasesComeOfFixups }
 {}

@@ -1,5 +1,4 @@
-//! Laws between an image that was opened and the facts on the bytes that it was opened in, of the tables that its commands
-//! place or hold.
+//! Laws between an opened image and the facts on its bytes: on the tables that its commands place or hold.
 
 ghost use Rattle.goblin_mach.specs.Fixups.{base_held};
 ghost use Rattle.goblin_mach.specs.Modes.{Agrees, HoldsAs};
@@ -13,29 +12,29 @@ ghost use Rattle.mach_load.specs.Notes.{notes_of_commands};
 use crate::macho::MachO;
 use std::alloc::Allocator;
 
-/// The functions that `MachO::function_starts` gives one at a time, up to the first fault, are those of the bytes.
+/// The functions that `MachO::function_starts` returns, up to the first fault, are those of the bytes.
 pub fn function_starts_of_image<A: Allocator>(image: &MachO<'_, A>)
     ensures { Agrees image.now HasFunctionStarts
         (AreStartsAt (bytes_held image.now) (starts_place_in (commands_held image.now)) (base_held image.now)) }
 {}
 
-/// The data among code that `MachO::data_in_code` gives are those of the bytes.
+/// The data-in-code entries that `MachO::data_in_code` returns are those of the bytes.
 pub fn data_in_code_of_image<A: Allocator>(image: &MachO<'_, A>)
     ensures { HoldsAs image.now HasDataInCode
         (data_in_code_there (ctx_held image.now).le (bytes_held image.now) (data_place_in (commands_held image.now))) }
 {}
 
-/// The options that `MachO::linker_options` gives, up to the first fault, are those of the bytes.
+/// The options that `MachO::linker_options` returns, up to the first fault, are those of the bytes.
 pub fn linker_options_of_image<A: Allocator>(image: &MachO<'_, A>)
     ensures { HoldsAs image.now HasLinkerOptions (linker_options_in (bytes_held image.now) (commands_held image.now)) }
 {}
 
-/// The tools that `MachO::build_tools` gives, up to the first fault, are those of the bytes.
+/// The tools that `MachO::build_tools` returns, up to the first fault, are those of the bytes.
 pub fn build_tools_of_image<A: Allocator>(image: &MachO<'_, A>)
     ensures { HoldsAs image.now HasBuildTools (build_tools_in (ctx_held image.now).le (bytes_held image.now) (commands_held image.now)) }
 {}
 
-/// The notes that `MachO::notes` gives are those of the bytes.
+/// The notes that `MachO::notes` returns are those of the bytes.
 pub fn notes_of_image<A: Allocator>(image: &MachO<'_, A>)
     ensures { HoldsAs image.now HasNotes (notes_of_commands (bytes_held image.now) (commands_held image.now)) }
 {}

@@ -9,8 +9,8 @@ use std::fmt;
 use std::fmt::{Debug, Formatter, Write};
 use std::marker::PhantomData;
 
-/// The records of a fat file, `R` each: exactly as many items as it is said to have entries, of which each is
-/// the record at its own place or the error of the read there.
+/// An iterator over the records of a fat file, of type `R`. It has exactly as many items as the header states entries. Each
+/// is the record at its own place, or the error of reading it.
 #[derive_where(Clone)]
 #[derive(Drop)]
 pub struct ArchIterator<'a, R> {
@@ -29,7 +29,7 @@ pub type FatArch64Iterator<'a> = ArchIterator<'a, FatArch64>;
 impl<'a, R: ArchRecord> ArchIterator<'a, R> {
     ghost use Rattle.goblin_mach.specs.FatFile.{archs_in, archs_left_in};
 
-    // So many records of these bytes.
+    // Returns an iterator over `narches` records of these bytes.
     pub(crate) fn new(bytes: &'a [u8], narches: usize) -> Self
         ensures items { archs_left_in R.arch_form result ≡ archs_in R.arch_form (record { bytes = bytes.now; narches = narches }) }
         ensures bounded { length (archs_left_in R.arch_form result) < 2 ^ 64 }
@@ -64,7 +64,7 @@ impl<'a, R: ArchRecord> Iterator for ArchIterator<'a, R> {
         Some(item)
     }
 
-    /// How many records are left, exactly.
+    /// Returns the exact number of records left.
     fn size_hint(&self) -> (usize, Option<usize>)
         ensures lower { IsWithinCount result.0 (item_count (archs_left_in R.arch_form) self.now) }
         ensures upper { IfSome result.1 (UpTo (item_count (archs_left_in R.arch_form) self.now)) }
@@ -76,14 +76,14 @@ impl<'a, R: ArchRecord> Iterator for ArchIterator<'a, R> {
 }
 
 impl<'a, R: ArchRecord> ExactSizeIterator for ArchIterator<'a, R> {
-    /// How many records are left.
+    /// Returns the number of records left.
     fn len(&self) -> usize {
         self.narches.saturating_sub(self.index)
     }
 }
 
 impl<R> ArchIterator<'_, R> {
-    // Shows it under a name.
+    // Formats it under a name.
     fn fmt_as<W: Write>(&self, name: &'static str, f: &mut Formatter<W>) -> fmt::Result {
         f.debug_struct(name)
             .field("bytes", &ByteCount(self.bytes))
@@ -94,14 +94,14 @@ impl<R> ArchIterator<'_, R> {
 }
 
 impl Debug for ArchIterator<'_, FatArch> {
-    /// How far it has come; of the bytes only how many they are.
+    /// Formats its position and, of the bytes, only their number.
     fn fmt<W: Write>(&self, f: &mut Formatter<W>) -> fmt::Result {
         self.fmt_as("FatArchIterator", f)
     }
 }
 
 impl Debug for ArchIterator<'_, FatArch64> {
-    /// How far it has come; of the bytes only how many they are.
+    /// Formats its position and, of the bytes, only their number.
     fn fmt<W: Write>(&self, f: &mut Formatter<W>) -> fmt::Result {
         self.fmt_as("FatArch64Iterator", f)
     }

@@ -14,12 +14,12 @@ use std::fmt::{Debug, Formatter, Write};
 pub enum SingleArch<'a, A: Allocator = Global> {
     /// An image.
     MachO(MachO<'a, A>),
-    /// An archive: its bytes, of which only the first eight were looked at.
+    /// An archive: its bytes, of which only the first eight were read.
     Archive(&'a [u8]),
 }
 
 impl<'a, A: Allocator + Clone> SingleArch<'a, A> {
-    /// Opens the entry of these bytes; an image is opened strictly.
+    /// Opens the entry in these bytes. An image is opened strictly.
     pub(crate) fn open(alloc: &A, bytes: &'a [u8]) -> Result<SingleArch<'a, A>>
         ensures { OpensEntry (fat_entry_of bytes.now) result }
     {
@@ -37,7 +37,7 @@ impl<'a, A: Allocator + Clone> SingleArch<'a, A> {
 }
 
 impl<'a, A: Allocator> Debug for SingleArch<'a, A> {
-    /// The image, or of an archive only how many bytes it has.
+    /// Formats the image, or, for an archive, only its number of bytes.
     fn fmt<W: Write>(&self, f: &mut Formatter<W>) -> fmt::Result {
         match self {
             SingleArch::MachO(image) => f.debug_tuple("MachO").field(image).finish(),

@@ -11,8 +11,8 @@ ghost use Rattle.goblin_mach.specs.FatFile.{FatFile, fat_file_in, arch_at, archs
 
 use mach_parts::ArchRecord;
 
-/// The records of a fat file go by their number: there are as many as it is said to have entries, and
-/// record k is the one at its own place, whatever the others are.
+/// The records of a fat file are numbered: there are as many as the header states, and record k is the one at its own place,
+/// whatever the others are.
 pub fn records_by_number()
     ensures count { (file : FatFile) → length (archs_of file) ≡ file.narches }
     ensures item { (file : FatFile) (k : ℕ) → k < file.narches → slice_get (archs_of file) k ≡ Some (arch_at file.bytes k) }
@@ -20,7 +20,7 @@ pub fn records_by_number()
         → (k < file.narches) × (arch_at file.bytes k ≡ arch) }
 {}
 
-/// The entries of a fat file go by their number.
+/// The entries of a fat file are numbered in the same way.
 pub fn entries_by_number()
     ensures count { (file : FatFile) → length (entries_of file) ≡ file.narches }
     ensures item { (file : FatFile) (k : ℕ) → k < file.narches → slice_get (entries_of file) k ≡ Some (entry_at file k) }
@@ -28,7 +28,7 @@ pub fn entries_by_number()
         → (k < file.narches) × (entry_at file k ≡ entry) }
 {}
 
-/// Both of the table of any form of records, as that of 64 bits.
+/// Both hold of the table of any form of records, such as that of 64 bits.
 pub fn tables_by_number<R: ArchRecord>()
     ensures records { (file : FatFile) → length (archs_in R.arch_form file) ≡ file.narches }
     ensures record_item { (file : FatFile) (k : ℕ) → k < file.narches → slice_get (archs_in R.arch_form file) k ≡ Some (arch_in R.arch_form file.bytes k) }
@@ -36,7 +36,7 @@ pub fn tables_by_number<R: ArchRecord>()
     ensures entry_item { (file : FatFile) (k : ℕ) → k < file.narches → slice_get (entries_in R.arch_form file) k ≡ Some (arch_entry_in R.arch_form file k) }
 {}
 
-/// The fat file of some bytes is those bytes, with the count of their header, which has 8 bytes.
+/// The fat file in some bytes is those bytes with the count in their header, which has 8 bytes.
 pub fn fat_file_of_bytes()
     ensures same { (bytes : List ℕ) (file : FatFile) → fat_file_in bytes ≡ Ok file → file.bytes ≡ bytes }
     ensures count { (bytes : List ℕ) (file : FatFile) → fat_file_in bytes ≡ Ok file → file.narches ≡ number Big 4 (drop 4 bytes) }

@@ -15,23 +15,23 @@ use std::fmt;
 use std::fmt::{Debug, Formatter, Write};
 use std::marker::PhantomData;
 
-/// A fat file, whose table is of records `R`: images and archives for several cpus, one behind the other.
+/// A fat file with records of type `R`: images and archives for several cpus.
 #[derive(Drop)]
 pub struct FatTable<'a, R, A: Allocator = Global> {
-    /// How many entries it is said to have.
+    /// The number of entries that the header states.
     pub narches: usize,
     bytes: &'a [u8],
     alloc: A,
     rows: PhantomData<R>,
 }
 
-/// A fat file: images and archives for several cpus, one behind the other.
+/// A fat file: images and archives for several cpus (`mach-o/fat.h`).
 pub type MultiArch<'a, A = Global> = FatTable<'a, FatArch, A>;
 
-/// A fat file of 64 bits: as `MultiArch`, but places and lengths have 64 bits.
+/// A fat file of 64 bits: like `MultiArch`, but offsets and sizes have 64 bits.
 pub type MultiArch64<'a, A = Global> = FatTable<'a, FatArch64, A>;
 
-// The record of an entry, or the error of reading it, as one of another type.
+// Reads the record of an entry. An error is converted to another type.
 fn about<R: ArchRecord, E: From<Error>>(bytes: &[u8], index: usize) -> std::result::Result<R, E>
     ensures { IsAbout R.arch_form E.from_gives bytes.now index result }
 {
@@ -39,8 +39,8 @@ fn about<R: ArchRecord, E: From<Error>>(bytes: &[u8], index: usize) -> std::resu
 }
 
 impl<'a, R: ArchRecord, A: Allocator> FatTable<'a, R, A> {
-    /// The fat file of these bytes, which have 8 or more; its magic is not tested. It keeps the allocator
-    /// for the images that it opens.
+    /// Returns the fat file in these bytes, which must be at least 8. Its magic is not tested. It keeps the allocator for
+    /// the images that it opens.
     pub fn new(alloc: A, bytes: &'a [u8]) -> Result<FatTable<'a, R, A>>
         ensures { Reads file_held result (fat_file_in bytes.now) }
     {
@@ -53,14 +53,14 @@ impl<'a, R: ArchRecord, A: Allocator> FatTable<'a, R, A> {
         })
     }
 
-    /// The bytes of the file.
+    /// Returns the bytes of the file.
     pub fn bytes(&self) -> &'a [u8]
         ensures { result.now ≡ (file_held self.now).bytes }
     {
         self.bytes
     }
 
-    /// The records of all entries in order, each or its error.
+    /// Returns the records of all entries in order, each one or its error.
     pub fn iter_arches(&self) -> ArchIterator<'a, R>
         ensures items { archs_left_in R.arch_form result ≡ archs_in R.arch_form (file_held self.now) }
         ensures bounded { length (archs_left_in R.arch_form result) < 2 ^ 64 }
@@ -70,8 +70,7 @@ impl<'a, R: ArchRecord, A: Allocator> FatTable<'a, R, A> {
 
     ghost use Rattle.goblin_mach.specs.FatFile.{first_arch_of_cpu};
 
-    /// The first record of a cpu, None where there is none; or the error of an unreadable record that
-    /// was met before.
+    /// Finds the first record of a cpu. Returns None if there is none, or the error of an unreadable record before it.
     pub fn find_cputype(&self, cputype: u32) -> Result<Option<R>>
         ensures { Reads (λ found. found) result (first_arch_of_cpu R.arch_form cputype (archs_in R.arch_form (file_held self.now))) }
     {
@@ -86,8 +85,8 @@ impl<'a, R: ArchRecord, A: Allocator> FatTable<'a, R, A> {
 }
 
 impl<'a, R: ArchRecord, A: Allocator + Clone> FatTable<'a, R, A> {
-    /// The entry of an index. It is `Malformed` where there is no such entry, or one that is neither an
-    /// archive nor an image; an image is opened strictly.
+    /// Opens the entry at an index. An image is opened strictly. The error is `Malformed` if there is no such entry, or if
+    /// it is neither an archive nor an image.
     pub fn get(&self, index: usize) -> Result<SingleArch<'a, A>>
         ensures { OpensEntry (arch_entry_in R.arch_form (file_held self.now) index) result }
     {
@@ -101,9 +100,9 @@ impl<'a, R: ArchRecord, A: Allocator + Clone> FatTable<'a, R, A> {
     ghost use Rattle.std.specs.Prelude.{IfSome, IfNone, ℕ};
     ghost use Rattle.goblin_mach.specs.FatFile.{IsFirstTaken, NoneTaken, MayAsk, arch_table_in};
 
-    /// The first entry whose record, or the error of reading it, `f` takes: `f` is asked about one after
-    /// the other. None where it takes none. The closure says which error it is asked about, an `Error` or
-    /// one that is made of it, as `|found: Result<FatArch>| ..`.
+    /// Opens the first entry for which `f` returns true. `f` is given each record, or the error of reading it, in order.
+    /// Returns None if there is none. The closure states the type of that error, an `Error` or one that is made from it, as
+    /// in `|found: Result<FatArch>| ..`.
     pub fn find<E: From<Error> + Drop, F: Fn(std::result::Result<R, E>) -> bool>(
         &self,
         f: F,
@@ -123,8 +122,8 @@ impl<'a, R: ArchRecord, A: Allocator + Clone> FatTable<'a, R, A> {
 
     ghost use Rattle.mach_base.specs.Answer.{Gives};
 
-    /// The records of all entries, in order. More entries than the bytes could hold are
-    /// `BufferTooShort`; else the first unreadable record refuses them all.
+    /// Returns the records of all entries, in order. The error is `BufferTooShort` if there are more entries than the bytes
+    /// could hold, else that of the first unreadable record.
     pub fn arches(&self) -> Result<Vec<R, A>>
         ensures { Gives (λ v. v.items) result (arch_table_in R.arch_form (file_held self.now)) }
     {
@@ -156,8 +155,8 @@ impl<'a, 'b, R: ArchRecord, A: Allocator + Clone> IntoIterator for &'b FatTable<
     }
 }
 
-/// The entries of a fat file, one after the other, each as `get` opens it. A refusal for memory is an
-/// item like any other, and the next item is the next entry.
+/// An iterator over the entries of a fat file, each opened as by `get`. If memory runs out, that error is an item like any
+/// other, and the next item is the next entry.
 #[derive(Drop)]
 pub struct EntryIterator<'a, 'b, R, A: Allocator = Global> {
     file: &'b FatTable<'a, R, A>,
@@ -191,7 +190,7 @@ impl<'a, 'b, R: ArchRecord, A: Allocator + Clone> Iterator for EntryIterator<'a,
         Some(item)
     }
 
-    /// How many entries are left, exactly.
+    /// Returns the exact number of entries left.
     fn size_hint(&self) -> (usize, Option<usize>)
         ensures lower { IsWithinCount result.0 (item_count (entries_left_in R.arch_form) self.now) }
         ensures upper { IfSome result.1 (UpTo (item_count (entries_left_in R.arch_form) self.now)) }
@@ -204,7 +203,7 @@ impl<'a, 'b, R: ArchRecord, A: Allocator + Clone> Iterator for EntryIterator<'a,
 
 impl<'a, 'b, R: ArchRecord, A: Allocator + Clone> ExactSizeIterator
     for EntryIterator<'a, 'b, R, A> {
-    /// How many entries are left.
+    /// Returns the number of entries left.
     fn len(&self) -> usize {
         self.file.narches.saturating_sub(self.index)
     }
@@ -215,7 +214,7 @@ impl<'a, 'b, R, A: Allocator> Clone for EntryIterator<'a, 'b, R, A> {
 
     ghost is_infallible = { λ _. Unit {0} };
 
-    /// The same entries; it takes no memory.
+    /// Returns an iterator over the same entries. It allocates nothing.
     fn clone(&self) -> std::result::Result<Self, AllocError> {
         Ok(EntryIterator {
             file: self.file,
@@ -225,7 +224,7 @@ impl<'a, 'b, R, A: Allocator> Clone for EntryIterator<'a, 'b, R, A> {
 }
 
 impl<'a, R, A: Allocator> FatTable<'a, R, A> {
-    // Shows it under a name.
+    // Formats it under a name.
     fn fmt_as<W: Write>(&self, name: &'static str, f: &mut Formatter<W>) -> fmt::Result {
         f.debug_struct(name)
             .field("narches", &self.narches)
@@ -235,14 +234,14 @@ impl<'a, R, A: Allocator> FatTable<'a, R, A> {
 }
 
 impl<'a, A: Allocator> Debug for FatTable<'a, FatArch, A> {
-    /// How many entries it has; of the bytes only how many they are.
+    /// Formats the number of its entries and, of the bytes, only their number.
     fn fmt<W: Write>(&self, f: &mut Formatter<W>) -> fmt::Result {
         self.fmt_as("MultiArch", f)
     }
 }
 
 impl<'a, A: Allocator> Debug for FatTable<'a, FatArch64, A> {
-    /// How many entries it has; of the bytes only how many they are.
+    /// Formats the number of its entries and, of the bytes, only their number.
     fn fmt<W: Write>(&self, f: &mut Formatter<W>) -> fmt::Result {
         self.fmt_as("MultiArch64", f)
     }

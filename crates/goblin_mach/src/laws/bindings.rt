@@ -2,14 +2,14 @@
 
 ghost use Rattle.goblin_mach.specs.BindingLaws.{HasOneListOfFixups, HasOneListOfBindings, TellTheSame};
 
-/// An image has one list of fixups up to the first fault.
+/// An image has at most one list of fixups up to the first fault.
 pub fn one_list_of_image_fixups()
     ensures { HasOneListOfFixups }
 {
     mach_chained::laws::one_list_of_fixups();
 }
 
-/// It has one list of bindings up to the first fault.
+/// It has at most one list of bindings up to the first fault.
 pub fn one_list_of_image_bindings()
     ensures { HasOneListOfBindings }
 {
@@ -17,15 +17,19 @@ pub fn one_list_of_image_bindings()
     mach_chained::laws::one_list_of_fixups();
 }
 
-/// Where imports and bindings read the binds of an image alike, each binding tells what the import at its place tells: the
-/// name, the library's name, the places, the addend and both flags. The bindings end where the imports do, or at a fault of
-/// their own; where they have none, both lists are told one for one, and are as many.
+/// If imports and bindings read the binds of an image alike, each binding has what the import at its place has: the name,
+/// the library's name, the places, the addend and both flags. The bindings end where the imports do, or at a fault of their
+/// own. If they have no fault, both lists agree one for one, and are equally long.
 ///
-/// They are read alike where no instruction has opcode 3, the image has no chained fixups, behind the first DONE of the
-/// non-lazy stream are only DONEs, up to its end, and behind the last DONE before each bind of the lazy stream an ordinal, a name and
-/// a segment are set, and an addend is, or nowhere before. Every linker's streams are so. What is asked of an addend is
-/// asked of those before the DONE too: behind `11 71 00 40 00 60 01 90 00` the stream `11 71 08 40 00 90` gives a binding with
-/// the addend 1, and an import with 0.
+/// They read the binds alike on these conditions:
+///
+/// - No instruction has opcode 3, and the image has no chained fixups.
+/// - In the non-lazy stream only DONEs follow the first DONE, up to the stream's end.
+/// - In the lazy stream, an ordinal, a name and a segment are set between the last DONE before each bind and that bind. An
+///   addend is set there too, or nowhere before.
+///
+/// The streams of every linker meet them. The condition on addends includes those before the DONE: after `11 71 00 40 00 60
+/// 01 90 00` the stream `11 71 08 40 00 90` gives a binding with the addend 1, and an import with 0.
 pub fn image_bindings_are_imports()
     ensures { TellTheSame }
 {

@@ -17,14 +17,14 @@ use mach_parts::header::Header;
 use mach_parts::magic::parse_magic_and_ctx;
 use std::alloc::Allocator;
 
-/// At most one chain of a number of load commands stands at a place.
+/// At most one chain of a number of load commands is at a place.
 #[tactic(auto, using(crate::proofs::Chains::same_chain))]
 pub fn one_chain()
     ensures { (le : Endian) (bytes : List ℕ) (s : ℕ) (cs ds : List Command) → IsChain le bytes s cs → IsChain le bytes s ds → length cs ≡ length ds → cs ≡ ds }
 {}
 
-/// Writes a new header of a context, and reads what its magic says: it is that context. It is
-/// refused only where the bytes don't hold the header.
+/// Writes a new header of a context and reads its magic again: the result is that context. It fails only if the bytes are
+/// too short for the header.
 pub fn new_header_recognised(ctx: Ctx, bytes: &mut [u8]) -> Result<Option<Ctx>>
     ensures recognised { IfOk result (λ found. found ≡ Some ctx) }
     ensures refused { IfErr result (λ e. room_at (header_size ctx.container) bytes.old 0 ≡ Err (fault_of e)) }
@@ -34,7 +34,7 @@ pub fn new_header_recognised(ctx: Ctx, bytes: &mut [u8]) -> Result<Option<Ctx>>
     Ok(found)
 }
 
-/// Where an image opens strictly it opens in lossy mode.
+/// An image that opens strictly opens in lossy mode.
 pub fn strict_opens_lossily()
     ensures { (bytes : List ℕ) (o : ℕ) → Opens bytes o → LossyOpens bytes o }
 {}
@@ -49,13 +49,13 @@ pub fn lossy_agrees<A: Allocator, B: Allocator>(
     ensures { IsImage bytes.now offset strict.now → IsLossyImage bytes.now offset lossy.now → SameFields strict.now lossy.now }
 {}
 
-/// An image that opens has at most a command for each eight bytes.
+/// An image that opens has at most one command for each eight bytes.
 #[tactic(auto, using(crate::proofs::ListBounds::commands_fit_lem))]
 pub fn commands_fit_the_bytes()
     ensures { CommandsFit }
 {}
 
-/// The data of each of its segments lie in the bytes: so its chains have at most a fixup for each four (`fixups_are_few`).
+/// The data of each of its segments lie in the bytes. So its chains have at most one fixup for each four bytes (`fixups_are_few`).
 #[tactic(auto, using(crate::proofs::ListBounds::segments_lie_lem))]
 pub fn segments_lie_in_the_bytes()
     ensures { SegmentsLieInBytes }

@@ -1,4 +1,4 @@
-//! Laws of files: how this door stands to that of `goblin_mach`.
+//! Laws of files: how `Input` relates to `Mach`.
 
 ghost use Rattle.std.specs.Prelude.{◌↔◌, ℕ, List};
 ghost use Rattle.mach_base.specs.Fault.{Fault};
@@ -9,8 +9,8 @@ ghost use Rattle.goblin_mach.specs.Inputs.{IsNeither, InputOpens, InputFault, Is
 use crate::input::Input;
 use std::alloc::Allocator;
 
-/// Of bytes that begin neither as an archive nor as a fat file of 64 bits the answer is that of `Mach::parse`: they open where it
-/// opens them, as what it opens, and a fault stands where one stands for it.
+/// For bytes that begin neither like an archive nor like a fat file of 64 bits, the result is that of `Mach::parse`. They
+/// open exactly if they open there, as the same image or file, and have the same faults.
 pub fn inputs_are_machs<A: Allocator>(input: &Input<'_, A>)
     ensures opens { (bytes : List ℕ) → IsNeither bytes → InputOpens bytes ↔ MachOpens Opens bytes }
     ensures faults { (bytes : List ℕ) (f : Fault) → IsNeither bytes → InputFault bytes f ↔ MachFault ImageFault bytes f }

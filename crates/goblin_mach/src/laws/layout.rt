@@ -1,4 +1,4 @@
-//! Laws between an image that was opened and the facts on the bytes that it was opened in.
+//! Laws between an opened image and the facts on the bytes in which it was opened.
 
 ghost use Rattle.std.specs.Prelude.{◌≡◌, ◌↔◌, ℕ, List};
 ghost use Rattle.goblin_mach.specs.OpenImage.{IsImage, IsLossyImage};
@@ -14,7 +14,7 @@ ghost use Rattle.mach_layout.specs.declared.fault.LayoutFault.{LayoutFault};
 use crate::macho::MachO;
 use std::alloc::Allocator;
 
-/// The claims that `claims` gives are those of the bytes.
+/// The claims that `claims` returns are those of the bytes.
 pub fn claims_of_image<A: Allocator>(image: &MachO<'_, A>)
     ensures strict { (bytes : List ℕ) → IsImage bytes 0 image.now → (list : List Claim) → HasClaims bytes list ↔ (list ≡ claims_of (laid_held image.now)) }
     ensures lossy { (bytes : List ℕ) → IsLossyImage bytes 0 image.now → (list : List Claim) → HasClaims bytes list ↔ (list ≡ claims_of (laid_held image.now)) }
@@ -28,7 +28,7 @@ pub fn layout_faults_of_image<A: Allocator>(image: &MachO<'_, A>)
         → HasLayoutFaults bytes list ↔ AreLayoutFaults (laid_held image.now) (AreListFaults (facts_held image.now)) list }
 {}
 
-/// An image has one list of faults of its layout: where it has one, it has no other.
+/// An image has at most one list of faults of its layout.
 pub fn one_list_of_layout_faults()
     ensures { (bytes : List ℕ) (list others : List LayoutFault) → HasLayoutFaults bytes list → HasLayoutFaults bytes others → list ≡ others }
 {

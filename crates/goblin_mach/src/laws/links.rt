@@ -1,4 +1,4 @@
-//! What an image that was opened links.
+//! What an opened image links.
 
 ghost use Rattle.std.specs.Prelude.{ℕ, List};
 ghost use Rattle.mach_base.specs.Context.{pointer_size};
@@ -13,8 +13,7 @@ ghost use Rattle.goblin_mach.specs.View.{LinksImage, LinksFault, FaultHeld};
 use crate::macho::MachO;
 use std::alloc::Allocator;
 
-/// An image that was opened strictly at 0 links the lists that it holds, and a fault that stands in one
-/// of them stands in the bytes.
+/// An image that was opened strictly at 0 links the lists that it holds, and a fault in one of them is a fault of the bytes.
 pub fn links_of_image<A: Allocator>(image: &MachO<'_, A>)
     ensures listed { (bytes : List ℕ) (list : List trie.Entry) (imports : List Import) → IsImage bytes 0 image.now
         → ListsImageExports (trie_held image.now) (texts image.now.libs.items) list

@@ -1,4 +1,4 @@
-//! The worked rows of docs/FORMAT.md that the definitions are checked on, as theorems.
+//! Examples of docs/FORMAT-DYLD.md and docs/FORMAT-IMAGE.md that the definitions are checked on, as theorems.
 
 ghost use Rattle.std.specs.Prelude.{◌≡◌, ◌∷◌, ◌++◌, [], codes, map, replicate, Ok, Err};
 ghost use Rattle.mach_base.specs.declared.context.Endian.TheVariants.{Little};
@@ -9,7 +9,7 @@ ghost use Rattle.mach_load.specs.Commands.{uuid, segment64, load_dylib, dyld_inf
 ghost use Rattle.goblin_mach.specs.Chain.{IsChain};
 ghost use Rattle.goblin_mach.specs.Rows.{file_a, file_b};
 
-/// Three spellings: one of 624485, the longest of the largest number, and one too long.
+/// Three ULEB128 numbers: one of 624485, the longest one of the largest number, and one that is too long.
 pub fn spellings()
     ensures three_bytes { Spells (0xe5 ∷ 0x8e ∷ 0x26 ∷ []) 0 (0xe5 ∷ 0x8e ∷ 0x26 ∷ []) 624485 }
     ensures nine_ff_01 { uleb_at (replicate 9 0xff ++ 0x01 ∷ []) 0 ≡ Ok (18446744073709551615, 10) }

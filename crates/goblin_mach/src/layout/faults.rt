@@ -20,16 +20,16 @@ use mach_layout::{
 };
 use std::alloc::Allocator;
 
-/// The ranges of the file that the parts of an image claim, which was opened at the first of its bytes: that of the
-/// header and the commands, and then those of each command, in order. A part of no bytes claims a range of length 0.
-/// It takes no memory.
+/// Returns the ranges of the file that the parts of an image claim: that of the header and the commands, then those of each
+/// command, in order. The image must have been opened at the first of its bytes. A part of no bytes claims a range of length
+/// 0. It allocates nothing.
 pub fn claims<'a, 'b, A: Allocator>(image: &'b MachO<'a, A>) -> ClaimIterator<'a, 'b>
     ensures { claims_left result ≡ claims_of (laid_held image.now) }
 {
     layout_of(image).claims()
 }
 
-// Adds those of the symbols, of the entry, of texts, of the image's lists, of fixups, and of data among code.
+// Adds the faults of the symbols, the entry, texts, the image's lists, fixups, and data in code.
 fn add_all_symbols<A: Allocator, B: Allocator>(
     faults: &mut Vec<LayoutFault, B>,
     image: &MachO<'_, A>,
@@ -45,9 +45,9 @@ fn add_all_symbols<A: Allocator, B: Allocator>(
     Ok(())
 }
 
-/// The faults of the layout of an image, which was opened at the first of its bytes: all and no others, rule by rule,
-/// and of each rule in the order of the commands, or of the addresses or places where two things share some. Want of
-/// memory alone refuses them.
+/// Returns the faults of the layout of an image, all and no others. The image must have been opened at the first of its
+/// bytes. They are in the order of the rules; those of one rule are in the order of the commands, or, for two things that
+/// share a range, in that of the addresses or places. The only error is out of memory.
 pub fn layout_faults<A: Allocator, B: Allocator + Clone>(
     alloc: B,
     image: &MachO<'_, A>,

@@ -1,4 +1,4 @@
-//! The rules of the lists that an image gives one at a time: each can be read to its end.
+//! The rules on the lists that an image returns one item at a time: each can be read to its end.
 
 ghost use Rattle.std.specs.Prelude.{◌≡◌, ◌++◌, List, OnOk, option_to_list};
 ghost use Rattle.mach_base.specs.Answer.{IsOkUnlessMemory};
@@ -17,14 +17,14 @@ use mach_layout::{LayoutFault, Part, Rule, function_starts_fault, opcodes_fault}
 use mach_load::FunctionStartIterator;
 use std::alloc::Allocator;
 
-// A fault, where it stands.
+// Returns a fault if it occurs.
 fn told_where(stands: bool, fault: LayoutFault) -> Option<LayoutFault>
     ensures { option_to_list result ≡ defined.told_where stands fault }
 {
     if stands { Some(fault) } else { None }
 }
 
-// Whether a fault stands among some starts of functions.
+// Whether a fault occurs among function starts.
 fn is_start_fault_among(starts: FunctionStartIterator<'_>) -> bool
     ensures { result ≡ has_fault (starts_left starts.entry) }
 {
@@ -37,7 +37,7 @@ fn is_start_fault_among(starts: FunctionStartIterator<'_>) -> bool
 }
 
 /// Adds the faults of an image's lists: of its bindings and its rebases by opcodes, of its weak binds, and of its function
-/// starts, one of each list that has one.
+/// starts. Each list that has a fault adds one.
 pub fn list_faults<A: Allocator, B: Allocator>(
     faults: &mut Vec<LayoutFault, B>,
     image: &MachO<'_, A>,

@@ -1,4 +1,4 @@
-//! An image as Debug shows it.
+//! The `Debug` format of an image.
 
 use crate::macho::MachO;
 use mach_base::ByteCount;
@@ -7,14 +7,14 @@ use std::fmt;
 use std::fmt::{Debug, DebugStruct, Formatter, Write};
 
 impl<'a, A: Allocator> MachO<'a, A> {
-    // The header and the commands.
+    // Formats the header and the commands.
     fn show_commands<W: Write>(&self, shown: &mut DebugStruct<W>) {
         shown
             .field("header", &self.header)
             .field("load_commands", &self.load_commands);
     }
 
-    // What is read of the bytes.
+    // Formats the lists.
     fn show_lists<W: Write>(&self, shown: &mut DebugStruct<W>) {
         shown
             .field("segments", &self.segments)
@@ -23,7 +23,7 @@ impl<'a, A: Allocator> MachO<'a, A> {
             .field("rpaths", &self.rpaths);
     }
 
-    // Where it begins, and what it is.
+    // Formats the entry, the name and the kind of the image.
     fn show_words<W: Write>(&self, shown: &mut DebugStruct<W>) {
         shown
             .field("entry", &self.entry)
@@ -33,7 +33,7 @@ impl<'a, A: Allocator> MachO<'a, A> {
             .field("is_64", &self.is_64);
     }
 
-    // What its own calls read on.
+    // Formats what the image's methods read.
     fn show_source<W: Write>(&self, shown: &mut DebugStruct<W>) {
         shown
             .field("has_export_trie", &self.export_trie.is_some())
@@ -44,7 +44,7 @@ impl<'a, A: Allocator> MachO<'a, A> {
 }
 
 impl<'a, A: Allocator> Debug for MachO<'a, A> {
-    /// What is read of the image, and whether it has a trie and binds; of its bytes only how many they are.
+    /// Formats what was read of the image, and whether it has a trie and binds; of its bytes only their number.
     fn fmt<W: Write>(&self, f: &mut Formatter<W>) -> fmt::Result {
         let mut shown = f.debug_struct("MachO");
         self.show_commands(&mut shown);

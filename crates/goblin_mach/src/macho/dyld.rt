@@ -1,4 +1,4 @@
-//! What dyld does with an image: its fixups, and what it binds.
+//! What dyld does with an image: its fixups and its bindings.
 
 ghost use Rattle.std.specs.Prelude.{◌≡◌, option_map};
 ghost use Rattle.mach_base.specs.Answer.{Reads};
@@ -22,64 +22,62 @@ use mach_dyld::imports::BindInterpreter;
 use std::alloc::Allocator;
 
 impl<'a, A: Allocator> MachO<'a, A> {
-    /// The bytes that the image was opened in, to which the places of its records count.
+    /// Returns the bytes in which the image was opened. The offsets in its records refer to them.
     pub fn bytes(&self) -> &'a [u8]
         ensures { result.now ≡ bytes_held self.now }
     {
         self.bytes
     }
 
-    /// The width and the byte order in which its records are read.
+    /// Returns the width and the byte order in which its records are read.
     pub fn ctx(&self) -> Ctx
         ensures { result ≡ ctx_held self.now }
     {
         self.ctx
     }
 
-    /// The address of the image's first byte in memory, before sliding: the `vmaddr` of the first segment
-    /// named `__TEXT` that the image holds at the call, or 0 where none is. Places of chained fixups count
-    /// from it.
+    /// Returns the address of the image's first byte in memory, before sliding: the `vmaddr` of the first segment named
+    /// `__TEXT` that the image holds, or 0 if there is none. Offsets of chained fixups are counted from it.
     pub fn base(&self) -> u64
         ensures { result ≡ base_held self.now }
     {
         base_of(self.segments.as_slice())
     }
 
-    /// The export trie that the image holds, if a command brings one.
+    /// Returns the export trie that the image holds, if a command names one.
     pub fn export_trie(&self) -> Option<&ExportTrie<'a>>
         ensures { option_map (λ trie. trie.now) result ≡ trie_held self.now }
     {
         self.export_trie.as_ref()
     }
 
-    /// The ranges of the binds that the image holds, if a command brings any.
+    /// Returns the ranges of the binds that the image holds, if a command names any.
     pub fn binds(&self) -> Option<&BindInterpreter<'a>>
         ensures { option_map (λ binds. binds.now) result ≡ binds_held self.now }
     {
         self.bind_interpreter.as_ref()
     }
 
-    /// The place and the size of the data of the chained fixups: those of the last `LC_DYLD_CHAINED_FIXUPS` among the
-    /// load commands that the image holds at the call, if one is there.
+    /// Returns the place and the size of the data of the chained fixups: those of the last `LC_DYLD_CHAINED_FIXUPS` among
+    /// the load commands that the image holds, if there is one.
     pub fn chained_place(&self) -> Option<(u32, u32)>
         ensures { result ≡ chained_place_in (commands_held self.now) }
     {
         chained_place(self.load_commands.as_slice())
     }
 
-    /// The chained fixups of the image (`mach-o/fixup-chains.h`): those of the last
-    /// `LC_DYLD_CHAINED_FIXUPS` among the load commands that it holds at the call, if one is there. Opening
-    /// an image tests nothing of them. Refused where their front can't be read, or is of a version or a
-    /// format that isn't.
+    /// Returns the chained fixups of the image (`mach-o/fixup-chains.h`): those of the last `LC_DYLD_CHAINED_FIXUPS` among
+    /// the load commands that it holds, if there is one. Opening an image tests nothing of them. Fails if their header can't
+    /// be read, or has an unknown version or format.
     pub fn chained_fixups(&self) -> Result<Option<ChainedFixups<'a>>>
         ensures { Reads chained_seen result (chained_held self.now) }
     {
         chained_fixups(self.bytes, self.ctx.le, self.load_commands.as_slice())
     }
 
-    /// The fixups of the image's chains one at a time, over the segments that it holds: by segments, pages
-    /// and along the chains, up to the first fault, and its error last; none where no command brings any.
-    /// Where their front can't be read, its error alone. It takes no memory.
+    /// Returns the fixups of the image's chains one at a time, over the segments that it holds: by segments, by pages and
+    /// along the chains. The first fault is the last item. There are none if no command names any. If their header can't be
+    /// read, its error is the only item. It allocates nothing.
     pub fn fixups<'b>(&'b self) -> FixupIterator<'a, 'b>
         ensures { AreImageFixups (chained_held self.now) (segments_held self.now) (image_fixups_left result) }
     {
@@ -93,9 +91,9 @@ impl<'a, A: Allocator> MachO<'a, A> {
         FixupIterator::over(chained.fixups(self.segments.as_slice(), self.base()))
     }
 
-    /// The bindings of the image's bind opcodes one at a time, as dyld makes them, over the libraries and
-    /// the segments that it holds: those of the non-lazy stream, then those of the lazy one, up to the first
-    /// fault, and its error last; none where no command brings binds. It takes no memory.
+    /// Returns the bindings of the image's bind opcodes one at a time, as dyld reads them, over the libraries and the
+    /// segments that it holds: those of the non-lazy stream, then those of the lazy stream. The first fault is the last
+    /// item. There are none if no command names binds. It allocates nothing.
     pub fn opcode_bindings<'b>(&'b self) -> OpcodeBindingIterator<'a, 'b>
         ensures { AreOpcodeBindings (binds_held self.now) (pointer_size (ctx_held self.now).container)
             (texts self.now.libs.items) (segments_held self.now) (dyld.opcode_bindings_left result) }
@@ -106,7 +104,7 @@ impl<'a, A: Allocator> MachO<'a, A> {
         binds.bindings(self.libs.as_slice(), self.segments.as_slice(), self.ctx)
     }
 
-    // Those of its chains.
+    // Returns the bindings of its chains.
     fn chain_bindings<'b>(&'b self) -> ChainBindings<'a, 'b>
         ensures { AreChainBindings (chained_held self.now) (texts self.now.libs.items) (segments_held self.now)
             (chain_bindings_left result) }
@@ -122,10 +120,10 @@ impl<'a, A: Allocator> MachO<'a, A> {
         ChainBindings::over(chained.bindings(libs, segments, self.base()))
     }
 
-    /// What dyld binds of the image, but for the stream of weak binds, one binding at a time, over the
-    /// libraries and the segments that it holds: the bindings of `opcode_bindings` and then those of its
-    /// chains, up to the first fault, and its error last. Where the front of the chained fixups can't be
-    /// read, that error stands in the place of theirs. It takes no memory.
+    /// Returns what dyld binds of the image, except the stream of weak binds, one binding at a time, over the libraries and
+    /// the segments that it holds: the bindings of `opcode_bindings`, then those of its chains. The first fault is the last
+    /// item. If the header of the chained fixups can't be read, that error comes instead of their bindings. It allocates
+    /// nothing.
     pub fn bindings<'b>(&'b self) -> BindingIterator<'a, 'b>
         ensures { AreImageBindings (binds_held self.now) (chained_held self.now)
             (pointer_size (ctx_held self.now).container) (texts self.now.libs.items)

@@ -20,19 +20,19 @@ use mach_dyld::exports::ExportInfo;
 use std::alloc::Allocator;
 
 impl<'a, A: Allocator> MachO<'a, A> {
-    /// The libraries of the load commands that the image holds at the call, one after the other: each with its ordinal,
-    /// its name, and how it is brought in. In lossy mode one whose name can't be read is left out, and those behind it
-    /// move down, as in `libs`. It takes no memory.
+    /// Returns the libraries of the load commands that the image holds, one after the other: each with its ordinal, its
+    /// name, and the way it is loaded. In lossy mode a library whose name can't be read is left out, and those after it move
+    /// down, as in `libs`. It allocates nothing.
     pub fn libraries<'b>(&'b self) -> LibraryIterator<'a, 'b>
         ensures { libraries_left result ≡ libraries_in (ctx_held self.now).le (bytes_held self.now) (commands_held self.now) }
     {
         LibraryIterator::new(self.bytes, self.ctx.le, self.load_commands.as_slice())
     }
 
-    /// What the image exports a name as, over the libraries that it holds at the call: the first export of that name
-    /// in the list that `exports` gives, or None; None where no command brings a trie. Only nodes on the way of the name
-    /// are read, so it may answer where the trie has no list; what it then answers stands by the paths. Each refusal but
-    /// `Error::Memory` is a fault on that way, so one that stands in the trie. It takes memory only where `ExportTrie::find` does.
+    /// Returns what the image exports a name as, over the libraries that it holds: the first export of that name in the list
+    /// of `exports`, or None. It returns None if no command names a trie. It reads only nodes on the way of the name. So it
+    /// may return Ok although the trie has no list; the result then holds by the paths of the trie. Each error except
+    /// `Error::Memory` is a fault on that way, and so a fault of the trie. It allocates only where `ExportTrie::find` does.
     pub fn find_export<B: Allocator + Clone>(
         &self,
         alloc: B,
@@ -53,8 +53,8 @@ impl<'a, A: Allocator> MachO<'a, A> {
     }
 }
 
-/// What the list of an image's exports says of a name, and what the paths of its trie say. The first export of the name
-/// stands by its path; where no path has the name, no export has it; and what stands by a path is listed.
+/// What the list of an image's exports says of a name agrees with the paths of its trie. The first export of the name holds
+/// by its path. If no path has the name, no export has it. What holds by a path is in the list.
 pub fn export_by_list_and_paths()
     ensures first { (bytes : List ℕ) (o : ℕ) (list : List Entry) (name : List ℕ) (found : Option Info) → HasExports bytes o list → IsFirstOf name list found
         → HasExportOf bytes o name found }

@@ -1,5 +1,5 @@
-//! The indirect symbols of an image, its stubs and pointers, who gives an undefined symbol, and its sections by address
-//! and by number.
+//! The indirect symbols of an image, its stubs and pointers, the provider of an undefined symbol, and its sections by
+//! address and by number.
 
 ghost use Rattle.std.specs.Prelude.{◌≡◌, ◌/◌, ℕ, map, option_map};
 ghost use Rattle.mach_base.specs.Answer.{Reads};
@@ -41,7 +41,7 @@ impl Subject for IndirectPlaces {
 
     ghost reading = { λ _. indirect_place_by };
 
-    /// It is never refused.
+    /// It never fails.
     fn read(&self, command: &LoadCommand) -> Option<Result<DysymtabCommand>> {
         match &command.command {
             CommandVariant::Dysymtab(c) => Some(Ok(*c)),
@@ -50,7 +50,7 @@ impl Subject for IndirectPlaces {
     }
 }
 
-// The table of indirect symbols that the last command places, if one does.
+// Returns the table of indirect symbols that the last command places, if there is one.
 fn indirect_table<'a>(
     bytes: &'a [u8],
     ctx: Ctx,
@@ -62,7 +62,7 @@ fn indirect_table<'a>(
     Some(IndirectSymbols::new(bytes, command.indirectsymoff, command.nindirectsyms, ctx.le))
 }
 
-// Whether the linker wrote down of a symbol which library gives it.
+// Whether the linker recorded which library provides a symbol.
 fn has_library(flags: u32, symbol: &Nlist) -> bool
     ensures { result ≡ names_library flags symbol.now }
 {
@@ -73,7 +73,7 @@ fn has_library(flags: u32, symbol: &Nlist) -> bool
     kind == N_UNDF && symbol.n_value == 0 || kind == N_PBUD
 }
 
-// The ordinal of a bind that means what the ordinal of a symbol means.
+// Returns the ordinal of a bind with the same meaning as a symbol's ordinal.
 fn bind_ordinal(ordinal: u16) -> i64
     ensures { result ≡ bind_ordinal_of ordinal }
 {
@@ -85,15 +85,15 @@ fn bind_ordinal(ordinal: u16) -> i64
 }
 
 impl<'a, A: Allocator> MachO<'a, A> {
-    // The table of indirect symbols by the commands that the image holds, if one places any.
+    // Returns the table of indirect symbols by the commands that the image holds, if one places any.
     fn indirect_table(&self) -> Option<IndirectSymbols<'a>>
         ensures { option_map indirect_table_of result ≡ indirect_table_held self.now }
     {
         indirect_table(self.bytes, self.ctx, self.load_commands.as_slice())
     }
 
-    /// The indirect symbols of the image, one after the other: those of the last `LC_DYSYMTAB` among the load commands
-    /// that it holds at the call; none where no command places any. An error stands in the place of its item.
+    /// Returns the indirect symbols of the image, one after the other: those of the last `LC_DYSYMTAB` among the load
+    /// commands that it holds; none if no command places any. An item that can't be read is its error.
     pub fn indirect_symbols(&self) -> IndirectSymbolIterator<'a>
         ensures { indirect_left result ≡ indirect_symbols_in (indirect_table_held self.now) }
     {
@@ -103,10 +103,12 @@ impl<'a, A: Allocator> MachO<'a, A> {
         }
     }
 
-    /// The stubs and pointers of the image that stand for symbols, over the commands, segments and symbols that it holds
-    /// at the call: by segments, sections and addresses; none where no command places indirect symbols. An error stands
-    /// in the place of its slot, or of the slots of a section from the first on that has no address or no entry, or of a
-    /// section that can't be read. It takes no memory.
+    /// Returns the stubs and pointers of the image that belong to symbols, over the commands, segments and symbols that it
+    /// holds, by segments, sections and addresses. There are none if no command places indirect symbols. It allocates
+    /// nothing.
+    ///
+    /// An error takes the place of one slot that can't be read. One error takes the place of a section that can't be read,
+    /// or of the rest of a section from the first slot on that has no address or no entry.
     pub fn symbol_slots<'b>(&'b self) -> SlotIterator<'a, 'b>
         ensures { slots_left result ≡ image_slots (ctx_held self.now) (indirect_table_held self.now) (symbol_table_held self.now) (segments_held self.now) }
     {
@@ -121,8 +123,8 @@ impl<'a, A: Allocator> MachO<'a, A> {
         SlotIterator::new(source, self.segments.as_slice())
     }
 
-    /// The stub or pointer in which an address lies, if there is one: that of the first section that has slots and holds
-    /// the address. Refused where a slot of that section has no size, or this slot has no entry or no symbol.
+    /// Returns the stub or pointer in which an address lies, if there is one: that of the first section that has slots and
+    /// holds the address. Fails if a slot of that section has no size, or if this slot has no entry or no symbol.
     pub fn symbol_slot_at(&self, address: u64) -> Result<Option<SymbolSlot<'a>>>
         ensures { Reads (option_map slot_view) result
             (image_slot_at (ctx_held self.now) (indirect_table_held self.now) (symbol_table_held self.now) (segments_held self.now) address) }
@@ -138,9 +140,9 @@ impl<'a, A: Allocator> MachO<'a, A> {
         symbol_slot_at(source, self.segments.as_slice(), address)
     }
 
-    /// Who gives a symbol of the image, over the libraries that it holds at the call, as the linker wrote it down; None
-    /// where it didn't: the image is no two-level one, or the symbol is one of a debugger, is defined or is common.
-    /// Refused where the ordinal is past the last library.
+    /// Returns the provider of a symbol of the image, over the libraries that it holds, as the linker recorded it. It
+    /// returns None if there is no such record: the image doesn't use the two-level namespace, or the symbol is a debugging
+    /// one, defined or common. Fails if the ordinal is past the last library.
     pub fn symbol_provider(&self, symbol: &Nlist) -> Option<Result<Provider<'a>>>
         ensures { option_map provider_read result ≡ symbol_provider_of self.now.header.flags (texts self.now.libs.items) symbol.now }
     {
@@ -151,16 +153,16 @@ impl<'a, A: Allocator> MachO<'a, A> {
         Some(Provider::of_ordinal(self.libs.as_slice(), ordinal))
     }
 
-    /// The first section of the segments that the image holds at the call in which an address lies, if there is one;
-    /// sections that aren't in the bytes are passed over.
+    /// Returns the first section, of the segments that the image holds, in which an address lies, if there is one. Sections
+    /// that aren't in the bytes are skipped.
     pub fn section_at(&self, address: u64) -> Option<NumberedSection>
         ensures { result ≡ section_holding (segments_held self.now) address }
     {
         section_holding(self.segments.as_slice(), address)
     }
 
-    /// The section that a symbol's `n_sect` means, over the segments that the image holds at the call, if there is one.
-    /// Refused where it isn't in the bytes.
+    /// Returns the section that a symbol's `n_sect` names, of the segments that the image holds, if there is one. Fails if
+    /// it isn't in the bytes.
     pub fn section_of(&self, n_sect: usize) -> Result<Option<NumberedSection>>
         ensures { Reads (λ found. found) result (section_by_number (segments_held self.now) n_sect) }
     {

@@ -1,4 +1,4 @@
-//! What dyld rebases of an image, and what it binds weakly.
+//! What dyld rebases in an image, and what it binds weakly.
 
 ghost use Rattle.mach_base.specs.Context.{pointer_size};
 ghost use Rattle.mach_dyld.specs.RebasesLeft.{opcode_rebases_left};
@@ -16,8 +16,8 @@ use mach_dyld::{OpcodeRebaseIterator, WeakBindIterator};
 use std::alloc::Allocator;
 
 impl<'a, A: Allocator> MachO<'a, A> {
-    /// The rebases of the image's opcodes one at a time, over the segments that it holds, up to the first fault, and its error
-    /// last; none where no command brings opcodes. It takes no memory.
+    /// Returns the rebases of the image's opcodes one at a time, over the segments that it holds. The first fault is the
+    /// last item. There are none if no command names opcodes. It allocates nothing.
     pub fn opcode_rebases<'b>(&'b self) -> OpcodeRebaseIterator<'a, 'b>
         ensures { AreRebasesByOpcodes (rebase_stream_in (bytes_held self.now) (commands_held self.now)) (ctx_held self.now).le
             (pointer_size (ctx_held self.now).container) (segments_held self.now) (opcode_rebases_left result) }
@@ -29,8 +29,8 @@ impl<'a, A: Allocator> MachO<'a, A> {
         stream.iter(self.segments.as_slice(), self.ctx)
     }
 
-    /// What dyld rebases of the image, one rebase at a time, over the segments that it holds: the rebases of its opcodes and
-    /// then those among the fixups of its chains, up to the first fault, and its error last. It takes no memory.
+    /// Returns what dyld rebases in the image, one rebase at a time, over the segments that it holds: the rebases of its
+    /// opcodes, then those among the fixups of its chains. The first fault is the last item. It allocates nothing.
     pub fn rebases<'b>(&'b self) -> RebaseIterator<'a, 'b>
         ensures { AreImageRebases (rebase_stream_in (bytes_held self.now) (commands_held self.now)) (chained_held self.now) (ctx_held self.now).le
             (pointer_size (ctx_held self.now).container) (segments_held self.now) (rebases_left result) }
@@ -38,9 +38,9 @@ impl<'a, A: Allocator> MachO<'a, A> {
         RebaseIterator::over(self.opcode_rebases(), self.fixups())
     }
 
-    /// The weak binds of the image one at a time, over the segments that it holds: the names that it defines itself and not
-    /// weakly, and the places that take the definition that all images share, up to the first fault, and its error last; none
-    /// where no command brings any. It takes no memory.
+    /// Returns the weak binds of the image one at a time, over the segments that it holds: the names that it defines itself
+    /// and not weakly, and the places that take the definition that all images share. The first fault is the last item.
+    /// There are none if no command names any. It allocates nothing.
     pub fn weak_binds<'b>(&'b self) -> WeakBindIterator<'a, 'b>
         ensures { AreImageWeakBinds (weak_stream_in (bytes_held self.now) (commands_held self.now))
             (pointer_size (ctx_held self.now).container) (segments_held self.now) (weak_binds_left result) }

@@ -19,9 +19,9 @@ use mach_load::{
 use std::alloc::Allocator;
 
 impl<'a, A: Allocator> MachO<'a, A> {
-    /// The addresses of the image's functions one at a time, before sliding: by the numbers that the last `LC_FUNCTION_STARTS`
-    /// among the load commands places that it holds at the call, counted from `base`, up to the first fault, and its error
-    /// last; none where no command places any. It takes no memory.
+    /// Returns the addresses of the image's functions one at a time, before sliding. They are read from the numbers that the
+    /// last `LC_FUNCTION_STARTS` among the load commands that it holds places, and counted from `base`. The first fault is
+    /// the last item. There are none if no command places any. It allocates nothing.
     pub fn function_starts(&self) -> FunctionStartIterator<'a>
         ensures { AreStartsAt (bytes_held self.now) (starts_place_in (commands_held self.now)) (base_held self.now) (starts_left result) }
     {
@@ -31,8 +31,8 @@ impl<'a, A: Allocator> MachO<'a, A> {
         FunctionStarts::new(self.bytes, &command).iter(self.base())
     }
 
-    /// The entries of the table of data among code that the last `LC_DATA_IN_CODE` among the load commands places that the
-    /// image holds at the call; none where no command places one. It takes no memory.
+    /// Returns the entries of the data-in-code table that the last `LC_DATA_IN_CODE` among the load commands that the image
+    /// holds places; none if there is no such command. It allocates nothing.
     pub fn data_in_code(&self) -> DataInCodeIterator<'a>
         ensures { data_in_code_left result ≡ data_in_code_there (ctx_held self.now).le (bytes_held self.now) (data_place_in (commands_held self.now)) }
     {
@@ -42,24 +42,23 @@ impl<'a, A: Allocator> MachO<'a, A> {
         DataInCodeIterator::new(self.bytes, &command, self.ctx.le)
     }
 
-    /// The options for the linker that stand in the load commands that the image holds at the call, each with the number of its
-    /// command, up to the first fault, and its error last. It takes no memory.
+    /// Returns the options for the linker in the load commands that the image holds, each with the number of its command.
+    /// The first fault is the last item. It allocates nothing.
     pub fn linker_options<'b>(&'b self) -> LinkerOptionIterator<'a, 'b>
         ensures { options_left result ≡ linker_options_in (bytes_held self.now) (commands_held self.now) }
     {
         LinkerOptionIterator::new(self.bytes, self.load_commands.as_slice())
     }
 
-    /// The tools that the load commands that the image holds at the call say it was built with, each with the number of its
-    /// command, up to the first fault, and its error last. It takes no memory.
+    /// Returns the tools that the image was built with, by the load commands that it holds, each with the number of its
+    /// command. The first fault is the last item. It allocates nothing.
     pub fn build_tools<'b>(&'b self) -> BuildToolIterator<'a, 'b>
         ensures { build_tools_left result ≡ build_tools_in (ctx_held self.now).le (bytes_held self.now) (commands_held self.now) }
     {
         BuildToolIterator::new(self.bytes, self.load_commands.as_slice(), self.ctx.le)
     }
 
-    /// The notes of the load commands that the image holds at the call; in the place of one that can't be read its error. It
-    /// takes no memory.
+    /// Returns the notes of the load commands that the image holds. A note that can't be read is its error. It allocates nothing.
     pub fn notes<'b>(&'b self) -> NoteIterator<'a, 'b>
         ensures { notes_left result ≡ notes_of_commands (bytes_held self.now) (commands_held self.now) }
     {
