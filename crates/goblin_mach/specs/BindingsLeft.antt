@@ -1,4 +1,4 @@
--- What is left to an iterator over the bindings of an image.
+-- What is left of an iterator over the bindings of an image.
 use Rattle.std.specs.Prelude.{List, [], ◌++◌, Result, if◌then◌else◌}
 use Rattle.mach_base.specs.Fault.{Fault}
 use Rattle.mach_parts.specs.Bindings.{Binding}
@@ -9,11 +9,11 @@ use Rattle.goblin_mach.specs.FixupsLeft.{told_first}
 use Rattle.goblin_mach.specs.declared.bindings.BindingIterator.{BindingIterator}
 use Rattle.goblin_mach.specs.declared.bindings.ChainBindings.{ChainBindings}
 
--- those of the chains
+-- the bindings of the chains
 unfoldable pub chain_bindings_left : ChainBindings → List (Result Binding Fault)
 chain_bindings_left it = told_first it.refusal ++ chains.chained_bindings_left it.bindings
 
--- those of the opcodes, and then those of the chains
+-- the bindings of the opcodes, then those of the chains
 unfoldable pub all_bindings_left : BindingIterator → List (Result Binding Fault)
 all_bindings_left it = opcodes.opcode_bindings_left it.opcodes ++ chain_bindings_left it.chains
 

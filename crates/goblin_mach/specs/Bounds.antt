@@ -1,4 +1,4 @@
--- What the bytes of an image bound: how many commands it has, and where the data of its segments lie.
+-- What the bytes of an image bound: the number of its commands, and the data of its segments.
 use Rattle.std.specs.Prelude.{ℕ, ◌*◌, ◌≤◌, List, length}
 use Rattle.mach_base.specs.declared.context.Ctx.{Ctx}
 use Rattle.mach_load.specs.Command.{Command}
@@ -6,7 +6,7 @@ use Rattle.mach_chained.specs.FixupCounts.{LieInFile}
 use Rattle.goblin_mach.specs.Image.{LossyOpensAs}
 use Rattle.goblin_mach.specs.Subjects.{lossy_segments_in}
 
--- a command for each eight bytes at most
+-- at most one command for each eight bytes
 abbrev pub CommandsFit : Type 0
 CommandsFit = (bytes : List ℕ) (o : ℕ) (ctx : Ctx) (cs : List Command) → LossyOpensAs bytes o ctx cs → 8 * length cs ≤ length bytes
 

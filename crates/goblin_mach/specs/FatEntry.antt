@@ -17,7 +17,7 @@ use Rattle.goblin_mach.specs.declared.fat_file.entry.SingleArch.TheVariants.{Mac
 use Rattle.goblin_mach.specs.declared.fat_file.entry.SingleArch.{SingleArch}
 use Rattle.goblin_mach.specs.declared.fat_file.table.EntryIterator.{EntryIterator}
 
--- an entry: the bytes of an archive, or the bytes at whose front an image is to open
+-- an entry: the bytes of an archive, or the bytes at whose start an image should open
 pub data FatEntry : Type 0 where
   archive : List ℕ → FatEntry
   image : List ℕ → FatEntry
@@ -28,12 +28,12 @@ entry_by (hints.Mach said) slice = Ok (image slice)
 entry_by (hints.MachFat count) slice = Err malformed
 entry_by (hints.Unknown n) slice = Err malformed
 
--- what the bytes of an entry are, by what their first 16 hint at; fewer are no entry
+-- the kind of an entry, by the hint in the first 16 of its bytes; fewer bytes are no entry
 abbrev pub fat_entry_of : List ℕ → Result FatEntry Fault
 fat_entry_of slice = if nat_le 16 (length slice) then entry_by (hint_in (take 16 slice)) slice else Err malformed
 
--- Entry i of a fat file, whose records are of a form: it is below the count, its record is there, and its slice is
--- an archive or begins as an image.
+-- Entry i of a fat file, whose records are of a form: i is below the count, its record can be read, and its slice is an
+-- archive or begins like an image.
 abbrev pub arch_entry_in : {R : Type 0} → ArchForm R → FatFile → ℕ → Result FatEntry Fault
 arch_entry_in form file i =
     if nat_lt i file.narches then (arch_in form file.bytes i >>= λ arch. fat_entry_of (part_of file.bytes (form.offset arch) (form.size arch)))
@@ -50,7 +50,7 @@ entry_at file i = arch_entry_in arch_form_32 file i
 abbrev pub entries_of : FatFile → List (Result FatEntry Fault)
 entries_of file = entries_in arch_form_32 file
 
--- an entry as it was opened: an archive's bytes, or the image that opens strictly at 0 of its bytes
+-- an entry that was opened: an archive's bytes, or the image that opens strictly at 0 of its bytes
 abbrev pub IsEntry : {A : Type 0} → FatEntry → SingleArch A → Type 0
 IsEntry (archive slice) (Archive bytes) = bytes.now ≡ slice
 IsEntry (archive slice) (MachO m) = ⊥
@@ -67,8 +67,8 @@ pub data FatEntryFault : Result FatEntry Fault → Fault → Type 0 where
   no_entry : (f : Fault) → FatEntryFault (Err f) f
   no_image : (slice : List ℕ) (f : Fault) → ImageFault slice 0 f → FatEntryFault (Ok (image slice)) f
 
--- How an answer stands to an entry: it is the entry as it opens, want of memory aside it is that wherever
--- the entry opens, and each error is a fault that stands in the entry.
+-- How a result relates to an entry. It is the entry as it opens. It is Ok if the entry opens, unless memory runs out. Each
+-- error is a fault in the entry.
 pub record OpensEntry {A : Type 0} (entry : Result FatEntry Fault) (answer : Result (SingleArch A) Error) : Type 0 where
   pub opened : IfOk answer (λ x. (e : FatEntry) × (entry ≡ Ok e) × IsEntry e x)
   pub only : EntryOpens entry → IsOkUnlessMemory answer
@@ -81,7 +81,7 @@ entries_left_in form it = items_from (arch_entry_in form (file_held it.file.now)
 abbrev pub entries_left : {A : Type 0} → EntryIterator FatArch A → List (Result FatEntry Fault)
 entries_left it = entries_left_in arch_form_32 it
 
--- the answer is the first of the entries that were left, as it opens, and the others are left now
+-- the result is the first of the entries that were left, as it opens, and the others are left now
 abbrev pub GivesEntry : {R A : Type 0} → ArchForm R → EntryIterator R A → Option (Result (SingleArch A) Error) → EntryIterator R A → Type 0
 GivesEntry form it item after =
     MatchOption item ((entries_left_in form it ≡ []) × (entries_left_in form after ≡ []))

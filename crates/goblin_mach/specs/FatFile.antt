@@ -1,4 +1,4 @@
--- A fat file: a header, and a table of records behind it, of 20 bytes or of 32 (`mach-o/fat.h`).
+-- A fat file: a header, followed by a table of records of 20 or 32 bytes (`mach-o/fat.h`).
 use Rattle.std.specs.Prelude.{◌==◌, ◌≡◌, ℕ, ◌/◌, ◌<◌, List, [], ◌∷◌, length, drop, codes, nat_le, Bool, true, false, Option, Some, None, Result, Ok, Err}
 use Rattle.std.specs.Prelude.{if◌then◌else◌, ◌-◌}
 use Rattle.mach_base.specs.Answer.{◌>>=◌}
@@ -12,12 +12,12 @@ use Rattle.mach_parts.specs.ArchForms.{ArchForm, arch_form_32, arch_place_in, ar
 use Rattle.goblin_mach.specs.declared.fat_file.arches.ArchIterator.{ArchIterator}
 use Rattle.goblin_mach.specs.declared.fat_file.table.FatTable.{FatTable}
 
--- a fat file: its bytes, and how many entries it is said to have
+-- a fat file: its bytes, and the number of entries that its header states
 pub record FatFile : Type 0 where
   pub bytes : List ℕ
   pub narches : ℕ
 
--- the fat file of these bytes, with the count of their header, which has 8 bytes
+-- the fat file in these bytes, with the count in their header, which has 8 bytes
 abbrev pub fat_file_in : List ℕ → Result FatFile Fault
 fat_file_in bytes = bounded 8 bytes 0 (record { bytes = bytes; narches = number Big 4 (drop 4 bytes) })
 
@@ -25,7 +25,7 @@ fat_file_in bytes = bounded 8 bytes 0 (record { bytes = bytes; narches = number 
 abbrev pub archs_in : {R : Type 0} → ArchForm R → FatFile → List (Result R Fault)
 archs_in form file = items_from (arch_in form file.bytes) 0 file.narches
 
--- the records as one list, where the bytes could hold that number of them; else the fault of the first unreadable one
+-- the records as one list, if the bytes could hold that many of them, or the fault of the first unreadable one
 abbrev pub arch_table_in : {R : Type 0} → ArchForm R → FatFile → Result (List R) Fault
 arch_table_in form file =
     if nat_le file.narches (length file.bytes / form.stride) then all_read (archs_in form file)
@@ -37,7 +37,8 @@ first_arch_of_cpu form cputype [] = Ok None
 first_arch_of_cpu form cputype (found ∷ rest) =
     found >>= λ arch. if form.cputype arch == cputype then Ok (Some arch) else first_arch_of_cpu form cputype rest
 
--- the same of records of 20 bytes: where that of entry i stands, 8 + 20i; the record, or why it isn't there; all of them; as one list; the first of a cpu
+-- The same for records of 20 bytes: the place of the record of entry i, 8 + 20i; the record, or why it can't be read; all
+-- records; all as one list; the first of a cpu.
 abbrev pub arch_place : ℕ → ℕ
 arch_place i = arch_place_in arch_form_32 i
 
@@ -53,30 +54,30 @@ arches_in file = arch_table_in arch_form_32 file
 abbrev pub first_of_cpu : ℕ → List (Result FatArch Fault) → Result (Option FatArch) Fault
 first_of_cpu cputype archs = first_arch_of_cpu arch_form_32 cputype archs
 
--- what a question about entry i is asked of: its record, or the error of reading it, made into one of E
+-- the argument of a test of entry i: its record, or the error of reading it, converted to E
 abbrev pub IsAbout : {R E : Type 0} → ArchForm R → (Error → E → Type 0) → List ℕ → ℕ → Result R E → Type 0
 IsAbout form Made bytes i (Ok arch) = arch_in form bytes i ≡ Ok arch
 IsAbout form Made bytes i (Err made) = (e : Error) × (arch_in form bytes i ≡ Err (fault_of e)) × Made e made
 
--- the question was asked about entry i, and had this answer
+-- entry i was tested, with this result
 pub record IsAsked {R E : Type 0} (form : ArchForm R) (Made : Error → E → Type 0) (Answers : Result R E → Bool → Type 0) (bytes : List ℕ) (i : ℕ)
     (answer : Bool) : Type 0 where
   pub about : Result R E
   pub is_about : IsAbout form Made bytes i about
   pub answered : Answers about answer
 
--- entry i is the first of those below the count for which the answer was yes
+-- entry i is the first of those below the count whose test was true
 pub record IsFirstTaken {R E : Type 0} (form : ArchForm R) (Made : Error → E → Type 0) (Answers : Result R E → Bool → Type 0) (file : FatFile) (i : ℕ)
     : Type 0 where
   pub inside : i < file.narches
   pub taken : IsAsked form Made Answers file.bytes i true
   pub before : (k : ℕ) → k < i → IsAsked form Made Answers file.bytes k false
 
--- the answer was no for each of them
+-- the test was false for each of them
 abbrev pub NoneTaken : {R E : Type 0} → ArchForm R → (Error → E → Type 0) → (Result R E → Bool → Type 0) → FatFile → Type 0
 NoneTaken form Made Answers file = (k : ℕ) → k < file.narches → IsAsked form Made Answers file.bytes k false
 
--- the question may be asked about each entry below the count
+-- the test may be called for each entry below the count
 abbrev pub MayAsk : {R E : Type 0} → ArchForm R → (Error → E → Type 0) → (Result R E → Type 0) → FatFile → Type 0
 MayAsk {R} {E} form Made May file = (i : ℕ) (about : Result R E) → i < file.narches → IsAbout form Made file.bytes i about → May about
 
@@ -84,7 +85,7 @@ MayAsk {R} {E} form Made May file = (i : ℕ) (about : Result R E) → i < file.
 abbrev pub file_held : {R A : Type 0} → FatTable R A → FatFile
 file_held m = record { bytes = m.bytes.now; narches = m.narches }
 
--- a record, as it was answered
+-- what was read, as a record or a fault
 abbrev pub arch_read : {R : Type 0} → Result R Error → Result R Fault
 arch_read item = read_as (λ arch. arch) item
 

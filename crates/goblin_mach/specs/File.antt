@@ -1,4 +1,4 @@
--- What a file is: a fat file or an image, when it opens, and the faults that stand where it doesn't (`mach-o/fat.h`).
+-- The kind of a file: when it opens as a fat file or an image, and its faults if it doesn't (`mach-o/fat.h`).
 use Rattle.std.specs.Prelude.{◌≡◌, ℕ, ◌<◌, ◌≤◌, ◌⊎◌, List, length, Ok, Err}
 use Rattle.mach_base.specs.declared.context.Endian.TheVariants.{Big}
 use Rattle.mach_base.specs.Fault.{Fault, malformed}
@@ -14,19 +14,19 @@ use Rattle.goblin_mach.specs.declared.mach.Mach.{Mach}
 abbrev pub HasFatMagic : List ℕ → Type 0
 HasFatMagic bytes = number_at Big 4 bytes 0 ≡ Ok 0xcafe_babe
 
--- the bytes begin as a fat file, whose header has 8 bytes
+-- the bytes begin like a fat file, whose header has 8 bytes
 pub record IsFat (bytes : List ℕ) : Type 0 where
   pub magic : HasFatMagic bytes
   pub header : 8 ≤ length bytes
 
--- The bytes open as a file, with its image in a mode: `Opens` or `LossyOpens`. They are four bytes for a
--- magic, and a fat file, or an image at 0.
+-- The bytes open as a file, with its image in a mode: `Opens` or `LossyOpens`. They have four bytes for a magic, and are a
+-- fat file, or an image at 0.
 pub record MachOpens (InMode : List ℕ → ℕ → Type 0) (bytes : List ℕ) : Type 0 where
   pub magic : 4 ≤ length bytes
   pub file : IsFat bytes ⊎ InMode bytes 0
 
--- A fault stands where they are opened, with those of an image in a mode: `ImageFault` or `LossyFault`. Behind
--- the magic of a fat file its header may be short; any other magic is one of an image or of none.
+-- A fault of opening them, with the faults of an image in a mode: `ImageFault` or `LossyFault`. After the magic of a fat
+-- file its header may be cut off. Any other magic is that of an image or unknown.
 pub data MachFault (InMode : List ℕ → ℕ → Fault → Type 0) (bytes : List ℕ) : Fault → Type 0 where
   no_room : length bytes < 4 → MachFault InMode bytes malformed
   of_fat : (f : Fault) → HasFatMagic bytes → fat_file_in bytes ≡ Err f → MachFault InMode bytes f

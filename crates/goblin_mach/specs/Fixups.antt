@@ -1,5 +1,5 @@
--- The chained fixups of an image: where its commands place their data (`mach-o/loader.h`, LC_DYLD_CHAINED_FIXUPS), the
--- address that they count from (dyld), and its fixups in order (`mach-o/fixup-chains.h`).
+-- The chained fixups of an image: the place of their data, by its commands (`mach-o/loader.h`, LC_DYLD_CHAINED_FIXUPS), the
+-- address from which they are counted (dyld), and the fixups in order (`mach-o/fixup-chains.h`).
 use Rattle.std.specs.Prelude.{◌≡◌, ℕ, List, [], ◌∷◌, Bool, filter, Option, Some, None, option_map, unwrap_or}
 use Rattle.std.specs.Prelude.{Result, Ok, Err}
 use Rattle.mach_base.specs.Answer.{◌>>=◌}
@@ -20,14 +20,14 @@ use Rattle.goblin_mach.specs.Readings.{Reading, read_of, first_of, last_of}
 use Rattle.goblin_mach.specs.OpenImage.{bytes_held, commands_held, ctx_held, segments_held}
 use Rattle.goblin_mach.specs.declared.macho.MachO.{MachO}
 
--- ---- where they lie
+-- ---- their place
 
 -- the place and the size of the data that a command places (struct linkedit_data_command, dataoff and datasize)
 abbrev pub chained_place_of : Kind → List Value → Option (ℕ × ℕ)
 chained_place_of dyld_chained_fixups values = Some (number_among values 2, number_among values 3)
 chained_place_of _ values = None
 
--- placing them is never refused
+-- placing them never fails
 abbrev pub chained_place_by : Reading (ℕ × ℕ)
 chained_place_by c = option_map (λ place. Ok place) (chained_place_of c.kind c.values)
 
@@ -35,16 +35,16 @@ chained_place_by c = option_map (λ place. Ok place) (chained_place_of c.kind c.
 abbrev pub chained_place_in : List Command → Option (ℕ × ℕ)
 chained_place_in cs = last_of (read_of chained_place_by cs)
 
--- the chained fixups whose data lie there, if any do, or why their front can't be read
+-- the chained fixups whose data are there, if there are any, or the fault of their header
 abbrev pub chained_at : Endian → List ℕ → Option (ℕ × ℕ) → Result (Option Fixups) Fault
 chained_at le bytes None = Ok None
 chained_at le bytes (Some place) = fixups_at le bytes place.0 place.1 >>= (λ found. Ok (Some found))
 
--- those of an image
+-- the chained fixups of an image
 abbrev pub chained_in : Ctx → List ℕ → List Command → Result (Option Fixups) Fault
 chained_in ctx bytes cs = chained_at ctx.le bytes (chained_place_in cs)
 
--- ---- what they count from
+-- ---- the base address
 
 -- the name is __TEXT
 abbrev pub is_text_segment : SegmentView → Bool
@@ -54,20 +54,20 @@ is_text_segment s = is_text_name s.command.segname
 unfoldable pub base_of : List SegmentView → ℕ
 base_of segments = unwrap_or (option_map (λ s. s.command.vmaddr) (first_of (filter is_text_segment segments))) 0
 
--- what fixups over these segments are read from
+-- the data from which fixups over these segments are read
 abbrev pub input_over : Fixups → List SegmentView → FixupInput
 input_over fixups segments = record { fixups = fixups; segments = segments; base = base_of segments }
 
 -- ---- the fixups
 
--- these are the fixups of an image's chains, up to the first fault: none where it has none, and where their front can't
--- be read its fault alone
+-- These are the fixups of an image's chains, up to the first fault. There are none if it has no chains, and only a fault if
+-- their header can't be read.
 abbrev pub AreImageFixups : Result (Option Fixups) Fault → List SegmentView → List (Result Fixup Fault) → Type 0
 AreImageFixups (Err f) segments items = items ≡ Err f ∷ []
 AreImageFixups (Ok None) segments items = items ≡ []
 AreImageFixups (Ok (Some fixups)) segments items = AreFixupItems (input_over fixups segments) items
 
--- ---- what contracts see of an image
+-- ---- an image, as contracts see it
 
 -- its chained fixups, by the commands that it holds
 abbrev pub chained_held : {A : Type 0} → MachO A → Result (Option Fixups) Fault

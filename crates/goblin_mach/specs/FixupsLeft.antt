@@ -1,4 +1,4 @@
--- What is left to an iterator over the fixups of an image.
+-- What is left of an iterator over the fixups of an image.
 use Rattle.std.specs.Prelude.{List, [], ◌∷◌, ◌++◌, Option, Some, None, Result, Err}
 use Rattle.mach_base.specs.declared.error.Error.{Error}
 use Rattle.mach_base.specs.Fault.{Fault, fault_of}
@@ -6,7 +6,7 @@ use Rattle.mach_chained.specs.Fixups.{Fixup}
 use Rattle.mach_chained.specs.FixupsLeft as chains
 use Rattle.goblin_mach.specs.declared.fixups.FixupIterator.{FixupIterator}
 
--- a refusal that is still to be told
+-- an error that is still to be returned
 abbrev pub told_first : {A : Type 0} → Option Error → List (Result A Fault)
 told_first None = []
 told_first (Some e) = Err (fault_of e) ∷ []

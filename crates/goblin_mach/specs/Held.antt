@@ -3,6 +3,6 @@ use Rattle.goblin_mach.specs.OpenImage.{bytes_held, ctx_held, commands_held}
 use Rattle.goblin_mach.specs.declared.macho.MachO.{MachO}
 use Rattle.mach_layout.specs.Laid.{Laid}
 
--- what an image holds of it
+-- what the rules read of an image, as it holds it
 abbrev pub laid_held : {A : Type 0} → MachO A → Laid
 laid_held m = record { bytes = bytes_held m; ctx = ctx_held m; header = m.header; commands = commands_held m }

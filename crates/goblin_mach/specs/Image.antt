@@ -1,4 +1,4 @@
--- When an image opens, and the faults that stand where it doesn't (`mach-o/loader.h`).
+-- When an image opens, and its faults if it doesn't (`mach-o/loader.h`).
 use Rattle.std.specs.Prelude.{◌≡◌, ℕ, ◌+◌, ◌/◌, ◌<◌, ◌≤◌, ◌⊎◌, List, length, codes, Some, None, Ok, Err, IsOk}
 use Rattle.mach_base.specs.declared.context.Ctx.{Ctx}
 use Rattle.mach_base.specs.Fault.{Fault, malformed, bad_magic, too_short}
@@ -10,7 +10,7 @@ use Rattle.goblin_mach.specs.Subjects.{segment_by, library_by, id_by, run_path_b
 use Rattle.mach_parts.specs.Magic.{magic_at, cputype_at, ncmds_at, sizeofcmds_at}
 use Rattle.goblin_mach.specs.Readings.{AllRead, IsUnread}
 
--- the magic at o is one of an image, of which ctx speaks, and 32 bytes are there
+-- the magic at o is that of an image with context ctx, and 32 bytes are there
 pub record HasHeader (bytes : List ℕ) (o : ℕ) (ctx : Ctx) : Type 0 where
   pub magic : ℕ
   pub magic_is : magic_at bytes o ≡ Ok (magic, Some ctx)
@@ -21,14 +21,14 @@ pub record CountsFit (bytes : List ℕ) (o : ℕ) (ctx : Ctx) : Type 0 where
   pub ncmds : ncmds_at ctx bytes o ≤ sizeofcmds_at ctx bytes o / 8
   pub sizeofcmds : sizeofcmds_at ctx bytes o ≤ length bytes
 
--- as many commands as the header says stand one after the other behind it
+-- as many commands as the header states follow it, one after the other
 pub record HasChain (bytes : List ℕ) (o : ℕ) (ctx : Ctx) (cs : List Command) : Type 0 where
   pub chain : IsChain ctx.le bytes (o + header_size ctx.container) cs
   pub count : length cs ≡ ncmds_at ctx bytes o
 
--- An image with this context and this chain of commands opens at o in lossy mode. Each condition is a
--- field: the registers of a thread's state, where one says where the image begins, are those of a known
--- cpu, which is the header's; and the image has an entry.
+-- An image with this context and this chain of commands opens at o in lossy mode. Each condition is a field. A thread's
+-- state that holds the image's entry must have the registers of a known cpu, the one in the header. And the image must have
+-- an entry.
 pub record LossyOpensAs (bytes : List ℕ) (o : ℕ) (ctx : Ctx) (cs : List Command) : Type 0 where
   pub header : HasHeader bytes o ctx
   pub counts : CountsFit bytes o ctx
@@ -45,7 +45,7 @@ pub record AllReadable (ctx : Ctx) (bytes : List ℕ) (cs : List Command) : Type
   pub run_paths : AllRead (run_path_by bytes) cs
   pub tables : AllRead (table_by ctx bytes) cs
 
--- It opens strictly where it opens in lossy mode and all this can be read.
+-- It opens strictly if it opens in lossy mode and all this can be read.
 pub record OpensAs (bytes : List ℕ) (o : ℕ) (ctx : Ctx) (cs : List Command) : Type 0 where
   pub lossy : LossyOpensAs bytes o ctx cs
   pub readable : AllReadable ctx bytes cs
@@ -56,7 +56,7 @@ LossyOpens bytes o = (ctx : Ctx) × (cs : List Command) × LossyOpensAs bytes o 
 abbrev pub Opens : List ℕ → ℕ → Type 0
 Opens bytes o = (ctx : Ctx) × (cs : List Command) × OpensAs bytes o ctx cs
 
--- Some of the image's commands, from the first on: those that stand before a fault is met.
+-- The first commands of the image: those before a fault.
 pub record HasFront (bytes : List ℕ) (o : ℕ) (ctx : Ctx) (front : List Command) : Type 0 where
   pub header : HasHeader bytes o ctx
   pub counts : CountsFit bytes o ctx
@@ -69,9 +69,8 @@ pub record HasWholeChain (bytes : List ℕ) (o : ℕ) (ctx : Ctx) (cs : List Com
   pub counts : CountsFit bytes o ctx
   pub chain : HasChain bytes o ctx cs
 
--- A fault that stands where an image is opened at o in lossy mode: a header after its magic, the counts
--- after the header, a command after those before it, what a command says after the command, the entry
--- after all commands.
+-- A fault of opening an image at o in lossy mode: of its magic, of a header after the magic, of the counts after the header,
+-- of a command after those before it, of what a command says after the command, of the entry after all commands.
 pub data LossyFault (bytes : List ℕ) (o : ℕ) : Fault → Type 0 where
   no_magic : (f : Fault) → magic_at bytes o ≡ Err f → LossyFault bytes o f
   other_magic : (magic : ℕ) → magic_at bytes o ≡ Ok (magic, None) → LossyFault bytes o (bad_magic magic)
@@ -85,7 +84,7 @@ pub data LossyFault (bytes : List ℕ) (o : ℕ) : Fault → Type 0 where
   no_entry_point : (ctx : Ctx) (cs : List Command) (f : Fault) → HasWholeChain bytes o ctx cs
       → entry_point_in (cputype_at ctx bytes o) cs ≡ Err f → LossyFault bytes o f
 
--- A command among these can't be read as its subject asks, for this fault; lossy mode passes it over.
+-- A command among these can't be read as its subject requires, for this fault. Lossy mode skips it.
 pub data IsUnreadable (ctx : Ctx) (bytes : List ℕ) (cs : List Command) : Fault → Type 0 where
   segment : (f : Fault) → IsUnread (segment_by ctx bytes) cs f → IsUnreadable ctx bytes cs f
   library : (f : Fault) → IsUnread (library_by bytes) cs f → IsUnreadable ctx bytes cs f
@@ -93,7 +92,7 @@ pub data IsUnreadable (ctx : Ctx) (bytes : List ℕ) (cs : List Command) : Fault
   run_path : (f : Fault) → IsUnread (run_path_by bytes) cs f → IsUnreadable ctx bytes cs f
   table : (f : Fault) → IsUnread (table_by ctx bytes) cs f → IsUnreadable ctx bytes cs f
 
--- A fault that stands where an image is opened at o strictly.
+-- A fault of opening an image at o strictly.
 pub data ImageFault (bytes : List ℕ) (o : ℕ) : Fault → Type 0 where
   of_lossy : (f : Fault) → LossyFault bytes o f → ImageFault bytes o f
   unreadable : (ctx : Ctx) (front : List Command) (f : Fault) → HasFront bytes o ctx front → IsUnreadable ctx bytes front f → ImageFault bytes o f

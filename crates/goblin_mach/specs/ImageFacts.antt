@@ -1,4 +1,4 @@
--- All that facts on an image are said of: as the bytes say it, and as an opened image holds it.
+-- All that facts on an image refer to: as the bytes have it, and as an opened image holds it.
 use Rattle.std.specs.Prelude.{◌≡◌, ℕ, List, Option, option_map}
 use Rattle.mach_base.specs.declared.context.Ctx.{Ctx}
 use Rattle.mach_load.specs.Command.{Command}
@@ -17,7 +17,7 @@ use Rattle.goblin_mach.specs.Subjects.{binds_in, lossy_segments_in, trie_in, own
 use Rattle.goblin_mach.specs.declared.macho.MachO.{MachO}
 use Rattle.goblin_mach.specs.Facts.{OfImage}
 
--- What is told of an image.
+-- The parts of an image that facts refer to.
 pub record Facts : Type 0 where
   pub ctx : Ctx
   pub bytes : List ℕ
@@ -31,7 +31,7 @@ pub record Facts : Type 0 where
   pub trie : Option TrieRange
   pub binds : Option BindRanges
 
--- of the one at a place, by its commands
+-- those of the image at a place, by its commands
 abbrev pub facts_in : Ctx → List ℕ → ℕ → List Command → Facts
 facts_in ctx bytes o cs = record {
   ctx = ctx;
@@ -47,7 +47,7 @@ facts_in ctx bytes o cs = record {
   binds = binds_in bytes cs;
 }
 
--- as it is held
+-- those of an image, as it holds them
 abbrev pub facts_held : {A : Type 0} → MachO A → Facts
 facts_held m = record {
   ctx = ctx_held m;
@@ -63,10 +63,10 @@ facts_held m = record {
   binds = binds_held m;
 }
 
--- the image at o opens, in lossy mode at least, and this holds of it
+-- the image at o opens, at least in lossy mode, and this holds of it
 abbrev pub OfFacts : List ℕ → ℕ → (Facts → Type 0) → Type 0
 OfFacts bytes o Says = OfImage bytes o (λ ctx cs. Says (facts_in ctx bytes o cs))
 
--- this is all that is said of the image at o
+-- these are all parts of the image at o that facts refer to
 abbrev pub HasFacts : List ℕ → ℕ → Facts → Type 0
 HasFacts bytes o f = OfFacts bytes o (λ there. f ≡ there)

@@ -1,5 +1,5 @@
--- The slots of an image: where its commands place the table of indirect symbols (`mach-o/loader.h`, LC_DYSYMTAB), and what its sections
--- and symbols say then; and who gives an undefined symbol (`mach-o/nlist.h`, GET_LIBRARY_ORDINAL).
+-- The slots of an image: the table of indirect symbols that its commands place (`mach-o/loader.h`, LC_DYSYMTAB), with its
+-- sections and symbols; and the provider of an undefined symbol (`mach-o/nlist.h`, GET_LIBRARY_ORDINAL).
 use Rattle.std.specs.Prelude.{◌==◌, ℕ, ℤ, pos, negsuc, ◌/◌, ◌&&◌, ◌||◌, not, bit_and, Bool, List, [], Option, Some, None, option_map, Result, Ok}
 use Rattle.std.specs.Prelude.{if◌then◌else◌}
 use Rattle.mach_base.specs.declared.error.Error.{Error}
@@ -30,7 +30,7 @@ abbrev pub indirect_place_of : Kind → List Value → Option (ℕ × ℕ)
 indirect_place_of dysymtab values = Some (number_among values 14, number_among values 15)
 indirect_place_of _ values = None
 
--- placing them is never refused
+-- placing them never fails
 abbrev pub indirect_place_by : Reading (ℕ × ℕ)
 indirect_place_by c = option_map (λ place. Ok place) (indirect_place_of c.kind c.values)
 
@@ -52,11 +52,11 @@ indirect_symbols_in (Some t) = indirect_symbols_of t
 
 -- ---- slots
 
--- what slots are read from
+-- the data from which slots are read
 abbrev pub slot_tables : Ctx → Option SymbolTable → IndirectTable → SlotTables
 slot_tables ctx symbols t = record { indirect = t; symbols = symbols; container = ctx.container }
 
--- the slots of an image, over its symbols and segments; none where no command places indirect symbols
+-- the slots of an image, over its symbols and segments; none if no command places indirect symbols
 abbrev pub image_slots : Ctx → Option IndirectTable → Option SymbolTable → List SegmentView → List (Result Slot Fault)
 image_slots ctx None symbols segments = []
 image_slots ctx (Some t) symbols segments = slots_of (slot_tables ctx symbols t) segments
@@ -66,24 +66,24 @@ abbrev pub image_slot_at : Ctx → Option IndirectTable → Option SymbolTable �
 image_slot_at ctx None symbols segments a = Ok None
 image_slot_at ctx (Some t) symbols segments a = slot_of_address (slot_tables ctx symbols t) segments a
 
--- ---- who gives an undefined symbol
+-- ---- the provider of an undefined symbol
 
--- whether the linker wrote down a symbol's library (MH_TWOLEVEL): it is undefined and not common, or bound beforehand (N_UNDF, N_PBUD)
+-- whether the linker recorded a symbol's library (MH_TWOLEVEL): the symbol is undefined and not common, or prebound (N_UNDF, N_PBUD)
 abbrev pub names_library : ℕ → Nlist → Bool
 names_library flags s =
     not (bit_and flags 0x80 == 0)
     && (not (is_stab s) && ((type_of s.n_type == 0 && s.n_value == 0) || type_of s.n_type == 0xc))
 
--- the ordinal that stands in the high bits of n_desc: two of 8 bits mean what is below 0 in a bind (EXECUTABLE_ORDINAL,
+-- the ordinal in the high bits of n_desc: two ordinals of 8 bits mean numbers below 0 in a bind (EXECUTABLE_ORDINAL,
 -- DYNAMIC_LOOKUP_ORDINAL)
 abbrev pub bind_ordinal_of : ℕ → ℤ
 bind_ordinal_of n = if n == 0xff then negsuc 0 else (if n == 0xfe then negsuc 1 else pos n)
 
--- who gives a symbol, if that was written down: no fault but an ordinal past the last library
+-- the provider of a symbol, if it was recorded; the only fault is an ordinal past the last library
 abbrev pub symbol_provider_of : ℕ → List (List ℕ) → Nlist → Option (Result Provider Fault)
 symbol_provider_of flags libs s = if names_library flags s then Some (provider_of libs (bind_ordinal_of (s.n_desc / 256))) else None
 
--- ---- what contracts see of an image
+-- ---- an image, as contracts see it
 
 abbrev pub indirect_table_held : {A : Type 0} → MachO A → Option IndirectTable
 indirect_table_held m = indirect_table_in (ctx_held m) (bytes_held m) (commands_held m)
@@ -91,6 +91,6 @@ indirect_table_held m = indirect_table_in (ctx_held m) (bytes_held m) (commands_
 abbrev pub symbol_table_held : {A : Type 0} → MachO A → Option SymbolTable
 symbol_table_held m = option_map table_of m.symbols
 
--- who gives a symbol, as it was answered
+-- what was returned, as a provider or a fault
 abbrev pub provider_read : Result declared.Provider Error → Result Provider Fault
 provider_read item = read_as provider_view item

@@ -1,4 +1,4 @@
--- What dyld rebases in an image, and what it binds weakly: the streams of opcodes that a command brings (`mach-o/loader.h`,
+-- What dyld rebases in an image, and what it binds weakly: the streams of opcodes that a command names (`mach-o/loader.h`,
 -- struct dyld_info_command), and the rebases among the fixups of its chains (`mach-o/fixup-chains.h`).
 use Rattle.std.specs.Prelude.{◌≡◌, ℕ, List, [], ◌∷◌, ◌++◌, Option, Some, None, option_map, Result, Ok, Err}
 use Rattle.mach_base.specs.Fault.{Fault}
@@ -19,23 +19,23 @@ use Rattle.mach_dyld.specs.declared.rebases.RebaseKind.TheVariants.{Pointer}
 use Rattle.goblin_mach.specs.Fixups.{AreImageFixups}
 use Rattle.goblin_mach.specs.Readings.{Reading, read_of, last_of}
 
--- ---- where the streams lie
+-- ---- the places of the streams
 
--- the stream of two numbers of a command, if it brings opcodes
+-- the stream at two numbers of a command, if it names opcodes
 abbrev pub opcodes_of : (off size : ℕ) → Kind → List ℕ → List Value → Option CutStream
 opcodes_of off size dyld_info bytes values = Some (cut_stream bytes (number_among values off) (number_among values size))
 opcodes_of off size dyld_info_only bytes values = Some (cut_stream bytes (number_among values off) (number_among values size))
 opcodes_of off size _ bytes values = None
 
--- that of rebases; bringing it is never refused
+-- the stream of rebases; reading it from a command never fails
 abbrev pub rebase_stream_by : List ℕ → Reading CutStream
 rebase_stream_by bytes c = option_map (λ s. Ok s) (opcodes_of 2 3 c.kind bytes c.values)
 
--- that of weak binds
+-- the stream of weak binds
 abbrev pub weak_stream_by : List ℕ → Reading CutStream
 weak_stream_by bytes c = option_map (λ s. Ok s) (opcodes_of 6 7 c.kind bytes c.values)
 
--- those of an image: of the last command that brings opcodes
+-- the streams of an image: those of the last command that names opcodes
 abbrev pub rebase_stream_in : List ℕ → List Command → Option CutStream
 rebase_stream_in bytes cs = last_of (read_of (rebase_stream_by bytes) cs)
 
@@ -44,14 +44,14 @@ weak_stream_in bytes cs = last_of (read_of (weak_stream_by bytes) cs)
 
 -- ---- weak binds
 
--- these are the weak binds of an image, up to the first fault; none where no command brings any
+-- these are the weak binds of an image, up to the first fault; there are none if no command names any
 abbrev pub AreImageWeakBinds : Option CutStream → ℕ → List SegmentView → List (Result WeakBind Fault) → Type 0
 AreImageWeakBinds None pointer segments items = items ≡ []
 AreImageWeakBinds (Some s) pointer segments items = (ps : List Placed) × AreWeakBinds (cut_input s pointer segments) (cut_range s) ps items
 
 -- ---- rebases
 
--- these are the rebases of its opcodes, up to the first fault; none where no command brings any
+-- these are the rebases of its opcodes, up to the first fault; there are none if no command names any
 abbrev pub AreRebasesByOpcodes : Option CutStream → Endian → ℕ → List SegmentView → List (Result Rebase Fault) → Type 0
 AreRebasesByOpcodes None le pointer segments items = items ≡ []
 AreRebasesByOpcodes (Some s) le pointer segments items =
@@ -76,7 +76,7 @@ rebases_among [] = []
 rebases_among (Err f ∷ items) = Err f ∷ rebases_among items
 rebases_among (Ok f ∷ items) = rebases_before (rebase_in f) (rebases_among items)
 
--- these are the rebases of an image: those of its opcodes and then those of its chains, up to the first fault, with it
+-- these are the rebases of an image: those of its opcodes, then those of its chains, up to and including the first fault
 pub record AreImageRebases (opcodes : Option CutStream) (chained : Result (Option Fixups) Fault) (le : Endian) (pointer : ℕ)
     (segments : List SegmentView) (items : List (Result Rebase Fault)) : Type 0 where
   pub by_opcodes : List (Result Rebase Fault)

@@ -1,5 +1,5 @@
--- What is within a file, as a list: the image that it is; of a fat file each entry; of an archive, also of one that is an entry, each
--- member. What can't be read is an item that says why.
+-- The items in a file, as a list: the image that it is; each entry of a fat file; each member of an archive, also of an
+-- archive that is an entry. What can't be read is an item with the fault.
 use Rattle.std.specs.Prelude.{◌==◌, ℕ, zero, suc, ◌+◌, ◌-◌, ◌/◌, List, [], ◌∷◌, ◌++◌, map, length, codes, nat_le, Some, None, Result, Ok, Err}
 use Rattle.std.specs.Prelude.{if◌then◌else◌}
 use Rattle.mach_base.specs.declared.context.Endian.TheVariants.{Big}
@@ -16,13 +16,13 @@ use Rattle.goblin_mach.specs.declared.item.Content.{Content}
 use Rattle.goblin_mach.specs.declared.item.Content.TheVariants as contents
 use Rattle.goblin_mach.specs.declared.item.Place.{Place}
 
--- what stands somewhere: the bytes of a file or of an entry, a member of an archive, or an archive that has none
+-- the content of an item: the bytes of a file or of an entry, a member of an archive, or an archive without members
 pub data ContentView : Type 0 where
   whole_file : List ℕ → ContentView
   archive_member : MemberView → ContentView
   no_member : ContentView
 
--- an item: where it stands, and what stands there, or why it can't be read
+-- an item: its place, and its content or why it can't be read
 pub record ItemView : Type 0 where
   pub place : Place
   pub content : Result ContentView Fault
@@ -49,7 +49,7 @@ member_content (Err f) = Err f
 abbrev pub member_items : Place → List (Result MemberView Fault) → List ItemView
 member_items place members = map (λ m. item_at place (member_content m)) members
 
--- the items of an archive: its members, or one that says that it has none
+-- the items of an archive: its members, or one item if it has none
 abbrev pub items_of_members : Place → List (Result MemberView Fault) → List ItemView
 items_of_members place [] = item_at place (Ok no_member) ∷ []
 items_of_members place (m ∷ ms) = member_items place (m ∷ ms)
@@ -61,12 +61,12 @@ abbrev pub items_of_archive : Place → Result ArchiveView Fault → List ItemVi
 items_of_archive place (Ok a) = items_of_members place (members_within a)
 items_of_archive place (Err f) = item_at place (Err f) ∷ []
 
--- the items of bytes that are no fat file
+-- the items of bytes that are not a fat file
 abbrev pub items_of_whole : Place → List ℕ → List ItemView
 items_of_whole place bytes =
     if begins_any_archive bytes then items_of_archive place (archive_in bytes) else item_at place (Ok (whole_file bytes)) ∷ []
 
--- nowhere in a fat file
+-- the place of a whole file
 abbrev pub alone : Place
 alone = record { entry = None; cpu = None; offset = 0 }
 
@@ -82,12 +82,12 @@ items_of_arch form bytes i (Err f) = item_at (record { entry = Some i; cpu = Non
 abbrev pub items_of_entry : {R : Type 0} → ArchForm R → List ℕ → ℕ → List ItemView
 items_of_entry form bytes i = items_of_arch form bytes i (arch_in form bytes i)
 
--- those of so many entries from one on
+-- the items of `count` entries from an index on
 abbrev pub items_of_entries : {R : Type 0} → ArchForm R → List ℕ → ℕ → ℕ → List ItemView
 items_of_entries form bytes i zero = []
 items_of_entries form bytes i (suc count) = items_of_entry form bytes i ++ items_of_entries form bytes (i + 1) count
 
--- the items of a fat file; one, where its bytes could not hold so many entries
+-- the items of a fat file; only one, if its bytes could not hold so many entries
 abbrev pub too_many : ℕ → List ItemView
 too_many n = item_at alone (Err (too_short n (codes "arches"))) ∷ []
 
@@ -103,6 +103,6 @@ items_by_magic (Ok magic) bytes =
     else item_at alone (Ok (whole_file bytes)) ∷ [])
 items_by_magic (Err f) bytes = item_at alone (Ok (whole_file bytes)) ∷ []
 
--- What is within a file.
+-- The items in a file.
 abbrev pub items_in : List ℕ → List ItemView
 items_in bytes = if begins_any_archive bytes then items_of_archive alone (archive_in bytes) else items_by_magic (number_at Big 4 bytes 0) bytes

@@ -1,4 +1,4 @@
--- The items that an iterator has yet to give.
+-- The items that an iterator still returns.
 use Rattle.std.specs.Prelude.{◌-◌, List, [], ◌∷◌, ◌++◌, Option, Some, None, Result, Ok, Err}
 use Rattle.mach_base.specs.Fault.{Fault, fault_of}
 use Rattle.mach_base.specs.Items.{read_as}
@@ -16,21 +16,21 @@ use Rattle.goblin_mach.specs.declared.images.Whole.TheVariants as wholes
 use Rattle.goblin_mach.specs.declared.item.InputItem.{InputItem}
 use Rattle.goblin_mach.specs.declared.item.Place.{Place}
 
--- an item as it was given
+-- an item that was returned, as definitions have it
 abbrev pub input_item_read : InputItem → ItemView
 input_item_read item = record { place = item.place; content = read_as content_view item.content }
 
--- those of what stands at a place
+-- the items of what is at a place
 abbrev pub whole_items : Place → Whole → List ItemView
 whole_items place (wholes.Bytes bytes) = items_of_whole place bytes.now
 whole_items place (wholes.Archive a) = items_of_archive place (Ok (archive_of a))
 whole_items place (wholes.Refused e) = item_at place (Err (fault_of e)) ∷ []
 
--- those of a table from one entry on
+-- the items of a table from an entry on
 abbrev pub items_of_table : {R : Type 0} → ArchForm R → Table → List ItemView
 items_of_table form t = items_of_entries form t.bytes.now t.index (t.narches - t.index)
 
--- those beside the members of an archive that was begun
+-- the items of the rest of a file, apart from the members of the current archive
 abbrev pub entries_items : Entries → List ItemView
 entries_items entries.None = []
 entries_items (entries.Image bytes) = items_of_whole alone bytes.now
@@ -43,7 +43,7 @@ abbrev pub members_begun : Option Members → List (Result MemberView Fault)
 members_begun None = []
 members_begun (Some it) = members_left it
 
--- those of an archive that was begun
+-- the items of the current archive
 abbrev pub items_of_begun : Images → List ItemView
 items_of_begun it = member_items it.place (members_begun it.members)
 

@@ -1,4 +1,4 @@
--- What the bytes say of the layout of the image that opens at their first.
+-- What the bytes say of the layout of the image that opens at their start.
 use Rattle.std.specs.Prelude.{◌≡◌, ℕ, List}
 use Rattle.goblin_mach.specs.Facts.{OfImage}
 use Rattle.goblin_mach.specs.ImageFacts.{OfFacts}

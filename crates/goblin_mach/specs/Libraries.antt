@@ -1,4 +1,4 @@
--- The libraries of an image, each with how the image brings it in (`mach-o/loader.h`, struct dylib_command).
+-- The libraries of an image, each with the way the image loads it (`mach-o/loader.h`, struct dylib_command).
 use Rattle.std.specs.Prelude.{◌==◌, ℕ, ◌+◌, ◌&&◌, Bool, true, false, bit_and, List, [], ◌∷◌, map, Option, Some, None, option_map, Result, Ok, Err, nat_le}
 use Rattle.std.specs.Prelude.{if◌then◌else◌}
 use Rattle.std.specs.Slice.Iter.{iter_rest}
@@ -20,7 +20,7 @@ use Rattle.goblin_mach.specs.declared.libraries.LibraryIterator.{LibraryIterator
 use Rattle.goblin_mach.specs.declared.libraries.LibraryKind.{LibraryKind}
 use Rattle.goblin_mach.specs.declared.libraries.LibraryKind.TheVariants.{Required, Weak, Reexport, Upward, Lazy}
 
--- how a command brings a library in, if it is one of the five that do
+-- the way a command loads a library, if it is one of the five that do
 abbrev pub library_kind : Kind → Option LibraryKind
 library_kind load_dylib = Some Required
 library_kind load_weak_dylib = Some Weak
@@ -29,7 +29,7 @@ library_kind load_upward_dylib = Some Upward
 library_kind lazy_load_dylib = Some Lazy
 library_kind _ = None
 
--- the struct dylib of such a command, which stands behind cmd and cmdsize
+-- the struct dylib of such a command, which follows cmd and cmdsize
 abbrev pub dylib_of_values : List Value → Dylib
 dylib_of_values values =
     record {
@@ -39,7 +39,7 @@ dylib_of_values values =
       compatibility_version = number_among values 5;
     }
 
--- whether a command is a struct dylib_use_command (`mach-o/loader.h`): its name stands behind flags, and its timestamp is the marker
+-- whether a command is a struct dylib_use_command (`mach-o/loader.h`): its name follows flags, and its timestamp is the marker
 abbrev pub brings_in_by_flags : Kind → Bool
 brings_in_by_flags load_dylib = true
 brings_in_by_flags load_weak_dylib = true
@@ -60,7 +60,7 @@ attributes_of_flags n =
       is_delayed = says_yes (bit_and n 8);
     }
 
--- and by the number of its command
+-- how it is used, by the number of its command
 abbrev pub attributes_of_kind : LibraryKind → LibraryAttributes
 attributes_of_kind Required = record { is_weak = false; is_reexport = false; is_upward = false; is_delayed = false }
 attributes_of_kind Weak = record { is_weak = true; is_reexport = false; is_upward = false; is_delayed = false }
@@ -72,7 +72,7 @@ abbrev pub attributes_read : LibraryKind → Result ℕ Fault → LibraryAttribu
 attributes_read kind (Ok n) = attributes_of_flags n
 attributes_read kind (Err f) = attributes_of_kind kind
 
--- the four bytes at 24 of a command say it, where it has them
+-- how it is used, by the four bytes at 24 of a command if it has them, else by its number
 abbrev pub library_attributes : Endian → List ℕ → Command → LibraryKind → LibraryAttributes
 library_attributes le bytes c kind =
     if has_use_flags c then attributes_read kind (number_at le 4 bytes (place_after c.offset 24)) else attributes_of_kind kind
@@ -98,7 +98,7 @@ named_library kind attributes d name =
       attributes = attributes;
     }
 
--- the library that a command names, or why its name can't be read
+-- the library that a command names, or the fault of a name that can't be read
 abbrev pub named_by : Endian → List ℕ → Reading NamedLibrary
 named_by le bytes c =
     option_map (λ kind. text_at bytes (name_place c)
@@ -126,7 +126,7 @@ of_ordinal n l =
       attributes = l.attributes;
     }
 
--- some libraries with their ordinals, from one on
+-- libraries with their ordinals, from a number on
 abbrev pub by_ordinal : ℕ → List NamedLibrary → List LibraryView
 by_ordinal n [] = []
 by_ordinal n (l ∷ ls) = of_ordinal n l ∷ by_ordinal (n + 1) ls
@@ -135,7 +135,7 @@ by_ordinal n (l ∷ ls) = of_ordinal n l ∷ by_ordinal (n + 1) ls
 abbrev pub libraries_in : Endian → List ℕ → List Command → List LibraryView
 libraries_in le bytes cs = by_ordinal 1 (read_of (named_by le bytes) cs)
 
--- a library, as it was answered
+-- a library that was returned, as definitions have it
 abbrev pub library_view : Library → LibraryView
 library_view l =
     record {
@@ -148,7 +148,7 @@ library_view l =
       attributes = l.attributes;
     }
 
--- the same ordinals, as 64 bits count them: no further than the last number that they have
+-- the same ordinals, as 64 bits count them: they stay at the last number of 64 bits
 abbrev pub counted_from : ℕ → List NamedLibrary → List LibraryView
 counted_from n [] = []
 counted_from n (l ∷ ls) = of_ordinal n l ∷ counted_from (place_after n 1) ls

@@ -1,6 +1,7 @@
--- The rules of the lists that an image gives one at a time (`mach-o/loader.h`, the constants BIND_OPCODE and REBASE_OPCODE, LC_FUNCTION_STARTS): what dyld
--- binds by opcodes, the non-lazy stream and the lazy one, as `MachO::opcode_bindings` goes over them; what it rebases by opcodes; what it binds weakly; and
--- where functions begin. None of them has a fault; an ordinal above the libraries is one.
+-- The rules on the lists that an image returns one item at a time (`mach-o/loader.h`, the constants BIND_OPCODE and
+-- REBASE_OPCODE, LC_FUNCTION_STARTS). The lists are: what dyld binds by the opcodes of the non-lazy and the lazy stream, as
+-- `MachO::opcode_bindings` returns it; what it rebases by opcodes; what it binds weakly; and the function starts. None of
+-- them may have a fault; an ordinal past the last library is one.
 use Rattle.std.specs.Prelude.{◌≡◌, ℕ, Bool, List, [], ◌∷◌, ◌++◌, Result, if◌then◌else◌}
 use Rattle.mach_base.specs.Context.{pointer_size}
 use Rattle.mach_base.specs.Fault.{Fault}
@@ -19,11 +20,11 @@ use Rattle.mach_layout.specs.declared.fault.LayoutFault.{LayoutFault}
 use Rattle.mach_layout.specs.declared.fault.Part.TheVariants as part
 use Rattle.mach_layout.specs.declared.fault.Rule.TheVariants as rule
 
--- what the rules read, of all that is told of an image
+-- what the rules read of all facts of an image
 abbrev pub laid_by : Facts → Laid
 laid_by f = record { bytes = f.bytes; ctx = f.ctx; header = f.header; commands = f.commands }
 
--- a fault, where it stands
+-- a fault, if it occurs
 abbrev pub told_where : Bool → LayoutFault → List LayoutFault
 told_where stands fault = if stands then fault ∷ [] else []
 

@@ -5,12 +5,12 @@ use Rattle.mach_dyld.specs.LookUp.{StandsFor}
 use Rattle.mach_dyld.specs.Trie.{Info, Entry}
 use Rattle.mach_dyld.specs.TrieRange.{TrieRange, trie_there}
 
--- An answer that stands by the paths of an image's trie, whether or not the trie has a list: an own export to which
--- a path of this name leads, or none where no path does. Where there is no trie it is none.
+-- An answer that holds by the paths of an image's trie, whether or not the trie has a list: an own export to which a path of
+-- this name leads, or none if no path does. Without a trie it is none.
 abbrev pub StandsInImage : Option TrieRange → List (List ℕ) → List ℕ → Option Info → Type 0
 StandsInImage None libs name found = found ≡ None
 StandsInImage (Some t) libs name found = StandsFor (trie_there t libs) t.from name found
 
--- one of these exports has this name and stands for this
+-- one of these exports has this name and this meaning
 abbrev pub IsListedAs : List ℕ → Info → List Entry → Type 0
 IsListedAs name info list = (e : Entry) × IsAmong e list × (e.name ≡ name) × (e.info ≡ info)

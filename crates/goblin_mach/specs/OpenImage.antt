@@ -1,4 +1,4 @@
--- An image as it was opened, and as its fields were read.
+-- An image that was opened, and the fields that were read.
 use Rattle.std.specs.Prelude.{◌↔◌, ◌≡◌, ◌⊎◌, ℕ, List, map, IsTrue, Ok, Option, option_map}
 use Rattle.mach_base.specs.declared.context.Container.TheVariants.{Big}
 use Rattle.mach_base.specs.declared.context.Ctx.{Ctx}
@@ -41,15 +41,15 @@ segments_held m = map segment_view (segments_in m.segments)
 abbrev pub commands_held : {A : Type 0} → MachO A → List Command
 commands_held m = map command_of m.load_commands.items
 
--- the bytes and the context that it was opened in, in which its own calls read on
+-- the bytes and the context in which it was opened, which its own methods read
 abbrev pub bytes_held : {A : Type 0} → MachO A → List ℕ
 bytes_held m = m.bytes.now
 
 abbrev pub ctx_held : {A : Type 0} → MachO A → Ctx
 ctx_held m = m.ctx
 
--- The fields of the image at o with this context, these commands and these segments: each is the header's
--- record, the chain, the magic's word, or a filter, a first or a last over the chain.
+-- The fields of the image at o with this context, these commands and these segments: each is the header's record, the chain,
+-- what the magic says, or a filter, a first or a last over the chain.
 pub record HasFields {A : Type 0} (bytes : List ℕ) (o : ℕ) (ctx : Ctx) (parts : List SegmentView) (m : MachO A) : Type 0 where
   pub header : IsHeader ctx bytes o m.header
   pub little_endian : IsTrue m.little_endian ↔ (ctx.le ≡ Little)
@@ -81,18 +81,18 @@ pub record IsLossyImage {A : Type 0} (bytes : List ℕ) (o : ℕ) (m : MachO A) 
 abbrev pub commands_of : {A : Type 0} → Opened A → List Command
 commands_of x = map command_of x.load_commands.items
 
--- what one more command says of what an image has once
+-- what one more command says on the fields of which an image has one
 pub record TakesOnce (ctx : Ctx) (bytes : List ℕ) (c : Command) (old new : Once) : Type 0 where
   pub symbols : option_map table_of new.symbols ≡ last_or (option_map table_of old.symbols) (said (table_by ctx bytes c))
   pub name : text_in new.name ≡ last_or (text_in old.name) (said (id_by bytes c))
   pub trie : new.export_trie ≡ last_or old.export_trie (said (trie_by bytes c))
   pub binds : new.bind_interpreter ≡ last_or old.bind_interpreter (said (binds_by bytes c))
 
--- of that a command can't be read, for this fault
+-- a command on one of them can't be read, for this fault
 abbrev pub IsOnceRefused : Ctx → List ℕ → Command → Fault → Type 0
 IsOnceRefused ctx bytes c f = IsRefused (table_by ctx bytes c) f ⊎ IsRefused (id_by bytes c) f
 
--- each is a filter or a last over the commands, the segments and the libraries being these
+-- each is a filter or a last over the commands, for these segments and libraries
 pub record AreFields {A : Type 0} (ctx : Ctx) (bytes : List ℕ) (parts : List SegmentView) (libs : List (List ℕ)) (cs : List Command) (f : Fields A)
     : Type 0 where
   pub segments : map segment_view f.segments.items ≡ parts
@@ -103,11 +103,11 @@ pub record AreFields {A : Type 0} (ctx : Ctx) (bytes : List ℕ) (parts : List S
   pub trie : f.once.export_trie ≡ trie_in bytes cs
   pub binds : f.once.bind_interpreter ≡ binds_in bytes cs
 
--- what some commands say, before the image's own name is put in front of its libraries
+-- what some commands say, before the image's own name is inserted before its libraries
 abbrev pub AreTaken : {A : Type 0} → Ctx → List ℕ → Reading SegmentView → List Command → Fields A → Type 0
 AreTaken ctx bytes segment cs f = AreFields ctx bytes (read_of segment cs) (read_of (library_by bytes) cs) cs f
 
--- the image of what was read
+-- the image built from what was read
 pub record IsMadeOf {A : Type 0} (bytes : List ℕ) (x : Opened A) (f : Fields A) (m : MachO A) : Type 0 where
   pub commands : m.load_commands ≡ x.load_commands
   pub header : m.header ≡ x.header

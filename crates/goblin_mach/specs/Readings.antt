@@ -1,11 +1,11 @@
--- What is read off the commands of a chain, subject by subject.
+-- What is read from the commands of a chain, subject by subject.
 use Rattle.std.specs.Prelude.{◌≡◌, List, [], ◌∷◌, Option, Some, None, Result, Ok, Err, IsOk}
 use Rattle.mach_base.specs.declared.error.Error.{Error}
 use Rattle.mach_base.specs.Fault.{Fault, fault_of}
 use Rattle.mach_load.specs.Command.{Command}
 use Rattle.mach_base.specs.Among.{IsAmong}
 
--- What is read off a command, or why it can't be read; none where the command is of another subject.
+-- What is read from a command, or why it can't be read; none if the command doesn't concern the subject.
 abbrev pub Reading : Type 0 → Type 0
 Reading V = Command → Option (Result V Fault)
 
@@ -14,7 +14,7 @@ keep None vs = vs
 keep (Some (Ok v)) vs = v ∷ vs
 keep (Some (Err f)) vs = vs
 
--- what can be read off the commands of a subject, in order
+-- what can be read from the commands on a subject, in order
 abbrev pub read_of : {V : Type 0} → Reading V → List Command → List V
 read_of reading [] = []
 read_of reading (c ∷ cs) = keep (reading c) (read_of reading cs)
@@ -31,12 +31,12 @@ IsRead (Some found) = IsOk found
 abbrev pub IsRefused : {V : Type 0} → Option (Result V Fault) → Fault → Type 0
 IsRefused found f = found ≡ Some (Err f)
 
--- every command of the subject can be read
+-- every command on the subject can be read
 abbrev pub AllRead : {V : Type 0} → Reading V → List Command → Type 0
 AllRead reading [] = Unit {0}
 AllRead reading (c ∷ cs) = IsRead (reading c) × AllRead reading cs
 
--- a command of the subject among these can't be read, for this fault
+-- a command on the subject, among these, can't be read, for this fault
 pub record IsUnread {V : Type 0} (reading : Reading V) (cs : List Command) (f : Fault) : Type 0 where
   pub command : Command
   pub among : IsAmong command cs
@@ -55,7 +55,7 @@ abbrev pub first_of : {A : Type 0} → List A → Option A
 first_of [] = None
 first_of (x ∷ xs) = Some x
 
--- an answer as contracts see it
+-- a result, as contracts see it
 abbrev pub seen_of : {X V : Type 0} → (X → V) → Option (Result X Error) → Option (Result V Fault)
 seen_of view None = None
 seen_of view (Some (Ok x)) = Some (Ok (view x))

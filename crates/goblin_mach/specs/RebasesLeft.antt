@@ -1,4 +1,4 @@
--- What is left to an iterator over the rebases of an image.
+-- What is left of an iterator over the rebases of an image.
 use Rattle.std.specs.Prelude.{List, [], ◌++◌, Result, if◌then◌else◌}
 use Rattle.mach_base.specs.Fault.{Fault}
 use Rattle.mach_dyld.specs.Bindings.{upto_fault}
@@ -9,11 +9,11 @@ use Rattle.goblin_mach.specs.ImageStreams.{rebases_among}
 use Rattle.goblin_mach.specs.declared.rebases.ChainRebases.{ChainRebases}
 use Rattle.goblin_mach.specs.declared.rebases.RebaseIterator.{RebaseIterator}
 
--- those of the chains
+-- the rebases of the chains
 unfoldable pub chain_rebases_left : ChainRebases → List (Result Rebase Fault)
 chain_rebases_left it = rebases_among (image_fixups_left it.fixups)
 
--- those of the opcodes, and then those of the chains
+-- the rebases of the opcodes, then those of the chains
 unfoldable pub all_rebases_left : RebaseIterator → List (Result Rebase Fault)
 all_rebases_left it = opcodes.opcode_rebases_left it.opcodes ++ chain_rebases_left it.chains
 

@@ -1,4 +1,4 @@
--- The bytes of the built files (docs/FORMAT.md).
+-- The bytes of the example files (docs/FORMAT-IMAGE.md).
 use Rattle.std.specs.Prelude.{ℕ, List, [], ◌∷◌, ◌++◌, replicate}
 
 -- file A: a 64-bit image of one command, 56 bytes

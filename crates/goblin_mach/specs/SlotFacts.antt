@@ -12,7 +12,7 @@ use Rattle.goblin_mach.specs.Facts.{OfImage}
 use Rattle.goblin_mach.specs.ImageSlots.{indirect_symbols_in, indirect_table_in, image_slots, image_slot_at, symbol_provider_of}
 use Rattle.goblin_mach.specs.Subjects.{lossy_segments_in, libs_in, table_in}
 
--- its indirect symbols, each or why it isn't there
+-- its indirect symbols, each one or why it can't be read
 abbrev pub HasIndirectSymbols : List ℕ → ℕ → List (Result IndirectSymbol Fault) → Type 0
 HasIndirectSymbols bytes o items = OfImage bytes o (λ ctx cs. items ≡ indirect_symbols_in (indirect_table_in ctx bytes cs))
 
@@ -21,12 +21,12 @@ abbrev pub HasSymbolSlots : List ℕ → ℕ → List (Result Slot Fault) → Ty
 HasSymbolSlots bytes o items =
     OfImage bytes o (λ ctx cs. items ≡ image_slots ctx (indirect_table_in ctx bytes cs) (table_in ctx bytes cs) (lossy_segments_in ctx bytes cs))
 
--- the slot in which an address lies, or why it can't be told
+-- the slot in which an address lies, or the fault
 abbrev pub HasSymbolSlotAt : List ℕ → ℕ → ℕ → Result (Option Slot) Fault → Type 0
 HasSymbolSlotAt bytes o a found =
     OfImage bytes o (λ ctx cs. found ≡ image_slot_at ctx (indirect_table_in ctx bytes cs) (table_in ctx bytes cs) (lossy_segments_in ctx bytes cs) a)
 
--- who gives a symbol, over its libraries
+-- the provider of a symbol, over its libraries
 abbrev pub HasProviderOf : List ℕ → ℕ → Nlist → Option (Result Provider Fault) → Type 0
 HasProviderOf bytes o s found =
     OfImage bytes o (λ ctx cs. found ≡ symbol_provider_of (header_in ctx.container ctx.le bytes o).flags (libs_in bytes cs) s)
@@ -35,6 +35,6 @@ HasProviderOf bytes o s found =
 abbrev pub HasSectionAt : List ℕ → ℕ → ℕ → Option NumberedSection → Type 0
 HasSectionAt bytes o a found = OfImage bytes o (λ ctx cs. found ≡ section_holding (lossy_segments_in ctx bytes cs) a)
 
--- its section of a number, from 1 over all segments
+-- its section with a number, counted from 1 over all segments
 abbrev pub HasSectionOf : List ℕ → ℕ → ℕ → Result (Option NumberedSection) Fault → Type 0
 HasSectionOf bytes o n found = OfImage bytes o (λ ctx cs. found ≡ section_by_number (lossy_segments_in ctx bytes cs) n)

@@ -14,7 +14,7 @@ use Rattle.goblin_mach.specs.Fixups.{chained_in}
 use Rattle.goblin_mach.specs.ImageStreams.{AreImageRebases, AreImageWeakBinds, rebase_in, rebase_stream_in, rebases_among, weak_stream_in}
 use Rattle.goblin_mach.specs.Subjects.{lossy_segments_in}
 
--- what dyld rebases of it, over its segments: by its opcodes and then by its chains, up to the first fault
+-- what dyld rebases in it, over its segments: by its opcodes, then by its chains, up to the first fault
 abbrev pub HasRebases : List ℕ → ℕ → List (Result Rebase Fault) → Type 0
 HasRebases bytes o items =
     OfImage bytes o (λ ctx cs. AreImageRebases (rebase_stream_in bytes cs) (chained_in ctx bytes cs) ctx.le (pointer_size ctx.container)
@@ -25,13 +25,13 @@ abbrev pub HasWeakBinds : List ℕ → ℕ → List (Result WeakBind Fault) → 
 HasWeakBinds bytes o items =
     OfImage bytes o (λ ctx cs. AreImageWeakBinds (weak_stream_in bytes cs) (pointer_size ctx.container) (lossy_segments_in ctx bytes cs) items)
 
--- no command brings opcodes
+-- no command names opcodes
 abbrev pub HasNoOpcodes : List ℕ → ℕ → Type 0
 HasNoOpcodes bytes o = OfImage bytes o (λ ctx cs. (rebase_stream_in bytes cs ≡ None) × (weak_stream_in bytes cs ≡ None))
 
 -- ---- laws
 
--- an image has one list of rebases up to the first fault, and one of weak binds
+-- an image has at most one list of rebases up to the first fault, and at most one of weak binds
 abbrev pub HasOneListOfRebases : Type 0
 HasOneListOfRebases =
     (bytes : List ℕ) (o : ℕ) (items others : List (Result Rebase Fault)) → HasRebases bytes o items → HasRebases bytes o others → items ≡ others
@@ -40,7 +40,7 @@ abbrev pub HasOneListOfWeakBinds : Type 0
 HasOneListOfWeakBinds =
     (bytes : List ℕ) (o : ℕ) (items others : List (Result WeakBind Fault)) → HasWeakBinds bytes o items → HasWeakBinds bytes o others → items ≡ others
 
--- one that no command brings opcodes has no weak binds
+-- an image without a command that names opcodes has no weak binds
 abbrev pub HasNoWeakBindsThen : Type 0
 HasNoWeakBindsThen = (bytes : List ℕ) (o : ℕ) (items : List (Result WeakBind Fault)) → HasNoOpcodes bytes o → HasWeakBinds bytes o items → items ≡ []
 
@@ -50,7 +50,7 @@ HasRebasesOfFixups =
     (bytes : List ℕ) (o : ℕ) (items : List (Result Rebase Fault)) (fixups : List (Result Fixup Fault))
     → HasNoOpcodes bytes o → HasRebases bytes o items → HasFixups bytes o fixups → items ≡ rebases_among fixups
 
--- of what comes of a fixup among bindings and among rebases: it is a number and neither, or one of them and not the other
+-- what a fixup gives among bindings and among rebases: it is a number and gives neither, or it gives exactly one of the two
 pub data IsToldOnce (x : FixupInput) (libs : List (List ℕ)) (f : Fixup) : Type 0 where
   told_nowhere : (number : ℕ) → f.kind ≡ value number → rebase_in f ≡ None → binding_in x libs f ≡ None → IsToldOnce x libs f
   told_as_rebase : (r : Rebase) → rebase_in f ≡ Some r → binding_in x libs f ≡ None → IsToldOnce x libs f
@@ -59,7 +59,7 @@ pub data IsToldOnce (x : FixupInput) (libs : List (List ℕ)) (f : Fixup) : Type
 abbrev pub EachIsToldOnce : Type 0
 EachIsToldOnce = (x : FixupInput) (libs : List (List ℕ)) (f : Fixup) → IsToldOnce x libs f
 
--- the rebases among some fixups are those that come of them, and no others
+-- the rebases among some fixups are those that the fixups give, and no others
 abbrev pub RebasesComeOfFixups : Type 0
 RebasesComeOfFixups =
     (fixups : List (Result Fixup Fault)) (r : Rebase)

@@ -16,7 +16,7 @@ abbrev pub HasFunctionStarts : List ℕ → ℕ → List (Result ℕ Fault) → 
 HasFunctionStarts bytes o items =
     OfImage bytes o (λ ctx cs. AreStartsAt bytes (starts_place_in cs) (base_of (lossy_segments_in ctx bytes cs)) items)
 
--- its data among code
+-- its data-in-code entries
 abbrev pub HasDataInCode : List ℕ → ℕ → List (Result DataInCodeEntry Fault) → Type 0
 HasDataInCode bytes o items = OfImage bytes o (λ ctx cs. items ≡ data_in_code_there ctx.le bytes (data_place_in cs))
 

@@ -1,4 +1,4 @@
--- Where the commands of an image place its function starts and its table of data among code (`mach-o/loader.h`,
+-- The places of the function starts and of the data-in-code table of an image, by its commands (`mach-o/loader.h`,
 -- LC_FUNCTION_STARTS, LC_DATA_IN_CODE).
 use Rattle.std.specs.Prelude.{◌≡◌, ℕ, List, [], Option, Some, None, option_map, Result, Ok}
 use Rattle.mach_base.specs.declared.context.Endian.{Endian}
@@ -19,11 +19,11 @@ starts_place_of _ values = None
 abbrev pub starts_place_by : Reading (ℕ × ℕ)
 starts_place_by c = option_map (λ place. Ok place) (starts_place_of c.kind c.values)
 
--- those of an image: of the last command that places any
+-- the same of an image: of the last command that places any
 abbrev pub starts_place_in : List Command → Option (ℕ × ℕ)
 starts_place_in cs = last_of (read_of starts_place_by cs)
 
--- the same of the table of data among code
+-- the same of the data-in-code table
 abbrev pub data_place_of : Kind → List Value → Option (ℕ × ℕ)
 data_place_of data_in_code values = Some (number_among values 2, number_among values 3)
 data_place_of _ values = None
@@ -34,12 +34,12 @@ data_place_by c = option_map (λ place. Ok place) (data_place_of c.kind c.values
 abbrev pub data_place_in : List Command → Option (ℕ × ℕ)
 data_place_in cs = last_of (read_of data_place_by cs)
 
--- these are the functions of an image whose first byte has an address, by the numbers there: none where there are no numbers
+-- these are the functions of an image whose first byte has an address, by the numbers there; none if there are no numbers
 abbrev pub AreStartsAt : List ℕ → Option (ℕ × ℕ) → (base : ℕ) → List (Result ℕ Fault) → Type 0
 AreStartsAt bytes None base items = items ≡ []
 AreStartsAt bytes (Some place) base items = AreFunctionStarts (start_range_at bytes place.0 place.1) base items
 
--- the entries of the table there; none where there is no table
+-- the entries of the table there; none if there is no table
 abbrev pub data_in_code_there : Endian → List ℕ → Option (ℕ × ℕ) → List (Result DataInCodeEntry Fault)
 data_in_code_there le bytes None = []
 data_in_code_there le bytes (Some place) = data_in_code_in le bytes place.0 place.1

@@ -27,47 +27,46 @@ pub record LinksImage (bytes : List ℕ) (exports : List trie.Entry) (imports : 
   pub exports_are : HasExports bytes 0 exports
   pub imports_are : HasImports bytes 0 imports
 
--- A fault stands in the exports or in the imports of the image at 0, which opens strictly.
+-- A fault in the exports or in the imports of the image at 0, which opens strictly.
 pub record LinksFault (bytes : List ℕ) (f : Fault) : Type 0 where
   pub opens : Opens bytes 0
   pub fault : HasExportsFault bytes 0 f ⊎ HasImportsFault bytes 0 f
 
--- A fault stands in an item: in the entry, or in a list of the image that it is.
+-- A fault in an item: in the entry, or in a list of the image that it is.
 pub data ItemFault (entry : Result FatEntry Fault) : Fault → Type 0 where
   of_entry : (f : Fault) → FatEntryFault entry f → ItemFault entry f
   of_links : (slice : List ℕ) (f : Fault) → entry ≡ Ok (image slice) → LinksFault slice f → ItemFault entry f
 
--- These are the entries of a whole file: that of its one image, which opens, or those of a fat file whose
--- table lies in the bytes.
+-- These are the entries of a whole file: that of its one image, which opens, or those of a fat file whose table lies in the bytes.
 pub data HasEntries (bytes : List ℕ) : List (Result FatEntry Fault) → Type 0 where
   one_image : Opens bytes 0 → ¬ (HasFatMagic bytes) → HasEntries bytes (Ok (image bytes) ∷ [])
   fat_table : (file : FatFile) → HasFatMagic bytes → fat_file_in bytes ≡ Ok file → IsOk (arches_in file) → HasEntries bytes (entries_of file)
 
--- A fault stands where a whole file is viewed: where it is opened, or in the table of a fat file.
+-- A fault of a whole file: of opening it, or of the table of a fat file.
 pub data ViewFault (bytes : List ℕ) : Fault → Type 0 where
   of_file : (f : Fault) → MachFault ImageFault bytes f → ViewFault bytes f
   of_table : (file : FatFile) (f : Fault) → HasFatMagic bytes → fat_file_in bytes ≡ Ok file → arches_in file ≡ Err f → ViewFault bytes f
 
--- the two lists are those of an image as it is held
+-- the two lists are those of an image, as it holds them
 pub record LinksHeld {A B : Type 0} (m : MachO A) (l : Links B) : Type 0 where
   pub exports : ListsImageExports (trie_held m) (texts m.libs.items) (entries l.exports.items)
   pub imports : ListsImageImports (binds_held m) (pointer_size (ctx_held m).container) (texts m.libs.items) (segments_held m)
       (imports_seen l.imports.items)
 
--- a fault stands in one of them
+-- a fault occurs in one of them
 abbrev pub FaultHeld : {A : Type 0} → MachO A → Fault → Type 0
 FaultHeld m f =
     ImageExportsFault (trie_held m) (texts m.libs.items) f
     ⊎ ImageImportsFault (binds_held m) (pointer_size (ctx_held m).container) (texts m.libs.items) (segments_held m) f
 
--- what an item shows of an entry: an archive's bytes, or the two lists of an image
+-- what an item holds of an entry: an archive's bytes, or the two lists of an image
 abbrev pub Shows : {A : Type 0} → FatEntry → LinkView A → Type 0
 Shows (archive slice) (Archive bytes) = bytes.now ≡ slice
 Shows (archive slice) (Image exports imports) = ⊥
 Shows (image slice) (Archive bytes) = ⊥
 Shows (image slice) (Image exports imports) = LinksImage slice (entries exports.items) (imports_seen imports.items)
 
--- the error tells of a fault that stands; want of memory is told of the whole file alone
+-- the error is a fault of this kind; out of memory is an error of the whole file only
 abbrev pub Tells : (Fault → Type 0) → Error → Type 0
 Tells IsFault (errors.Malformed msg) = IsFault malformed
 Tells IsFault (errors.BadMagic magic) = IsFault (bad_magic magic)
@@ -75,12 +74,12 @@ Tells IsFault (errors.Scroll e) = IsFault (fault_of_scroll e)
 Tells IsFault (errors.BufferTooShort count what) = IsFault (too_short count what.now)
 Tells IsFault (errors.Memory e) = ⊥
 
--- it is no want of memory
+-- it is not out of memory
 abbrev pub IsTold : Error → Type 0
 IsTold (errors.Memory e) = ⊥
 IsTold _ = Unit {0}
 
--- an item of the view is that of an entry, or tells of a fault that stands in it
+-- an item of the view is that of an entry, or a fault in it
 abbrev pub IsViewItem : {A : Type 0} → Result FatEntry Fault → Result (LinkView A) Error → Type 0
 IsViewItem entry (Ok view) = (e : FatEntry) × (entry ≡ Ok e) × Shows e view
 IsViewItem entry (Err e) = Tells (ItemFault entry) e

@@ -1,4 +1,4 @@
-//! Examples of docs/FORMAT-DYLD.md and docs/FORMAT-IMAGE.md that the definitions are checked on, as theorems.
+//! Examples of docs/FORMAT-IMAGE.md that the definitions are checked on, as theorems.
 
 ghost use Rattle.std.specs.Prelude.{◌≡◌, ◌∷◌, ◌++◌, [], codes, map, replicate, Ok, Err};
 ghost use Rattle.mach_base.specs.declared.context.Endian.TheVariants.{Little};
