@@ -1,11 +1,11 @@
-//! A range and whose it is.
+//! A range and its owner.
 
 ghost use Rattle.std.specs.Prelude.{◌≡◌};
 ghost use Rattle.mach_layout.specs.Claim as defined;
 
 use crate::fault::Owner;
 
-/// A range of the file, or of memory, and whose it is.
+/// A range of the file, or of memory, and its owner.
 #[derive(Clone, Copy, Debug, PartialEq)]
 pub struct Claim {
     pub owner: Owner,
@@ -14,7 +14,7 @@ pub struct Claim {
 }
 
 impl Claim {
-    /// Where it ends.
+    /// Returns the place where it ends.
     pub fn end(&self) -> u128
         ensures { result ≡ defined.end_of self.now }
     {

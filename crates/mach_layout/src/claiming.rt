@@ -21,7 +21,7 @@ use mach_records::constants::{S_GB_ZEROFILL, S_THREAD_LOCAL_ZEROFILL, S_ZEROFILL
 use mach_records::{DyldInfoCommand, DysymtabCommand, LinkeditDataCommand, SymtabCommand};
 use std::slice::Iter;
 
-// So many bytes from a start on, claimed by a part of the command at a place.
+// Returns the claim of `len` bytes from a start on, by a part of the command at a place.
 fn claim(part: Part, place: usize, start: u64, len: u64) -> Claim
     ensures { result ≡ defined.claim part place start len }
 {
@@ -29,7 +29,7 @@ fn claim(part: Part, place: usize, start: u64, len: u64) -> Claim
     Claim { owner, start, len }
 }
 
-// A claim by fields of 32 bits, the second of which counts items of `each` bytes.
+// Returns a claim from fields of 32 bits. The second one counts items of `each` bytes.
 fn table(part: Part, place: usize, start: u32, count: u32, each: u32) -> Claim
     ensures { result ≡ defined.claim part place start (count * each) }
 {
@@ -41,14 +41,14 @@ fn table(part: Part, place: usize, start: u32, count: u32, each: u32) -> Claim
     )
 }
 
-// The same of fields that count bytes.
+// Returns a claim from fields of 32 bits that count bytes.
 fn range(part: Part, place: usize, start: u32, len: u32) -> Claim
     ensures { result ≡ defined.claim part place start len }
 {
     claim(part, place, u64::from(start), u64::from(len))
 }
 
-// The symbols and their names.
+// Returns the claims of the symbols and their names.
 fn symtab_claims(width: Container, place: usize, c: &SymtabCommand) -> [Claim; 2]
     ensures { result ≡ defined.symtab_claims width place (symtab_command_values c.now) }
 {
@@ -62,7 +62,7 @@ fn symtab_claims(width: Container, place: usize, c: &SymtabCommand) -> [Claim; 2
     ]
 }
 
-// The six tables of the symbols of a library.
+// Returns the claims of the six tables of `LC_DYSYMTAB`.
 fn dysymtab_claims(width: Container, place: usize, c: &DysymtabCommand) -> [Claim; 6]
     ensures { result ≡ defined.dysymtab_claims width place (dysymtab_command_values c.now) }
 {
@@ -92,7 +92,7 @@ fn dysymtab_claims(width: Container, place: usize, c: &DysymtabCommand) -> [Clai
     ]
 }
 
-// The five ranges of what dyld reads.
+// Returns the claims of the five ranges of `LC_DYLD_INFO`.
 fn dyld_info_claims(place: usize, c: &DyldInfoCommand) -> [Claim; 5]
     ensures { result ≡ defined.dyld_info_claims place (dyld_info_command_values c.now) }
 {
@@ -115,21 +115,21 @@ fn dyld_info_claims(place: usize, c: &DyldInfoCommand) -> [Claim; 5]
     ]
 }
 
-// Finds claim number `field` of a command that claims one part.
+// Returns claim number `field` of a command that claims one part.
 fn only(claim: Claim, field: usize) -> Option<Claim>
     ensures { result ≡ slice_get (claim ∷ []) field }
 {
     [claim].get(field).copied()
 }
 
-// Finds claim number `field` of a command that claims one part, whose start and size are its fields.
+// Returns claim number `field` of a command that claims one part and has its start and size as fields.
 fn linkedit_claim(part: Part, place: usize, c: &LinkeditDataCommand, field: usize) -> Option<Claim>
     ensures { result ≡ slice_get (defined.linkedit_claims part place (linkedit_data_command_values c.now)) field }
 {
     only(range(part, place, c.dataoff, c.datasize), field)
 }
 
-// Claim number `field` of the tables of a command.
+// Returns claim number `field` of the tables of a command.
 fn table_claim(width: Container, command: &LoadCommand, field: usize) -> Option<Claim>
     ensures { let c = command_of command.now in result ≡ slice_get (defined.tables_of_kind width c.offset c.kind c.values) field }
 {
@@ -199,7 +199,7 @@ pub fn has_bytes(layout: &Layout<'_, '_>, placed: &PlacedSection) -> bool
         && !(layout.is_dsym() && placed.section.offset == 0)
 }
 
-// Whether a section with these flags is of zeros, which take no bytes of the file.
+// Whether a section with these flags is zero-filled, so that it takes no bytes of the file.
 fn is_of_zeros(flags: u32) -> bool
     ensures { result ≡ is_zero_fill flags }
 {
@@ -207,7 +207,7 @@ fn is_of_zeros(flags: u32) -> bool
     kind == S_ZEROFILL || kind == S_GB_ZEROFILL || kind == S_THREAD_LOCAL_ZEROFILL
 }
 
-// So many bytes from a start on, claimed by a part of a section.
+// Returns the claim of `len` bytes from a start on, by a part of a section.
 fn section_claim(part: Part, placed: &PlacedSection, start: u32, len: u64) -> Claim
     ensures { result ≡ defined.section_claim part placed.now start len }
 {
@@ -218,7 +218,7 @@ fn section_claim(part: Part, placed: &PlacedSection, start: u32, len: u64) -> Cl
     }
 }
 
-// The bytes of a section, none where it has none.
+// Returns the claim of a section's bytes: none if it has none.
 fn bytes_claim(layout: &Layout<'_, '_>, placed: &PlacedSection) -> Claim
     ensures { result ≡ defined.bytes_claim (laid_of layout.now) placed.now }
 {
@@ -230,7 +230,7 @@ fn bytes_claim(layout: &Layout<'_, '_>, placed: &PlacedSection) -> Claim
     section_claim(Part::Section, placed, placed.section.offset, len)
 }
 
-// The relocations of a section.
+// Returns the claim of a section's relocations.
 fn relocations_claim(placed: &PlacedSection) -> Claim
     ensures { result ≡ defined.relocations_claim placed.now }
 {
@@ -238,7 +238,7 @@ fn relocations_claim(placed: &PlacedSection) -> Claim
     section_claim(Part::Relocations, placed, placed.section.reloff, len)
 }
 
-// The bytes of a segment.
+// Returns the claim of a segment's bytes.
 pub(crate) fn segment_claim(segment: &PlacedSegment) -> Claim
     ensures { result ≡ defined.segment_claim segment.now }
 {
@@ -246,15 +246,15 @@ pub(crate) fn segment_claim(segment: &PlacedSegment) -> Claim
     claim(Part::Segment, segment.place, c.fileoff, c.filesize)
 }
 
-// What the header and the commands claim.
+// Returns the claim of the header and the commands.
 fn header_claim(layout: &Layout<'_, '_>) -> Claim
     ensures { result ≡ defined.header_claim (laid_of layout.now) }
 {
     claim(Part::Header, 0, 0, layout.used_end())
 }
 
-// What is left of the claims of one command: one that comes first, those of the sections behind the first ones of a segment
-// that came, and those of the tables of a command behind the first ones.
+// The claims left of one command: `first`, if there is one; those of the segment's sections after the first `taken`; and
+// those of the command's tables from `field` on.
 #[derive(Clone, Copy)]
 struct Open<'b> {
     first: Option<Claim>,
@@ -265,7 +265,7 @@ struct Open<'b> {
 }
 
 impl<'b> Open<'b> {
-    // The claim of the header alone.
+    // Returns the claim of the header only.
     fn header(layout: &Layout<'_, '_>) -> Self
         ensures { open_left (laid_of layout.now) result ≡ defined.header_claim (laid_of layout.now) ∷ [] }
     {
@@ -278,7 +278,7 @@ impl<'b> Open<'b> {
         }
     }
 
-    // Those of a command.
+    // Returns the claims of a command.
     fn command(layout: &Layout<'_, '_>, command: &'b LoadCommand) -> Self
         ensures { open_left (laid_of layout.now) result ≡ defined.claims_by (laid_of layout.now) (command_of command.now) }
     {
@@ -296,7 +296,7 @@ impl<'b> Open<'b> {
         }
     }
 
-    // The next of them.
+    // Returns the next claim.
     fn next(&mut self, layout: &Layout<'_, '_>) -> Option<Claim>
         ensures { TakesClaim (laid_of layout.now) self.old result self.new }
     {
@@ -315,8 +315,8 @@ impl<'b> Open<'b> {
     }
 }
 
-/// The claims of an image one after the other: that of the header and the commands, and then those of each command, in
-/// order. A part of no bytes claims a range of length 0. It takes no memory.
+/// An iterator over the claims of an image: that of the header and the commands, then those of each command, in order. A
+/// part of no bytes claims a range of length 0. It allocates nothing.
 #[derive(Clone, Drop)]
 pub struct ClaimIterator<'a, 'b> {
     layout: Layout<'a, 'b>,

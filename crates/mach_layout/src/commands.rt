@@ -29,28 +29,28 @@ use std::alloc::Allocator;
 
 const MH_CORE: u32 = 4;
 
-/// The command as the owner of a fault.
+/// Returns the command as the owner of a fault.
 pub fn command_owner(command: &LoadCommand) -> Owner
     ensures { result ≡ defined.command_owner (command_of command.now) }
 {
     owner_at(Part::Command, command.offset, 0)
 }
 
-// The size of a command.
+// Returns the size of a command.
 fn size_of(command: &LoadCommand) -> u64
     ensures { result ≡ cmdsize_of (command_of command.now) }
 {
     command.command.cmdsize() as u64
 }
 
-/// The number of a command.
+/// Returns the number of a command.
 pub fn number_of(command: &LoadCommand) -> u64
     ensures { result ≡ cmd_of (command_of command.now) }
 {
     u64::from(command.command.cmd())
 }
 
-// What is seen of the size of a command against its struct.
+// Compares the size of a command with that of its struct.
 fn size_seen(size: u64, expected: StructSize) -> Seen
     ensures { result ≡ defined.size_sees size expected }
 {
@@ -60,7 +60,7 @@ fn size_seen(size: u64, expected: StructSize) -> Seen
     }
 }
 
-// What the size of a command is to be a multiple of.
+// Returns the unit of which the size of a command must be a multiple.
 fn unit_of(layout: &Layout<'_, '_>, command: &LoadCommand) -> u64
     ensures value { result ≡ defined.unit_of (laid_of layout.now) (command_of command.now) }
     ensures positive { 0 < result }
@@ -72,7 +72,7 @@ fn unit_of(layout: &Layout<'_, '_>, command: &LoadCommand) -> u64
     }
 }
 
-/// So many bytes at a place, or those that there are.
+/// Returns `len` bytes at a place, or as many as there are.
 pub fn bytes_from(bytes: &[u8], place: usize, len: usize) -> &[u8]
     ensures { result.now ≡ take len (drop place bytes.now) }
 {
@@ -82,7 +82,7 @@ pub fn bytes_from(bytes: &[u8], place: usize, len: usize) -> &[u8]
     rest.get(..len).unwrap_or(rest)
 }
 
-// How many bytes the states of a thread have that stand one after the other from the front on.
+// Returns how many bytes the thread states take that follow each other from the start of `rest`.
 fn states_size(mut rest: &[u8], le: Endian) -> usize
     ensures value { result ≡ defined.states_size (length rest.now) le rest.now }
     ensures within { result ≤ length rest.now }
@@ -100,7 +100,7 @@ fn states_size(mut rest: &[u8], le: Endian) -> usize
     size
 }
 
-// The size of a thread's command with its states.
+// Returns the size of a thread command with its states.
 fn thread_size(layout: &Layout<'_, '_>, command: &LoadCommand) -> u64
     ensures { result ≡ defined.thread_size (laid_of layout.now) (command_of command.now) }
 {
@@ -109,7 +109,7 @@ fn thread_size(layout: &Layout<'_, '_>, command: &LoadCommand) -> u64
     8 + states_size(bytes_from(layout.bytes, place, len), layout.ctx.le) as u64
 }
 
-// The size of a struct with `count` items behind it.
+// Returns the size of a struct with `count` items after it.
 fn size_with(size: usize, count: u32, each: usize) -> u64
     requires small { (size ≤ 80) × (each ≤ 80) }
     ensures { result ≡ size + each * count }
@@ -117,7 +117,7 @@ fn size_with(size: usize, count: u32, each: usize) -> u64
     size as u64 + each as u64 * u64::from(count)
 }
 
-// The size of a command with what it counts.
+// Returns the size of a command with the items that it counts.
 fn counted_size(layout: &Layout<'_, '_>, command: &LoadCommand) -> Option<u64>
     ensures { let c = command_of command.now in result ≡ defined.counted_size (laid_of layout.now) c c.kind }
 {
@@ -144,7 +144,7 @@ fn counted_size(layout: &Layout<'_, '_>, command: &LoadCommand) -> Option<u64>
     }
 }
 
-// The number of a segment's command of the image's width, where the command is one of the other width.
+// Returns the number of the segment command of the image's width, if this command is one of the other width.
 fn other_width(width: Container, command: &CommandVariant) -> Option<u32>
     ensures { result ≡ defined.other_width width (kind_in command.now) }
 {
@@ -155,21 +155,21 @@ fn other_width(width: Container, command: &CommandVariant) -> Option<u32>
     }
 }
 
-// Whether a command describes symbols.
+// Whether a command is `LC_SYMTAB`.
 fn is_symbols(command: &LoadCommand) -> bool
     ensures { result ≡ defined.is_symbols (command_of command.now) }
 {
     matches!(&command.command, CommandVariant::Symtab(_))
 }
 
-// Whether a command describes those that the dynamic linker needs.
+// Whether a command is `LC_DYSYMTAB`.
 fn is_dynamic(command: &LoadCommand) -> bool
     ensures { result ≡ defined.is_of_set 1 (command_of command.now) }
 {
     matches!(&command.command, CommandVariant::Dysymtab(_))
 }
 
-// Whether one of some commands describes symbols.
+// Whether one of the commands is `LC_SYMTAB`.
 fn has_symbols(commands: &[LoadCommand]) -> bool
     ensures { result ≡ list_any defined.is_symbols (map command_of commands.now) }
 {
@@ -181,7 +181,7 @@ fn has_symbols(commands: &[LoadCommand]) -> bool
     false
 }
 
-// What is seen of the place where a command ends.
+// Checks the place where a command ends.
 fn end_seen(layout: &Layout<'_, '_>, command: &LoadCommand) -> Seen
     ensures { result ≡ defined.command_sees (laid_of layout.now) rules_named.CommandOutOfCommands (command_of command.now) }
 {
@@ -190,7 +190,7 @@ fn end_seen(layout: &Layout<'_, '_>, command: &LoadCommand) -> Seen
     measured(!ends_past(end, start, size), range_end(start, size), end)
 }
 
-// What is seen of the size with what a command counts.
+// Checks the size of a command with the items that it counts.
 fn count_seen(layout: &Layout<'_, '_>, command: &LoadCommand) -> Seen
     ensures { result ≡ defined.command_sees (laid_of layout.now) rules_named.CommandCount (command_of command.now) }
 {
@@ -201,7 +201,7 @@ fn count_seen(layout: &Layout<'_, '_>, command: &LoadCommand) -> Seen
     }
 }
 
-// What is seen of the width of a segment's command.
+// Checks the width of a segment's command.
 fn width_seen(layout: &Layout<'_, '_>, command: &LoadCommand) -> Seen
     ensures { result ≡ defined.command_sees (laid_of layout.now) rules_named.SegmentWidth (command_of command.now) }
 {
@@ -252,7 +252,7 @@ impl Judges<LoadCommand> for Layout<'_, '_> {
     }
 }
 
-/// Adds what some of these rules tell of the commands.
+/// Adds the faults that some of these rules find in the commands.
 pub fn tell_commands<A: Allocator>(
     faults: &mut Vec<LayoutFault, A>,
     layout: &Layout<'_, '_>,
@@ -265,7 +265,7 @@ pub fn tell_commands<A: Allocator>(
     Ok(())
 }
 
-// Adds a fault for each command of the symbols that the dynamic linker needs, in an image without symbols.
+// Adds a fault for each `LC_DYSYMTAB` of an image without symbols.
 fn tell_dynamic_symbols<A: Allocator>(
     faults: &mut Vec<LayoutFault, A>,
     layout: &Layout<'_, '_>,

@@ -1,4 +1,4 @@
-//! The faults of the table of a fat file, whose records are of either form.
+//! The faults of the table of a fat file, with records of 32 or 64 bits.
 
 ghost use Rattle.std.specs.Prelude.{◌≡◌, ◌++◌, ◌+◌, ◌*◌, ◌%◌, ◌^◌, ◌≤◌, List, IfOk, OnOk, filter_map, option_to_list};
 ghost use Rattle.mach_base.specs.Answer.{Reads, IsOkUnlessMemory};
@@ -17,7 +17,7 @@ use mach_parts::magic::parse_magic_and_ctx;
 use mach_parts::{ArchRecord, place_of, read_arch};
 use std::alloc::Allocator;
 
-/// An entry of a fat file as its record says, its number, from 0, and where the record stands.
+/// An entry of a fat file by its record, with its number, from 0, and the place of the record.
 #[derive(Clone, Copy)]
 pub struct PlacedSlice {
     pub number: u32,
@@ -29,16 +29,16 @@ pub struct PlacedSlice {
     pub align: u32,
 }
 
-/// Which range of a slice is looked at.
+/// The range of a slice that a check uses.
 #[derive(Clone, Copy)]
 pub enum RangeOf {
-    /// Its cpu and kind as a number.
+    /// Its cpu and subtype, as a number.
     Cpu,
     /// Its bytes.
     Bytes,
 }
 
-// How many slices a fat file is said to have.
+// Returns the number of slices that the header states.
 fn slice_count(bytes: &[u8]) -> u32
     ensures { result ≡ defined.slice_count bytes.now }
 {
@@ -48,14 +48,14 @@ fn slice_count(bytes: &[u8]) -> u32
     }
 }
 
-// Where the records end.
+// Returns the place where the records end.
 fn records_end<R: ArchRecord>(bytes: &[u8]) -> usize
     ensures { result ≡ defined.records_end R.arch_form bytes.now }
 {
     place_of::<R>(slice_count(bytes) as usize)
 }
 
-// A slice with its record.
+// Returns a slice with its record.
 fn slice_at<R: ArchRecord>(bytes: &[u8], number: u32) -> Result<PlacedSlice>
     ensures { Reads (λ s. s) result (defined.placed_slice_at R.arch_form bytes.now number) }
 {
@@ -72,7 +72,7 @@ fn slice_at<R: ArchRecord>(bytes: &[u8], number: u32) -> Result<PlacedSlice>
     })
 }
 
-// The slices in front of the first whose record isn't in the bytes.
+// Returns the slices before the first whose record isn't in the bytes.
 fn slices_of<R: ArchRecord, A: Allocator>(alloc: A, bytes: &[u8]) -> Result<Vec<PlacedSlice, A>>
     ensures listed { IfOk result (λ v. v.items ≡ defined.slices_of R.arch_form bytes.now) }
     ensures only { IsOkUnlessMemory result }
@@ -87,14 +87,14 @@ fn slices_of<R: ArchRecord, A: Allocator>(alloc: A, bytes: &[u8]) -> Result<Vec<
     Ok(slices)
 }
 
-// The slice as the owner of a fault.
+// Returns the slice as the owner of a fault.
 fn slice_owner(slice: &PlacedSlice) -> Owner
     ensures { result ≡ defined.slice_owner slice.now }
 {
     owner_at(Part::Slice, slice.place, u64::from(slice.number))
 }
 
-// So many bytes as a power of 2 says.
+// Returns a power of 2.
 fn power_of_two(power: u32) -> u64
     requires { power ≤ 15 }
     ensures { result ≡ 2 ^ power }
@@ -102,7 +102,7 @@ fn power_of_two(power: u32) -> u64
     1 << power
 }
 
-// The cpu of the image at a place, if one begins there.
+// Returns the cpu of the image at a place, if one begins there.
 fn image_cpu(bytes: &[u8], place: u64) -> Option<u32>
     ensures { result ≡ defined.image_cpu bytes.now place }
 {
@@ -115,7 +115,7 @@ fn image_cpu(bytes: &[u8], place: u64) -> Option<u32>
     }
 }
 
-// What the slices of a fat file are judged by: its bytes, and where its records end.
+// What the checks of a fat file's slices use: its bytes, and the place where its records end.
 #[derive(Clone, Copy)]
 struct Slices<'a> {
     bytes: &'a [u8],
@@ -163,14 +163,14 @@ impl Judges<PlacedSlice> for Slices<'_> {
     }
 }
 
-// A number of its own for each cpu and kind.
+// Returns a different number for each cpu and subtype.
 fn number_of_kind(cputype: u32, cpusubtype: u32) -> u64
     ensures { result ≡ 2 ^ 24 * cputype + cpusubtype % 2 ^ 24 }
 {
     (1 << 24) * u64::from(cputype) + u64::from(cpusubtype) % (1 << 24)
 }
 
-// The range of a slice, if it has one.
+// Returns the range of a slice, if it has one.
 fn slice_range(which: RangeOf, slice: &PlacedSlice) -> Option<Claim>
     ensures { result ≡ defined.slice_range which slice.now }
 {
@@ -201,7 +201,7 @@ fn keep<A: Allocator>(ranges: &mut Vec<Claim, A>, range: Option<Claim>) -> Resul
     Ok(())
 }
 
-// The ranges of all slices.
+// Returns the ranges of all slices.
 fn slice_ranges<A: Allocator>(
     alloc: A,
     which: RangeOf,
@@ -217,7 +217,7 @@ fn slice_ranges<A: Allocator>(
     Ok(ranges)
 }
 
-// Adds what is told of slices that share such a range.
+// Adds the faults of slices that share such a range.
 fn tell_slices_sharing<A: Allocator>(
     faults: &mut Vec<LayoutFault, A>,
     alloc: A,
@@ -233,7 +233,7 @@ fn tell_slices_sharing<A: Allocator>(
     tell_ranges(faults, rule, &mut ranges)
 }
 
-// Adds the fault of records that pass the end of the file.
+// Adds the fault of records that end past the end of the file.
 fn tell_records<R: ArchRecord, A: Allocator>(
     faults: &mut Vec<LayoutFault, A>,
     bytes: &[u8],
@@ -248,8 +248,9 @@ fn tell_records<R: ArchRecord, A: Allocator>(
     Ok(())
 }
 
-/// The faults of the table of the fat file that these bytes are, by records of a form, `FatArch` or `FatArch64`: all and no
-/// others, rule by rule, and of each rule in the order of the slices, or of their cpus or places where two are told of. Want of memory alone refuses them.
+/// Returns the faults of the table of the fat file in these bytes, with records of type `FatArch` or `FatArch64`: all and no
+/// others. They are in the order of the rules; those of one rule are in the order of the slices, or, for two slices, in that
+/// of their cpus or places. The only error is out of memory.
 pub fn container_faults<R: ArchRecord, A: Allocator + Clone>(
     alloc: A,
     bytes: &[u8],

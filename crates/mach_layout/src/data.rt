@@ -1,4 +1,4 @@
-//! Rules of data among code.
+//! Rules of data in code.
 
 ghost use Rattle.std.specs.Prelude.{◌≡◌, ◌++◌, ◌+◌, ◌<◌, option_map, OnOk};
 ghost use Rattle.mach_base.specs.Answer.{IsOkUnlessMemory};
@@ -19,7 +19,7 @@ use mach_load::{CommandVariant, LoadCommand};
 use mach_records::DataInCodeEntry;
 use std::alloc::Allocator;
 
-/// Where a command places a table of data among code, and its own place.
+/// The place and size of the data-in-code table of a command, and the place of the command.
 #[derive(Clone, Copy)]
 pub struct PlacedData {
     pub place: usize,
@@ -48,15 +48,15 @@ impl Wanted for PlacedData {
     }
 }
 
-/// The addresses from the first to the last that may be executed.
+/// The range from the first to the last executable address.
 #[derive(Clone, Copy)]
 pub struct CodeSpan {
     pub start: u64,
-    /// The one behind the last.
+    /// The address after the last one.
     pub end: u128,
 }
 
-// Those of a segment, and of those before it.
+// Returns the span of a segment and of those before it.
 fn spanning(found: Option<CodeSpan>, segment: &PlacedSegment) -> CodeSpan
     ensures { result ≡ defined.spanning found segment.now }
 {
@@ -71,14 +71,14 @@ fn spanning(found: Option<CodeSpan>, segment: &PlacedSegment) -> CodeSpan
     }
 }
 
-// Whether a segment has addresses that may be executed.
+// Whether a segment has executable addresses.
 fn has_code(segment: &PlacedSegment) -> bool
     ensures { result ≡ defined.has_code segment.now }
 {
     is_code(segment) && segment.command.vmsize > 0
 }
 
-// The addresses from the first to the last that may be executed, if any may.
+// Returns the range from the first to the last executable address, if there is one.
 fn code_span(layout: &Layout<'_, '_>) -> Option<CodeSpan>
     ensures { result ≡ defined.code_span (laid_of layout.now) }
 {
@@ -91,23 +91,23 @@ fn code_span(layout: &Layout<'_, '_>) -> Option<CodeSpan>
     found
 }
 
-/// What entries of data among code are judged by.
+/// What the checks of data-in-code entries use.
 #[derive(Clone, Copy)]
 pub struct DataJudge<'a> {
     pub table: FixupData<'a>,
-    /// The address that offsets count from.
+    /// The address from which offsets are counted.
     pub base: u64,
     pub span: Option<CodeSpan>,
 }
 
-// Entry k of a table.
+// Returns entry k of a table.
 fn entry_in(table: &FixupData<'_>, k: u32) -> Option<DataInCodeEntry>
     ensures { result ≡ defined.entry_in (data_view table.now) k }
 {
     DataInCodeEntry::read(table.payload, k as usize * 8, table.le).ok()
 }
 
-// The one before entry k.
+// Returns the entry before entry k.
 fn entry_before(table: &FixupData<'_>, k: u32) -> Option<DataInCodeEntry>
     ensures { result ≡ defined.entry_before (data_view table.now) k }
 {
@@ -117,14 +117,14 @@ fn entry_before(table: &FixupData<'_>, k: u32) -> Option<DataInCodeEntry>
     entry_in(table, k - 1)
 }
 
-// Where an entry ends, as an offset.
+// Returns the end of an entry, as an offset.
 fn entry_end(entry: &DataInCodeEntry) -> u64
     ensures { result ≡ entry.now.offset + entry.now.length }
 {
     u64::from(entry.offset) + u64::from(entry.length)
 }
 
-// Where what may be executed ends; 0 where nothing may.
+// Returns the end of the executable range, or 0 if there is none.
 fn span_end(span: Option<CodeSpan>) -> u64
     ensures { result ≡ defined.span_end span }
 {
@@ -155,7 +155,7 @@ fn share_bytes(first: &DataInCodeEntry, second: &DataInCodeEntry) -> bool
 }
 
 impl DataJudge<'_> {
-    // What is seen of where an entry lies.
+    // Checks where an entry lies.
     fn place_seen(&self, entry: &DataInCodeEntry) -> Seen
         ensures { result ≡ defined.place_of_data_sees self.now.base self.now.span entry.now }
     {
@@ -164,7 +164,7 @@ impl DataJudge<'_> {
         measured(holds, found, span_end(self.span))
     }
 
-    // What is seen of an entry and of the one before it, which is entry k less 1.
+    // Compares an entry with the one before it, which is entry k - 1.
     fn share_seen(&self, k: u32, before: &DataInCodeEntry, entry: &DataInCodeEntry) -> Seen
         requires { 0 < k }
         ensures { result ≡ defined.shared_data_sees (data_view self.now.table) k before.now entry.now }
@@ -174,7 +174,7 @@ impl DataJudge<'_> {
         measured(holds, u64::from(entry.offset), entry_end(before)).against(other)
     }
 
-    // Whose a fault of entry k is.
+    // Returns entry k as the owner of a fault.
     fn data_owner(&self, k: u32) -> Owner
         ensures { result ≡ defined.data_entry_owner (data_view self.now.table) k }
     {
@@ -208,7 +208,7 @@ impl Judges<u32> for DataJudge<'_> {
     }
 }
 
-// The table that a command places, where it lies in the file.
+// Returns the table that a command places, if it lies in the file.
 fn data_table<'a>(layout: &Layout<'a, '_>, placed: &PlacedData) -> Option<FixupData<'a>>
     ensures { option_map data_view result ≡ defined.data_table (laid_of layout.now) placed.now }
 {
@@ -223,7 +223,7 @@ fn data_table<'a>(layout: &Layout<'a, '_>, placed: &PlacedData) -> Option<FixupD
     )
 }
 
-// Adds the faults of a table of so many entries.
+// Adds the faults of a table with `count` entries.
 fn tell_data<A: Allocator>(
     faults: &mut Vec<LayoutFault, A>,
     layout: &Layout<'_, '_>,
@@ -243,7 +243,7 @@ fn tell_data<A: Allocator>(
     Ok(())
 }
 
-/// Adds the faults of the table of data among code.
+/// Adds the faults of the data-in-code table.
 pub fn data_faults<A: Allocator>(
     faults: &mut Vec<LayoutFault, A>,
     layout: &Layout<'_, '_>,

@@ -1,4 +1,4 @@
-//! Rules of where an executable begins to run.
+//! Rules of the place at which an executable begins to run.
 
 ghost use Rattle.std.specs.Prelude.{◌≡◌, ◌++◌, OnOk, find, map, option_map, option_to_list};
 ghost use Rattle.std.specs.List.{list_any};
@@ -17,10 +17,10 @@ use mach_load::{CommandVariant, LoadCommand};
 use mach_parts::header::MH_EXECUTE;
 use std::alloc::Allocator;
 
-/// The bit of a segment's rights that lets it be executed (`mach/vm_prot.h`).
+/// The bit of a segment's protection that makes it executable (`mach/vm_prot.h`).
 const VM_PROT_EXECUTE: u32 = 4;
 
-/// Where an image begins to run.
+/// The place at which an image begins to run.
 #[derive(Clone, Copy)]
 pub enum EntryPlace {
     /// A place in the file.
@@ -29,7 +29,7 @@ pub enum EntryPlace {
     InMemory(u64),
 }
 
-// Whether a command says where the image begins.
+// Whether a command states where the image begins.
 fn is_entry(command: &LoadCommand) -> bool
     ensures { result ≡ defined.is_entry (command_of command.now) }
 {
@@ -39,7 +39,7 @@ fn is_entry(command: &LoadCommand) -> bool
     )
 }
 
-// The first of some commands that does.
+// Returns the first command that does.
 fn first_entry(commands: &[LoadCommand]) -> Option<&LoadCommand>
     ensures { option_map (λ c. command_of c.now) result ≡ find defined.is_entry (map command_of commands.now) }
 {
@@ -51,7 +51,7 @@ fn first_entry(commands: &[LoadCommand]) -> Option<&LoadCommand>
     None
 }
 
-// Where such a command says that it begins.
+// Returns the place that such a command states.
 fn entry_place(cputype: u32, command: &CommandVariant) -> Option<EntryPlace>
     ensures { result ≡ defined.entry_place cputype (kind_in command.now) (variant_values command.now) }
 {
@@ -65,21 +65,21 @@ fn entry_place(cputype: u32, command: &CommandVariant) -> Option<EntryPlace>
     }
 }
 
-/// Whether a segment may be executed at first.
+/// Whether a segment is executable by its initial protection.
 pub fn is_code(segment: &PlacedSegment) -> bool
     ensures { result ≡ defined.is_code segment.now }
 {
     segment.command.initprot & VM_PROT_EXECUTE != 0
 }
 
-// Whether a number is one of `len` from a start on.
+// Whether a number is one of `len` numbers from a start on.
 fn is_among(start: u64, len: u64, number: u64) -> bool
     ensures { result ≡ defined.is_among start len number }
 {
     start <= number && number - start < len
 }
 
-// Whether a place is one of a segment that may be executed.
+// Whether a place lies in this segment and the segment is executable.
 fn is_code_at(place: EntryPlace, segment: &PlacedSegment) -> bool
     ensures { result ≡ defined.is_code_at place segment.now }
 {
@@ -91,7 +91,7 @@ fn is_code_at(place: EntryPlace, segment: &PlacedSegment) -> bool
         }
 }
 
-// Whether a place is one of some segment that may be executed.
+// Whether a place lies in an executable segment.
 fn is_in_code(layout: &Layout<'_, '_>, place: EntryPlace) -> bool
     ensures { result ≡ list_any (defined.is_code_at place) (segments_of (laid_of layout.now)) }
 {
@@ -103,7 +103,7 @@ fn is_in_code(layout: &Layout<'_, '_>, place: EntryPlace) -> bool
     false
 }
 
-// Whether a place in the file is behind the commands.
+// Whether a place in the file lies after the commands.
 fn is_behind_commands(layout: &Layout<'_, '_>, place: EntryPlace) -> bool
     ensures { result ≡ defined.is_behind_commands (laid_of layout.now) place }
 {
@@ -113,7 +113,7 @@ fn is_behind_commands(layout: &Layout<'_, '_>, place: EntryPlace) -> bool
     }
 }
 
-// What the rule of the entry sees.
+// Checks the entry.
 fn entry_seen(layout: &Layout<'_, '_>, place: EntryPlace) -> Seen
     ensures { result ≡ defined.entry_sees (laid_of layout.now) place }
 {
@@ -122,7 +122,7 @@ fn entry_seen(layout: &Layout<'_, '_>, place: EntryPlace) -> Seen
     measured(holds, found, layout.used_end())
 }
 
-// Adds the fault of the first command that says where the image begins, or that there is none.
+// Adds the fault of the first command that states where the image begins, or the fault that there is none.
 fn tell_entry<A: Allocator>(faults: &mut Vec<LayoutFault, A>, layout: &Layout<'_, '_>) -> Result<()>
     ensures told { let laid = laid_of layout.now in OnOk result (faults.new.items
         ≡ faults.old.items ++ option_to_list (defined.entry_fault laid (find defined.is_entry laid.commands))) }

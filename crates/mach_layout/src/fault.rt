@@ -1,49 +1,49 @@
-//! What a fault of layout says: of which rule it is, whose it is, and the two numbers that show it.
+//! A fault of layout: its rule, its owner, and two numbers as evidence.
 
-/// What is wrong. Each says what `found` and `limit` of such a fault are. An end that 64 bits don't count is the last
-/// number that they have.
+/// What is wrong. Each rule says what `found` and `limit` of its faults are. An end that doesn't fit into 64 bits is given
+/// as the last number that does.
 #[derive(Clone, Copy, Debug, PartialEq)]
 pub enum Rule {
     // ---- the kind of file
-    /// The file type is one that the rules don't judge. `found`: the file type; `limit`: 0.
+    /// No rules are defined for the file type. `found`: the file type; `limit`: 0.
     FileKind,
 
     // ---- commands
-    /// The commands pass the end of the file. `found`: where they end by the header; `limit`: the bytes of the file.
+    /// The commands end past the end of the file. `found`: where they end by the header; `limit`: the bytes of the file.
     CommandsOutOfFile,
-    /// A command hasn't the size of its record. `found`: its cmdsize; `limit`: the bytes of the record.
+    /// A command doesn't have the size of its record. `found`: its cmdsize; `limit`: the bytes of the record.
     CommandSize,
-    /// A command's size is no multiple of its unit. `found`: its cmdsize; `limit`: the unit.
+    /// A command's size isn't a multiple of its unit. `found`: its cmdsize; `limit`: the unit.
     CommandUnaligned,
-    /// A command passes the end of the commands. `found`: where it ends; `limit`: where they end by the header.
+    /// A command ends past the end of the commands. `found`: where it ends; `limit`: where they end by the header.
     CommandOutOfCommands,
-    /// A command hasn't the size of the items that it counts. `found`: its cmdsize; `limit`: the size with its items.
+    /// A command doesn't have the size of the items that it counts. `found`: its cmdsize; `limit`: the size with its items.
     CommandCount,
-    /// A segment's command is that of the other width. `found`: the command's number; `limit`: that of the width.
+    /// A segment's command is one of the other width. `found`: the command's number; `limit`: that of the image's width.
     SegmentWidth,
     /// The last command ends before the commands do. `found`: where it ends; `limit`: where they end by the header.
     CommandsEndEarly,
-    /// A second command of which there is to be one. `found`: the command's number; `limit`: 1. `other`: the first.
+    /// A second command of a kind that may occur only once. `found`: the command's number; `limit`: 1. `other`: the first.
     CommandAgain,
-    /// There are indirect symbols and no symbols. `found`: the command's number; `limit`: that of the missing one.
+    /// There are indirect symbols but no symbols. `found`: the command's number; `limit`: that of the missing one.
     DynamicSymbolsAlone,
 
     // ---- ranges of the file
-    /// What is claimed passes the end of the file. `found`: where it ends; `limit`: the bytes of the file.
+    /// A claimed range ends past the end of the file. `found`: where it ends; `limit`: the bytes of the file.
     OutOfFile,
 
     // ---- segments
-    /// A segment passes the last address. `found`: where it ends; `limit`: the last end that the width has.
+    /// A segment ends past the last address. `found`: where it ends; `limit`: the last end that the width allows.
     SegmentBeyondAddresses,
     /// A segment has more bytes in the file than in memory. `found`: filesize; `limit`: vmsize.
     SegmentFileLarger,
-    /// A segment's address is no multiple of a page. `found`: the address; `limit`: the page.
+    /// A segment's address isn't a multiple of a page. `found`: the address; `limit`: the page.
     SegmentAddressUnaligned,
-    /// A segment's place in the file is no multiple of a page. `found`: the place; `limit`: the page.
+    /// A segment's place in the file isn't a multiple of a page. `found`: the place; `limit`: the page.
     SegmentPlaceUnaligned,
     /// A segment has the name of an earlier one. `found`: 0; `limit`: 0. `other`: the earlier one.
     SegmentNameAgain,
-    /// More is allowed at first than may be allowed. `found`: initprot; `limit`: maxprot.
+    /// The initial protection allows more than the maximum. `found`: initprot; `limit`: maxprot.
     SegmentRights,
     /// Two segments share an address. `found`: where this one begins; `limit`: where the other one ends.
     SegmentsShareMemory,
@@ -53,55 +53,55 @@ pub enum Rule {
     NoSegmentOfHeader,
 
     // ---- sections
-    /// A section's addresses are out of its segment. `found`: where it ends; `limit`: where its segment ends.
+    /// A section's addresses aren't in its segment. `found`: where it ends; `limit`: where its segment ends.
     SectionOutOfMemory,
-    /// A section's bytes are out of its segment. `found`: where they end; `limit`: where those of its segment end.
+    /// A section's bytes aren't in its segment. `found`: where they end; `limit`: where those of its segment end.
     SectionOutOfBytes,
-    /// A section's bytes aren't where its address says. `found`: how far they are behind those of its segment; `limit`: how
-    /// far its address is behind that of its segment.
+    /// A section's place in the file doesn't match its address. `found`: the distance of its bytes from those of its
+    /// segment; `limit`: the distance of its address from that of its segment.
     SectionElsewhere,
-    /// A section's alignment is more than linkers know. `found`: the power of 2; `limit`: 15.
+    /// A section's alignment is greater than linkers allow. `found`: the power of 2; `limit`: 15.
     SectionAlignment,
-    /// A section isn't aligned as it says. `found`: its address; `limit`: the alignment in bytes.
+    /// A section doesn't have the alignment that it states. `found`: its address; `limit`: the alignment in bytes.
     SectionUnaligned,
-    /// A section says that it is in another segment. `found`: 0; `limit`: 0.
+    /// A section names another segment as its own. `found`: 0; `limit`: 0.
     SectionOfOther,
     /// Two sections share an address. `found`: where this one begins; `limit`: where the other one ends.
     SectionsShareMemory,
 
-    // ---- what shares bytes of the file, and what is linkedit
+    // ---- shared bytes of the file, and `__LINKEDIT`
     /// Two claims share a byte of the file. `found`: where this one begins; `limit`: where the other one ends.
     ClaimsShare,
-    /// A segment or an encrypted range has bytes of the commands. `found`: where it begins; `limit`: where they end.
+    /// A segment or an encrypted range begins within the header and the commands although it may not. `found`: where it
+    /// begins; `limit`: where they end.
     HeaderShared,
-    /// A table is out of `__LINKEDIT`. `found`: where it ends; `limit`: where `__LINKEDIT` ends, 0 where there is none.
+    /// A table isn't in `__LINKEDIT`. `found`: where it ends; `limit`: where `__LINKEDIT` ends, or 0 if there is none.
     OutOfLinkedit,
-    /// What is encrypted is in no segment that may be executed. `found`: where it ends; `limit`: 0.
+    /// An encrypted range isn't in an executable segment. `found`: where it ends; `limit`: 0.
     EncryptedNotExecutable,
 
     // ---- symbols
-    /// A symbol's section is none of the image. `found`: n_sect; `limit`: the number of sections.
+    /// A symbol's section doesn't exist in the image. `found`: n_sect; `limit`: the number of sections.
     SymbolSection,
     /// A symbol's name isn't among the strings. `found`: where it begins there; `limit`: the bytes of the strings.
     SymbolName,
-    /// A range of symbols passes the end of the table. `found`: where it ends; `limit`: the number of symbols.
+    /// A range of symbols ends past the end of the table. `found`: where it ends; `limit`: the number of symbols.
     SymbolRange,
-    /// A symbol of a range isn't of its kind; the first of each range is told. `found`: n_type; `limit`: 0.
+    /// A symbol of a range isn't of its kind; only the first of each range is reported. `found`: n_type; `limit`: 0.
     SymbolRangeKind,
-    /// A symbol's library is none of the image. `found`: the ordinal; `limit`: the number of libraries.
+    /// A symbol's library doesn't exist in the image. `found`: the ordinal; `limit`: the number of libraries.
     SymbolLibrary,
-    /// An indirect symbol is none of the table. `found`: its number; `limit`: the number of symbols.
+    /// An indirect symbol isn't in the table. `found`: its number; `limit`: the number of symbols.
     IndirectSymbol,
-    /// A section's indirect symbols aren't in their table. `found`: where they end; `limit`: the number of these. Or it
-    /// isn't a whole number of entries. `found`: its bytes; `limit`: those of an entry.
+    /// A section's indirect symbols aren't in their table. `found`: where they end; `limit`: the number of indirect symbols.
+    /// Or the section isn't a whole number of entries. `found`: its bytes; `limit`: those of an entry.
     IndirectSection,
-    /// The ranges of symbols don't follow each other to the end of the table, which counts as the last of them.
-    /// `found`: where this one begins; `limit`: where it is to begin.
+    /// The ranges of symbols don't follow each other to the end of the table, which counts as the last of them. `found`:
+    /// where this one begins; `limit`: where it should begin.
     SymbolRangeOrder,
 
-    // ---- where the image begins to run
-    /// The entry isn't in a segment that may be executed, behind the commands. `found`: the entry; `limit`: where the
-    /// commands end.
+    // ---- the entry
+    /// The entry isn't in an executable segment, after the commands. `found`: the entry; `limit`: where the commands end.
     EntryOutOfCode,
     /// An executable has no entry. `found`: 0; `limit`: 0.
     NoEntry,
@@ -111,52 +111,52 @@ pub enum Rule {
     TextMisplaced,
     /// A text of a command is empty. `found`: where it begins there; `limit`: the command's size.
     TextEmpty,
-    /// A library doesn't say its name. `found`: the file type; `limit`: 0.
+    /// A library has no command with its own name. `found`: the file type; `limit`: 0.
     IdMissing,
-    /// What is no library says its name as one. `found`: the file type; `limit`: 0.
+    /// A file that isn't a library has a command with a name of its own. `found`: the file type; `limit`: 0.
     IdUnexpected,
 
-    // ---- the lists that an image gives one at a time
+    // ---- the lists that an image returns one item at a time
     /// What dyld binds by opcodes can't be read to its end. `found`: 0; `limit`: 0.
     Binds,
     /// What dyld rebases by opcodes can't be read to its end. `found`: 0; `limit`: 0.
     Rebases,
     /// What dyld binds weakly can't be read to its end. `found`: 0; `limit`: 0.
     WeakBinds,
-    /// The starts of functions can't be read to their end. `found`: 0; `limit`: 0.
+    /// The function starts can't be read to their end. `found`: 0; `limit`: 0.
     FunctionStarts,
 
     // ---- chained fixups
     /// The data of chained fixups can't be read. `found`: the field's value; `limit`: its bound.
     ChainedFixups,
-    /// The library of an import is none of the image. `found`: the ordinal; `limit`: the number of libraries.
+    /// The library of an import doesn't exist in the image. `found`: the ordinal; `limit`: the number of libraries.
     ImportLibrary,
     /// The name of an import isn't in the data. `found`: where it begins; `limit`: where the data end.
     ImportName,
 
-    // ---- data among code
-    /// Data among code is out of what may be executed. `found`: where it begins; `limit`: where the last segment that may be
-    /// executed ends, 0 where there is none.
+    // ---- data in code
+    /// An entry of data in code isn't in the executable range. `found`: where it begins; `limit`: where the last executable
+    /// segment ends, or 0 if there is none.
     DataOutOfCode,
-    /// Data among code has bytes of the entry before it. `found`: where it begins, counted from the image's first byte in
-    /// memory; `limit`: where that entry ends. `other`: that entry.
+    /// An entry of data in code shares bytes with the entry before it. `found`: where it begins, counted from the image's
+    /// first byte in memory; `limit`: where that entry ends. `other`: that entry.
     DataShared,
 
     // ---- a fat file
-    /// The records of a fat file pass its end. `found`: where they end; `limit`: the bytes of the file.
+    /// The records of a fat file end past its end. `found`: where they end; `limit`: the bytes of the file.
     RecordsOutOfFile,
-    /// A slice has no bytes or passes the end of the file. `found`: where it ends; `limit`: the bytes of the file.
+    /// A slice has no bytes, or ends past the end of the file. `found`: where it ends; `limit`: the bytes of the file.
     SliceOutOfFile,
     /// A slice begins within the header and the records. `found`: where it begins; `limit`: where the records end.
     SliceInRecords,
-    /// A slice's alignment is more than linkers know. `found`: the power of 2; `limit`: 15.
+    /// A slice's alignment is greater than linkers allow. `found`: the power of 2; `limit`: 15.
     SliceAlignment,
-    /// A slice isn't aligned as it says. `found`: where it begins; `limit`: the alignment in bytes.
+    /// A slice doesn't have the alignment that it states. `found`: where it begins; `limit`: the alignment in bytes.
     SliceUnaligned,
-    /// A second slice of a cpu and its kind. `found`: the cputype times 2^24, and the kind (the low 24 bits of cpusubtype);
-    /// `limit`: one more. `other`: the first.
+    /// A second slice of a cpu and subtype. `found`: the cputype times 2^24, plus the subtype (the low 24 bits of
+    /// cpusubtype); `limit`: one more. `other`: the first.
     SliceAgain,
-    /// A slice is of another cpu than its image. `found`: the cputype of the record; `limit`: that of the image.
+    /// The record of a slice has another cpu than its image. `found`: the cputype of the record; `limit`: that of the image.
     SliceOfOtherCpu,
     /// Two slices share a byte. `found`: where this one begins; `limit`: where the other one ends.
     SlicesShare,
@@ -183,25 +183,25 @@ pub enum Part {
     SymbolRanges,
     /// The names of the symbols.
     Strings,
-    /// The table of contents of a library.
+    /// The table of contents of a dynamic library.
     TableOfContents,
-    /// The modules of a library.
+    /// The module table of a dynamic library.
     Modules,
-    /// The symbols that a library refers to.
+    /// The external references of a dynamic library.
     ExternalReferences,
     /// The indirect symbols.
     IndirectSymbols,
-    /// The relocations of outer symbols.
+    /// The external relocations.
     ExternalRelocations,
-    /// The relocations of local symbols.
+    /// The local relocations.
     LocalRelocations,
-    /// The opcodes of rebasing.
+    /// The rebase opcodes.
     RebaseOpcodes,
-    /// The opcodes of binding.
+    /// The bind opcodes.
     BindOpcodes,
-    /// The opcodes of weak binding.
+    /// The weak bind opcodes.
     WeakBindOpcodes,
-    /// The opcodes of lazy binding.
+    /// The lazy bind opcodes.
     LazyBindOpcodes,
     /// The export trie.
     ExportTrie,
@@ -209,9 +209,9 @@ pub enum Part {
     Signature,
     /// The information for splitting segments.
     SplitInfo,
-    /// The starts of functions.
+    /// The function starts.
     FunctionStarts,
-    /// The data among code.
+    /// The data-in-code table.
     DataInCode,
     /// The requirements on the signatures of libraries.
     SignatureRequirements,
@@ -225,9 +225,9 @@ pub enum Part {
     Encrypted,
     /// A note.
     Note,
-    /// The hints for looking names up in two levels.
+    /// The two-level namespace hints.
     TwolevelHints,
-    /// Symbols as gdb had them.
+    /// The symbols in gdb's format (`LC_SYMSEG`).
     GdbSymbols,
     /// What dyld binds by opcodes.
     Binds,
@@ -237,13 +237,13 @@ pub enum Part {
     Slice,
 }
 
-/// Whose a range or a fault is.
+/// The owner of a range or a fault.
 #[derive(Clone, Copy, Debug, PartialEq)]
 pub struct Owner {
     pub part: Part,
-    /// The place of its command in the bytes; 0 of the header. Of a slice the place of its record.
+    /// The place of its command in the bytes; 0 for the header. For a slice, the place of its record.
     pub command: u64,
-    /// The number of a section in its segment, from 1; of a symbol, an entry or a record, from 0; 0 where there is none.
+    /// The number of a section in its segment, from 1; of a symbol, an entry or a record, from 0; otherwise 0.
     pub index: u64,
 }
 
@@ -252,10 +252,10 @@ pub struct Owner {
 pub struct LayoutFault {
     pub rule: Rule,
     pub owner: Owner,
-    /// The other one, where two disagree.
+    /// The other owner, if two conflict.
     pub other: Option<Owner>,
-    /// What is there, as the rule says.
+    /// The number that was found, as the rule states.
     pub found: u64,
-    /// What it breaks, as the rule says.
+    /// The number that it violates, as the rule states.
     pub limit: u64,
 }

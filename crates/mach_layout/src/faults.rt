@@ -1,4 +1,4 @@
-//! The faults of the layout of an image, but for those of the lists that it gives one at a time.
+//! The faults of the layout of an image, except those of the lists that it returns one item at a time.
 
 ghost use Rattle.std.specs.Prelude.{◌≡◌, ◌++◌, OnOk};
 ghost use Rattle.mach_base.specs.Answer.{IsOkUnlessMemory};
@@ -20,7 +20,7 @@ use crate::symbols::symbol_faults;
 use mach_base::Result;
 use std::alloc::Allocator;
 
-/// Adds the faults of the commands, of what is out of the file, and of the segments.
+/// Adds the faults of the commands, of ranges outside the file, and of the segments.
 pub fn add_segments<B: Allocator + Clone>(
     faults: &mut Vec<LayoutFault, B>,
     alloc: &B,
@@ -38,7 +38,7 @@ pub fn add_segments<B: Allocator + Clone>(
     Ok(())
 }
 
-/// Adds those of the sections, of the claims, and of what is in `__LINKEDIT` or encrypted.
+/// Adds the faults of the sections, of the claims, and of `__LINKEDIT` and encrypted ranges.
 pub fn add_sections<B: Allocator + Clone>(
     faults: &mut Vec<LayoutFault, B>,
     alloc: &B,
@@ -55,7 +55,7 @@ pub fn add_sections<B: Allocator + Clone>(
     Ok(())
 }
 
-/// Adds those of the symbols, of the entry and of texts.
+/// Adds the faults of the symbols, of the entry and of texts.
 pub fn add_symbols<B: Allocator>(
     faults: &mut Vec<LayoutFault, B>,
     layout: &Layout<'_, '_>,

@@ -21,7 +21,7 @@ use mach_chained::ChainedFixupsHeader;
 use mach_load::{CommandVariant, LoadCommand};
 use std::alloc::Allocator;
 
-/// Where a command places chained fixups, and its own place.
+/// The place and size of the chained fixups of a command, and the place of the command.
 #[derive(Clone, Copy)]
 pub struct PlacedFixups {
     pub place: usize,
@@ -50,7 +50,7 @@ impl Wanted for PlacedFixups {
     }
 }
 
-/// What is fixed while chained fixups are judged: the place of their command, their data, and the byte order.
+/// What the checks of chained fixups use: the place of their command, their data, and the byte order.
 #[derive(Clone, Copy)]
 pub struct FixupData<'a> {
     pub place: usize,
@@ -58,7 +58,7 @@ pub struct FixupData<'a> {
     pub le: Endian,
 }
 
-/// A front that can be read, and how many starts stand behind it.
+/// A header that can be read, and the number of starts after it.
 #[derive(Clone, Copy)]
 pub struct Front {
     pub header: ChainedFixupsHeader,
@@ -66,14 +66,14 @@ pub struct Front {
 }
 
 impl FixupData<'_> {
-    /// Whose a fault of the front is, or of the starts of segment k.
+    /// Returns the owner of a fault of the header, or of the starts of segment k.
     pub fn owner(&self, k: u32) -> Owner
         ensures { result ≡ defined.data_owner (data_view self.now) k }
     {
         owner_at(Part::ChainedFixups, self.place, u64::from(k))
     }
 
-    /// How many bytes there are.
+    /// Returns the number of bytes.
     pub fn size(&self) -> u64
         ensures { result ≡ length self.now.payload.now }
     {
@@ -81,7 +81,7 @@ impl FixupData<'_> {
     }
 }
 
-/// The data that a command places, where they lie in the file.
+/// Returns the data that a command places, if they lie in the file.
 pub fn data_of<'a>(layout: &Layout<'a, '_>, placed: &PlacedFixups) -> Option<FixupData<'a>>
     ensures { option_map data_view result ≡ defined.data_of (laid_of layout.now) placed.now }
 {
@@ -96,7 +96,7 @@ pub fn data_of<'a>(layout: &Layout<'a, '_>, placed: &PlacedFixups) -> Option<Fix
     })
 }
 
-// The data of the chained fixups, where there are some and they lie in the file.
+// Returns the data of the chained fixups, if there are any and they lie in the file.
 fn fixup_data<'a>(layout: &Layout<'a, '_>) -> Option<FixupData<'a>>
     ensures { option_map data_view result ≡ defined.fixup_data (laid_of layout.now) }
 {
@@ -104,7 +104,7 @@ fn fixup_data<'a>(layout: &Layout<'a, '_>) -> Option<FixupData<'a>>
     data_of(layout, &placed)
 }
 
-/// How many bytes an import's record has.
+/// Returns the number of bytes in an import's record.
 pub fn import_bytes(format: u32) -> u64
     ensures { result ≡ defined.import_bytes format }
 {
@@ -115,7 +115,7 @@ pub fn import_bytes(format: u32) -> u64
     }
 }
 
-// What is seen of the version and the formats of a front.
+// Checks the version and the formats of a header.
 fn format_seen(header: &ChainedFixupsHeader) -> Seen
     ensures { result ≡ defined.format_sees header.now }
 {
@@ -129,7 +129,7 @@ fn format_seen(header: &ChainedFixupsHeader) -> Seen
         .then(measured(symbols <= 1, symbols, 1))
 }
 
-// Where the imports end.
+// Returns the place where the imports end.
 fn imports_end(header: &ChainedFixupsHeader) -> u64
     ensures { result ≡ defined.imports_end header.now }
 {
@@ -137,7 +137,7 @@ fn imports_end(header: &ChainedFixupsHeader) -> u64
     u64::from(header.imports_offset) + size
 }
 
-// What is seen of the places of imports and names.
+// Checks the places of imports and names.
 fn places_seen(chained: &FixupData<'_>, header: &ChainedFixupsHeader) -> Seen
     ensures { result ≡ defined.places_sees (data_view chained.now) header.now }
 {
@@ -148,7 +148,7 @@ fn places_seen(chained: &FixupData<'_>, header: &ChainedFixupsHeader) -> Seen
         .then(measured(end <= names, names, end))
 }
 
-// The front with its count of starts, where all these stand behind it.
+// Returns the header with its count of starts, if all of these follow it.
 fn front_or_seen(
     chained: &FixupData<'_>,
     header: ChainedFixupsHeader,
@@ -167,7 +167,7 @@ fn front_or_seen(
     Ok(Front { header, count })
 }
 
-// The front of the data, or what is seen of its first part that doesn't hold.
+// Returns the header of the data, or what was seen at its first field that doesn't hold.
 fn front_of(chained: &FixupData<'_>) -> std::result::Result<Front, Seen>
     ensures { result ≡ defined.front_of (data_view chained.now) }
 {

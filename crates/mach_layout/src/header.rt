@@ -1,4 +1,4 @@
-//! Rules of an image as a whole, which are told of its header.
+//! Rules of an image as a whole. Their faults belong to its header.
 
 ghost use Rattle.std.specs.Prelude.{◌≡◌, ◌++◌, OnOk};
 ghost use Rattle.mach_base.specs.Answer.{IsOkUnlessMemory};
@@ -14,7 +14,7 @@ use mach_base::Result;
 use mach_parts::header::Header;
 use std::alloc::Allocator;
 
-/// The header as the owner of a fault.
+/// Returns the header as the owner of a fault.
 pub fn header_owner() -> Owner
     ensures { result ≡ defined.header_owner }
 {
@@ -54,7 +54,7 @@ impl Judges<Header> for Layout<'_, '_> {
     }
 }
 
-/// Adds what some of these rules tell.
+/// Adds the faults that some of these rules find.
 pub fn tell_header<A: Allocator>(
     faults: &mut Vec<LayoutFault, A>,
     layout: &Layout<'_, '_>,

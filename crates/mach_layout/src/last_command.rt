@@ -12,12 +12,12 @@ pub trait Wanted: Copy {
     // What each command says, if it is of the kind.
     ghost wanted: { Command → Option Self };
 
-    /// What a command says, if it is of the kind.
+    /// Returns what a command says, if it is of the kind.
     fn of(command: &LoadCommand) -> Option<Self>
         ensures { result ≡ wanted (command_of command.now) };
 }
 
-/// What the last command of a kind says.
+/// Returns what the last command of a kind says.
 pub fn last_wanted<W: Wanted>(commands: &[LoadCommand]) -> Option<W>
     ensures { result ≡ last_or None (filter_map W.wanted (map command_of commands.now)) }
 {

@@ -1,4 +1,4 @@
-//! Theorems on the definitions alone: functions with nothing to do, whose contracts are laws.
+//! Theorems on the definitions only: functions with empty bodies, whose contracts are laws.
 
 mod containers;
 mod sharing;

@@ -18,7 +18,7 @@ use mach_parts::header::{
 };
 use mach_records::cputype::{CPU_TYPE_ARM64, CPU_TYPE_ARM64_32};
 
-/// What the rules read of an image: the bytes and the context that it was opened in, its header and its commands.
+/// What the rules read of an image: the bytes and the context in which it was opened, its header and its commands.
 #[derive(Clone, Copy)]
 pub struct Layout<'a, 'b> {
     pub bytes: &'a [u8],
@@ -28,14 +28,14 @@ pub struct Layout<'a, 'b> {
 }
 
 impl<'a, 'b> Layout<'a, 'b> {
-    /// The bytes of the file.
+    /// Returns the number of bytes in the file.
     pub fn size(&self) -> u64
         ensures { result ≡ defined.file_size (laid_of self.now) }
     {
         self.bytes.len() as u64
     }
 
-    /// The bytes of the header.
+    /// Returns the number of bytes in the header.
     pub fn header_len(&self) -> u64
         ensures { result ≡ defined.header_len (laid_of self.now) }
     {
@@ -45,14 +45,14 @@ impl<'a, 'b> Layout<'a, 'b> {
         }
     }
 
-    /// Where the commands end, as the header says.
+    /// Returns the place where the commands end, by the header.
     pub fn declared_end(&self) -> u64
         ensures { result ≡ defined.declared_end (laid_of self.now) }
     {
         self.header_len() + u64::from(self.header.sizeofcmds)
     }
 
-    /// Where the last command ends, or the header where there is none; no further than 64 bits count.
+    /// Returns the place where the last command ends, or the header if there is none; at most the last number of 64 bits.
     pub fn chain_end(&self) -> u64
         ensures { result ≡ min (defined.commands_end (laid_of self.now)) (2 ^ 64 - 1) }
     {
@@ -64,7 +64,7 @@ impl<'a, 'b> Layout<'a, 'b> {
         }
     }
 
-    /// Where what the header and the commands take ends: no further than the header says.
+    /// Returns the place where the header and the commands end: at most where the header states.
     pub fn used_end(&self) -> u64
         ensures { result ≡ defined.used_end (laid_of self.now) }
     {
@@ -79,35 +79,35 @@ impl<'a, 'b> Layout<'a, 'b> {
         kind == MH_EXECUTE || kind == MH_DYLIB || kind == MH_DYLINKER || kind == MH_BUNDLE
     }
 
-    /// Whether it is an object file.
+    /// Whether the file is an object file.
     pub fn is_object(&self) -> bool
         ensures { result ≡ defined.is_object (laid_of self.now) }
     {
         self.header.filetype == MH_OBJECT
     }
 
-    /// Whether it is a library without contents.
+    /// Whether the file is a stub library (`MH_DYLIB_STUB`).
     pub fn is_stub(&self) -> bool
         ensures { result ≡ defined.is_stub (laid_of self.now) }
     {
         self.header.filetype == MH_DYLIB_STUB
     }
 
-    /// Whether it is a companion of symbols.
+    /// Whether the file is a companion file with debugging symbols (`MH_DSYM`).
     pub fn is_dsym(&self) -> bool
         ensures { result ≡ defined.is_dsym (laid_of self.now) }
     {
         self.header.filetype == MH_DSYM
     }
 
-    /// Whether the rules judge files of this kind.
+    /// Whether rules are defined for files of this kind.
     pub fn is_judged(&self) -> bool
         ensures { result ≡ defined.is_judged (laid_of self.now) }
     {
         self.is_final() || self.is_object() || self.is_stub() || self.is_dsym()
     }
 
-    /// The bytes of a page.
+    /// Returns the number of bytes in a page.
     pub fn page(&self) -> u64
         ensures { result ≡ defined.page_of (laid_of self.now) }
     {
@@ -119,21 +119,21 @@ impl<'a, 'b> Layout<'a, 'b> {
         }
     }
 
-    /// The segments, in the order of their commands.
+    /// Returns the segments, in the order of their commands.
     pub fn segments(&self) -> SegmentIterator<'b>
         ensures { placed_segments_left result ≡ defined.segments_of (laid_of self.now) }
     {
         SegmentIterator::new(self.commands)
     }
 
-    /// The sections whose record lies in their segment's command and in the bytes, in order.
+    /// Returns the sections whose record lies in their segment's command and in the bytes, in order.
     pub fn sections(&self) -> SectionIterator<'a, 'b>
         ensures { placed_sections_left result ≡ defined.placed_sections_of (laid_of self.now) }
     {
         SectionIterator::new(self.bytes, self.ctx, self.commands)
     }
 
-    /// The ranges of the file that the parts claim.
+    /// Returns the ranges of the file that the parts claim.
     pub fn claims(&self) -> ClaimIterator<'a, 'b>
         ensures { claims_left result ≡ claims_of (laid_of self.now) }
     {
@@ -141,7 +141,7 @@ impl<'a, 'b> Layout<'a, 'b> {
     }
 }
 
-/// Whether `len` bytes from a start on pass a limit.
+/// Whether `len` bytes from a start on end past a limit.
 pub fn ends_past(limit: u64, start: u64, len: u64) -> bool
     ensures { result ≡ defined.ends_past limit start len }
 {
@@ -151,7 +151,7 @@ pub fn ends_past(limit: u64, start: u64, len: u64) -> bool
     }
 }
 
-/// Where `len` bytes from a start on end; no further than 64 bits count.
+/// Returns the place where `len` bytes from a start on end; at most the last number of 64 bits.
 pub fn range_end(start: u64, len: u64) -> u64
     ensures { result ≡ place_after start len }
 {

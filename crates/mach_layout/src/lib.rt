@@ -1,11 +1,11 @@
-//! The rules of layout of a Mach-O image: which range of the file each part claims, and every fault of the layout. They go by
+//! The rules of layout of a Mach-O image: which range of the file each part claims, and every fault of the layout. They read
 //! the bytes, the header and the load commands. `goblin_mach::layout` checks an image by them, and adds the faults of the
-//! lists that an image gives an item at a time.
+//! lists that an image returns one item at a time.
 //!
-//! Beside them the rules of layout of a fat file, for tables of 32 and of 64 bits alike.
+//! The rules of layout of a fat file are here too, for tables of 32 and of 64 bits.
 #![tactic(auto)]
 
-// The rules, what a fault says in words, and what the rules read of an image.
+// The rules, the words for a fault, and what the rules read of an image.
 mod fault;
 mod faults;
 mod layout;

@@ -1,4 +1,4 @@
-//! What the rules of the texts of commands and of the names of libraries ask.
+//! The checks of the rules on texts of commands and on names of libraries.
 
 ghost use Rattle.std.specs.Prelude.{◌≡◌, Some, true, map};
 ghost use Rattle.std.specs.List.{list_any};
@@ -22,15 +22,15 @@ use mach_records::{
 /// The text of a command.
 #[derive(Clone, Copy)]
 pub struct CommandText {
-    /// Where it begins, counted from its command.
+    /// The place where it begins, counted from its command.
     pub offset: usize,
-    /// How many bytes the struct of the command has.
+    /// The number of bytes in the struct of the command.
     pub struct_size: usize,
     /// Whether it is read up to a zero byte.
     pub is_read: bool,
 }
 
-// The text at an offset, behind a struct of `struct_size` bytes.
+// Returns the text at an offset, after a struct of `struct_size` bytes.
 fn text_behind(offset: LcStr, struct_size: usize) -> Option<CommandText>
     ensures { result ≡ Some (record { offset = offset; struct_size = struct_size; is_read = true }) }
 {
@@ -41,7 +41,7 @@ fn text_behind(offset: LcStr, struct_size: usize) -> Option<CommandText>
     })
 }
 
-// The text of a command, if it has one.
+// Returns the text of a command, if it has one.
 fn text_of(command: &CommandVariant) -> Option<CommandText>
     ensures { result ≡ defined.text_of (kind_in command.now) (variant_values command.now) }
 {
@@ -74,7 +74,7 @@ fn text_of(command: &CommandVariant) -> Option<CommandText>
     }
 }
 
-// The bytes of a command from its text on.
+// Returns the bytes of a command from its text on.
 fn bytes_from_text<'a>(bytes: &'a [u8], command: &LoadCommand, text: CommandText) -> &'a [u8]
     ensures { result.now ≡ defined.bytes_from_text bytes.now (command_of command.now) text }
 {
@@ -83,7 +83,7 @@ fn bytes_from_text<'a>(bytes: &'a [u8], command: &LoadCommand, text: CommandText
     bytes_from(bytes, place, len)
 }
 
-// Whether the text lies in its command, behind the struct.
+// Whether the text lies in its command, after the struct.
 fn lies_inside(bytes: &[u8], command: &LoadCommand, text: CommandText) -> bool
     ensures { result ≡ defined.lies_inside bytes.now (command_of command.now) text }
 {
@@ -98,7 +98,7 @@ fn begins_with_zero(bytes: &[u8]) -> bool
     bytes.first() == Some(&0)
 }
 
-// Whether the text lies there, is read, and is empty.
+// Whether the text lies in its command, is read, and is empty.
 fn is_empty_text(bytes: &[u8], command: &LoadCommand, text: CommandText) -> bool
     ensures { result ≡ defined.is_empty_text bytes.now (command_of command.now) text }
 {
@@ -106,7 +106,7 @@ fn is_empty_text(bytes: &[u8], command: &LoadCommand, text: CommandText) -> bool
     lies_inside(bytes, command, text) && text.is_read && is_empty
 }
 
-/// What is seen of the place of a command's text.
+/// Checks the place of a command's text.
 pub fn place_seen(bytes: &[u8], command: &LoadCommand) -> Seen
     ensures { let c = command_of command.now in
         result ≡ sees_there (defined.text_of c.kind c.values) (λ t. defined.place_sees bytes.now c t) }
@@ -120,7 +120,7 @@ pub fn place_seen(bytes: &[u8], command: &LoadCommand) -> Seen
     }
 }
 
-/// What is seen of whether it is empty.
+/// Checks that a command's text isn't empty.
 pub fn text_seen(bytes: &[u8], command: &LoadCommand) -> Seen
     ensures { let c = command_of command.now in
         result ≡ sees_there (defined.text_of c.kind c.values) (λ t. defined.text_sees bytes.now c t) }
@@ -134,7 +134,7 @@ pub fn text_seen(bytes: &[u8], command: &LoadCommand) -> Seen
     }
 }
 
-/// Whether the file is a library, or one without contents.
+/// Whether the file is a library or a stub library.
 pub fn is_library_file(layout: &Layout<'_, '_>) -> bool
     ensures { result ≡ defined.is_library_file (laid_of layout.now) }
 {
@@ -142,14 +142,14 @@ pub fn is_library_file(layout: &Layout<'_, '_>) -> bool
     kind == MH_DYLIB || kind == MH_DYLIB_STUB
 }
 
-/// Whether a command says the name of a library.
+/// Whether a command states the library's own name.
 pub fn is_id(command: &LoadCommand) -> bool
     ensures { result ≡ defined.says_id (command_of command.now) }
 {
     matches!(&command.command, CommandVariant::IdDylib(_))
 }
 
-/// Whether one of some commands does.
+/// Whether one of the commands does.
 pub fn has_id(commands: &[LoadCommand]) -> bool
     ensures { result ≡ list_any defined.says_id (map command_of commands.now) }
 {

@@ -1,4 +1,4 @@
-//! Whose the faults of an image's lists are: of the last command that brings one.
+//! The owners of the faults of an image's lists: the last command that names the list.
 
 ghost use Rattle.std.specs.Prelude.{◌≡◌};
 ghost use Rattle.mach_layout.specs.Lists as defined;
@@ -10,7 +10,7 @@ use crate::layout::Layout;
 use crate::symbols::fault_at;
 use mach_load::{CommandVariant, LoadCommand};
 
-/// The place of a command of opcodes.
+/// The place of an `LC_DYLD_INFO` or `LC_DYLD_INFO_ONLY` command.
 #[derive(Clone, Copy)]
 pub struct PlacedDyldInfo {
     pub place: usize,
@@ -32,7 +32,7 @@ impl Wanted for PlacedDyldInfo {
     }
 }
 
-/// The place of a command of function starts.
+/// The place of an `LC_FUNCTION_STARTS` command.
 #[derive(Clone, Copy)]
 pub struct PlacedStarts {
     pub place: usize,
@@ -52,7 +52,7 @@ impl Wanted for PlacedStarts {
     }
 }
 
-// The place of the last command of opcodes.
+// Returns the place of the last command with opcodes.
 fn opcodes_command(layout: &Layout<'_, '_>) -> usize
     ensures { result ≡ defined.opcodes_command (laid_of layout.now) }
 {
@@ -62,7 +62,7 @@ fn opcodes_command(layout: &Layout<'_, '_>) -> usize
     }
 }
 
-// The place of the last command of function starts.
+// Returns the place of the last command with function starts.
 fn starts_command(layout: &Layout<'_, '_>) -> usize
     ensures { result ≡ defined.starts_command (laid_of layout.now) }
 {
@@ -72,14 +72,14 @@ fn starts_command(layout: &Layout<'_, '_>) -> usize
     }
 }
 
-/// What a rule tells of opcodes of the last command that brings any, where they have a fault.
+/// Returns the fault of a rule for opcodes that have a fault, with the last command that names any as its owner.
 pub fn opcodes_fault(layout: &Layout<'_, '_>, rule: Rule, part: Part) -> LayoutFault
     ensures { result ≡ defined.opcodes_fault rule part (laid_of layout.now) }
 {
     fault_at(rule, part, opcodes_command(layout), 0, 0, 0)
 }
 
-/// What is told of the function starts of the last command that places any, where they have a fault.
+/// Returns the fault for function starts that have a fault, with the last command that places any as its owner.
 pub fn function_starts_fault(layout: &Layout<'_, '_>) -> LayoutFault
     ensures { result ≡ defined.function_starts_fault (laid_of layout.now) }
 {

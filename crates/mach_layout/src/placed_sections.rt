@@ -17,7 +17,7 @@ use mach_records::{
 };
 use std::slice::Iter;
 
-/// A segment's command in the wider form, and where it stands.
+/// A segment's command in its 64-bit form, and its place.
 #[derive(Clone, Copy)]
 pub struct PlacedSegment {
     /// The place of the command in the bytes.
@@ -25,7 +25,7 @@ pub struct PlacedSegment {
     pub command: SegmentCommand64,
 }
 
-/// A section in the wider form, with its segment and its number there, from 1.
+/// A section in its 64-bit form, with its segment and its number there, from 1.
 #[derive(Clone, Copy)]
 pub struct PlacedSection {
     pub segment: PlacedSegment,
@@ -33,7 +33,7 @@ pub struct PlacedSection {
     pub section: Section64,
 }
 
-// The command of a 32-bit image in the wider form.
+// Converts the command of a 32-bit image to the 64-bit form.
 fn widen(c: &SegmentCommand32) -> SegmentCommand64
     ensures { result ≡ widened c.now }
 {
@@ -61,7 +61,7 @@ impl PlacedSection {
     }
 }
 
-/// The segment of a command, if it is one of a segment.
+/// Returns the segment of a command, if it is a segment command.
 pub fn segment_of(command: &LoadCommand) -> Option<PlacedSegment>
     ensures { result ≡ defined.placed_segment_of (command_of command.now) }
 {
@@ -76,7 +76,7 @@ pub fn segment_of(command: &LoadCommand) -> Option<PlacedSegment>
     }
 }
 
-/// The segments of some commands, in order.
+/// An iterator over the segments of some commands, in order.
 #[derive(Clone, Drop)]
 pub struct SegmentIterator<'b> {
     commands: Iter<'b, LoadCommand>,
@@ -131,7 +131,7 @@ impl<'b> Items for SegmentIterator<'b> {
     }
 }
 
-// Section k of a segment.
+// Returns section k of a segment.
 fn placed_section_at(
     bytes: &[u8],
     ctx: Ctx,
@@ -148,14 +148,14 @@ fn placed_section_at(
     })
 }
 
-/// The sections of some commands, in order: of each segment those whose record lies in its command, before the first
-/// that isn't in the bytes.
+/// An iterator over the sections of some commands, in order. Of each segment it returns those whose record lies in the
+/// segment's command, up to the first that isn't in the bytes.
 #[derive(Clone, Drop)]
 pub struct SectionIterator<'a, 'b> {
     bytes: &'a [u8],
     ctx: Ctx,
     commands: Iter<'b, LoadCommand>,
-    // The segment whose sections come now, and how many of them came.
+    // The segment whose sections are returned now; the next field is the number of those already returned.
     segment: Option<PlacedSegment>,
     taken: u32,
 }
@@ -174,7 +174,7 @@ impl<'a, 'b> SectionIterator<'a, 'b> {
     }
 }
 
-// How many sections of a segment have their record in its own command, of those that it says there are.
+// Returns how many of the sections that a segment states have their record in its own command.
 fn own_sections(width: Container, segment: &PlacedSegment) -> u32
     ensures { result ≡ defined.own_sections width segment.now }
 {
@@ -186,7 +186,7 @@ fn own_sections(width: Container, segment: &PlacedSegment) -> u32
     segment.command.nsects.min(room)
 }
 
-/// The next section of a segment after those that came, if it has one more.
+/// Returns the next section of a segment after the first `taken`, if there is one.
 pub(crate) fn take_section(
     bytes: &[u8],
     ctx: Ctx,

@@ -1,4 +1,4 @@
-//! Rules of ranges: what is out of the file, what shares an address or a byte, and what is out of `__LINKEDIT`.
+//! Rules of ranges: those outside the file, those that share an address or a byte, and those outside `__LINKEDIT`.
 
 ghost use Rattle.std.specs.Prelude.{◌≡◌, ◌++◌, List, IfOk, OnOk};
 ghost use Rattle.mach_base.specs.Answer.{IsOkUnlessMemory};
@@ -27,7 +27,7 @@ fn lies_in_file(layout: &Layout<'_, '_>, claim: &Claim) -> bool
     !ends_past(layout.size(), claim.start, claim.len)
 }
 
-// The addresses of a segment, if it has any.
+// Returns the addresses of a segment, if it has any.
 fn segment_memory(layout: &Layout<'_, '_>, segment: &PlacedSegment) -> Option<Claim>
     ensures { result ≡ defined.segment_memory (laid_of layout.now) segment.now }
 {
@@ -42,7 +42,7 @@ fn segment_memory(layout: &Layout<'_, '_>, segment: &PlacedSegment) -> Option<Cl
     })
 }
 
-// The bytes of a segment in the file, if it has any.
+// Returns the bytes of a segment in the file, if it has any.
 fn segment_bytes(layout: &Layout<'_, '_>, segment: &PlacedSegment) -> Option<Claim>
     ensures { result ≡ defined.segment_bytes (laid_of layout.now) segment.now }
 {
@@ -52,7 +52,7 @@ fn segment_bytes(layout: &Layout<'_, '_>, segment: &PlacedSegment) -> Option<Cla
     Some(segment_claim(segment))
 }
 
-// The addresses of a section, if it has any.
+// Returns the addresses of a section, if it has any.
 fn section_memory(placed: &PlacedSection) -> Option<Claim>
     ensures { result ≡ defined.section_memory placed.now }
 {
@@ -66,7 +66,7 @@ fn section_memory(placed: &PlacedSection) -> Option<Claim>
     })
 }
 
-// Whether no other claim may have one of the claim's bytes, and they are in the file.
+// Whether the claim's bytes are in the file and no other claim may share them.
 fn is_lone_claim(layout: &Layout<'_, '_>, claim: &Claim) -> bool
     ensures { result ≡ defined.is_lone_claim (laid_of layout.now) claim.now }
 {
@@ -74,7 +74,7 @@ fn is_lone_claim(layout: &Layout<'_, '_>, claim: &Claim) -> bool
     alone && claim.len != 0 && lies_in_file(layout, claim)
 }
 
-// The addresses of all segments.
+// Returns the addresses of all segments.
 fn memory_ranges<A: Allocator>(alloc: A, layout: &Layout<'_, '_>) -> Result<Vec<Claim, A>>
     ensures listed { IfOk result (λ v. v.items ≡ defined.memory_ranges (laid_of layout.now)) }
     ensures only { IsOkUnlessMemory result }
@@ -86,7 +86,7 @@ fn memory_ranges<A: Allocator>(alloc: A, layout: &Layout<'_, '_>) -> Result<Vec<
     Ok(found)
 }
 
-// The bytes of all segments.
+// Returns the bytes of all segments.
 fn file_ranges<A: Allocator>(alloc: A, layout: &Layout<'_, '_>) -> Result<Vec<Claim, A>>
     ensures listed { IfOk result (λ v. v.items ≡ defined.file_ranges (laid_of layout.now)) }
     ensures only { IsOkUnlessMemory result }
@@ -98,7 +98,7 @@ fn file_ranges<A: Allocator>(alloc: A, layout: &Layout<'_, '_>) -> Result<Vec<Cl
     Ok(found)
 }
 
-// The addresses of all sections.
+// Returns the addresses of all sections.
 fn section_ranges<A: Allocator>(alloc: A, layout: &Layout<'_, '_>) -> Result<Vec<Claim, A>>
     ensures listed { IfOk result (λ v. v.items ≡ defined.section_ranges (laid_of layout.now)) }
     ensures only { IsOkUnlessMemory result }
@@ -110,7 +110,7 @@ fn section_ranges<A: Allocator>(alloc: A, layout: &Layout<'_, '_>) -> Result<Vec
     Ok(found)
 }
 
-// The claims of which no two may share a byte.
+// Returns the claims of which no two may share a byte.
 fn lone_claims<A: Allocator>(alloc: A, layout: &Layout<'_, '_>) -> Result<Vec<Claim, A>>
     ensures listed { IfOk result (λ v. v.items ≡ defined.lone_claims (laid_of layout.now)) }
     ensures only { IsOkUnlessMemory result }
@@ -122,7 +122,7 @@ fn lone_claims<A: Allocator>(alloc: A, layout: &Layout<'_, '_>) -> Result<Vec<Cl
     Ok(found)
 }
 
-/// Adds what is told of segments that share an address.
+/// Adds the faults of segments that share an address.
 pub fn memory_shared<A: Allocator>(
     faults: &mut Vec<LayoutFault, A>,
     alloc: A,
@@ -136,7 +136,7 @@ pub fn memory_shared<A: Allocator>(
     tell_ranges(faults, Rule::SegmentsShareMemory, &mut ranges)
 }
 
-/// Adds what is told of segments that share a byte of the file.
+/// Adds the faults of segments that share a byte of the file.
 pub fn files_shared<A: Allocator>(
     faults: &mut Vec<LayoutFault, A>,
     alloc: A,
@@ -150,7 +150,7 @@ pub fn files_shared<A: Allocator>(
     tell_ranges(faults, Rule::SegmentsShareFile, &mut ranges)
 }
 
-/// Adds what is told of sections that share an address.
+/// Adds the faults of sections that share an address.
 pub fn sections_shared<A: Allocator>(
     faults: &mut Vec<LayoutFault, A>,
     alloc: A,
@@ -165,7 +165,7 @@ pub fn sections_shared<A: Allocator>(
     tell_ranges(faults, Rule::SectionsShareMemory, &mut ranges)
 }
 
-/// Adds what is told of claims that share a byte.
+/// Adds the faults of claims that share a byte.
 pub fn claims_shared<A: Allocator>(
     faults: &mut Vec<LayoutFault, A>,
     alloc: A,
@@ -179,7 +179,7 @@ pub fn claims_shared<A: Allocator>(
     tell_ranges(faults, Rule::ClaimsShare, &mut ranges)
 }
 
-// Whether a part that begins at a place begins within the header and the commands, as it may not.
+// Whether a part begins within the header and the commands although it may not.
 fn begins_in_header(layout: &Layout<'_, '_>, part: Part, start: u64) -> bool
     ensures { result ≡ defined.begins_in_header (laid_of layout.now) part start }
 {
@@ -190,7 +190,7 @@ fn begins_in_header(layout: &Layout<'_, '_>, part: Part, start: u64) -> bool
     }
 }
 
-// Whether a part is a table that stands in `__LINKEDIT`.
+// Whether a part is a table that belongs in `__LINKEDIT`.
 fn is_linkedit(part: Part) -> bool
     ensures { result ≡ defined.is_linkedit part }
 {
@@ -212,7 +212,7 @@ fn is_linkedit_segment(segment: &PlacedSegment) -> bool
     segment.command.segname.starts_with(b"__LINKEDIT\0")
 }
 
-// The first segment of this name.
+// Returns the first segment of this name.
 fn linkedit_of(layout: &Layout<'_, '_>) -> Option<PlacedSegment>
     ensures { result ≡ defined.linkedit_of (laid_of layout.now) }
 {
@@ -221,7 +221,7 @@ fn linkedit_of(layout: &Layout<'_, '_>) -> Option<PlacedSegment>
         .find(|segment| is_linkedit_segment(segment))
 }
 
-// Whether the claim's bytes are those of a segment, if there is one.
+// Whether the claim's bytes lie in those of a segment, if there is one.
 fn lies_in(segment: Option<PlacedSegment>, claim: &Claim) -> bool
     ensures { result ≡ defined.lies_in segment claim.now }
 {
@@ -234,7 +234,7 @@ fn lies_in(segment: Option<PlacedSegment>, claim: &Claim) -> bool
     }
 }
 
-// Where the bytes of a segment end, 0 where there is none.
+// Returns the place where the bytes of a segment end, or 0 if there is none.
 fn end_of_segment(segment: Option<PlacedSegment>) -> u64
     ensures { result ≡ defined.end_of_segment segment }
 {
@@ -244,7 +244,7 @@ fn end_of_segment(segment: Option<PlacedSegment>) -> u64
     }
 }
 
-// What the claims of an image are judged by: the image, and the segment `__LINKEDIT`, if it has one.
+// What the checks of an image's claims use: the image, and the segment `__LINKEDIT`, if it has one.
 #[derive(Clone, Copy)]
 struct Claimed<'l, 'a, 'b> {
     layout: &'l Layout<'a, 'b>,
@@ -288,7 +288,7 @@ impl Judges<Claim> for Claimed<'_, '_, '_> {
     }
 }
 
-/// Adds what some rules tell of the claims.
+/// Adds the faults that some rules find in the claims.
 pub fn tell_claims<A: Allocator>(
     faults: &mut Vec<LayoutFault, A>,
     layout: &Layout<'_, '_>,

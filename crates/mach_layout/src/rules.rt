@@ -1,4 +1,4 @@
-//! What a rule sees in an item, and what is told of it: rules are told of items one after the other.
+//! What a rule sees in an item, and the fault that it reports: rules are applied to items one after the other.
 
 ghost use Rattle.std.specs.Prelude.{◌≡◌, ◌++◌, ◌-◌, List, OnOk, option_to_list};
 ghost use Rattle.std.specs.Iterator.{YieldsFirst};
@@ -13,15 +13,15 @@ use std::alloc::{AllocError, Allocator};
 pub struct Seen {
     /// Whether the rule holds.
     pub holds: bool,
-    /// The other one, where two disagree.
+    /// The other owner, if two conflict.
     pub other: Option<Owner>,
-    /// What is there.
+    /// The number that was found.
     pub found: u64,
-    /// What that is measured by.
+    /// The number with which it is compared.
     pub limit: u64,
 }
 
-/// What a rule sees that compares two numbers.
+/// Returns what a rule sees that compares two numbers.
 pub fn measured(holds: bool, found: u64, limit: u64) -> Seen
     ensures { result ≡ defined.measured holds found limit }
 {
@@ -33,7 +33,7 @@ pub fn measured(holds: bool, found: u64, limit: u64) -> Seen
     }
 }
 
-/// What a rule sees that has nothing to judge.
+/// Returns what a rule sees that has nothing to check.
 pub fn sound() -> Seen
     ensures { result ≡ defined.sound }
 {
@@ -41,7 +41,7 @@ pub fn sound() -> Seen
 }
 
 impl Seen {
-    /// The same, told with another one that disagrees.
+    /// Adds the other owner with which the item conflicts.
     pub fn against(self, other: Owner) -> Seen
         ensures { result ≡ defined.against other self }
     {
@@ -51,7 +51,7 @@ impl Seen {
         }
     }
 
-    /// This where it doesn't hold, else the next.
+    /// Returns this if it doesn't hold, else the next.
     pub fn then(self, next: Seen) -> Seen
         ensures { result ≡ defined.then_seen self next }
     {
@@ -59,7 +59,7 @@ impl Seen {
     }
 }
 
-/// The part of the command at a place, with its number there.
+/// Returns a part of the command at a place, with its number there.
 pub fn owner_at(part: Part, command: usize, index: u64) -> Owner
     ensures { result ≡ defined.owner_at part command index }
 {
@@ -70,27 +70,27 @@ pub fn owner_at(part: Part, command: usize, index: u64) -> Owner
     }
 }
 
-/// What judges items of a kind.
+/// The checks of items of a kind.
 pub trait Judges<T> {
     ghost use Rattle.mach_layout.specs.declared.fault.Owner.{Owner};
     ghost use Rattle.mach_layout.specs.declared.fault.Rule.{Rule};
     ghost use Rattle.mach_layout.specs.declared.rules.Seen.{Seen};
 
-    // Whose a fault is, and what each rule sees.
+    // The owner of a fault, and what each rule sees.
     ghost owner: { Self → Rule → T → Owner };
 
     ghost sees: { Self → Rule → T → Seen };
 
-    /// Whose a fault of a rule is.
+    /// Returns the owner of a fault of a rule.
     fn owner(&self, rule: Rule, item: &T) -> Owner
         ensures { result ≡ owner self.now rule item.now };
 
-    /// What a rule sees in an item.
+    /// Returns what a rule sees in an item.
     fn see(&self, rule: Rule, item: &T) -> Seen
         ensures { result ≡ sees self.now rule item.now };
 }
 
-/// Adds what is told, if something is.
+/// Adds a fault, if there is one.
 pub fn add<A: Allocator>(
     faults: &mut Vec<LayoutFault, A>,
     told: Option<LayoutFault>,
@@ -103,7 +103,7 @@ pub fn add<A: Allocator>(
     Ok(())
 }
 
-/// What a rule tells of what it sees.
+/// Returns the fault that a rule reports for what it sees, if it doesn't hold.
 pub fn told(rule: Rule, owner: Owner, seen: Seen) -> Option<LayoutFault>
     ensures { result ≡ defined.told rule owner seen }
 {
@@ -119,7 +119,7 @@ pub fn told(rule: Rule, owner: Owner, seen: Seen) -> Option<LayoutFault>
     })
 }
 
-/// Adds what a rule tells of what it sees.
+/// Adds the fault that a rule reports for what it sees.
 pub fn tell<A: Allocator>(
     faults: &mut Vec<LayoutFault, A>,
     rule: Rule,
@@ -131,7 +131,7 @@ pub fn tell<A: Allocator>(
     add(faults, told(rule, owner, seen))
 }
 
-/// Adds what the rules tell of each of some items, rule by rule.
+/// Adds the faults that the rules report for each of the items, rule by rule.
 pub fn tell_each<T, J: Judges<T>, A: Allocator>(
     faults: &mut Vec<LayoutFault, A>,
     judge: &J,
@@ -154,23 +154,23 @@ pub fn tell_each<T, J: Judges<T>, A: Allocator>(
     Ok(())
 }
 
-/// Items that come one at a time, and over which one can go again.
+/// Items that come one at a time, and that can be iterated again.
 pub trait Items: Drop {
     type Item: Drop;
 
-    // Those that are left.
+    // The items that are left.
     ghost left: { Self → List Self.Item };
 
-    /// The same items from here on.
+    /// Returns the same items, from here on.
     fn again(&self) -> Self
         ensures { left result ≡ left self.now };
 
-    /// The next one, if there is one.
+    /// Returns the next item, if there is one.
     fn take_next(&mut self) -> Option<Self::Item>
         ensures { YieldsFirst left self.old result self.new };
 }
 
-/// Adds what the rules tell of each of those items, rule by rule.
+/// Adds the faults that the rules report for each of those items, rule by rule.
 pub fn tell_over<I: Items, J: Judges<I::Item>, A: Allocator>(
     faults: &mut Vec<LayoutFault, A>,
     judge: &J,
@@ -194,7 +194,7 @@ pub fn tell_over<I: Items, J: Judges<I::Item>, A: Allocator>(
     Ok(())
 }
 
-/// The numbers from one on, in front of another.
+/// The numbers from one number up to another, without the latter.
 #[derive(Clone, Copy)]
 pub struct Numbers {
     pub from: u32,
@@ -202,7 +202,7 @@ pub struct Numbers {
 }
 
 impl Numbers {
-    /// So many, from 0.
+    /// Returns `count` numbers, from 0.
     pub fn of(count: u32) -> Numbers
         ensures { defined.numbers_left result ≡ range_with_len 0 count }
     {

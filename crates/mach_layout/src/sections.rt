@@ -19,17 +19,17 @@ use crate::segments::{before_zero, range_holds, segment_owner};
 use mach_base::Result;
 use std::alloc::Allocator;
 
-// The greatest alignment that linkers know, as a power of 2.
+// The greatest alignment that linkers allow, as a power of 2.
 const MAX_ALIGN: u32 = 15;
 
-/// The section as the owner of a fault.
+/// Returns the section as the owner of a fault.
 pub fn section_owner(section: &PlacedSection) -> Owner
     ensures { result ≡ defined.section_owner section.now }
 {
     owner_at(Part::Section, section.segment.place, section.number)
 }
 
-// Whether a section has bytes that are in the file.
+// Whether a section has bytes and they are in the file.
 fn has_bytes_there(layout: &Layout<'_, '_>, placed: &PlacedSection) -> bool
     ensures { result ≡ defined.has_bytes_there (laid_of layout.now) placed.now }
 {
@@ -37,7 +37,7 @@ fn has_bytes_there(layout: &Layout<'_, '_>, placed: &PlacedSection) -> bool
     has_bytes(layout, placed) && !ends_past(layout.size(), start, placed.section.size)
 }
 
-// Whether the addresses of a section are those of its segment.
+// Whether the addresses of a section lie in those of its segment.
 fn in_memory_of_segment(placed: &PlacedSection) -> bool
     ensures { result ≡ defined.in_memory_of_segment placed.now }
 {
@@ -46,7 +46,7 @@ fn in_memory_of_segment(placed: &PlacedSection) -> bool
     range_holds(command.vmaddr, command.vmsize, section.addr, section.size)
 }
 
-// Whether the bytes of a section are those of its segment.
+// Whether the bytes of a section lie in those of its segment.
 fn in_bytes_of_segment(placed: &PlacedSection) -> bool
     ensures { result ≡ defined.in_bytes_of_segment placed.now }
 {
@@ -60,14 +60,14 @@ fn in_bytes_of_segment(placed: &PlacedSection) -> bool
     )
 }
 
-// Whether a section says the name of the segment that it is in.
+// Whether a section states the name of its own segment.
 fn names_its_segment(placed: &PlacedSection) -> bool
     ensures { result ≡ bytes_eq (before_first is_zero placed.now.section.segname) (segment_name placed.now.segment) }
 {
     before_zero(&placed.section.segname) == before_zero(&placed.segment.command.segname)
 }
 
-// What is seen of where the bytes of a section are.
+// Checks the place of a section's bytes.
 fn place_seen(layout: &Layout<'_, '_>, placed: &PlacedSection) -> Seen
     ensures { result ≡ defined.section_sees (laid_of layout.now) rules_named.SectionElsewhere placed.now }
 {
@@ -86,7 +86,7 @@ fn place_seen(layout: &Layout<'_, '_>, placed: &PlacedSection) -> Seen
     .against(segment_owner(&placed.segment))
 }
 
-// What is seen of the address of a section.
+// Checks the address of a section.
 fn address_seen(layout: &Layout<'_, '_>, placed: &PlacedSection) -> Seen
     ensures { result ≡ defined.section_sees (laid_of layout.now) rules_named.SectionUnaligned placed.now }
 {

@@ -19,13 +19,13 @@ use mach_load::{CommandVariant, LoadCommand};
 use std::alloc::Allocator;
 use std::collections::BTreeMap;
 
-// A segment with this bit of its rights may be executed (`mach/vm_prot.h`).
+// The bit of a segment's protection that makes it executable (`mach/vm_prot.h`).
 const VM_PROT_EXECUTE: u32 = 4;
 
-// The bits of reading, writing and execution (`mach/vm_prot.h`).
+// The bits for reading, writing and execution (`mach/vm_prot.h`).
 const VM_PROT_ALL: u32 = 7;
 
-/// The segment as the owner of a fault.
+/// Returns the segment as the owner of a fault.
 pub fn segment_owner(segment: &PlacedSegment) -> Owner
     ensures { result ≡ defined.segment_owner segment.now }
 {
@@ -41,7 +41,7 @@ pub fn range_holds(start: u64, len: u64, inner: u64, inner_len: u64) -> bool
     start <= inner && inner_end <= end
 }
 
-// How many addresses an image of a width has.
+// Returns the number of addresses of an image of a width.
 fn address_count(width: Container) -> u128
     ensures { result ≡ defined.address_count width }
 {
@@ -51,7 +51,7 @@ fn address_count(width: Container) -> u128
     }
 }
 
-// Whether no more is allowed at first than may be allowed.
+// Whether the initial protection allows no more than the maximum.
 fn is_allowed(segment: &PlacedSegment) -> bool
     ensures { let c = segment.now.command in result ≡ (bit_and (bit_and c.initprot c.maxprot) 7 == bit_and c.initprot 7) }
 {
@@ -59,7 +59,7 @@ fn is_allowed(segment: &PlacedSegment) -> bool
     initprot & maxprot & VM_PROT_ALL == initprot & VM_PROT_ALL
 }
 
-// Whether a segment ends at the last address or before it.
+// Checks that a segment ends at the last address or before it.
 fn ends_in_memory(layout: &Layout<'_, '_>, segment: &PlacedSegment) -> Seen
     ensures { result ≡ defined.segment_sees (laid_of layout.now) rules_named.SegmentBeyondAddresses segment.now }
 {
@@ -128,7 +128,7 @@ pub fn has_segment_of_header(layout: &Layout<'_, '_>) -> bool
     layout.segments().any(|s| holds_header(layout, &s))
 }
 
-/// A range of the file that a command says is encrypted.
+/// A range of the file that a command states to be encrypted.
 #[derive(Clone, Copy)]
 pub struct EncryptedRange {
     /// The place of the command.
@@ -137,7 +137,7 @@ pub struct EncryptedRange {
     pub len: u32,
 }
 
-// The range that a command says is encrypted.
+// Returns the range that a command states to be encrypted.
 fn encrypted_by(command: &LoadCommand) -> Option<EncryptedRange>
     ensures { result ≡ defined.encrypted_by (command_of command.now) }
 {
@@ -153,7 +153,7 @@ fn encrypted_by(command: &LoadCommand) -> Option<EncryptedRange>
     })
 }
 
-// The range of the first command that says one.
+// Returns the range of the first command that states one.
 fn first_encrypted(layout: &Layout<'_, '_>) -> Option<EncryptedRange>
     ensures { result ≡ defined.first_encrypted (laid_of layout.now) }
 {
@@ -167,7 +167,7 @@ fn first_encrypted(layout: &Layout<'_, '_>) -> Option<EncryptedRange>
     None
 }
 
-// Whether a segment may be executed and holds a range.
+// Whether a segment is executable and holds a range.
 fn holds_code(range: &EncryptedRange, segment: &PlacedSegment) -> bool
     ensures { result ≡ defined.holds_code range.now segment.now }
 {
@@ -177,14 +177,14 @@ fn holds_code(range: &EncryptedRange, segment: &PlacedSegment) -> bool
         && range_holds(command.fileoff, command.filesize, start, len)
 }
 
-// Whether some segment that may be executed holds a range.
+// Whether an executable segment holds a range.
 fn is_in_code(layout: &Layout<'_, '_>, range: &EncryptedRange) -> bool
     ensures { result ≡ list_any (defined.holds_code range.now) (segments_of (laid_of layout.now)) }
 {
     layout.segments().any(|s| holds_code(range, &s))
 }
 
-// What the rule of an encrypted range sees.
+// Checks an encrypted range.
 fn encrypted_seen(layout: &Layout<'_, '_>, range: &EncryptedRange) -> Seen
     ensures { result ≡ defined.encrypted_sees (laid_of layout.now) range.now }
 {
@@ -196,7 +196,7 @@ fn encrypted_seen(layout: &Layout<'_, '_>, range: &EncryptedRange) -> Seen
     )
 }
 
-/// Adds the fault of what is encrypted.
+/// Adds the fault of the encrypted range.
 pub fn encrypted_faults<A: Allocator>(
     faults: &mut Vec<LayoutFault, A>,
     layout: &Layout<'_, '_>,
@@ -213,7 +213,7 @@ pub fn encrypted_faults<A: Allocator>(
     Ok(())
 }
 
-/// The bytes up to the first 0.
+/// Returns the bytes up to the first 0.
 pub fn before_zero(name: &[u8]) -> &[u8]
     ensures { result.now ≡ before_first is_zero name.now }
 {
@@ -221,7 +221,7 @@ pub fn before_zero(name: &[u8]) -> &[u8]
     &name[..len]
 }
 
-// The name of the segment of a command and the place of the command, if it is one of a segment.
+// Returns the segment name in a command and the place of the command, if it is a segment command.
 fn named_segment(command: &LoadCommand) -> Option<(&[u8], usize)>
     ensures { option_map seen_name result ≡ option_map name_and_place (placed_segment_of (command_of command.now)) }
 {
@@ -232,7 +232,7 @@ fn named_segment(command: &LoadCommand) -> Option<(&[u8], usize)>
     }
 }
 
-// The fault of the segment of a command at a place that has the name of an earlier one.
+// Returns the fault of a segment, by the place of its command, that has the name of an earlier one.
 fn same_name(place: usize, earlier: usize) -> LayoutFault
     ensures { result ≡ defined.same_name place earlier }
 {
@@ -245,7 +245,7 @@ fn same_name(place: usize, earlier: usize) -> LayoutFault
     }
 }
 
-// Adds the fault of a segment that has the name of an earlier one; else the name is met from now on.
+// Adds the fault of a segment that has the name of an earlier one; otherwise adds the name to those met.
 fn add_name<'b, A: Allocator, B: Allocator + Clone>(
     faults: &mut Vec<LayoutFault, A>,
     met: &mut BTreeMap<&'b [u8], usize, B>,
@@ -287,7 +287,7 @@ fn name_faults<A: Allocator, B: Allocator + Clone>(
     Ok(())
 }
 
-/// Adds the faults of each segment, of their names and of their rights.
+/// Adds the faults of each segment, of their names and of their protections.
 pub fn segment_faults<A: Allocator, B: Allocator + Clone>(
     alloc: B,
     faults: &mut Vec<LayoutFault, A>,

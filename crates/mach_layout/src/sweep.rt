@@ -1,4 +1,4 @@
-//! Which of some ranges share a place, by one sweep over them.
+//! Finds ranges that share a place, by one sweep over them.
 
 ghost use Rattle.std.specs.Prelude.{◌≡◌, ◌++◌, [], List, OnOk};
 ghost use Rattle.mach_base.specs.Answer.{IsOkUnlessMemory};
@@ -12,7 +12,7 @@ use crate::rules::add;
 use mach_base::Result;
 use std::alloc::Allocator;
 
-// Of two the one that ends later, the first where they end at one place.
+// Returns the one of two ranges that ends later, or the first if both end at one place.
 fn further(first: Option<Claim>, range: Claim) -> Claim
     ensures { result ≡ defined.further first range }
 {
@@ -22,7 +22,7 @@ fn further(first: Option<Claim>, range: Claim) -> Claim
     }
 }
 
-// The fault of a range that begins before the furthest of those before it ends.
+// Returns the fault of a range that begins before the end of the furthest of those before it.
 fn shared(rule: Rule, furthest: Option<Claim>, range: &Claim) -> Option<LayoutFault>
     ensures { result ≡ defined.shared rule furthest range.now }
 {
@@ -39,7 +39,7 @@ fn shared(rule: Rule, furthest: Option<Claim>, range: &Claim) -> Option<LayoutFa
     })
 }
 
-// Adds what is told of ranges that stand by their starts.
+// Adds the faults of ranges that are sorted by their starts.
 fn tell_shared<A: Allocator>(
     faults: &mut Vec<LayoutFault, A>,
     rule: Rule,
@@ -56,7 +56,7 @@ fn tell_shared<A: Allocator>(
     Ok(())
 }
 
-/// Adds what is told of some ranges, each against those before it by their starts. It sorts them.
+/// Adds the faults of some ranges, each compared with those before it in the order of their starts. It sorts them.
 pub fn tell_ranges<A: Allocator>(
     faults: &mut Vec<LayoutFault, A>,
     rule: Rule,

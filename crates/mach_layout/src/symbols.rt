@@ -30,7 +30,7 @@ use mach_parts::symbols::{
 use mach_records::{DysymtabCommand, SymtabCommand};
 use std::alloc::Allocator;
 
-/// The command of symbols, and its place.
+/// An `LC_SYMTAB` command, and its place.
 #[derive(Clone, Copy)]
 pub struct PlacedSymtab {
     pub place: usize,
@@ -51,7 +51,7 @@ impl Wanted for PlacedSymtab {
     }
 }
 
-/// The command of the symbols that the dynamic linker needs, and its place.
+/// An `LC_DYSYMTAB` command, and its place.
 #[derive(Clone, Copy)]
 pub struct PlacedDysymtab {
     pub place: usize,
@@ -72,7 +72,7 @@ impl Wanted for PlacedDysymtab {
     }
 }
 
-/// A range of symbols: its number among the three, its first symbol and how many it has.
+/// A range of symbols: its number among the three, its first symbol and its length.
 #[derive(Clone, Copy)]
 pub struct SymbolRange {
     pub number: u64,
@@ -80,7 +80,7 @@ pub struct SymbolRange {
     pub count: u32,
 }
 
-/// What is broken, with no other owner.
+/// Returns a fault without another owner.
 pub fn fault_at(
     rule: Rule,
     part: Part,
@@ -100,7 +100,7 @@ pub fn fault_at(
     }
 }
 
-// The record of a symbol at a place.
+// Reads the record of a symbol at a place.
 fn read_symbol(bytes: &[u8], place: usize, ctx: Ctx) -> Result<Nlist>
     ensures { Reads (λ symbol. symbol) result (nlist_at ctx bytes.now place) }
 {
@@ -110,7 +110,7 @@ fn read_symbol(bytes: &[u8], place: usize, ctx: Ctx) -> Result<Nlist>
     }
 }
 
-/// Symbol k of a table, if its record lies in the bytes.
+/// Returns symbol k of a table, if its record lies in the bytes.
 pub fn symbol_in(bytes: &[u8], ctx: Ctx, table: &PlacedSymtab, k: u32) -> Option<Nlist>
     ensures { result ≡ defined.symbol_in ctx bytes.now table.now k }
 {
@@ -118,7 +118,7 @@ pub fn symbol_in(bytes: &[u8], ctx: Ctx, table: &PlacedSymtab, k: u32) -> Option
     read_symbol(bytes, place, ctx).ok()
 }
 
-/// How many symbols of a table lie in the bytes.
+/// Returns the number of symbols of a table that lie in the bytes.
 pub fn symbols_there(layout: &Layout<'_, '_>, table: &PlacedSymtab) -> u32
     ensures { result ≡ defined.symbols_there (laid_of layout.now) table.now }
 {
@@ -131,14 +131,14 @@ pub fn symbols_there(layout: &Layout<'_, '_>, table: &PlacedSymtab) -> u32
     )
 }
 
-/// Whether a symbol is an entry for a debugger.
+/// Whether a symbol is a debugging entry.
 pub fn is_stab(symbol: &Nlist) -> bool
     ensures { result ≡ entries.is_stab symbol.now }
 {
     symbol.n_type & N_STAB != 0
 }
 
-// Whether the `n_sect` of an entry for debuggers of a type numbers a section (`mach-o/stab.h`).
+// Whether `n_sect` is a section's number in debugging entries of this type (`mach-o/stab.h`).
 fn has_section_number(kind: u8) -> bool
     ensures { result ≡ defined.has_section_number kind }
 {
@@ -154,7 +154,7 @@ fn has_section_number(kind: u8) -> bool
         || kind == N_RBRAC
 }
 
-// Whether a symbol names a section that there is not, or none where it is to name one.
+// Whether a symbol names a section that doesn't exist, or names none although it must.
 fn is_section_wrong(sections: u64, symbol: &Nlist) -> bool
     ensures { result ≡ defined.is_section_wrong sections symbol.now }
 {
@@ -166,7 +166,7 @@ fn is_section_wrong(sections: u64, symbol: &Nlist) -> bool
     }
 }
 
-// Where the names in the strings of a table end.
+// Returns the place where the names in the strings of a table end.
 fn names_end(layout: &Layout<'_, '_>, table: &PlacedSymtab) -> u64
     ensures { result ≡ defined.names_end (laid_of layout.now) table.now }
 {
@@ -186,21 +186,21 @@ fn is_imported(symbol: &Nlist) -> bool
     symbol.n_type & N_EXT != 0 && (kind == N_UNDF && symbol.n_value == 0 || kind == N_PBUD)
 }
 
-// The number of a symbol's library from which on it is special.
+// The first special number of a symbol's library.
 const DYNAMIC_LOOKUP_ORDINAL: u64 = 0xfe;
 
-/// What the symbols of a table are judged by.
+/// What the checks of a table's symbols use.
 #[derive(Clone, Copy)]
 pub struct SymbolBounds {
-    /// How many sections there are.
+    /// The number of sections.
     pub sections: u64,
-    /// Where the names end.
+    /// The place where the names end.
     pub names_end: u64,
-    /// How many libraries there are.
+    /// The number of libraries.
     pub libraries: u64,
 }
 
-// What is seen of a symbol's name.
+// Checks a symbol's name.
 fn name_seen(table: &PlacedSymtab, bounds: &SymbolBounds, symbol: &Nlist) -> Seen
     ensures { result ≡ defined.symbol_sees table.now bounds.now rules_named.SymbolName symbol.now }
 {
@@ -211,7 +211,7 @@ fn name_seen(table: &PlacedSymtab, bounds: &SymbolBounds, symbol: &Nlist) -> See
     measured(name == 0 || name < bounds.names_end, name, size).then(other)
 }
 
-// What a rule sees in a symbol.
+// Returns what a rule sees in a symbol.
 fn symbol_seen(rule: Rule, table: &PlacedSymtab, bounds: &SymbolBounds, symbol: &Nlist) -> Seen
     ensures { result ≡ defined.symbol_sees table.now bounds.now rule symbol.now }
 {
@@ -233,7 +233,7 @@ fn symbol_seen(rule: Rule, table: &PlacedSymtab, bounds: &SymbolBounds, symbol: 
     }
 }
 
-/// The symbols of a table, by their numbers.
+/// The checks of a table's symbols, by their numbers.
 #[derive(Clone, Copy)]
 pub struct SymbolsJudged<'a> {
     pub bytes: &'a [u8],
@@ -262,7 +262,7 @@ impl Judges<u32> for SymbolsJudged<'_> {
     }
 }
 
-// What the symbols of a table are judged by.
+// Returns what the checks of a table's symbols use.
 fn bounds_of(layout: &Layout<'_, '_>, table: &PlacedSymtab) -> SymbolBounds
     ensures { result ≡ defined.bounds_of (laid_of layout.now) table.now }
 {
@@ -273,7 +273,7 @@ fn bounds_of(layout: &Layout<'_, '_>, table: &PlacedSymtab) -> SymbolBounds
     }
 }
 
-// Adds what some rules tell of the symbols of a table, if there is one.
+// Adds the faults that some rules find in the symbols of a table, if there is one.
 fn tell_symbols<A: Allocator>(
     faults: &mut Vec<LayoutFault, A>,
     layout: &Layout<'_, '_>,
@@ -297,7 +297,7 @@ fn tell_symbols<A: Allocator>(
     Ok(())
 }
 
-// Whether the libraries of symbols are judged.
+// Whether the libraries of symbols are checked.
 fn has_libraries(layout: &Layout<'_, '_>) -> bool
     ensures { result ≡ defined.has_libraries (laid_of layout.now) }
 {
@@ -319,7 +319,7 @@ fn symbol_library_faults<A: Allocator>(
     tell_symbols(faults, layout, table, &[Rule::SymbolLibrary])
 }
 
-// Adds the faults of a table of symbols, and of what the dynamic linker needs of it.
+// Adds the faults of a table of symbols, and of what `LC_DYSYMTAB` says of it.
 fn table_faults<A: Allocator>(
     faults: &mut Vec<LayoutFault, A>,
     layout: &Layout<'_, '_>,

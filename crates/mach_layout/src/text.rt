@@ -7,7 +7,7 @@ use crate::fault::{LayoutFault, Owner, Part};
 use std::fmt;
 use std::fmt::{Display, Formatter, Write};
 
-// Whether a part is one of several that have numbers.
+// Whether a part is one of several, which have numbers.
 fn has_number(part: Part) -> bool
     ensures { result ≡ defined.has_number part }
 {
@@ -20,7 +20,7 @@ fn has_number(part: Part) -> bool
 impl Display for Owner {
     ghost output = { λ owner. Some (defined.owner_text owner) };
 
-    /// Its part, its number if it has one, and the place of its command.
+    /// Formats its part, its number if it has one, and the place of its command.
     fn fmt<W: Write>(&self, f: &mut Formatter<W>) -> fmt::Result {
         let Owner {
             part,
@@ -35,7 +35,7 @@ impl Display for Owner {
     }
 }
 
-/// What shows a fault, in words: its two numbers, and the other owner, if there is one.
+/// The evidence for a fault, in words: its two numbers, and the other owner, if there is one.
 #[derive(Clone, Copy)]
 pub struct Evidence(pub LayoutFault);
 
@@ -59,7 +59,7 @@ impl Display for Evidence {
 impl Display for LayoutFault {
     ghost output = { λ fault. Some (defined.fault_text fault) };
 
-    /// Its rule, whose it is, and what shows it.
+    /// Formats its rule, its owner, and the evidence.
     fn fmt<W: Write>(&self, f: &mut Formatter<W>) -> fmt::Result {
         let rule = self.rule;
         let owner = self.owner;

@@ -8,7 +8,7 @@ use std::fmt;
 use std::fmt::{Display, Formatter, Write};
 
 impl Rule {
-    /// Its words.
+    /// Returns the words for it.
     pub fn words(self) -> &'static str
         ensures { result.now ≡ defined.rule_words self }
     {
@@ -89,7 +89,7 @@ impl Display for Rule {
 }
 
 impl Part {
-    /// Its words.
+    /// Returns the words for it.
     pub fn words(self) -> &'static str
         ensures { result.now ≡ defined.part_words self }
     {

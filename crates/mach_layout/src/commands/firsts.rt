@@ -1,4 +1,4 @@
-//! The commands of which an image has one at most.
+//! The commands that an image may have only once.
 
 ghost use Rattle.std.specs.Prelude.{◌≡◌, ◌++◌, ◌<◌, [], OnOk, IfSome, map};
 ghost use Rattle.mach_base.specs.Answer.{IsOkUnlessMemory};
@@ -11,10 +11,10 @@ use mach_base::Result;
 use mach_load::{CommandVariant, LoadCommand};
 use std::alloc::Allocator;
 
-// How many sets there are.
+// The number of sets.
 const SETS: usize = 22;
 
-// The number of a command's set, if it is of one.
+// Returns the number of a command's set, if it belongs to one.
 fn set_of(command: &CommandVariant) -> Option<usize>
     ensures value { result ≡ defined.set_of (kind_in command.now) }
     ensures few { IfSome result (λ set. set < SETS) }
@@ -74,7 +74,7 @@ fn set_of(command: &CommandVariant) -> Option<usize>
     }
 }
 
-// What is told of a command of a set whose first one is another.
+// Returns the fault of a command that isn't the first one of its set.
 fn once_more(command: &LoadCommand, first: Owner) -> LayoutFault
     ensures { result ≡ defined.once_more (command_of command.now) first }
 {
@@ -87,7 +87,7 @@ fn once_more(command: &LoadCommand, first: Owner) -> LayoutFault
     }
 }
 
-/// Adds a fault for each command before which one of its set stands.
+/// Adds a fault for each command with an earlier one of its set.
 pub fn tell_again<A: Allocator>(
     faults: &mut Vec<LayoutFault, A>,
     commands: &[LoadCommand],

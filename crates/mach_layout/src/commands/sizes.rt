@@ -1,4 +1,4 @@
-//! How many bytes the struct of a command has.
+//! The number of bytes in the struct of a command.
 
 ghost use Rattle.std.specs.Prelude.{◌≡◌};
 ghost use Rattle.mach_load.specs.Variants.{kind_in};
@@ -16,16 +16,16 @@ use mach_records::{
     TwolevelHintsCommand, UuidCommand, VersionMinCommand,
 };
 
-/// How many bytes the struct of a command has.
+/// The number of bytes in the struct of a command.
 #[derive(Clone, Copy, Debug, PartialEq)]
 pub enum StructSize {
     /// Nothing follows it.
     Exactly(usize),
-    /// Texts, sections or the like may follow it.
+    /// Texts, sections or other items may follow it.
     AtLeast(usize),
 }
 
-/// How many bytes the struct of a command has, and whether something may follow it.
+/// Returns the number of bytes in the struct of a command, and whether other items may follow it.
 pub fn struct_size(command: &CommandVariant) -> StructSize
     ensures { result ≡ defined.struct_size (kind_in command.now) }
 {

@@ -16,14 +16,14 @@ use mach_base::{Endian, Result, bytes_at, read_u32};
 use mach_chained::ChainedFixupsHeader;
 use std::alloc::Allocator;
 
-/// What the record of an import says of its library and of its name's place.
+/// The library and the place of the name in an import's record.
 #[derive(Clone, Copy)]
 pub struct ImportRow {
     pub library: u64,
     pub name: u32,
 }
 
-// What the number of an import says, in a format.
+// Returns what the number of an import means, in a format.
 fn row_of(format: u32, number: u64) -> ImportRow
     ensures { result ≡ defined.import_row_of format number }
 {
@@ -40,14 +40,14 @@ fn row_of(format: u32, number: u64) -> ImportRow
     }
 }
 
-// The number of eight bytes at a place.
+// Reads the number of eight bytes at a place.
 fn read_u64(bytes: &[u8], place: usize, le: Endian) -> Result<u64>
     ensures { Reads (λ n. n) result (number_at le 8 bytes.now place) }
 {
     Ok(le.u64_at(bytes_at(bytes, place, 8)?, 0))
 }
 
-// The number of an import at a place, in a format.
+// Reads the number of an import at a place, in a format.
 fn read_row(bytes: &[u8], place: usize, le: Endian, format: u32) -> Result<u64>
     ensures { Reads (λ n. n) result (number_at le (defined.row_bytes format) bytes.now place) }
 {
@@ -58,7 +58,7 @@ fn read_row(bytes: &[u8], place: usize, le: Endian, format: u32) -> Result<u64>
     }
 }
 
-// Import k.
+// Returns import k.
 fn row_in(chained: &FixupData<'_>, header: &ChainedFixupsHeader, k: u32) -> Option<ImportRow>
     ensures { result ≡ defined.row_in (data_view chained.now) header.now k }
 {
@@ -68,14 +68,14 @@ fn row_in(chained: &FixupData<'_>, header: &ChainedFixupsHeader, k: u32) -> Opti
     Some(row_of(format, number))
 }
 
-// One more than the highest number of a library.
+// Returns the number after the highest ordinal of a library.
 fn ordinals_end(format: u32) -> u64
     ensures { result ≡ defined.ordinals_end format }
 {
     if format == 3 { 0x1_0000 } else { 0x100 }
 }
 
-// Whether a number is that of no library and no special one.
+// Whether a number is neither that of a library nor a special one.
 fn is_ordinal_wrong(libraries: u64, format: u32, ordinal: u64) -> bool
     ensures { result ≡ defined.is_ordinal_wrong libraries (defined.ordinals_end format) ordinal }
 {
@@ -87,7 +87,7 @@ fn is_ordinal_wrong(libraries: u64, format: u32, ordinal: u64) -> bool
     }
 }
 
-// Where the names of imports end.
+// Returns the place where the names of imports end.
 fn import_names_end(chained: &FixupData<'_>, header: &ChainedFixupsHeader) -> u64
     ensures { result ≡ defined.import_names_end (data_view chained.now) header.now }
 {
@@ -98,14 +98,14 @@ fn import_names_end(chained: &FixupData<'_>, header: &ChainedFixupsHeader) -> u6
     }
 }
 
-/// What the imports of chained fixups are judged by.
+/// What the checks of the imports of chained fixups use.
 #[derive(Clone, Copy)]
 pub struct Imports<'a> {
     pub chained: FixupData<'a>,
     pub header: ChainedFixupsHeader,
-    /// How many libraries there are.
+    /// The number of libraries.
     pub libraries: u64,
-    /// Where the names end.
+    /// The place where the names end.
     pub names_end: u64,
 }
 

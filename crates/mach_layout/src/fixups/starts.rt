@@ -17,7 +17,7 @@ use mach_base::{Record, Result, read_u32};
 use mach_chained::ChainedStartsInSegment;
 use std::alloc::Allocator;
 
-// What is seen of the pages and the pointers of some starts.
+// Checks the pages and the pointers of some starts.
 fn page_seen(chained: &FixupData<'_>, place: u64, starts: &ChainedStartsInSegment) -> Seen
     requires { place < 2 ^ 33 }
     ensures { result ≡ defined.page_sees (data_view chained.now) place starts.now }
@@ -30,7 +30,7 @@ fn page_seen(chained: &FixupData<'_>, place: u64, starts: &ChainedStartsInSegmen
         .then(measured(end <= chained.size(), end, chained.size()))
 }
 
-// Whether two numbers make a third.
+// Whether the sum of two numbers is a third.
 fn adds_up(a: u64, b: u64, sum: u64) -> bool
     ensures { result ≡ (a + b == sum) }
 {
@@ -40,14 +40,14 @@ fn adds_up(a: u64, b: u64, sum: u64) -> bool
     }
 }
 
-// Where the last of the pages begins.
+// Returns the offset at which the last page begins.
 fn last_page(starts: &ChainedStartsInSegment) -> u64
     ensures { result ≡ defined.last_page starts.now }
 {
     u64::from(starts.page_count.saturating_sub(1)) * u64::from(starts.page_size)
 }
 
-// What is seen of where a segment begins, and of how many pages there are.
+// Checks where a segment begins, and its number of pages.
 fn extent_seen(text: u64, segment: &PlacedSegment, starts: &ChainedStartsInSegment) -> Seen
     ensures { result ≡ defined.extent_sees text segment.now starts.now }
 {
@@ -63,7 +63,7 @@ fn extent_seen(text: u64, segment: &PlacedSegment, starts: &ChainedStartsInSegme
     .then(pages)
 }
 
-// What is seen of the starts at a place, which are those of a segment.
+// Checks the starts at a place, which are those of a segment.
 fn record_seen(chained: &FixupData<'_>, text: u64, place: u64, segment: &PlacedSegment) -> Seen
     requires { place < 2 ^ 33 }
     ensures { result ≡ defined.record_sees (data_view chained.now) text place segment.now
@@ -77,7 +77,7 @@ fn record_seen(chained: &FixupData<'_>, text: u64, place: u64, segment: &PlacedS
     }
 }
 
-// What is seen of the starts of a segment, if the image has it.
+// Checks the starts of a segment, if the image has that segment.
 fn segment_seen(
     chained: &FixupData<'_>,
     text: u64,
@@ -96,7 +96,7 @@ fn segment_seen(
     }
 }
 
-// What is seen of starts k.
+// Checks starts k.
 fn starts_seen(
     chained: &FixupData<'_>,
     front: &Front,
@@ -114,7 +114,7 @@ fn starts_seen(
     }
 }
 
-// The fault of starts k.
+// Returns the fault of starts k.
 fn starts_fault(
     chained: &FixupData<'_>,
     front: &Front,
@@ -128,14 +128,14 @@ fn starts_fault(
     told(Rule::ChainedFixups, chained.owner(k), seen)
 }
 
-// Whether a segment's name is `__TEXT`, whatever stands behind its first zero byte.
+// Whether a segment's name is `__TEXT`, whatever follows its first zero byte.
 fn is_text(segment: &PlacedSegment) -> bool
     ensures { result ≡ defined.is_text segment.now }
 {
     segment.command.segname.starts_with(b"__TEXT\0")
 }
 
-/// What offsets of segments count from: the address of the first segment named `__TEXT`.
+/// Returns the address from which offsets of segments are counted: that of the first segment named `__TEXT`.
 pub fn text_address(layout: &Layout<'_, '_>) -> u64
     ensures { result ≡ defined.text_address (laid_of layout.now) }
 {

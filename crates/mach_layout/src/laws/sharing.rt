@@ -9,13 +9,13 @@ ghost use Rattle.mach_layout.specs.declared.claim.Claim.{Claim};
 ghost use Rattle.mach_layout.specs.declared.fault.Rule.{Rule};
 ghost use Rattle.mach_layout.specs.declared.fault.LayoutFault.{LayoutFault};
 
-/// What is told of ranges that share a place is told of two of these ranges each time.
+/// Each fault of ranges that share a place is one of two of these ranges.
 #[tactic(auto, using(crate::proofs::Sharing::shared_are_ranges))]
 pub fn shared_are_ranges()
     ensures { (rule : Rule) (ranges : List Claim) (told : List LayoutFault) → AreShared rule ranges told → All (IsOfTwo rule ranges) told }
 {}
 
-/// What is told of the claims of an image that may not share a place is told of two of its claims each time.
+/// Each fault of claims of an image that may not share a place is one of two of its claims.
 #[tactic(auto, using(crate::proofs::Sharing::shared_are_claims))]
 pub fn shared_are_claims()
     ensures { (laid : Laid) (rule : Rule) (told : List LayoutFault) → AreShared rule (lone_claims laid) told → All (IsOfTwo rule (claims_of laid)) told }

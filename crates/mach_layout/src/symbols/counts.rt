@@ -9,7 +9,7 @@ use crate::layout::Layout;
 use crate::placed_sections::segment_of;
 use mach_load::{CommandVariant, LoadCommand};
 
-/// How many of `count` records of a size, from a place on, lie in the bytes.
+/// Returns how many of `count` records of a size, from a place on, lie in the bytes.
 pub fn whole_records(bytes: &[u8], start: u32, size: usize, count: u32) -> u32
     requires { 0 < size }
     ensures { result ≡ defined.whole_records bytes.now start size count }
@@ -18,7 +18,7 @@ pub fn whole_records(bytes: &[u8], start: u32, size: usize, count: u32) -> u32
     (count as usize).min(room) as u32
 }
 
-/// Where the last text among some strings ends: behind their last zero byte, at 0 where they have none.
+/// Returns the place where the last text among some strings ends: after their last zero byte, or 0 if they have none.
 pub fn texts_end(strings: &[u8]) -> usize
     ensures value { result ≡ defined.texts_end strings.now }
     ensures within { result ≤ length strings.now }
@@ -30,7 +30,7 @@ pub fn texts_end(strings: &[u8]) -> usize
     end
 }
 
-// How many sections a command is said to have.
+// Returns the number of sections that a command states.
 fn nsects_in(command: &LoadCommand) -> u64
     ensures { result ≡ defined.nsects_of (placed_segment_of (command_of command.now)) }
 {
@@ -40,7 +40,7 @@ fn nsects_in(command: &LoadCommand) -> u64
     }
 }
 
-/// How many sections the segments are said to have, no further than 64 bits count.
+/// Returns the number of sections that the segments state; at most the last number of 64 bits.
 pub fn section_count(layout: &Layout<'_, '_>) -> u64
     ensures { result ≡ defined.section_count (laid_of layout.now) }
 {
@@ -51,7 +51,7 @@ pub fn section_count(layout: &Layout<'_, '_>) -> u64
     count
 }
 
-// Whether a command brings in a library.
+// Whether a command loads a library.
 #[tactic(auto, unfolding(crate::specs::Symbols::brings_library))]
 fn is_library(command: &LoadCommand) -> bool
     ensures { result ≡ defined.brings_library (command_of command.now) }
@@ -66,7 +66,7 @@ fn is_library(command: &LoadCommand) -> bool
     )
 }
 
-/// How many libraries the commands bring in.
+/// Returns the number of libraries that the commands load.
 pub fn library_count(layout: &Layout<'_, '_>) -> u64
     ensures { result ≡ defined.library_count (laid_of layout.now) }
 {

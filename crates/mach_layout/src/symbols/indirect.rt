@@ -26,10 +26,10 @@ const S_LAZY_DYLIB_SYMBOL_POINTERS: u32 = 0x10;
 
 const S_THREAD_LOCAL_VARIABLE_POINTERS: u32 = 0x14;
 
-// The bits of an indirect symbol that is local or absolute.
+// The bits of an indirect symbol that mean local or absolute.
 const INDIRECT_SYMBOL_LOCAL_OR_ABS: u32 = 0xc000_0000;
 
-/// The three ranges of symbols.
+/// Returns the three ranges of symbols.
 pub fn ranges_of(command: &DysymtabCommand) -> [SymbolRange; 3]
     ensures { result ≡ defined.ranges_of command.now }
 {
@@ -52,7 +52,7 @@ pub fn ranges_of(command: &DysymtabCommand) -> [SymbolRange; 3]
     ]
 }
 
-/// Whether a range that is not empty ends past the table.
+/// Whether a range that isn't empty ends past the table.
 pub fn is_range_out(nsyms: u32, range: &SymbolRange) -> bool
     ensures { result ≡ defined.is_range_out nsyms range.now }
 {
@@ -60,7 +60,7 @@ pub fn is_range_out(nsyms: u32, range: &SymbolRange) -> bool
     range.count > 0 && end > u64::from(nsyms)
 }
 
-// The ranges of a table of symbols.
+// The checks of the ranges of a table of symbols.
 #[derive(Clone, Copy)]
 struct Ranges {
     place: usize,
@@ -106,7 +106,7 @@ pub fn symbol_range_faults<A: Allocator>(
     Ok(())
 }
 
-// How many symbols a table is said to have.
+// Returns the number of symbols that a table states.
 fn symbol_count(table: Option<PlacedSymtab>) -> u32
     ensures { result ≡ defined.symbol_count table }
 {
@@ -116,7 +116,7 @@ fn symbol_count(table: Option<PlacedSymtab>) -> u32
     }
 }
 
-// How many indirect symbols there are, where their table lies in the file.
+// Returns the number of indirect symbols, if their table lies in the file.
 fn indirect_count(layout: &Layout<'_, '_>, table: &PlacedDysymtab) -> u32
     ensures { result ≡ defined.indirect_count (laid_of layout.now) table.now }
 {
@@ -129,7 +129,7 @@ fn indirect_count(layout: &Layout<'_, '_>, table: &PlacedDysymtab) -> u32
     }
 }
 
-// Whether a section with these flags is of pointers or stubs that have indirect symbols.
+// Whether a section with these flags holds pointers or stubs with indirect symbols.
 fn has_indirect(flags: u32) -> bool
     ensures { result ≡ defined.has_indirect flags }
 {
@@ -141,7 +141,7 @@ fn has_indirect(flags: u32) -> bool
         || kind == S_THREAD_LOCAL_VARIABLE_POINTERS
 }
 
-// How many bytes each entry of such a section has.
+// Returns the number of bytes in each entry of such a section.
 fn entry_size(width: Container, section: &PlacedSection) -> u64
     ensures { result ≡ defined.entry_size width section.now }
 {
@@ -155,7 +155,7 @@ fn entry_size(width: Container, section: &PlacedSection) -> u64
     }
 }
 
-// What the rule of a section that has indirect symbols sees.
+// Checks a section with indirect symbols.
 fn section_seen(width: Container, table: &PlacedDysymtab, section: &PlacedSection) -> Seen
     ensures { result ≡ defined.indirect_section_sees width table.now section.now }
 {
@@ -176,7 +176,7 @@ fn section_seen(width: Container, table: &PlacedDysymtab, section: &PlacedSectio
     )
 }
 
-// The indirect symbols of an image with symbols, by their numbers, and the sections that have some.
+// The checks of the indirect symbols of an image with symbols, by their numbers, and of the sections that have some.
 #[derive(Clone, Copy)]
 struct Indirect<'a> {
     bytes: &'a [u8],

@@ -16,7 +16,7 @@ use mach_base::Result;
 use mach_parts::symbols::{N_EXT, N_PBUD, N_PEXT, N_TYPE, N_UNDF, Nlist};
 use std::alloc::Allocator;
 
-// Whether a symbol is known outside the image.
+// Whether a symbol is external: known outside the image.
 fn is_external(symbol: &Nlist) -> bool
     ensures { result ≡ defined.is_external symbol.now }
 {
@@ -31,7 +31,7 @@ fn is_of_other(symbol: &Nlist) -> bool
     kind == N_UNDF || kind == N_PBUD
 }
 
-// Whether a symbol is of the range of a number.
+// Whether a symbol belongs to the range with a number.
 fn is_of_range(number: u64, symbol: &Nlist) -> bool
     ensures { result ≡ defined.is_of_range number symbol.now }
 {
@@ -42,7 +42,7 @@ fn is_of_range(number: u64, symbol: &Nlist) -> bool
     }
 }
 
-// The fault of a symbol of a range, if its record lies in the bytes.
+// Returns the fault of a symbol of a range, if its record lies in the bytes.
 fn symbol_kind(
     layout: &Layout<'_, '_>,
     table: &PlacedSymtab,
@@ -57,7 +57,7 @@ fn symbol_kind(
     told(Rule::SymbolRangeKind, owner, seen)
 }
 
-// The fault of the first symbol of a range that isn't of it.
+// Returns the fault of the first symbol of a range that isn't of its kind.
 fn range_kind(
     layout: &Layout<'_, '_>,
     table: &PlacedSymtab,
@@ -75,7 +75,7 @@ fn range_kind(
     None
 }
 
-/// Adds the faults of the kinds of symbols: of each range that of the first symbol that isn't of it.
+/// Adds the faults of the kinds of symbols: for each range, that of the first symbol that isn't of its kind.
 pub fn symbol_kind_faults<A: Allocator>(
     faults: &mut Vec<LayoutFault, A>,
     layout: &Layout<'_, '_>,
@@ -109,7 +109,7 @@ fn any_range_out(nsyms: u32, ranges: &[SymbolRange]) -> bool
     false
 }
 
-// The fault of the order of some ranges.
+// Returns the fault of the order of some ranges.
 fn order_of(nsyms: u32, table: &PlacedDysymtab, ranges: &[SymbolRange]) -> Option<LayoutFault>
     ensures { result ≡ defined.order_from nsyms table.now 0 ranges.now }
 {
@@ -130,7 +130,7 @@ fn order_of(nsyms: u32, table: &PlacedDysymtab, ranges: &[SymbolRange]) -> Optio
     None
 }
 
-// The fault of the order of the ranges, where none of them ends past the table.
+// Returns the fault of the order of the ranges, if none of them ends past the table.
 fn range_order(nsyms: u32, table: &PlacedDysymtab) -> Option<LayoutFault>
     ensures { result ≡ defined.range_order nsyms table.now }
 {
