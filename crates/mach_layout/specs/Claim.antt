@@ -1,7 +1,7 @@
--- A range and whose it is.
+-- A range and its owner.
 use Rattle.std.specs.Prelude.{ℕ, ◌+◌}
 use Rattle.mach_layout.specs.declared.claim.Claim.{Claim}
 
--- where it ends
+-- the place where it ends
 abbrev pub end_of : Claim → ℕ
 end_of r = r.start + r.len

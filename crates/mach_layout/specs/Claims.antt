@@ -61,8 +61,8 @@ symtab_claims width place vs =
     ∷ claim part.Strings place (number_among vs 4) (number_among vs 5)
     ∷ []
 
--- What a command of a kind claims beside segments. Of the options of a linker (LC_LINKER_OPTION) the fields are a count
--- and text: they claim nothing.
+-- What a command of a kind claims apart from segments. A command with linker options (LC_LINKER_OPTION) has a count and
+-- texts as fields, and claims nothing.
 abbrev pub tables_of_kind : Container → ℕ → Kind → List Value → List Claim
 tables_of_kind width place symtab vs = symtab_claims width place vs
 tables_of_kind width place dysymtab vs = dysymtab_claims width place vs
@@ -92,13 +92,13 @@ tables_by ctx c = tables_of_kind ctx.container c.offset c.kind c.values
 abbrev pub segment_claim : PlacedSegment → Claim
 segment_claim s = claim part.Segment s.place s.command.fileoff s.command.filesize
 
--- the bytes of the segment of a command, if it is one of a segment
+-- the bytes of the segment of a command, if it is a segment command
 abbrev pub segment_claims : Option PlacedSegment → List Claim
 segment_claims None = []
 segment_claims (Some s) = segment_claim s ∷ []
 
--- A section has bytes in the file where it isn't of zeros. A library without contents has none, nor have the sections of
--- a companion of symbols that are those of its program: their place is 0.
+-- A section has bytes in the file unless it is zero-filled. A stub library has none. Nor have those sections of a dSYM that
+-- are those of its program: their place is 0.
 abbrev pub has_bytes : Laid → PlacedSection → Bool
 has_bytes laid s =
     not (s.section.size == 0) && not (is_zero_fill s.section.flags) && not (is_stub laid) && not (is_dsym laid && s.section.offset == 0)
@@ -107,7 +107,7 @@ has_bytes laid s =
 abbrev pub section_claim : Part → PlacedSection → ℕ → ℕ → Claim
 section_claim p s start len = record { owner = owner_at p s.segment.place s.number; start = start; len = len }
 
--- the bytes of a section, none where it has none
+-- the bytes of a section, or none if it has none
 abbrev pub bytes_claim : Laid → PlacedSection → Claim
 bytes_claim laid s = section_claim part.Section s s.section.offset (if has_bytes laid s then s.section.size else 0)
 
@@ -120,16 +120,16 @@ section_claims laid s = bytes_claim laid s ∷ relocations_claim s ∷ []
 
 -- ---- all
 
--- what a command claims: its segment and the sections of it, or its tables
+-- the claims of a command: its segment with its sections, or its tables
 abbrev pub claims_by : Laid → Command → List Claim
 claims_by laid c =
     segment_claims (placed_segment_of c) ++ (flat_map (section_claims laid) (sections_by laid.ctx laid.bytes c) ++ tables_by laid.ctx c)
 
--- what the header and the commands claim: what they take
+-- the claim of the header and the commands
 abbrev pub header_claim : Laid → Claim
 header_claim laid = claim part.Header 0 0 (used_end laid)
 
--- The claims of an image: that of the header and the commands, and then those of each command, in order. A part of no
--- bytes claims a range of length 0.
+-- The claims of an image: that of the header and the commands, then those of each command, in order. A part of no bytes
+-- claims a range of length 0.
 abbrev pub claims_of : Laid → List Claim
 claims_of laid = header_claim laid ∷ flat_map (claims_by laid) laid.commands

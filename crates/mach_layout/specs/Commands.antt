@@ -1,5 +1,5 @@
--- Rules of load commands (`mach-o/loader.h`, struct load_command and the struct of each command). dyld or LLVM refuse an
--- image that breaks one, but for the end before `sizeofcmds`.
+-- Rules of load commands (`mach-o/loader.h`, struct load_command and the struct of each command). dyld or LLVM rejects an
+-- image that breaks one, except the rule on an end before `sizeofcmds`.
 use Rattle.std.specs.Prelude.{◌==◌, ◌&&◌, ℕ, zero, suc, ◌+◌, ◌-◌, ◌*◌, ◌%◌, Bool, false, not, ◌||◌, if◌then◌else◌, nat_le, length, take, drop}
 use Rattle.std.specs.Prelude.{List, [], ◌∷◌, ◌++◌, Option, Some, None, option_map, option_and_then, find}
 use Rattle.std.specs.List.{cons_option, list_any}
@@ -40,8 +40,8 @@ use Rattle.mach_layout.specs.declared.rules.Seen.{Seen}
 
 -- ---- the size of a command
 
--- How many bytes the struct of a command has, and whether texts, sections or the like may follow it. Of a thread the
--- struct is its cmd and cmdsize alone.
+-- The number of bytes in the struct of a command, and whether texts, sections or other items may follow it. For a thread the
+-- struct is only its cmd and cmdsize.
 abbrev pub struct_size : Kind → StructSize
 struct_size kind.segment32 = AtLeast (size segment_command32_fields)
 struct_size kind.symtab = Exactly (size symtab_command_fields)
@@ -95,35 +95,35 @@ struct_size kind.dyld_chained_fixups = Exactly (size linkedit_data_command_field
 struct_size kind.fileset_entry = AtLeast (size fileset_entry_command_fields)
 struct_size _ = AtLeast (size header_fields)
 
--- the size is that of the struct, or more where something may follow it
+-- the size is that of the struct, or more if other items may follow it
 abbrev pub size_sees : ℕ → StructSize → Seen
 size_sees size (Exactly n) = measured (size == n) size n
 size_sees size (AtLeast n) = measured (nat_le n size) size n
 
--- The size of a command is a multiple of 8 in an image of 64 bits, of 4 in one of 32 bits (struct load_command).
--- The thread of a core file of 64 bits needs a multiple of 4 alone.
+-- The size of a command is a multiple of 8 in an image of 64 bits, of 4 in one of 32 bits (struct load_command). For a
+-- thread in a core file of 64 bits a multiple of 4 is enough.
 abbrev pub unit_of : Laid → Command → ℕ
 unit_of laid c = if laid.header.filetype == 4 && cmd_of c == 4 then 4 else pointer_size laid.ctx.container
 
--- the bytes of a command behind its cmd and cmdsize
+-- the bytes of a command after its cmd and cmdsize
 abbrev pub behind_header : List ℕ → Command → List ℕ
 behind_header bytes c = take (cmdsize_of c - 8) (drop (c.offset + 8) bytes)
 
--- how many bytes the state of a thread at the front has: its flavor, its count and as many words as that (struct thread_command)
+-- the number of bytes in the first thread state: its flavor, its count and as many words as the count states (struct thread_command)
 abbrev pub state_size : Endian → List ℕ → ℕ
 state_size le rest = 8 + 4 * number le 4 (drop 4 rest)
 
--- how many bytes the states have that stand one after the other from the front on, at most n of them
+-- the number of bytes in the thread states that follow each other from the start, at most n of them
 abbrev pub states_size : ℕ → Endian → List ℕ → ℕ
 states_size zero le rest = 0
 states_size (suc n) le rest =
     if nat_le (state_size le rest) (length rest) then state_size le rest + states_size n le (drop (state_size le rest) rest) else 0
 
--- the size of a thread's command with its states
+-- the size of a thread command with its states
 abbrev pub thread_size : Laid → Command → ℕ
 thread_size laid c = let rest = behind_header laid.bytes c in 8 + states_size (length rest) laid.ctx.le rest
 
--- the size of a command with as many sections, tools or states as stand in it, where it has such
+-- the size of a command with the sections, tools or states that it counts, if it counts any
 abbrev pub counted_size : Laid → Command → Kind → Option ℕ
 counted_size laid c kind.segment32 = Some (size segment_command32_fields + size section32_fields * number_among c.values 9)
 counted_size laid c kind.segment64 = Some (size segment_command64_fields + size section64_fields * number_among c.values 9)
@@ -134,13 +134,13 @@ counted_size laid c _ = None
 
 -- ---- what a command is
 
--- the number of the segments of an image of a width (LC_SEGMENT_64, LC_SEGMENT), where the command is one of the other width
+-- the number of the segment command of a width (LC_SEGMENT_64, LC_SEGMENT), if the command is one of the other width
 abbrev pub other_width : Container → Kind → Option ℕ
 other_width Big kind.segment32 = Some 0x19
 other_width Little kind.segment64 = Some 0x1
 other_width container kind = None
 
--- The sets of commands of which an image has one at most, by number: the commands of a set stand for each other.
+-- The sets of commands of which an image may have only one, by number: the commands of a set serve the same purpose.
 abbrev pub set_of : Kind → Option ℕ
 set_of kind.symtab = Some 0
 set_of kind.dysymtab = Some 1
@@ -184,19 +184,19 @@ is_of_set set c = is_number set (set_of c.kind)
 abbrev pub command_owner : Command → Owner
 command_owner c = owner_at part.Command c.offset 0
 
--- a command of a set whose first one is another
+-- the fault of a command of a set whose first one is another command
 abbrev pub once_more : Command → Owner → LayoutFault
 once_more c first = record { rule = rule.CommandAgain; owner = command_owner c; other = Some first; found = cmd_of c; limit = 1 }
 
--- whose the first command of a set is, among these
+-- the first command of a set, among these, as an owner
 abbrev pub first_owner : List Command → ℕ → Option Owner
 first_owner cs set = option_map command_owner (find (is_of_set set) cs)
 
--- a command before which, among these, one of its set stands
+-- the fault of a command, if one of its set is among these
 abbrev pub command_again : List Command → Command → Option LayoutFault
 command_again before c = option_and_then (λ set. option_map (once_more c) (first_owner before set)) (set_of c.kind)
 
--- those among some commands, behind others
+-- those faults of some commands, after others
 abbrev pub commands_again : List Command → List Command → List LayoutFault
 commands_again before [] = []
 commands_again before (c ∷ cs) = cons_option (command_again before c) (commands_again (before ++ c ∷ []) cs)
@@ -204,9 +204,9 @@ commands_again before (c ∷ cs) = cons_option (command_again before c) (command
 abbrev pub is_symbols : Command → Bool
 is_symbols c = is_of_set 0 c
 
--- ---- each command alone
+-- ---- each command by itself
 
--- the text of a command, and any other of its faults, is its own
+-- the text of a command, or the command for its other faults
 abbrev pub command_part : Rule → Part
 command_part rule.TextMisplaced = part.Text
 command_part rule.TextEmpty = part.Text
@@ -219,30 +219,30 @@ owner_by r c = owner_at (command_part r) c.offset 0
 abbrev pub command_sees : Laid → Rule → Command → Seen
 -- a command has the size of its struct
 command_sees laid rule.CommandSize c = size_sees (cmdsize_of c) (struct_size c.kind)
--- and a multiple of its unit
+-- and its size is a multiple of its unit
 command_sees laid rule.CommandUnaligned c = measured (cmdsize_of c % unit_of laid c == 0) (cmdsize_of c) (unit_of laid c)
--- it ends with the commands or before, as the header says
+-- it ends at or before the end of the commands, by the header
 command_sees laid rule.CommandOutOfCommands c =
     measured (nat_le (c.offset + cmdsize_of c) (declared_end laid)) (place_after c.offset (cmdsize_of c)) (declared_end laid)
--- its size is the one with what it counts
+-- its size is the one with the items that it counts
 command_sees laid rule.CommandCount c = sees_there (counted_size laid c c.kind) (λ n. measured (cmdsize_of c == n) (cmdsize_of c) n)
--- a segment's command is of the image's width
+-- a segment's command has the image's width
 command_sees laid rule.SegmentWidth c = sees_there (other_width laid.ctx.container c.kind) (λ n. measured false (cmd_of c) n)
--- the symbols that the dynamic linker needs (LC_DYSYMTAB), where there are no symbols (LC_SYMTAB)
+-- there is LC_DYSYMTAB only if there are symbols (LC_SYMTAB)
 command_sees laid rule.DynamicSymbolsAlone c = measured (not (is_of_set 1 c)) (cmd_of c) 2
--- a text lies in its command, behind the struct
+-- a text lies in its command, after the struct
 command_sees laid rule.TextMisplaced c = sees_there (text_of c.kind c.values) (place_sees laid.bytes c)
--- and isn't empty, where it is read
+-- and isn't empty, if it is read
 command_sees laid rule.TextEmpty c = sees_there (text_of c.kind c.values) (text_sees laid.bytes c)
--- what is no library says no name as one
+-- only a library states a name of its own
 command_sees laid rule.IdUnexpected c = measured (not (says_id c) || is_library_file laid) laid.header.filetype 0
 command_sees laid _ c = sound
 
--- what some of these rules tell of the commands
+-- the faults that some of these rules find in the commands
 abbrev pub commands_told : Laid → List Rule → List LayoutFault
 commands_told laid rules = told_over rules owner_by (command_sees laid) laid.commands
 
--- the symbols for the dynamic linker are judged where there are no others
+-- LC_DYSYMTAB is checked by its rule if there are no symbols
 abbrev pub dynamic_symbols_alone : Laid → List LayoutFault
 dynamic_symbols_alone laid = if list_any is_symbols laid.commands then [] else commands_told laid (rule.DynamicSymbolsAlone ∷ [])
 

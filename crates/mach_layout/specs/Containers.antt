@@ -1,4 +1,5 @@
--- The faults of the table of a fat file (`mach-o/fat.h`, struct fat_header, fat_arch and fat_arch_64; LLVM refuses a file that has one).
+-- The faults of the table of a fat file (`mach-o/fat.h`, struct fat_header, fat_arch and fat_arch_64; LLVM rejects a file
+-- that has one).
 use Rattle.std.specs.Prelude.{◌==◌, ◌≡◌, ◌&&◌, not, ℕ, zero, suc, ◌+◌, ◌*◌, ◌%◌, ◌^◌, List, [], ◌∷◌, ◌++◌, length, filter_map, nat_lt, nat_le}
 use Rattle.std.specs.Prelude.{Option, Some, None, option_to_list, Result, Ok, Err, if◌then◌else◌}
 use Rattle.mach_base.specs.Answer.{◌>>=◌}
@@ -28,15 +29,15 @@ abbrev pub ok_or_zero : Result ℕ Fault → ℕ
 ok_or_zero (Ok n) = n
 ok_or_zero (Err f) = 0
 
--- how many slices a fat file is said to have; 0 where its header isn't there
+-- the number of slices that the header of a fat file states; 0 if it has no header
 abbrev pub slice_count : List ℕ → ℕ
 slice_count bytes = ok_or_zero (number_at Big 4 bytes 4)
 
--- where the records end: where one more would stand
+-- the place where the records end: that of one more record
 abbrev pub records_end : {R : Type 0} → ArchForm R → List ℕ → ℕ
 records_end form bytes = arch_place_in form (slice_count bytes)
 
--- slice k, as its record says
+-- slice k, by its record
 abbrev pub placed_slice : {R : Type 0} → ArchForm R → ℕ → R → PlacedSlice
 placed_slice form k arch =
     record {
@@ -49,7 +50,7 @@ placed_slice form k arch =
       align = form.align arch;
     }
 
--- the same, or why its record isn't there
+-- the same, or why its record can't be read
 abbrev pub placed_slice_at : {R : Type 0} → ArchForm R → List ℕ → ℕ → Result PlacedSlice Fault
 placed_slice_at form bytes k = arch_in form bytes k >>= λ arch. Ok (placed_slice form k arch)
 
@@ -57,7 +58,7 @@ abbrev pub before_fault : Result PlacedSlice Fault → List PlacedSlice → List
 before_fault (Ok s) rest = s ∷ rest
 before_fault (Err f) rest = []
 
--- the slices from number k on, n at most: those in front of the first whose record isn't there
+-- the slices from number k on, at most n: those before the first whose record can't be read
 abbrev pub slices_from : {R : Type 0} → ArchForm R → List ℕ → (k n : ℕ) → List PlacedSlice
 slices_from form bytes k zero = []
 slices_from form bytes k (suc n) = before_fault (placed_slice_at form bytes k) (slices_from form bytes (k + 1) n)
@@ -86,16 +87,16 @@ cpu_by bytes o (Err f) = None
 abbrev pub image_cpu : List ℕ → ℕ → Option ℕ
 image_cpu bytes o = cpu_by bytes o (magic_at bytes o)
 
--- what each rule of one slice sees, of which the records end at a place
+-- what each rule of one slice sees, if the records end at a place
 abbrev pub slice_sees : List ℕ → ℕ → Rule → PlacedSlice → Seen
 -- it has bytes, and they lie in the file
 slice_sees bytes end rule.SliceOutOfFile s =
     measured (not (s.size == 0) && nat_le (s.offset + s.size) (length bytes)) (place_after s.offset s.size) (length bytes)
--- it begins behind the header and the records
+-- it begins after the header and the records
 slice_sees bytes end rule.SliceInRecords s = measured (nat_le end s.offset) s.offset end
 -- its alignment is at most 2 to the power of 15
 slice_sees bytes end rule.SliceAlignment s = measured (nat_le s.align 15) s.align 15
--- it begins at a multiple of its alignment, where this is no more than that
+-- it begins at a multiple of its alignment, if the alignment is no greater
 slice_sees bytes end rule.SliceUnaligned s =
     if nat_lt 15 s.align then sound else measured (s.offset % 2 ^ s.align == 0) s.offset (2 ^ s.align)
 -- its image is of its cpu
@@ -103,7 +104,7 @@ slice_sees bytes end rule.SliceOfOtherCpu s =
     sees_there (image_cpu bytes s.offset) (λ cpu. measured (s.cputype == cpu) s.cputype cpu)
 slice_sees bytes end _ s = sound
 
--- what some of these rules tell of the slices
+-- the faults that some of these rules find in the slices
 abbrev pub slices_told : {R : Type 0} → ArchForm R → List ℕ → List Rule → List LayoutFault
 slices_told form bytes rules = told_over rules (λ rule. slice_owner) (slice_sees bytes (records_end form bytes)) (slices_of form bytes)
 
@@ -114,8 +115,8 @@ abbrev pub records_out_of_file : {R : Type 0} → ArchForm R → List ℕ → Op
 records_out_of_file form bytes =
     let end = records_end form bytes in told rule.RecordsOutOfFile header_owner (measured (nat_le end (length bytes)) end (length bytes))
 
--- The bytes of a slice, if it has any; or one number of its own for each cpu and kind (the low 24 bits of cpusubtype): two
--- slices of one cpu and kind share it.
+-- The bytes of a slice, if it has any; or a different number for each cpu and subtype (the low 24 bits of cpusubtype), which
+-- two slices of one cpu and subtype share.
 abbrev pub slice_range : RangeOf → PlacedSlice → Option Claim
 slice_range Bytes s = if s.size == 0 then None else Some (record { owner = slice_owner s; start = s.offset; len = s.size })
 slice_range Cpu s = Some (record { owner = slice_owner s; start = 2 ^ 24 * s.cputype + s.cpusubtype % 2 ^ 24; len = 1 })

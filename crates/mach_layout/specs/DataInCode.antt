@@ -1,5 +1,5 @@
--- Rules of data among code (`mach-o/loader.h`, LC_DATA_IN_CODE, struct data_in_code_entry). The table of an image is that of its last command; it is
--- judged where it lies in the file.
+-- Rules of data in code (`mach-o/loader.h`, LC_DATA_IN_CODE, struct data_in_code_entry). The table of an image is that of
+-- its last command. It is checked if it lies in the file.
 use Rattle.std.specs.Prelude.{◌==◌, ℕ, ◌+◌, ◌-◌, ◌*◌, ◌/◌, ◌^◌, ◌&&◌, ◌||◌, not, Bool, false, List, [], ◌∷◌, Option, Some, None, min, max}
 use Rattle.std.specs.Prelude.{nat_lt, nat_le, filter_map, if◌then◌else◌}
 use Rattle.std.specs.List.{range_with_len, last_or}
@@ -24,28 +24,28 @@ use Rattle.mach_layout.specs.declared.fault.Rule.TheVariants as rule
 use Rattle.mach_layout.specs.declared.placed_sections.PlacedSegment.{PlacedSegment}
 use Rattle.mach_layout.specs.declared.rules.Seen.{Seen}
 
--- ---- what may be executed
+-- ---- the executable range
 
--- a segment has addresses that may be executed
+-- a segment has executable addresses
 abbrev pub has_code : PlacedSegment → Bool
 has_code s = is_code s && nat_lt 0 s.command.vmsize
 
--- the addresses from the first to the last of some, and of a segment
+-- the range from the first to the last address of a span and a segment
 abbrev pub spanning : Option CodeSpan → PlacedSegment → CodeSpan
 spanning None s = record { start = s.command.vmaddr; end = s.command.vmaddr + s.command.vmsize }
 spanning (Some before) s =
     record { start = min before.start s.command.vmaddr; end = max before.end (s.command.vmaddr + s.command.vmsize) }
 
--- of some segments behind others those that may be executed
+-- the span of some segments after others: that of the executable ones
 abbrev pub span_behind : Option CodeSpan → List PlacedSegment → Option CodeSpan
 span_behind found [] = found
 span_behind found (s ∷ ss) = span_behind (if has_code s then Some (spanning found s) else found) ss
 
--- the addresses from the first to the last that may be executed, if any may
+-- the range from the first to the last executable address, if there is one
 abbrev pub code_span : Laid → Option CodeSpan
 code_span laid = span_behind None (segments_of laid)
 
--- where they end; 0 where there are none
+-- the end of a span; 0 if there is none
 abbrev pub span_end : Option CodeSpan → ℕ
 span_end None = 0
 span_end (Some span) = min span.end (2 ^ 64 - 1)
@@ -56,11 +56,11 @@ abbrev pub placed_data_by : Kind → ℕ → List Value → Option PlacedData
 placed_data_by data_in_code place values = Some (record { place = place; dataoff = number_among values 2; datasize = number_among values 3 })
 placed_data_by _ place values = None
 
--- where a command places a table, with its own place, if it is one of them
+-- the place and size of the table of a command, with the command's own place, if it is such a command
 abbrev pub placed_data_of : Command → Option PlacedData
 placed_data_of c = placed_data_by c.kind c.offset c.values
 
--- the table of a command, where it lies in the file
+-- the table of a command, if it lies in the file
 abbrev pub data_table : Laid → PlacedData → Option Data
 data_table laid d = data_of laid (record { place = d.place; dataoff = d.dataoff; datasize = d.datasize })
 
@@ -74,7 +74,7 @@ entry_before x k = if k == 0 then None else entry_in x (k - 1)
 abbrev pub data_entry_owner : Data → ℕ → Owner
 data_entry_owner x k = owner_at part.DataInCode x.place k
 
--- ---- what is seen of them
+-- ---- the checks
 
 -- an entry lies in a span
 abbrev pub is_within : ℕ → Option CodeSpan → DataInCodeEntry → Bool
@@ -85,7 +85,7 @@ is_within base (Some span) e = nat_le span.start (base + e.offset) && nat_le (ba
 abbrev pub share_bytes : DataInCodeEntry → DataInCodeEntry → Bool
 share_bytes a b = nat_lt (max a.offset b.offset) (min (a.offset + a.length) (b.offset + b.length))
 
--- an entry that has bytes lies among the addresses from the first to the last that may be executed; its offset counts from the base
+-- an entry that has bytes lies between the first and the last executable address; its offset counts from the base
 abbrev pub place_of_data_sees : (base : ℕ) → Option CodeSpan → DataInCodeEntry → Seen
 place_of_data_sees base span e = measured (e.length == 0 || is_within base span e) (place_after base e.offset) (span_end span)
 
@@ -102,7 +102,7 @@ data_sees x base span _ k e = sound
 
 -- ---- the faults
 
--- those of a table of so many entries
+-- those of a table with this number of entries
 abbrev pub data_table_faults : Laid → ℕ → Data → List LayoutFault
 data_table_faults laid count x =
     told_over (rule.DataOutOfCode ∷ rule.DataShared ∷ []) (λ rule. data_entry_owner x)

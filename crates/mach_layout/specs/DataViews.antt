@@ -1,4 +1,4 @@
--- What contracts see of entries of data among code that are judged.
+-- The checks of data-in-code entries, as contracts see them.
 use Rattle.std.specs.Prelude.{ℕ}
 use Rattle.mach_layout.specs.DataInCode.{data_entry_owner, data_sees, entry_in}
 use Rattle.mach_layout.specs.FixupViews.{data_view}

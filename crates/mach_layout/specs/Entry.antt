@@ -1,5 +1,5 @@
--- Rules of where an executable begins to run (`mach-o/loader.h`, struct entry_point_command and thread_command; dyld and the
--- kernel refuse an image that breaks one).
+-- Rules of the place at which an executable begins to run (`mach-o/loader.h`, struct entry_point_command and thread_command;
+-- dyld and the kernel reject an image that breaks one).
 use Rattle.std.specs.Prelude.{◌==◌, ◌&&◌, not, ℕ, ◌+◌, Bool, true, false, if◌then◌else◌, nat_lt, nat_le, bit_and, List, []}
 use Rattle.std.specs.Prelude.{Option, Some, None, option_to_list, find, Result, Ok, Err}
 use Rattle.std.specs.List.{list_any}
@@ -21,35 +21,35 @@ use Rattle.mach_layout.specs.declared.fault.Rule.TheVariants as rule
 use Rattle.mach_layout.specs.declared.placed_sections.PlacedSegment.{PlacedSegment}
 use Rattle.mach_layout.specs.declared.rules.Seen.{Seen}
 
--- whether a command says where the image begins (LC_MAIN, LC_UNIXTHREAD)
+-- whether a command states where the image begins (LC_MAIN, LC_UNIXTHREAD)
 abbrev pub is_entry : Command → Bool
 is_entry c = is_of_set 6 c
 
--- the instruction pointer of a thread, where its cpu is known
+-- the instruction pointer of a thread, if its cpu is known
 abbrev pub pointer_place : Result ℕ Fault → Option EntryPlace
 pointer_place (Ok address) = Some (InMemory address)
 pointer_place (Err f) = None
 
--- where such a command says that it begins: at a place in the file, or at an address
+-- the place that such a command states: in the file, or in memory
 abbrev pub entry_place : (cputype : ℕ) → Kind → List Value → Option EntryPlace
 entry_place cputype kind.main values = Some (InFile (number_among values 2))
 entry_place cputype kind.unixthread values = pointer_place (pointer_in (state_words values) cputype)
 entry_place cputype _ values = None
 
--- the segment may be executed at first (VM_PROT_EXECUTE)
+-- the segment is executable by its initial protection (VM_PROT_EXECUTE)
 abbrev pub is_code : PlacedSegment → Bool
 is_code s = not (bit_and s.command.initprot 4 == 0)
 
--- a number is one of `len` from a start on
+-- a number is one of `len` numbers from a start on
 abbrev pub is_among : (start len number : ℕ) → Bool
 is_among start len number = nat_le start number && nat_lt number (start + len)
 
--- the place is one of a segment that may be executed, by its bytes in the file or by its addresses
+-- the place lies in an executable segment, by its bytes in the file or by its addresses
 abbrev pub is_code_at : EntryPlace → PlacedSegment → Bool
 is_code_at (InFile place) s = is_code s && is_among s.command.fileoff s.command.filesize place
 is_code_at (InMemory address) s = is_code s && is_among s.command.vmaddr s.command.vmsize address
 
--- a place in the file is behind the commands
+-- a place in the file is after the commands
 abbrev pub is_behind_commands : Laid → EntryPlace → Bool
 is_behind_commands laid (InFile place) = nat_le (used_end laid) place
 is_behind_commands laid (InMemory address) = true
@@ -58,12 +58,12 @@ abbrev pub number_of_place : EntryPlace → ℕ
 number_of_place (InFile place) = place
 number_of_place (InMemory address) = address
 
--- the place is in a segment that may be executed, behind the commands
+-- the place is in an executable segment, after the commands
 abbrev pub entry_sees : Laid → EntryPlace → Seen
 entry_sees laid place =
     measured (is_behind_commands laid place && list_any (is_code_at place) (segments_of laid)) (number_of_place place) (used_end laid)
 
--- The first command that says where an executable begins is judged, and there is one. A second one is told as one too many.
+-- The first command that states where an executable begins is checked, and there must be one. A second one has a fault of its own.
 abbrev pub entry_fault : Laid → Option Command → Option LayoutFault
 entry_fault laid None = told rule.NoEntry header_owner (measured false 0 0)
 entry_fault laid (Some c) =

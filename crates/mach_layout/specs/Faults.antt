@@ -14,7 +14,7 @@ use Rattle.mach_layout.specs.Symbols.{symbol_faults}
 use Rattle.mach_layout.specs.declared.fault.LayoutFault.{LayoutFault}
 use Rattle.mach_layout.specs.declared.fault.Rule.TheVariants as rule
 
--- behind some faults those of the commands, of what is out of the file, and of the segments
+-- `new` is `old` followed by the faults of the commands, of ranges outside the file, and of the segments
 pub record AddsSegments (laid : Laid) (old new : List LayoutFault) : Type 0 where
   pub memory : List LayoutFault
   pub files : List LayoutFault
@@ -23,7 +23,7 @@ pub record AddsSegments (laid : Laid) (old new : List LayoutFault) : Type 0 wher
   pub joined : new
       ≡ old ++ command_faults laid ++ out_of_file_faults laid ++ segment_faults laid ++ memory ++ files ++ segment_order_faults laid
 
--- behind some faults those of the sections, of the claims, and of what is in __LINKEDIT or encrypted
+-- `new` is `old` followed by the faults of the sections, of the claims, and of `__LINKEDIT` and encrypted ranges
 pub record AddsSections (laid : Laid) (old new : List LayoutFault) : Type 0 where
   pub sections : List LayoutFault
   pub claims : List LayoutFault
@@ -32,13 +32,14 @@ pub record AddsSections (laid : Laid) (old new : List LayoutFault) : Type 0 wher
   pub joined : new
       ≡ old ++ section_faults laid ++ sections ++ claims ++ claim_faults laid ++ encrypted_faults laid
 
--- behind some faults those of the symbols, of the entry, of texts, of the image's lists, which are these, of fixups, and of data among code
+-- `new` is `old` followed by the faults of the symbols, of the entry, of texts, of the image's lists (these), of fixups, and
+-- of data in code
 pub record AddsSymbols (laid : Laid) (AreOfLists : List LayoutFault → Type 0) (old new : List LayoutFault) : Type 0 where
   pub of_lists : List LayoutFault
   pub are_of_lists : AreOfLists of_lists
   pub joined : new ≡ old ++ symbol_faults laid ++ entry_faults laid ++ text_faults laid ++ of_lists ++ fixup_faults laid ++ data_faults laid
 
--- the faults of the layout of an image, of which those of its lists are these
+-- the faults of the layout of an image, if these are those of its lists
 pub record AreLayoutFaults (laid : Laid) (AreOfLists : List LayoutFault → Type 0) (list : List LayoutFault) : Type 0 where
   pub of_segments : List LayoutFault
   pub of_sections : List LayoutFault

@@ -1,4 +1,4 @@
--- What contracts see of chained fixups that are judged.
+-- The checks of chained fixups, as contracts see them.
 use Rattle.std.specs.Prelude.{ℕ}
 use Rattle.mach_layout.specs.Fixups.{Data, import_owner, import_sees, row_in}
 use Rattle.mach_layout.specs.Rules.{sees_there}

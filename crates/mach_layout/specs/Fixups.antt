@@ -1,5 +1,5 @@
--- Rules of chained fixups (`mach-o/fixup-chains.h`, struct dyld_chained_fixups_header and those behind it, as dyld tests them). The chained
--- fixups of an image are those of its last command; they are judged where their data lie in the file.
+-- Rules of chained fixups (`mach-o/fixup-chains.h`, struct dyld_chained_fixups_header and those after it, as dyld tests
+-- them). The chained fixups of an image are those of its last command. They are checked if their data lie in the file.
 use Rattle.std.specs.Prelude.{◌==◌, ℕ, ◌+◌, ◌-◌, ◌*◌, ◌/◌, ◌%◌, ◌^◌, ◌&&◌, ◌||◌, not, Bool, List, [], ◌∷◌, ◌++◌, codes, nat_eq, length, take, drop}
 use Rattle.std.specs.Prelude.{false, nat_lt, nat_le, filter_map, option_to_list, find, slice_get, Option, Some, None, Result, Ok, Err, if◌then◌else◌}
 use Rattle.std.specs.List.{range_with_len, last_or, starts_with}
@@ -33,59 +33,59 @@ abbrev pub fixups_by : Kind → ℕ → List Value → Option PlacedFixups
 fixups_by dyld_chained_fixups place values = Some (record { place = place; dataoff = number_among values 2; datasize = number_among values 3 })
 fixups_by _ place values = None
 
--- where a command places chained fixups, with its own place, if it is one of them
+-- the place and size of the chained fixups of a command, with the command's own place, if it is such a command
 abbrev pub fixups_of : Command → Option PlacedFixups
 fixups_of c = fixups_by c.kind c.offset c.values
 
--- what is fixed while chained fixups are judged: the place of their command, their data, and the byte order
+-- what the checks of chained fixups use: the place of their command, their data, and the byte order
 pub record Data : Type 0 where
   pub place : ℕ
   pub payload : List ℕ
   pub le : Endian
 
--- those of a command, where they lie in the file
+-- the data of a command, if they lie in the file
 abbrev pub data_of : Laid → PlacedFixups → Option Data
 data_of laid f =
     if ends_past (file_size laid) f.dataoff f.datasize then None
     else Some (record { place = f.place; payload = take f.datasize (drop f.dataoff laid.bytes); le = laid.ctx.le })
 
--- those of the last command
+-- the data of the last command
 abbrev pub fixup_data : Laid → Option Data
 fixup_data laid = if_there (last_or None (filter_map fixups_of laid.commands)) (data_of laid)
 
--- whose a fault of them is: of their front, or of the starts of segment k
+-- the owner of a fault of the header, or of the starts of segment k
 abbrev pub data_owner : Data → ℕ → Owner
 data_owner x k = owner_at part.ChainedFixups x.place k
 
--- ---- the front
+-- ---- the header
 
--- how many bytes an import's record has, by the number of its format (DYLD_CHAINED_IMPORT, _ADDEND, _ADDEND64)
+-- the number of bytes in an import's record, by the number of its format (DYLD_CHAINED_IMPORT, _ADDEND, _ADDEND64)
 abbrev pub import_bytes : ℕ → ℕ
 import_bytes format = if format == 1 then 4 else (if format == 2 then 8 else 16)
 
--- where the imports end
+-- the place where the imports end
 abbrev pub imports_end : ChainedFixupsHeader → ℕ
 imports_end h = h.imports_offset + h.imports_count * import_bytes h.imports_format
 
--- the version is 0, the imports are of one of three formats, and the names are plain or compressed
+-- the version is 0, the imports have one of three formats, and the names are plain or compressed
 abbrev pub format_sees : ChainedFixupsHeader → Seen
 format_sees h =
     then_seen (then_seen (measured (h.fixups_version == 0) h.fixups_version 0)
     (measured (not (h.imports_format == 0) && nat_le h.imports_format 3) h.imports_format 3)) (measured (nat_le h.symbols_format 1) h.symbols_format 1)
 
--- the imports end in the data, and the names begin in the data, not in front of the imports' end
+-- the imports end in the data; the names begin in the data, at or after the imports' end
 abbrev pub places_sees : Data → ChainedFixupsHeader → Seen
 places_sees x h =
     let size = length x.payload in
     then_seen (then_seen (measured (nat_le (imports_end h) size) (imports_end h) size) (measured (nat_le h.symbols_offset size) h.symbols_offset size))
     (measured (nat_le (imports_end h) h.symbols_offset) h.symbols_offset (imports_end h))
 
--- the header, or what is seen where its 28 bytes aren't there
+-- the header, or what is seen if its 28 bytes don't exist
 abbrev pub header_or_seen : Data → Result (List Value) Fault → Result ChainedFixupsHeader Seen
 header_or_seen x (Ok values) = Ok (header_of_values values)
 header_or_seen x (Err f) = Err (measured false (length x.payload) 28)
 
--- the front with the count of starts, as many of which stand behind it, or what is seen where they don't
+-- the header with the count of starts, if that many starts follow it, or what is seen if they don't
 abbrev pub front_or_seen : Data → ChainedFixupsHeader → Result ℕ Fault → Result Front Seen
 front_or_seen x h (Err f) = Err (measured false (h.starts_offset + 4) (length x.payload))
 front_or_seen x h (Ok count) =
@@ -98,17 +98,17 @@ front_by x (Ok h) =
     let seen = then_seen (format_sees h) (places_sees x h) in
     if seen.holds then front_or_seen x h (number_at x.le 4 x.payload h.starts_offset) else Err seen
 
--- the front of the data, or what is seen of its first part that doesn't hold
+-- the header of the data, or what is seen at its first field that doesn't hold
 abbrev pub front_of : Data → Result Front Seen
 front_of x = front_by x (header_or_seen x (record_at x.le fixups_header_fields x.payload 0))
 
 -- ---- the starts of a segment's chains
 
--- where the last of the pages begins
+-- the offset at which the last page begins
 abbrev pub last_page : ChainedStartsInSegment → ℕ
 last_page s = (s.page_count - 1) * s.page_size
 
--- a page has 0x1000 or 0x4000 bytes, the pointers are of one of 13 formats, and the starts of the pages end in the data
+-- a page has 0x1000 or 0x4000 bytes, the pointers have one of 13 formats, and the starts of the pages end in the data
 abbrev pub page_sees : Data → ℕ → ChainedStartsInSegment → Seen
 page_sees x place s =
     let end = place + 22 + 2 * s.page_count in
@@ -116,7 +116,7 @@ page_sees x place s =
     (measured (not (s.pointer_format == 0) && nat_le s.pointer_format 13) s.pointer_format 13))
     (measured (nat_le end (length x.payload)) end (length x.payload))
 
--- the segment begins at its offset behind __TEXT, and the last page begins in it
+-- the segment begins at its offset from __TEXT, and the last page begins in it
 abbrev pub extent_sees : ℕ → PlacedSegment → ChainedStartsInSegment → Seen
 extent_sees text segment s =
     then_seen (measured (s.segment_offset + text == segment.command.vmaddr) s.segment_offset (segment.command.vmaddr - text))
@@ -134,7 +134,7 @@ segment_starts_sees x text starts info None = measured false info 0
 segment_starts_sees x text starts info (Some segment) =
     record_sees x text (starts + info) segment (record_at x.le starts_fields x.payload (starts + info))
 
--- the starts of segment k are none (0), or all this holds of them
+-- there are no starts of segment k (0), or all this holds of them
 abbrev pub starts_sees : Data → Front → ℕ → ℕ → Option PlacedSegment → Seen
 starts_sees x front text k segment =
     sees_there (readable (number_at x.le 4 x.payload (front.header.starts_offset + 4 + k * 4))) (λ info.
@@ -145,13 +145,13 @@ starts_fault x front text k segment = told rule.ChainedFixups (data_owner x k) (
 
 -- ---- the imports
 
--- An import: in the formats 1 and 2 the lowest 8 bits are the library and the highest 23 of 32 the name, in format 3 the lowest 16 and the highest 32
--- of 64.
+-- An import: in formats 1 and 2 the lowest 8 bits are the library and the highest 23 of 32 the name; in format 3 the lowest
+-- 16 bits and the highest 32 of 64.
 abbrev pub import_row_of : ℕ → ℕ → ImportRow
 import_row_of format n =
     if format == 3 then record { library = n % 2 ^ 16; name = n / 2 ^ 32 % 2 ^ 32 } else record { library = n % 2 ^ 8; name = n / 2 ^ 9 % 2 ^ 23 }
 
--- how many bytes the number has
+-- the number of bytes in that number
 abbrev pub row_bytes : ℕ → ℕ
 row_bytes format = if format == 3 then 8 else 4
 
@@ -163,24 +163,24 @@ row_by format (Err f) = None
 abbrev pub row_in : Data → ChainedFixupsHeader → ℕ → Option ImportRow
 row_in x h k = row_by h.imports_format (number_at x.le (row_bytes h.imports_format) x.payload (h.imports_offset + k * import_bytes h.imports_format))
 
--- the highest 15 numbers stand for those below 0, of which -1, -2 and -3 are special
+-- the highest 15 numbers mean those below 0, of which -1, -2 and -3 are special
 abbrev pub is_ordinal_wrong : ℕ → ℕ → ℕ → Bool
 is_ordinal_wrong libraries above n = if nat_lt (above - 16) n then nat_lt n (above - 3) else nat_lt libraries n
 
--- one more than the highest number of a library
+-- the number after the highest ordinal of a library
 abbrev pub ordinals_end : ℕ → ℕ
 ordinals_end format = if format == 3 then 2 ^ 16 else 2 ^ 8
 
--- where the names end: plain ones with the last zero byte
+-- the place where the names end: plain names end with the last zero byte
 abbrev pub import_names_end : Data → ChainedFixupsHeader → ℕ
 import_names_end x h = if h.symbols_format == 0 then texts_end x.payload else length x.payload
 
--- what each rule of one import sees, where the image has `libraries` and the names end at `upto`
+-- what each rule of one import sees, if the image has `libraries` and the names end at `upto`
 abbrev pub import_sees : Data → ChainedFixupsHeader → (libraries upto : ℕ) → Rule → ImportRow → Seen
--- an import names a library of the image, itself (0), or what is special
+-- an import names a library of the image, the image itself (0), or a special ordinal
 import_sees x h libraries upto rule.ImportLibrary row =
     measured (not (is_ordinal_wrong libraries (ordinals_end h.imports_format) row.library)) row.library libraries
--- an import's name begins in front of the names' end
+-- an import's name begins before the names' end
 import_sees x h libraries upto rule.ImportName row =
     let place = h.symbols_offset + row.name in measured (nat_lt place upto) place (length x.payload)
 import_sees x h libraries upto _ row = sound
@@ -190,7 +190,7 @@ import_owner x k = owner_at part.Imports x.place k
 
 -- ---- all of them
 
--- whether the name is __TEXT, whatever stands behind its first zero byte
+-- whether the name is __TEXT, whatever follows its first zero byte
 abbrev pub is_text : PlacedSegment → Bool
 is_text s = starts_with nat_eq s.command.segname (codes "__TEXT" ++ 0 ∷ [])
 
@@ -198,7 +198,7 @@ abbrev pub address_or_zero : Option PlacedSegment → ℕ
 address_or_zero None = 0
 address_or_zero (Some s) = s.command.vmaddr
 
--- what offsets of segments count from: the address of the first segment named __TEXT
+-- the address from which offsets of segments are counted: that of the first segment named __TEXT
 abbrev pub text_address : Laid → ℕ
 text_address laid = address_or_zero (find is_text (segments_of laid))
 
@@ -214,7 +214,7 @@ import_faults laid x front =
     told_over (rule.ImportLibrary ∷ rule.ImportName ∷ []) (λ rule. import_owner x)
     (λ rule k. sees_there (row_in x h k) (import_sees x h (library_count laid) (import_names_end x h) rule)) (range_with_len 0 h.imports_count)
 
--- the faults behind a front, or that of the front alone
+-- the faults after the header, or only that of the header
 abbrev pub faults_behind : Laid → Data → Result Front Seen → List LayoutFault
 faults_behind laid x (Err seen) = option_to_list (told rule.ChainedFixups (data_owner x 0) seen)
 faults_behind laid x (Ok front) = starts_faults laid x front ++ import_faults laid x front

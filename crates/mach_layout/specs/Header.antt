@@ -1,4 +1,4 @@
--- Rules of an image as a whole, which are told of its header.
+-- Rules of an image as a whole. Their faults belong to its header.
 use Rattle.std.specs.Prelude.{◌||◌, ◌^◌, ◌-◌, not, min, nat_le, List, [], ◌∷◌}
 use Rattle.std.specs.List.{list_any}
 use Rattle.mach_parts.specs.declared.header.Header.{Header}
@@ -19,20 +19,20 @@ header_owner = owner_at part.Header 0 0
 
 -- what each of these rules sees
 abbrev pub header_sees : Laid → Rule → Header → Seen
--- the kind of file is one that the rules judge
+-- rules are defined for the kind of the file
 header_sees laid rule.FileKind h = measured (is_judged laid) laid.header.filetype 0
--- the commands lie in the file, as far as the header says
+-- the commands lie in the file, by the header
 header_sees laid rule.CommandsOutOfFile h = measured (nat_le (declared_end laid) (file_size laid)) (declared_end laid) (file_size laid)
--- and go on to there
+-- and fill that space
 header_sees laid rule.CommandsEndEarly h =
     measured (nat_le (declared_end laid) (commands_end laid)) (min (commands_end laid) (2 ^ 64 - 1)) (declared_end laid)
 -- Some segment begins at the first byte of the file and holds the header and the commands (dyld, the kernel).
 header_sees laid rule.NoSegmentOfHeader h = measured (not (is_final laid) || has_segment_of_header laid) 0 (used_end laid)
--- a library says its name
+-- a library states its name
 header_sees laid rule.IdMissing h = measured (not (is_library_file laid) || list_any says_id laid.commands) laid.header.filetype 0
 header_sees laid _ h = sound
 
--- what some of them tell
+-- the faults that some of these rules find
 abbrev pub header_told : Laid → List Rule → List LayoutFault
 header_told laid rules = told_over rules (λ rule h. header_owner) (header_sees laid) (laid.header ∷ [])
 

@@ -20,14 +20,14 @@ use Rattle.mach_layout.specs.declared.layout.Layout.{Layout}
 use Rattle.mach_layout.specs.declared.placed_sections.PlacedSection.{PlacedSection}
 use Rattle.mach_layout.specs.declared.placed_sections.PlacedSegment.{PlacedSegment}
 
--- the bytes of an image that begins at their first, how they are read, and the header and the commands that stand there
+-- the bytes of an image that begins at the first of them, how they are read, and the header and the commands there
 pub record Laid : Type 0 where
   pub bytes : List ℕ
   pub ctx : Ctx
   pub header : Header
   pub commands : List Command
 
--- what the bytes say of this, where an image with this context and these commands opens at their first
+-- the same from the bytes, if an image with this context and these commands opens at the first of them
 abbrev pub laid_in : List ℕ → Ctx → List Command → Laid
 laid_in bytes ctx cs = record { bytes = bytes; ctx = ctx; header = header_in ctx.container ctx.le bytes 0; commands = cs }
 
@@ -37,19 +37,19 @@ laid_of l = record { bytes = l.bytes.now; ctx = l.ctx; header = l.header; comman
 
 -- ---- the header and the commands
 
--- the bytes of the file
+-- the number of bytes in the file
 abbrev pub file_size : Laid → ℕ
 file_size laid = length laid.bytes
 
--- the bytes of the header
+-- the number of bytes in the header
 abbrev pub header_len : Laid → ℕ
 header_len laid = header_size laid.ctx.container
 
--- where the commands end, as the header says
+-- the place where the commands end, by the header
 abbrev pub declared_end : Laid → ℕ
 declared_end laid = header_len laid + laid.header.sizeofcmds
 
--- where a command ends
+-- the place where a command ends
 abbrev pub command_end : Command → ℕ
 command_end c = c.offset + cmdsize_of c
 
@@ -57,17 +57,17 @@ abbrev pub end_or : ℕ → Option Command → ℕ
 end_or default None = default
 end_or default (Some c) = command_end c
 
--- where the last command ends, or the header where there is none
+-- the place where the last command ends, or the header if there is none
 abbrev pub commands_end : Laid → ℕ
 commands_end laid = end_or (header_len laid) (last_or None laid.commands)
 
--- where what the header and the commands take ends: no further than the header says
+-- the place where the header and the commands end: at most where the header states
 abbrev pub used_end : Laid → ℕ
 used_end laid = min (commands_end laid) (declared_end laid)
 
 -- ---- kinds of files (`mach-o/loader.h`, MH_EXECUTE and so on)
 
--- what dyld or the kernel maps: executables, libraries, dynamic linkers and bundles
+-- the kinds that dyld or the kernel maps: executables, libraries, dynamic linkers and bundles
 abbrev pub is_final : Laid → Bool
 is_final laid = let kind = laid.header.filetype in kind == 2 || (kind == 6 || (kind == 7 || kind == 8))
 
@@ -80,11 +80,11 @@ is_stub laid = laid.header.filetype == 9
 abbrev pub is_dsym : Laid → Bool
 is_dsym laid = laid.header.filetype == 10
 
--- those that the rules judge
+-- the kinds for which rules are defined
 abbrev pub is_judged : Laid → Bool
 is_judged laid = is_final laid || (is_object laid || (is_stub laid || is_dsym laid))
 
--- the bytes of a page: those of arm64 (also with pointers of 32 bits) are of 16384
+-- the number of bytes in a page: 16384 for arm64 (also with pointers of 32 bits)
 abbrev pub page_of : Laid → ℕ
 page_of laid = if laid.header.cputype == 0x100_000c || laid.header.cputype == 0x200_000c then 16384 else 4096
 
@@ -106,8 +106,9 @@ placed_section_at ctx bytes s k =
     section_record_at ctx.container ctx.le bytes (section_place ctx.container s.place k)
     >>= (λ found. Ok (record { segment = s; number = k + 1; section = found }))
 
--- How many sections of a segment have their record in its own command, of those that it says there are. So no two segments have a record
--- in common, and an image has no more sections than its bytes have records. (That `cmdsize` isn't as `nsects` asks is a fault: CommandCount.)
+-- How many of the sections that a segment states have their record in its own command. So no two segments share a record,
+-- and an image has at most as many sections as its bytes have records. (A `cmdsize` that doesn't match `nsects` is a fault:
+-- CommandCount.)
 abbrev pub own_sections : Container → PlacedSegment → ℕ
 own_sections container s = min s.command.nsects ((s.command.cmdsize - command_size container) / section_size container)
 
@@ -115,12 +116,12 @@ own_sections container s = min s.command.nsects ((s.command.cmdsize - command_si
 abbrev pub sections_from : Ctx → List ℕ → PlacedSegment → ℕ → List PlacedSection
 sections_from ctx bytes s k = in_front (items_from (placed_section_at ctx bytes s) k (own_sections ctx.container s - k))
 
--- of a segment, if there is one
+-- those of a segment, if there is one
 abbrev pub open_sections : Ctx → List ℕ → Option PlacedSegment → ℕ → List PlacedSection
 open_sections ctx bytes None k = []
 open_sections ctx bytes (Some s) k = sections_from ctx bytes s k
 
--- the sections of a command, if it is one of a segment
+-- the sections of a command, if it is a segment command
 abbrev pub sections_by : Ctx → List ℕ → Command → List PlacedSection
 sections_by ctx bytes c = open_sections ctx bytes (placed_segment_of c) 0
 
@@ -130,8 +131,9 @@ placed_sections_of laid = flat_map (sections_by laid.ctx laid.bytes) laid.comman
 
 -- ---- what is mapped
 
--- Nothing of a segment of vmsize 0 is mapped (`mach-o/loader.h`: vmsize is the memory size of the segment), so addresses of its sections are
--- none of memory. Go's linker writes its `__DWARF` so (cmd/link, macho.go and macho_combine_dwarf.go); that of a dSYM has a vmsize.
+-- Nothing of a segment with vmsize 0 is mapped (`mach-o/loader.h`: vmsize is the memory size of the segment), so the
+-- addresses of its sections are not in memory. Go's linker writes its `__DWARF` in this way (cmd/link, macho.go and
+-- macho_combine_dwarf.go). That of a dSYM has a vmsize.
 abbrev pub is_mapped : PlacedSegment → Bool
 is_mapped s = not (s.command.vmsize == 0)
 
@@ -141,6 +143,6 @@ has_addresses s = is_mapped s.segment && not (s.section.size == 0)
 
 -- ---- ranges
 
--- `len` bytes from a start on pass a limit
+-- `len` bytes from a start on end past a limit
 abbrev pub ends_past : ℕ → ℕ → ℕ → Bool
 ends_past limit start len = nat_lt limit (start + len)

@@ -1,5 +1,5 @@
 -- Rules of the texts of commands and of the names of libraries (`mach-o/loader.h`, union lc_str and struct dylib_command;
--- dyld and LLVM refuse an image that breaks one).
+-- dyld and LLVM reject an image that breaks one).
 use Rattle.std.specs.Prelude.{◌==◌, ◌&&◌, ◌||◌, not, ℕ, ◌+◌, ◌-◌, Bool, true, false, nat_lt, nat_le, take, drop, List, []}
 use Rattle.std.specs.Prelude.{◌∷◌, Option, Some, None}
 use Rattle.std.specs.List.{list_any}
@@ -19,7 +19,7 @@ use Rattle.mach_layout.specs.declared.rules.Seen.{Seen}
 
 -- ---- the texts of commands
 
--- A text whose offset, counted from its command, is number k of the values, behind a struct of `struct` bytes (union lc_str).
+-- A text whose offset, counted from its command, is number k of the values, after a struct of `struct` bytes (union lc_str).
 abbrev pub text_behind : ℕ → ℕ → List Value → Option CommandText
 text_behind k struct values = Some (record { offset = number_among values k; struct_size = struct; is_read = true })
 
@@ -47,7 +47,7 @@ text_of kind.prebound_dylib values =
     Some (record { offset = number_among values 2; struct_size = size prebound_dylib_command_fields; is_read = false })
 text_of _ values = None
 
--- the text begins behind the struct of its command, and before the command's end
+-- the text begins after the struct of its command, and before the command's end
 abbrev pub begins_inside : Command → CommandText → Bool
 begins_inside c t = nat_le t.struct_size t.offset && nat_lt t.offset (cmdsize_of c)
 
@@ -55,7 +55,7 @@ begins_inside c t = nat_le t.struct_size t.offset && nat_lt t.offset (cmdsize_of
 abbrev pub bytes_from_text : List ℕ → Command → CommandText → List ℕ
 bytes_from_text bytes c t = take (cmdsize_of c - t.offset) (drop (c.offset + t.offset) bytes)
 
--- a zero byte ends the text, where it is read
+-- a zero byte ends the text, if it is read
 abbrev pub ends_inside : List ℕ → Command → CommandText → Bool
 ends_inside bytes c t = not t.is_read || list_any is_zero (bytes_from_text bytes c t)
 
@@ -66,11 +66,11 @@ abbrev pub begins_with_zero : List ℕ → Bool
 begins_with_zero [] = false
 begins_with_zero (b ∷ bs) = is_zero b
 
--- the text lies there, is read, and is empty
+-- the text lies in its command, is read, and is empty
 abbrev pub is_empty_text : List ℕ → Command → CommandText → Bool
 is_empty_text bytes c t = lies_inside bytes c t && (t.is_read && begins_with_zero (bytes_from_text bytes c t))
 
--- what is seen of the place of a text, and of whether it is empty: the text lies in its command, and isn't empty
+-- the checks of a text: it lies in its command, and it isn't empty
 abbrev pub place_sees : List ℕ → Command → CommandText → Seen
 place_sees bytes c t = measured (lies_inside bytes c t) t.offset (cmdsize_of c)
 
@@ -79,7 +79,7 @@ text_sees bytes c t = measured (not (is_empty_text bytes c t)) t.offset (cmdsize
 
 -- ---- the names of libraries
 
--- a library, or one without contents (MH_DYLIB, MH_DYLIB_STUB)
+-- a library or a stub library (MH_DYLIB, MH_DYLIB_STUB)
 abbrev pub is_library_file : Laid → Bool
 is_library_file laid = laid.header.filetype == 6 || laid.header.filetype == 9
 

@@ -1,4 +1,5 @@
--- The commands that bring the lists of an image (`mach-o/loader.h`, struct dyld_info_command, LC_FUNCTION_STARTS), and the faults that are told of them.
+-- The commands that name the lists of an image (`mach-o/loader.h`, struct dyld_info_command, LC_FUNCTION_STARTS), and the
+-- faults of these lists.
 use Rattle.std.specs.Prelude.{ℕ, filter_map, Option, Some, None}
 use Rattle.std.specs.List.{last_or}
 use Rattle.mach_load.specs.Command.{Command}
@@ -18,7 +19,7 @@ dyld_info_by dyld_info place = Some (record { place = place })
 dyld_info_by dyld_info_only place = Some (record { place = place })
 dyld_info_by _ place = None
 
--- the place of a command of opcodes, if it is one
+-- the place of a command with opcodes, if it is one
 abbrev pub dyld_info_of : Command → Option PlacedDyldInfo
 dyld_info_of c = dyld_info_by c.kind c.offset
 
@@ -34,7 +35,7 @@ abbrev pub function_starts_by : Kind → ℕ → Option PlacedStarts
 function_starts_by function_starts place = Some (record { place = place })
 function_starts_by _ place = None
 
--- the place of a command of function starts, if it is one
+-- the place of a command with function starts, if it is one
 abbrev pub function_starts_of : Command → Option PlacedStarts
 function_starts_of c = function_starts_by c.kind c.offset
 
@@ -46,10 +47,10 @@ starts_place_or_zero (Some c) = c.place
 abbrev pub starts_command : Laid → ℕ
 starts_command laid = starts_place_or_zero (last_or None (filter_map function_starts_of laid.commands))
 
--- what a rule tells of opcodes that have a fault
+-- the fault of a rule for opcodes that have a fault
 abbrev pub opcodes_fault : Rule → Part → Laid → LayoutFault
 opcodes_fault r p laid = fault_at r p (opcodes_command laid) 0 0 0
 
--- what is told of function starts that have one
+-- the fault for function starts that have one
 abbrev pub function_starts_fault : Laid → LayoutFault
 function_starts_fault laid = fault_at rule.FunctionStarts part.FunctionStarts (starts_command laid) 0 0 0

@@ -1,5 +1,5 @@
--- Rules of ranges (`mach-o/loader.h`): what is claimed lies in the file, nothing shares an address or a byte, and tables lie
--- in the segment __LINKEDIT (dyld).
+-- Rules of ranges (`mach-o/loader.h`): claimed ranges lie in the file, no two share an address or a byte, and tables lie in
+-- the segment __LINKEDIT (dyld).
 use Rattle.std.specs.Prelude.{◌==◌, ℕ, ◌+◌, ◌∷◌, ◌++◌, ◌&&◌, ◌||◌, not, nat_lt, nat_le, nat_eq}
 use Rattle.std.specs.Prelude.{Bool, true, false, List, [], codes, filter, filter_map, find, Option, Some, None}
 use Rattle.std.specs.Prelude.{if◌then◌else◌}
@@ -26,9 +26,9 @@ abbrev pub is_header : Part → Bool
 is_header part.Header = true
 is_header _ = false
 
--- ---- what shares an address or a byte
+-- ---- ranges that share an address or a byte
 
--- the addresses of a segment, if it has any, in a file of a kind that the rules judge
+-- the addresses of a segment, if it has any, in a file of a kind for which rules are defined
 abbrev pub segment_memory : Laid → PlacedSegment → Option Claim
 segment_memory laid s =
     if not (is_judged laid) || s.command.vmsize == 0 then None
@@ -50,7 +50,7 @@ is_alone part.Segment = false
 is_alone part.Encrypted = false
 is_alone _ = true
 
--- its bytes are in the file, and no other claim may have one of them
+-- its bytes are in the file, and no other claim may share them
 abbrev pub is_lone_claim : Laid → Claim → Bool
 is_lone_claim laid c = is_alone c.owner.part && not (c.len == 0) && lies_in_file laid c
 
@@ -70,7 +70,7 @@ section_ranges laid = filter_map section_memory (placed_sections_of laid)
 abbrev pub lone_claims : Laid → List Claim
 lone_claims laid = filter (is_lone_claim laid) (claims_of laid)
 
--- ---- what has bytes of the header or of the commands
+-- ---- ranges that begin within the header or the commands
 
 -- a segment may begin with the header and hold it whole; an encrypted range may not
 abbrev pub begins_in_header : Laid → Part → ℕ → Bool
@@ -78,9 +78,9 @@ begins_in_header laid part.Segment start = nat_lt 0 start && nat_lt start (used_
 begins_in_header laid part.Encrypted start = nat_lt start (used_end laid)
 begins_in_header laid _ start = false
 
--- ---- tables out of __LINKEDIT
+-- ---- tables outside __LINKEDIT
 
--- the tables that stand in __LINKEDIT
+-- the tables that belong in __LINKEDIT
 abbrev pub is_linkedit : Part → Bool
 is_linkedit part.Header = false
 is_linkedit part.Segment = false
@@ -98,37 +98,37 @@ is_linkedit_segment s = starts_with nat_eq s.command.segname (codes "__LINKEDIT"
 abbrev pub linkedit_of : Laid → Option PlacedSegment
 linkedit_of laid = find is_linkedit_segment (segments_of laid)
 
--- the claim's bytes are those of a segment, if there is one
+-- the claim's bytes lie in those of a segment, if there is one
 abbrev pub lies_in : Option PlacedSegment → Claim → Bool
 lies_in None c = false
 lies_in (Some s) c = nat_le s.command.fileoff c.start && nat_le (c.start + c.len) (s.command.fileoff + s.command.filesize)
 
--- where the bytes of a segment end, 0 where there is none
+-- the place where the bytes of a segment end, or 0 if there is none
 abbrev pub end_of_segment : Option PlacedSegment → ℕ
 end_of_segment None = 0
 end_of_segment (Some s) = place_after s.command.fileoff s.command.filesize
 
--- ---- each claim alone
+-- ---- each claim by itself
 
--- what each rule of one claim sees, where this is the segment __LINKEDIT
+-- what each rule of one claim sees, if this is the segment __LINKEDIT
 abbrev pub claim_sees : Laid → Option PlacedSegment → Rule → Claim → Seen
--- What is claimed lies in the file, wherever what has no bytes begins. That the commands do is a rule of theirs.
+-- A claimed range lies in the file, wherever an empty range begins. That the commands do is a rule of their own.
 claim_sees laid s rule.OutOfFile c = measured (is_header c.owner.part || c.len == 0 || lies_in_file laid c) (place_after c.start c.len) (file_size laid)
--- it has no bytes of the header or of the commands
+-- it doesn't begin within the header or the commands although it may not
 claim_sees laid s rule.HeaderShared c = measured (c.len == 0 || not (begins_in_header laid c.owner.part c.start)) c.start (used_end laid)
--- a table that is in the file is in __LINKEDIT, in a file that dyld or the kernel maps
+-- a table that is in the file is in __LINKEDIT, if dyld or the kernel maps the file
 claim_sees laid s rule.OutOfLinkedit c =
     let judged = is_final laid && is_linkedit c.owner.part && not (c.len == 0) && lies_in_file laid c in
     measured (not judged || lies_in s c) (place_after c.start c.len) (end_of_segment s)
 claim_sees laid s _ c = sound
 
--- what some of them tell of the claims
+-- the faults that some of these rules find in the claims
 abbrev pub claims_told : Laid → List Rule → List LayoutFault
 claims_told laid rules = told_over rules (λ rule c. c.owner) (claim_sees laid (linkedit_of laid)) (claims_of laid)
 
 abbrev pub out_of_file_faults : Laid → List LayoutFault
 out_of_file_faults laid = claims_told laid (rule.OutOfFile ∷ [])
 
--- those of what has bytes of the header, and of what is out of __LINKEDIT
+-- those of ranges that begin within the header, and of tables outside __LINKEDIT
 abbrev pub claim_faults : Laid → List LayoutFault
 claim_faults laid = claims_told laid (rule.HeaderShared ∷ rule.OutOfLinkedit ∷ [])

@@ -21,11 +21,11 @@ use Rattle.mach_layout.specs.declared.rules.Seen.{Seen}
 abbrev pub section_owner : PlacedSection → Owner
 section_owner s = owner_at part.Section s.segment.place s.number
 
--- its addresses are those of its segment
+-- its addresses lie in those of its segment
 abbrev pub in_memory_of_segment : PlacedSection → Bool
 in_memory_of_segment s = let c = s.segment.command in range_holds c.vmaddr c.vmsize s.section.addr s.section.size
 
--- its bytes are those of its segment
+-- its bytes lie in those of its segment
 abbrev pub in_bytes_of_segment : PlacedSection → Bool
 in_bytes_of_segment s = let c = s.segment.command in range_holds c.fileoff c.filesize s.section.offset s.section.size
 
@@ -35,15 +35,15 @@ has_bytes_there laid s = has_bytes laid s && not (ends_past (file_size laid) s.s
 
 -- what each rule of one section sees
 abbrev pub section_sees : Laid → Rule → PlacedSection → Seen
--- A section that has addresses has those of its segment, also one of zeros.
+-- The addresses of a section lie in those of its segment, also if it is zero-filled.
 section_sees laid rule.SectionOutOfMemory s =
     against (segment_owner s.segment) (measured (not (has_addresses s) || in_memory_of_segment s)
     (place_after s.section.addr s.section.size) (place_after s.segment.command.vmaddr s.segment.command.vmsize))
--- The bytes of a section are among those of its segment. (That they pass the end of the file is a fault of its own.)
+-- The bytes of a section lie in those of its segment. (That they end past the end of the file is a fault of its own.)
 section_sees laid rule.SectionOutOfBytes s =
     against (segment_owner s.segment) (measured (not (has_bytes_there laid s) || in_bytes_of_segment s)
     (place_after s.section.offset s.section.size) (place_after s.segment.command.fileoff s.segment.command.filesize))
--- A section of what is mapped has its bytes as far behind those of its segment as its address is behind its segment's.
+-- In a mapped file, the distance of a section's bytes from those of its segment is that of its address from its segment's.
 section_sees laid rule.SectionElsewhere s =
     let bytes_behind = s.section.offset - s.segment.command.fileoff in
     let memory_behind = s.section.addr - s.segment.command.vmaddr in
@@ -55,7 +55,7 @@ section_sees laid rule.SectionAlignment s = measured (nat_le s.section.align 15)
 section_sees laid rule.SectionUnaligned s =
     if s.section.size == 0 || not (in_memory_of_segment s) || nat_lt 15 s.section.align then sound
     else measured (s.section.addr % 2 ^ s.section.align == 0) s.section.addr (2 ^ s.section.align)
--- A section says the name of the segment that it is in. (The one segment of an object file has no name.)
+-- A section states the name of its own segment. (The one segment of an object file has no name.)
 section_sees laid rule.SectionOfOther s =
     against (segment_owner s.segment) (measured (is_object laid || bytes_eq (before_first is_zero s.section.segname) (segment_name s.segment)) 0 0)
 section_sees laid _ s = sound

@@ -33,7 +33,7 @@ range_holds start len inner inner_len = nat_le start inner && nat_le (inner + in
 
 -- ---- rules of one segment
 
--- how many addresses an image of a width has
+-- the number of addresses of an image of a width
 abbrev pub address_count : Container → ℕ
 address_count Little = 2 ^ 32
 address_count Big = 2 ^ 64
@@ -45,22 +45,22 @@ segment_sees laid rule.SegmentBeyondAddresses s =
     let count = address_count laid.ctx.container in
     let c = s.command in
     measured (nat_le (c.vmaddr + c.vmsize) count) (place_after c.vmaddr c.vmsize) (min count (2 ^ 64 - 1))
--- A segment that has memory has no more bytes in the file (`mach-o/loader.h`, filesize and vmsize).
+-- A segment that has memory has at most as many bytes in the file (`mach-o/loader.h`, filesize and vmsize).
 segment_sees laid rule.SegmentFileLarger s =
     measured (s.command.vmsize == 0 || nat_le s.command.filesize s.command.vmsize) s.command.filesize s.command.vmsize
--- What is mapped begins with a page (dyld, the kernel): in memory, where a segment has memory,
+-- What is mapped begins with a page (dyld, the kernel): in memory, if a segment has memory,
 segment_sees laid rule.SegmentAddressUnaligned s =
     measured (not (is_final laid) || (s.command.vmsize == 0 || s.command.vmaddr % page_of laid == 0)) s.command.vmaddr (page_of laid)
--- and in the file, where it has bytes there.
+-- and in the file, if it has bytes there.
 segment_sees laid rule.SegmentPlaceUnaligned s =
     measured (not (is_final laid) || (s.command.filesize == 0 || s.command.fileoff % page_of laid == 0)) s.command.fileoff (page_of laid)
--- What is allowed at first may be allowed: reading, writing and execution (`mach-o/loader.h`, initprot and maxprot).
+-- The initial protection allows no more than the maximum: of reading, writing and execution (`mach-o/loader.h`, initprot and maxprot).
 segment_sees laid rule.SegmentRights s =
     let c = s.command in
     measured (not (is_final laid) || bit_and (bit_and c.initprot c.maxprot) 7 == bit_and c.initprot 7) c.initprot c.maxprot
 segment_sees laid _ s = sound
 
--- what some of these rules tell of the segments
+-- the faults that some of these rules find in the segments
 abbrev pub segments_told : Laid → List Rule → List LayoutFault
 segments_told laid rules = told_over rules (λ rule. segment_owner) (segment_sees laid) (segments_of laid)
 
@@ -70,16 +70,16 @@ segments_told laid rules = told_over rules (λ rule. segment_owner) (segment_see
 abbrev pub segment_name : PlacedSegment → List ℕ
 segment_name s = before_first is_zero s.command.segname
 
--- the first of some segments that has a name
+-- the first of some segments with a name
 abbrev pub named_among : List ℕ → List PlacedSegment → Option PlacedSegment
 named_among name segments = find (λ t. bytes_eq (segment_name t) name) segments
 
--- each of some segments, with those before it: these first, and then those of the list
+-- each of some segments with those before it: first these, then those of the list
 abbrev pub with_earlier : List PlacedSegment → List PlacedSegment → List (List PlacedSegment × PlacedSegment)
 with_earlier earlier [] = []
 with_earlier earlier (s ∷ ss) = (earlier, s) ∷ with_earlier (earlier ++ s ∷ []) ss
 
--- the segment of the command at a place has the name of that of an earlier one
+-- the fault of the segment of the command at a place that has the name of an earlier one
 abbrev pub same_name : ℕ → ℕ → LayoutFault
 same_name place earlier =
     record {
@@ -90,15 +90,15 @@ same_name place earlier =
       limit = 0;
     }
 
--- No earlier segment has the name (linkers make none such).
+-- No earlier segment has the name (linkers write none that does).
 abbrev pub segment_name_again : List PlacedSegment × PlacedSegment → Option LayoutFault
 segment_name_again s = option_map (λ earlier. same_name s.1.place earlier.place) (named_among (segment_name s.1) s.0)
 
--- those of some segments, behind some earlier ones
+-- those faults of some segments, after some earlier ones
 abbrev pub names_again : List PlacedSegment → List PlacedSegment → List LayoutFault
 names_again earlier segments = filter_map segment_name_again (with_earlier earlier segments)
 
--- those of an image that is mapped
+-- those faults of an image that is mapped
 abbrev pub segment_names_again : Laid → List LayoutFault
 segment_names_again laid = if is_final laid then names_again [] (segments_of laid) else []
 
@@ -111,14 +111,14 @@ holds_header laid s = s.command.fileoff == 0 && nat_le (used_end laid) s.command
 abbrev pub has_segment_of_header : Laid → Bool
 has_segment_of_header laid = list_any (holds_header laid) (segments_of laid)
 
--- ---- what is encrypted
+-- ---- the encrypted range
 
 abbrev pub is_encryption : Kind → Bool
 is_encryption encryption_info32 = true
 is_encryption encryption_info64 = true
 is_encryption _ = false
 
--- the range that a command says is encrypted (struct encryption_info_command and encryption_info_command_64)
+-- the range that a command states to be encrypted (struct encryption_info_command and encryption_info_command_64)
 abbrev pub encrypted_by : Command → Option EncryptedRange
 encrypted_by c =
     if is_encryption c.kind then Some (record { place = c.offset; start = number_among c.values 2; len = number_among c.values 3 }) else None
@@ -126,7 +126,7 @@ encrypted_by c =
 abbrev pub holds_code : EncryptedRange → PlacedSegment → Bool
 holds_code range s = not (bit_and s.command.initprot 4 == 0) && range_holds s.command.fileoff s.command.filesize range.start range.len
 
--- What is encrypted lies in one segment that may be executed (the kernel).
+-- The encrypted range lies in one executable segment (the kernel).
 abbrev pub encrypted_sees : Laid → EncryptedRange → Seen
 encrypted_sees laid range =
     measured (not (is_final laid) || (range.len == 0 || list_any (holds_code range) (segments_of laid))) (place_after range.start range.len) 0
@@ -134,7 +134,7 @@ encrypted_sees laid range =
 abbrev pub encrypted_not_executable : Laid → EncryptedRange → Option LayoutFault
 encrypted_not_executable laid range = told rule.EncryptedNotExecutable (owner_at part.Encrypted range.place 0) (encrypted_sees laid range)
 
--- the fault of the first command that says so (a second one is a fault of its own)
+-- the range of the first command that states one (a second one is a fault of its own)
 abbrev pub first_encrypted : Laid → Option EncryptedRange
 first_encrypted laid = slice_get (filter_map encrypted_by laid.commands) 0
 
@@ -143,7 +143,7 @@ encrypted_faults laid = filter_map (encrypted_not_executable laid) (option_to_li
 
 -- ---- the faults of the segments
 
--- those of each segment alone, of their names and of their rights
+-- those of each segment by itself, of their names and of their protections
 abbrev pub segment_faults : Laid → List LayoutFault
 segment_faults laid =
     segments_told laid (rule.SegmentBeyondAddresses ∷ rule.SegmentFileLarger ∷ rule.SegmentAddressUnaligned ∷ rule.SegmentPlaceUnaligned ∷ [])

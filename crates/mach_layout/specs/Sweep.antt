@@ -1,4 +1,4 @@
--- Which of some ranges share a place, by one sweep over them.
+-- Finds ranges that share a place, by one sweep over them.
 use Rattle.std.specs.Prelude.{◌≡◌, ◌<◌, List, [], ◌∷◌, ◌++◌, nat_lt, Option, Some, None, if◌then◌else◌}
 use Rattle.std.specs.List.{cons_option, Contains}
 use Rattle.std.specs.List.Sorted.{IsPermutation, IsSortedByKey, IsStableByKey}
@@ -9,45 +9,45 @@ use Rattle.mach_layout.specs.declared.fault.LayoutFault.{LayoutFault}
 use Rattle.mach_layout.specs.declared.fault.Rule.{Rule}
 use Rattle.mach_layout.specs.declared.claim.Claim.{Claim}
 
--- the ranges by their starts, those of one start in the order that they had
+-- the ranges by their starts; those with one start keep their order
 pub record IsByStart (ranges sorted : List Claim) : Type 0 where
   pub same : IsPermutation ranges sorted
   pub ordered : IsSortedByKey (λ (r : Claim). r.start) nat_cmp sorted
   pub stable : IsStableByKey (λ (r : Claim). r.start) nat_cmp ranges sorted
 
--- of two the one that ends later, the first where they end at one place
+-- the one of two that ends later, or the first if both end at one place
 abbrev pub further : Option Claim → Claim → Claim
 further None r = r
 further (Some f) r = if nat_lt (end_of f) (end_of r) then r else f
 
--- of some ranges behind one the first that has the greatest end
+-- the first with the greatest end, of a range and others after it
 abbrev pub furthest_from : Option Claim → List Claim → Option Claim
 furthest_from f [] = f
 furthest_from f (r ∷ rs) = furthest_from (Some (further f r)) rs
 
--- of some ranges the first that has the greatest end
+-- the first with the greatest end, of some ranges
 abbrev pub furthest : List Claim → Option Claim
 furthest rs = furthest_from None rs
 
--- a range that begins before the furthest of those before it ends shares a place with it
+-- a range that begins before the end of the furthest of those before it shares a place with it
 abbrev pub shared : Rule → Option Claim → Claim → Option LayoutFault
 shared rule None r = None
 shared rule (Some f) r =
     if nat_lt r.start (end_of f)
     then Some (record { rule = rule; owner = r.owner; other = Some f.owner; found = r.start; limit = place_after f.start f.len }) else None
 
--- what is told of some ranges behind others, by their starts
+-- the faults of some ranges after others, by their starts
 abbrev pub shared_behind : Rule → List Claim → List Claim → List LayoutFault
 shared_behind rule before [] = []
 shared_behind rule before (r ∷ rs) = cons_option (shared rule (furthest before) r) (shared_behind rule (before ++ r ∷ []) rs)
 
--- what is told of some ranges: each against those before it, by their starts
+-- the faults of some ranges, each compared with those before it, by their starts
 pub record AreShared (rule : Rule) (ranges : List Claim) (told : List LayoutFault) : Type 0 where
   pub sorted : List Claim
   pub by_start : IsByStart ranges sorted
   pub each : told ≡ shared_behind rule [] sorted
 
--- it is told of two of these ranges, of which the second begins before the first ends
+-- the fault is one of two of these ranges, of which the second begins before the first ends
 pub record IsOfTwo (rule : Rule) (ranges : List Claim) (fault : LayoutFault) : Type 0 where
   pub first : Claim
   pub second : Claim

@@ -1,4 +1,4 @@
--- What contracts see of what symbols are judged by.
+-- The checks of symbols, as contracts see them.
 use Rattle.std.specs.Prelude.{ℕ}
 use Rattle.mach_layout.specs.Rules.{owner_at}
 use Rattle.mach_layout.specs.Symbols.{symbol_sees_at, range_sees, indirect_sees, indirect_section_sees}

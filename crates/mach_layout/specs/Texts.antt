@@ -7,7 +7,7 @@ use Rattle.mach_layout.specs.declared.fault.Owner.{Owner}
 use Rattle.mach_layout.specs.declared.fault.Part.{Part}
 use Rattle.mach_layout.specs.declared.fault.Part.TheVariants as part
 
--- parts of which there are several with numbers
+-- parts of which there are several, which have numbers
 abbrev pub has_number : Part → Bool
 has_number part.Section = true
 has_number part.Relocations = true
@@ -23,7 +23,7 @@ owner_text o =
     then part_words o.part ++ codes " " ++ decimal o.index ++ codes " at 0x" ++ digits 16 false o.command
     else part_words o.part ++ codes " at 0x" ++ digits 16 false o.command
 
--- the two numbers that show a fault
+-- the two numbers that are the evidence for a fault
 abbrev pub numbers_text : LayoutFault → List ℕ
 numbers_text f = codes "0x" ++ digits 16 false f.found ++ codes " against 0x" ++ digits 16 false f.limit
 
@@ -35,6 +35,6 @@ evidence_by numbers None = numbers
 abbrev pub evidence_text : LayoutFault → List ℕ
 evidence_text f = evidence_by (numbers_text f) f.other
 
--- a fault: its rule, whose it is, and what shows it
+-- a fault: its rule, its owner, and the evidence
 abbrev pub fault_text : LayoutFault → List ℕ
 fault_text f = rule_words f.rule ++ codes ": " ++ owner_text f.owner ++ codes ": " ++ evidence_text f
