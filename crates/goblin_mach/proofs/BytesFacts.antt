@@ -1,4 +1,4 @@
--- The layout that an image holds, and that of the bytes that it was opened in.
+-- The layout that an image holds, and that of the bytes in which it was opened.
 use Rattle.std.proofs.Common.{◌≡◌, ℕ, List}
 use Rattle.std.specs.Prelude.{◌↔◌}
 use Rattle.goblin_mach.specs.ImageFacts.{facts_held}

@@ -59,7 +59,7 @@ end_carried le bytes s c (d ∷ e ∷ cs) h = end_anywhere s (s + cmdsize_of c) 
     end_anywhere s t c [] = refl
     end_anywhere s t c (d ∷ cs) = end_anywhere s t d cs
 
--- a chain grows by the command that stands at its end
+-- a chain grows by the command at its end
 Carries-push : (le : Endian) (bytes : List ℕ) (s : ℕ) (cs : List Command) (c : Command) → Carries le bytes s cs → command_at le bytes (chain_end s cs) ≡ Ok c
     → Carries le bytes s (cs ++ c ∷ [])
 Carries-push le bytes s [] c h e = (e, tt)
@@ -88,7 +88,7 @@ same_carried le bytes s (c ∷ cs) (d ∷ ds) p q e =
     let rest = same_carried le bytes (s + cmdsize_of c) cs ds p.1 q' (omega arith) in
     cc
 
--- at most one chain of a number of commands stands at a place
+-- at most one chain of a number of commands is at a place
 pub same_chain : (le : Endian) (bytes : List ℕ) (s : ℕ) (cs ds : List Command) → IsChain le bytes s cs → IsChain le bytes s ds → length cs ≡ length ds → cs ≡ ds
 same_chain le bytes s cs ds p q e = same_carried le bytes s cs ds (chain_carries le bytes s cs p) (chain_carries le bytes s ds q) e
 
@@ -102,7 +102,7 @@ broken_carried le bytes s (d ∷ ds) (c ∷ cs) f p q lt e =
     let q' : Carries le bytes (s + cmdsize_of d) cs = subst (λ (x : Command). Carries le bytes (s + cmdsize_of x) cs) (sym same) q.1 in
     broken_carried le bytes (s + cmdsize_of d) ds cs f p.1 q' (omega arith) (subst (λ (x : ℕ). command_at le bytes x ≡ Err f) (end_carried le bytes s d ds p) e)
 
--- a broken chain is no chain
+-- a broken chain is not a chain
 pub broken-excludes_chain : (le : Endian) (bytes : List ℕ) (s n : ℕ) (f : Fault) (cs : List Command) → IsBroken le bytes s n f → IsChain le bytes s cs
     → length cs ≡ n → ⊥
 broken-excludes_chain le bytes s n f cs broken chain count =
@@ -121,7 +121,7 @@ among_carried le bytes s (d ∷ ds) (e ∷ es) c p q few among =
       | inr later ↦ inr (among_carried le bytes (s + cmdsize_of d) ds es c p.1 q' (omega arith) later)
     ]
 
--- a command of a front is one of the whole chain
+-- a command of the first ones is one of the whole chain
 pub among-front : (le : Endian) (bytes : List ℕ) (s : ℕ) (front cs : List Command) (c : Command) → IsChain le bytes s front → IsChain le bytes s cs
     → length front ≤ length cs → IsAmong c front → IsAmong c cs
 among-front le bytes s front cs c p q few among =

@@ -1,4 +1,4 @@
--- A command stands at the place where it was read.
+-- A command is at the place where it was read.
 use Rattle.std.proofs.Common.{◌≡◌, ℕ, ◌-◌, cond, ltb, List, length, Ok, Err, inl, inr, sym, ap}
 use Rattle.mach_base.specs.declared.context.Endian.{Endian}
 use Rattle.mach_base.specs.Fault.{malformed}

@@ -5,7 +5,7 @@ use Rattle.mach_load.specs.Command.{Command, cmdsize_of, command_at}
 use Rattle.goblin_mach.specs.Chain.{IsChain}
 unfoldable use Rattle.goblin_mach.specs.CommandItems.{commands_from}
 
--- what is behind the first is a chain
+-- what follows the first command is a chain
 behind : (le : Endian) (bytes : List ℕ) (s : ℕ) (c : Command) (cs : List Command) → IsChain le bytes s (c ∷ cs) → IsChain le bytes (s + cmdsize_of c) cs
 behind le bytes s c [] chain = record { there = tt; begins = tt; linked = tt }
 behind le bytes s c (d ∷ ds) chain = record {

@@ -1,4 +1,4 @@
--- Reading the commands of a subject, one by one.
+-- Reading the commands on a subject, one by one.
 use Rattle.std.proofs.Common.{◌≡◌, ℕ, zero, suc, ◌+◌, ◌<◌, ◌≤◌, true, false, List, [], ◌∷◌, ◌++◌, length, map, drop, get_or, Option, Some, None, Result, Err}
 use Rattle.std.proofs.Common.{Ok, take, inl, inr, refl, sym, ap, subst, ◌∙◌, arith, add-one}
 use Rattle.std.specs.Prelude.{option_map}
@@ -23,7 +23,7 @@ among_here [] i d lt = absurd (omega arith)
 among_here (x ∷ xs) zero d lt = inl refl
 among_here (x ∷ xs) (suc i) d lt = inr (among_here xs i d (omega arith))
 
--- how reading goes on at the next of some commands, by what it answers
+-- how the reading continues at the next of some commands, by its result
 module _ {X V : Type 0} (view : X → V) (reading : Reading V) (xs : List LoadCommand) (i : ℕ) (d : LoadCommand) (lt : i < length xs)
     (r s : Option (Result X Error)) (seen : seen_of view r ≡ reading (command_of (get_or xs i d))) (is : r ≡ s) where
   abbrev left : ℕ → List Command
@@ -70,7 +70,7 @@ module _ {V : Type 0} (reading : Reading V) where
   last-more d [] ys = refl
   last-more d (x ∷ xs) ys = last-more (Some x) xs ys
 
-  -- what was read of some commands and one more
+  -- what was read from some commands and one more
   pub kept_more : (cs : List Command) (c : Command) (old new : List V) → old ≡ read_of reading cs → new ≡ old ++ said (reading c)
       → new ≡ read_of reading (cs ++ c ∷ [])
   kept_more cs c old new was is = is ∙ ap (λ (vs : List V). vs ++ said (reading c)) was ∙ sym (read-more cs c)
@@ -84,7 +84,7 @@ module _ {V : Type 0} (reading : Reading V) where
   all_more [] c all one = one
   all_more (d ∷ cs) c all one = (all.0, all_more cs c all.1 one)
 
-  -- one that can't be read is one of them
+  -- the fault of one command is a fault of all
   pub refused_one : (c : Command) (f : Fault) → IsRefused (reading c) f → IsUnread reading (c ∷ []) f
   refused_one c f e = record { command = c; among = inl refl; fault = e }
 
@@ -103,7 +103,7 @@ pub put_itself : {V : Type 0} (new old : Option V) (found : Option (Result V Fau
 put_itself new old found is =
     sym (seen_itself new) ∙ is ∙ ap (λ (o : Option _). last_or o (said found)) (seen_itself old)
 
--- where every command can be read, none can't
+-- if every command can be read, none has a fault
 pub unread-excludes_all : {V : Type 0} (reading : Reading V) (cs : List Command) (f : Fault) → IsUnread reading cs f → AllRead reading cs → ⊥
 unread-excludes_all reading [] f u all = absurd u.among
 unread-excludes_all {V} reading (c ∷ cs) f u all = elim u.among [
@@ -113,18 +113,18 @@ unread-excludes_all {V} reading (c ∷ cs) f u all = elim u.among [
   | inr later ↦ unread-excludes_all reading cs f (record { command = u.command; among = later; fault = u.fault }) all.1
 ]
 
--- the first value, where it was met already, or the first of those that are left
+-- the first value: the one met already, or the first of those left
 abbrev pub first_or : {A : Type 0} → Option A → List A → Option A
 first_or None xs = first_of xs
 first_or (Some x) xs = Some x
 
--- where the first was met nothing changes
+-- if the first was met, nothing changes
 pub first_kept : {X V : Type 0} (view : X → V) (met : Option X) (v : V) (vs : List V) → is_some met ≡ true
     → first_or (option_map view met) (v ∷ vs) ≡ first_or (option_map view met) vs
 first_kept view None v vs e = absurd (cc)
 first_kept view (Some x) v vs e = refl
 
--- else it is met now
+-- otherwise it is met now
 pub first_met : {X V : Type 0} (view : X → V) (met : Option X) (v : V) (vs : List V) → is_some met ≡ false → first_or (option_map view met) (v ∷ vs) ≡ Some v
 first_met view None v vs e = refl
 first_met view (Some x) v vs e = absurd (cc)

@@ -1,4 +1,4 @@
--- The export of a name, sought one after the other.
+-- The export of a name, searched in order.
 use Rattle.std.proofs.Common.{◌≡◌, ◌≢◌, ◌∙◌, ◌⊎◌, ℕ, ◌<◌, suc, Bool, true, false, List, [], ◌∷◌, length, take, get_or, inl, inr, refl, sym, ap, subst}
 use Rattle.std.specs.Bool.{Decides}
 use Rattle.std.specs.Prelude.{All, option_map, string_bytes}
@@ -11,12 +11,12 @@ use Rattle.mach_dyld.specs.Trie.{Entry}
 use Rattle.mach_dyld.specs.declared.exports.Export.{Export}
 use Rattle.goblin_mach.specs.Facts.{IsExportedAt, IsNotExported, IsFirstExport}
 
--- the first export of a name is listed at its offset
+-- the first export of a name is in the list with its offset
 pub first-exported : (name : List ℕ) (list : List Entry) (i : ℕ) (e : Entry) → IsFirstExport name list i e → IsExportedAt name e.offset list
 first-exported name list i e first =
     (i, e, slice_get_within list i e first.listed, get_or_from_slice_get list i e e first.listed, (first.named, refl))
 
--- no name is both listed and not
+-- no name is both in the list and not
 pub exported-excludes_none : (name : List ℕ) (address : ℕ) (list : List Entry) → IsExportedAt name address list → IsNotExported name list → ⊥
 exported-excludes_none name address list some none =
     none some.0 some.1 some.2 (ap (λ (e : Entry). e.name) some.3 ∙ some.4.0)
@@ -46,7 +46,7 @@ none-named name xs all = All-map (λ e. e.name ≢ name) entry_of xs all
 entries-take : {A : Type 0} (i : ℕ) (xs : List (Export A)) → entries (take i xs) ≡ take i (entries xs)
 entries-take i xs = sym (take-map entry_of i xs)
 
--- the export met after others
+-- the export met after exports of other names
 pub first-named : {A : Type 0} (name : List ℕ) (xs : List (Export A)) (i : ℕ) (x : Export A) → i < length xs → x ≡ get_or xs i x → string_bytes x.name ≡ name
     → All (λ x. string_bytes x.name ≢ name) (take i xs) → IsFirstExport name (entries xs) i (entry_of x)
 first-named name xs i x inside is named before =

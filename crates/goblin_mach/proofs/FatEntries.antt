@@ -1,4 +1,4 @@
--- How entries of a fat file open.
+-- How the entries of a fat file open.
 use Rattle.std.proofs.Common.{◌≡◌, ℕ, Bool, true, false, cond, List, length, take, nat_le, nat_lt, Option, Some, None, Result, Ok, Err, refl, sym, ap, subst}
 use Rattle.std.proofs.Common.{◌∙◌}
 use Rattle.std.specs.Prelude.{option_map}
@@ -20,7 +20,7 @@ use Rattle.goblin_mach.specs.declared.fat_file.entry.SingleArch.TheVariants.{Mac
 use Rattle.goblin_mach.specs.declared.macho.MachO as held
 use Rattle.goblin_mach.proofs.OpenedImages.{ok_where_opens}
 
--- an error that reports why there is no entry
+-- an error for the reason why there is no entry
 pub OpensEntry-refused : {A : Type 0} (entry : Result FatEntry Fault) (e : Error) → entry ≡ Err (fault_of e) → OpensEntry {A = A} entry (Err e)
 OpensEntry-refused {A} entry e none =
     subst (λ (x : Result FatEntry Fault). OpensEntry {A = A} x (Err e)) (sym none)
@@ -64,7 +64,7 @@ entry-short bytes r front none =
     not_hinted (nat_le 16 (length bytes)) (take 16 bytes) (entry_by (hint_in (take 16 bytes)) bytes)
     (sym (ap (option_map (λ (x : Bor (List ℕ)). x.now)) none) ∙ front)
 
--- else the first 16 say what it is
+-- otherwise the first 16 bytes give its kind
 pub entry-hinted : (bytes : List ℕ) (r : Option (Bor (List ℕ))) (there : Bor (List ℕ)) (hint : Hint)
     → option_map (λ front. front.now) r ≡ cond (nat_le 16 (length bytes)) (Some (take 16 bytes)) None → r ≡ Some there → hint_in there.now ≡ hint
     → fat_entry_of bytes ≡ entry_by hint bytes
@@ -72,7 +72,7 @@ entry-hinted bytes r there hint front some is =
     hinted (nat_le 16 (length bytes)) (take 16 bytes) there.now bytes (sym (ap (option_map (λ (x : Bor (List ℕ)). x.now)) some) ∙ front)
     ∙ ap (λ (h : Hint). entry_by h bytes) is
 
--- an entry that is below the count has a record
+-- an entry below the count has a record
 pub arch_entry_in-none : {R : Type 0} (form : ArchForm R) (file : FatFile) (i : ℕ) → nat_lt i file.narches ≡ false → arch_entry_in form file i ≡ Err malformed
 arch_entry_in-none form file i out =
     ap (λ (b : Bool). cond b (arch_in form file.bytes i >>= λ arch. fat_entry_of (part_of file.bytes (form.offset arch) (form.size arch))) (Err malformed)) out

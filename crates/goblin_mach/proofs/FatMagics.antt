@@ -1,4 +1,4 @@
--- Where the magic of a fat file stands at the front.
+-- Where the magic of a fat file is at the start.
 use Rattle.std.proofs.Common.{◌≡◌, ℕ, ◌≤◌, true, false, List, length, drop, nat_le, Ok, refl, ap, sym, ◌∙◌, arith}
 use Rattle.std.proofs.lemmas.Bool.{le-leb, lt-leb}
 use Rattle.mach_base.specs.declared.context.Endian.TheVariants.{Big}

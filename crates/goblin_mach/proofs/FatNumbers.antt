@@ -12,7 +12,7 @@ use Rattle.goblin_mach.specs.FatFile.{FatFile, fat_file_in}
 some_is : {X : Type 0} (x y : X) → Some x ≡ Some y → x ≡ y
 some_is x y e = cc
 
--- what is listed at a number is the item of that number
+-- what is in the list at a number is the item with that number
 pub item-only : {X : Type 0} (item : ℕ → X) (count k : ℕ) (x : X) → slice_get (items_from item 0 count) k ≡ Some x → (k < count) × (item k ≡ x)
 item-only item count k x got =
     let within : k < length (items_from item 0 count) = slice_get_within (items_from item 0 count) k x got in
@@ -30,6 +30,6 @@ there_is n s bytes found y e =
       ]
     ]
 
--- the fat file of some bytes
+-- the fat file in some bytes
 pub file_is : (bytes : List ℕ) (file : FatFile) → fat_file_in bytes ≡ Ok file → record { bytes = bytes; narches = number Big 4 (drop 4 bytes) } ≡ file
 file_is bytes file e = there_is 8 0 bytes (record { bytes = bytes; narches = number Big 4 (drop 4 bytes) }) file e

@@ -1,4 +1,4 @@
--- What more and more commands say, subject by subject.
+-- What the first commands say, subject by subject, with one more command each time.
 use Rattle.std.proofs.Common.{ℕ, List, [], ◌∷◌, ◌++◌}
 use Rattle.mach_base.specs.Among.{IsAmong}
 use Rattle.mach_base.specs.Fault.{Fault}
@@ -21,7 +21,7 @@ module _ (ctx : Ctx) (bytes : List ℕ) where
     tables = all_more (table_by ctx bytes) cs c all.tables one.tables;
   }
 
-  -- a command that can't be read is one of them all
+  -- the fault of one command is a fault of all
   pub unreadable_among : (c : Command) (cs : List Command) (f : Fault) → IsAmong c cs → IsUnreadable ctx bytes (c ∷ []) f → IsUnreadable ctx bytes cs f
   unreadable_among c cs _ among (segment f u) = segment f (unread_among (segment_by ctx bytes) c cs f among u)
   unreadable_among c cs _ among (library f u) = library f (unread_among (library_by bytes) c cs f among u)

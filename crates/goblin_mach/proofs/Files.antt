@@ -1,4 +1,4 @@
--- No fault stands where a file opens.
+-- No fault occurs if a file opens.
 use Rattle.std.proofs.Common.{◌≡◌, ℕ, ◌≤◌, inl, inr, List, length, Result, Ok, Err, true, false, nat_le, ap}
 use Rattle.std.proofs.Common.{arith}
 use Rattle.std.proofs.lemmas.Bool.{le-leb, lt-leb}

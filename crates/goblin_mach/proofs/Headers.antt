@@ -33,14 +33,14 @@ ncmds_is ctx bytes o h e = ap (λ (x : Header). x.ncmds) e ∙ ncmds_in ctx.cont
 pub sizeofcmds_is : (ctx : Ctx) (bytes : List ℕ) (o : ℕ) (h : Header) → IsHeader ctx bytes o h → h.sizeofcmds ≡ sizeofcmds_at ctx bytes o
 sizeofcmds_is ctx bytes o h e = ap (λ (x : Header). x.sizeofcmds) e ∙ sizeofcmds_in ctx.container ctx.le bytes o
 
--- a magic stands inside the bytes
+-- a magic is inside the bytes
 pub magic-inside : (bytes : List ℕ) (o : ℕ) (found : ℕ × Option Ctx) → magic_at bytes o ≡ Ok found → o < length bytes
 magic-inside bytes o found e = elim (cases_lt o (length bytes)) [
   | inl inside ↦ inside
   | inr out ↦ absurd (let test : nat_le (length bytes) o ≡ true = le-leb (length bytes) o out in let wrong = rw test at e in cc)
 ]
 
--- where a magic stands, no header is found only for want of 32 bytes
+-- at a magic, the only reason why no header is found is that there are fewer than 32 bytes
 pub header-short : (ctx : Ctx) (bytes : List ℕ) (o magic : ℕ) (f : Fault) → magic_at bytes o ≡ Ok (magic, Some ctx)
     → value_of (front_at (header_front ctx) bytes o) ≡ Err f → LossyFault bytes o f
 header-short ctx bytes o magic f there e =

@@ -40,7 +40,7 @@ strict-lossy bytes o m p =
       fields = subst (λ (x : List SegmentView). HasFields bytes o p.ctx x m) (same_segments p.ctx bytes (commands_held m) p.opens.readable.segments) p.fields;
     }
 
--- what is so in lossy mode is so in both
+-- what holds in lossy mode holds in both
 pub both_modes : {A : Type 0} (m : MachO A) (Says : List ℕ → ℕ → Type 0) → ((bytes : List ℕ) (o : ℕ) → IsLossyImage bytes o m → Says bytes o)
     → InBothModes m Says
 both_modes m Says is = record { strict = λ bytes o p. is bytes o (strict-lossy bytes o m p); lossy = is }
@@ -49,7 +49,7 @@ both_modes m Says is = record { strict = λ bytes o p. is bytes o (strict-lossy 
 pub moved : {X Y : Type 0} (P : X → Y → Type 0) (x z : X) (y w : Y) → x ≡ z → y ≡ w → P x y → P z w
 moved P x z y w p q h = subst (λ (v : _). P z v) q (subst (λ (v : _). P v y) p h)
 
--- one image opens at a place, so what holds of one holds of the same context and commands as another fact
+-- only one image opens at a place, so what holds of one holds of the context and commands of another fact
 pub one_image : (bytes : List ℕ) (o : ℕ) (Holds : Ctx → List Command → Type 0) (ctx : Ctx) (cs : List Command) → LossyOpensAs bytes o ctx cs
     → OfImage bytes o Holds → Holds ctx cs
 one_image bytes o Holds ctx cs opens q =
@@ -59,7 +59,7 @@ one_image bytes o Holds ctx cs opens q =
     (chain.count ∙ sym opens.chain.count) in
     moved Holds q.ctx ctx q.cs cs same_ctx same q.holds
 
--- what is said of the facts of an image holds of the bytes
+-- what is stated of the facts of an image holds of the bytes
 pub said : (bytes : List ℕ) (o : ℕ) (f : Facts) → HasFacts bytes o f → (Says : Facts → Type 0) → OfFacts bytes o Says ↔ Says f
 said bytes o f h Says = (
   λ q. subst Says (sym (one_image bytes o (λ ctx cs. f ≡ facts_in ctx bytes o cs) q.ctx q.cs q.opens h)) q.holds,
@@ -71,7 +71,7 @@ module _ {A : Type 0} (bytes : List ℕ) (o : ℕ) (m : MachO A) (p : IsLossyIma
   of_image : (Holds : Ctx → List Command → Type 0) → Holds p.ctx (commands_held m) → OfImage bytes o Holds
   of_image Holds h = record { ctx = p.ctx; cs = commands_held m; opens = p.opens; holds = h }
 
-  -- and back
+  -- and the converse
   image_of : (Holds : Ctx → List Command → Type 0) → OfImage bytes o Holds → Holds p.ctx (commands_held m)
   image_of Holds q = one_image bytes o Holds p.ctx (commands_held m) p.opens q
 
@@ -80,14 +80,14 @@ module _ {A : Type 0} (bytes : List ℕ) (o : ℕ) (m : MachO A) (p : IsLossyIma
   same_facts = let f = p.fields in
       rw (f.ctx_is, f.bytes_is, f.header, f.segments, f.symbols, f.libs, f.rpaths, f.name, f.trie, f.binds) refl
 
-  -- so it has those that are held
+  -- so it has the facts that are held
   pub has_facts : HasFacts bytes o (facts_held m)
   has_facts = record { ctx = p.ctx; cs = commands_held m; opens = p.opens; holds = same_facts }
 
   pub facts_are : (Says : Facts → Type 0) → OfFacts bytes o Says ↔ Says (facts_held m)
   facts_are = said bytes o (facts_held m) has_facts
 
--- so in both modes: what is said of the facts on the bytes holds of those that are held
+-- the same in both modes: what is stated of the facts on the bytes holds of those that are held
 pub said_of : {A B : Type 0} (m : MachO A) (Says : B → Facts → Type 0) → Agrees m (λ bytes o x. OfFacts bytes o (Says x)) (λ x. Says x (facts_held m))
 said_of m Says = both_modes m _ (λ bytes o p x. facts_are bytes o m p (Says x))
 

@@ -1,4 +1,4 @@
--- No fault stands where a file opens, and which of the three kinds it is.
+-- No fault occurs if a file opens, and which of the three kinds it is.
 use Rattle.std.proofs.Common.{◌≡◌, ℕ, List, Result, Ok, Err, true, false, refl, sym, ◌∙◌, subst}
 use Rattle.std.specs.Prelude.{IsOk, IfErr}
 use Rattle.mach_base.specs.declared.error.Error.{Error}
@@ -21,7 +21,7 @@ not_both : {X : Type 0} (r : Result X Fault) (f : Fault) → IsOk r → r ≡ Er
 not_both (Ok x) f ok is = cc
 not_both (Err e) f ok is = cc
 
--- bytes don't begin as an archive and not so
+-- bytes don't both begin like an archive and not
 one_kind : (bytes : List ℕ) → begins_any_archive bytes ≡ true → begins_any_archive bytes ≡ false → ⊥
 one_kind bytes is other = let wrong = sym is ∙ other in cc
 
@@ -36,7 +36,7 @@ fault-excludes_input bytes _ (of_mach f neither fault) (opens_archive is ok) = o
 fault-excludes_input bytes _ (of_mach f neither fault) (opens_fat_64 fat) = neither.no_fat_64 fat.magic
 fault-excludes_input bytes _ (of_mach f neither fault) (opens_mach same opens) = fault-excludes_mach bytes f fault opens
 
--- what is refused with a fault that stands isn't refused where the bytes open
+-- a result whose errors are faults is Ok if the bytes open
 pub ok_where_input : {X : Type 0} (r : Result X Error) (bytes : List ℕ) → IfErr r (Stands (InputFault bytes)) → InputOpens bytes → IsOkUnlessMemory r
 ok_where_input (Ok x) bytes h opens = tt
 ok_where_input (Err e) bytes h opens = Stands-in (InputFault bytes) (λ _. ⊥) e (λ f fault. fault-excludes_input bytes f fault opens) h

@@ -1,4 +1,4 @@
--- The members of an archive, as what is within a file has them.
+-- The members of an archive, as the items of a file have them.
 use Rattle.std.proofs.Common.{◌≡◌, ◌-◌, List, length, Result, arith}
 use Rattle.mach_base.specs.Fault.{Fault}
 use Rattle.mach_archive.specs.Archives.{ArchiveView}

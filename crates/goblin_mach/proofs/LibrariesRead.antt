@@ -1,4 +1,4 @@
--- The libraries of an image, counted by 64 bits, and the same as `libs` has them.
+-- The libraries of an image, counted with 64 bits, and the same as `libs` has them.
 use Rattle.std.proofs.Common.{◌≡◌, ℕ, suc, zero, ◌+◌, ◌<◌, ◌≤◌, ◌^◌, List, [], ◌∷◌, length, map, Bool, Option, Some, None, Result, Ok, Err, refl, sym, ap}
 use Rattle.std.proofs.Common.{◌∙◌, arith, add-one}
 use Rattle.std.proofs.Math.Nat.{min-eq_left}
@@ -31,16 +31,16 @@ few_kept None vs = omega arith
 few_kept (Some (Ok v)) vs = omega arith
 few_kept (Some (Err f)) vs = omega arith
 
--- no more is read than there are commands
+-- at most as many are read as there are commands
 pub few-read : {V : Type 0} (reading : Reading V) (cs : List Command) → length (read_of reading cs) ≤ length cs
 few-read reading [] = omega arith
 few-read reading (c ∷ cs) = omega (arith, few_kept (reading c) (read_of reading cs), few-read reading cs)
 
--- the ordinal behind one that is not the last number of 64 bits
+-- the ordinal after one that isn't the last number of 64 bits
 after_one : (n : ℕ) → n + 2 ≤ 2 ^ 64 → place_after n 1 ≡ n + 1
 after_one n le = min-eq_left (omega (arith, le))
 
--- where 64 bits can count them the ordinals go on
+-- if 64 bits can count them, the ordinals continue
 pub counted : (n : ℕ) (ls : List NamedLibrary) → n + length ls ≤ 2 ^ 64 → counted_from n ls ≡ by_ordinal n ls
 counted n [] le = refl
 counted n (l ∷ []) le = refl
@@ -48,12 +48,12 @@ counted n (l ∷ m ∷ ls) le =
     ap (λ (vs : List LibraryView). of_ordinal n l ∷ vs)
     (ap (λ (k : ℕ). counted_from k (m ∷ ls)) (after_one n (omega (arith, le))) ∙ counted (n + 1) (m ∷ ls) (omega (arith, le)))
 
--- and some commands name no more libraries than there are of them
+-- and commands name at most as many libraries as there are commands
 pub counted_commands : (le : Endian) (bytes : List ℕ) (cs : List Command) → length cs < 2 ^ 64
     → counted_from 1 (read_of (named_by le bytes) cs) ≡ libraries_in le bytes cs
 counted_commands le bytes cs lt = counted 1 (read_of (named_by le bytes) cs) (omega (arith, lt, few-read (named_by le bytes) cs))
 
--- the commands that bring a library in are those that do so in some way
+-- the commands that load a library are those that do so in one of the ways
 five : (k : kind.Kind) → is_library k ≡ is_some (library_kind k)
 five kind.segment32 = refl
 five kind.symtab = refl
@@ -141,7 +141,7 @@ libs_by_name le bytes cs =
     ap (λ (xs : List (List ℕ)). unwrap_or (own_name_in bytes cs) (codes "self") ∷ xs)
     (sym (numbered_names 1 (read_of (named_by le bytes) cs) ∙ same_names le bytes cs))
 
--- and their ordinals are their places, counted from one on
+-- and their ordinals are their places, counted from 1
 numbered : (n : ℕ) (ls : List NamedLibrary) (k : ℕ) (l : LibraryView) → slice_get (by_ordinal n ls) k ≡ Some l → l.ordinal ≡ n + k
 numbered n [] k l e = absurd (cc)
 numbered n (x ∷ xs) zero l e = let same : of_ordinal n x ≡ l = cc in sym (ap (λ (v : LibraryView). v.ordinal) same) ∙ omega arith
@@ -151,7 +151,7 @@ pub ordinal_at : (le : Endian) (bytes : List ℕ) (cs : List Command) (k : ℕ) 
     → slice_get (libraries_in le bytes cs) k ≡ Some l → l.ordinal ≡ k + 1
 ordinal_at le bytes cs k l e = numbered 1 (read_of (named_by le bytes) cs) k l e ∙ omega arith
 
--- so that a library's name stands in `libs` at its ordinal
+-- so a library's name is in `libs` at its ordinal
 pub in_libs : (le : Endian) (bytes : List ℕ) (cs : List Command) (k : ℕ) (l : LibraryView) → slice_get (libraries_in le bytes cs) k ≡ Some l
     → slice_get (libs_in bytes cs) l.ordinal ≡ Some l.name
 in_libs le bytes cs k l e =

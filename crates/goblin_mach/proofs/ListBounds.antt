@@ -25,7 +25,7 @@ pub commands_fit_lem : CommandsFit
 commands_fit_lem bytes o ctx cs is =
     let count = is.chain.count in let few = is.counts.ncmds in let there = is.counts.sizeofcmds in omega (arith, count, few, there)
 
--- what stands at a place of some bytes lies in them
+-- what is at a place of some bytes lies in them
 lies : (bytes : List ℕ) (place n : ℕ) (none out fits : Bool) → (fits ≡ true → place + n ≤ length bytes)
     → 0 < length (result_unwrap_or (data_by bytes place n none out fits) [])
     → place + length (result_unwrap_or (data_by bytes place n none out fits) []) ≤ length bytes

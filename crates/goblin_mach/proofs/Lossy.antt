@@ -1,4 +1,4 @@
--- Where an image opens strictly it opens in lossy mode with equal fields.
+-- An image that opens strictly opens in lossy mode with equal fields.
 use Rattle.std.proofs.Common.{◌≡◌, ℕ, ◌+◌, List, [], ◌∷◌, Option, Some, None, Result, Ok, Err, refl, sym, ap, subst, ◌∙◌}
 use Rattle.std.specs.Prelude.{option_map}
 use Rattle.mach_base.specs.declared.context.Ctx.{Ctx}
@@ -19,7 +19,7 @@ use Rattle.goblin_mach.specs.declared.macho.MachO.{MachO}
 use Rattle.goblin_mach.proofs.Chains.{same_chain}
 use Rattle.goblin_mach.proofs.OpenedImages.{same_header}
 
--- data that are there are the same in both modes
+-- data that exist are the same in both modes
 same_data : (ctx : Ctx) (bytes : List ℕ) (o : ℕ) (c : SegmentCommand64) (d : Result (List ℕ) Fault) → segment_data bytes c.fileoff c.filesize ≡ d
     → IsRead (Some (segment_at ctx bytes o c)) → segment_at ctx bytes o c ≡ lossy_segment_at ctx bytes o c
 same_data ctx bytes o c (Ok found) e read = rw e refl
@@ -31,7 +31,7 @@ same_segment ctx bytes o None read = refl
 same_segment ctx bytes o (Some c) read =
     ap (λ (r : Result SegmentView Fault). Some r) (same_data ctx bytes o c (segment_data bytes c.fileoff c.filesize) refl read)
 
--- so are all segments
+-- and so are all segments
 pub same_segments : (ctx : Ctx) (bytes : List ℕ) (cs : List Command) → AllRead (segment_by ctx bytes) cs
     → read_of (segment_by ctx bytes) cs ≡ read_of (lossy_segment_by ctx bytes) cs
 same_segments ctx bytes [] all = refl

@@ -31,7 +31,7 @@ module _ (t : Trie) where
       same_some x.own (subst (λ (z : Node). z.own ≡ Some b) (sym node) y.own)
 
   module _ (root : ℕ) where
-    -- what a listed export stands for stands by its path
+    -- the meaning of a listed export holds by its path
     belongs_stands : (p : List ℕ) (e : Entry) → BelongsTo t root [] p e → IsExportOf t root e.name e.info
     belongs_stands p e b =
         let info : b.info ≡ e.info = sym (ap (λ (x : Entry). x.info) b.is) in
@@ -50,7 +50,7 @@ module _ (t : Trie) where
       | inr miss ↦ first_stands ps es name info each.1 miss.1
     ]
 
-    -- what stands by a path is listed
+    -- what holds by a path is in the list
     standing_listed : (ps : List (List ℕ)) (es : List Entry) (p name : List ℕ) (info : Info) → EachBelongs t root [] ps es → IsAmong p ps
         → EndsWith t root p info → IsNameOf t root p name → IsListedAs name info es
     standing_listed [] es p name info each among ends named = absurd among
@@ -66,7 +66,7 @@ module _ (t : Trie) where
       | inr later ↦ (let rest = standing_listed ps es p name info each.1 later ends named in (rest.0, inr rest.1, rest.2, rest.3))
     ]
 
-    -- where none has the name no path does, and back
+    -- if no export has the name, no path does, and the converse
     none_stands : (es : List Entry) (name : List ℕ) (info : Info) → IsFirstOf name es None → IsListedAs name info es → ⊥
     none_stands [] name info none listed = absurd listed.1
     none_stands (e ∷ es) name info none listed = elim none [
@@ -115,7 +115,7 @@ listed_in (Some t) libs list name info lists stands =
     let paths = lists_paths (trie_there t libs) t.from [] list lists.1 in
     standing_listed (trie_there t libs) t.from paths.0 list stands.0 name info paths.1.exports (paths.1.each stands.0 (info, stands.1)) stands.1 stands.2
 
--- and of the bytes, in which one image opens at most
+-- the same of the bytes, in which at most one image opens
 module _ (bytes : List ℕ) (o : ℕ) where
   pub first_of_exports : (list : List Entry) (name : List ℕ) (found : Option Info) → HasExports bytes o list → IsFirstOf name list found
       → HasExportOf bytes o name found

@@ -1,4 +1,4 @@
--- An image has one list of fixups and one of bindings, and when its bindings tell what its imports tell.
+-- An image has one list of fixups and one of bindings, and when its bindings agree with its imports.
 use Rattle.std.specs.Prelude.{option_map}
 use Rattle.std.proofs.Common.{◌≡◌, ◌<◌, ◌++◌, true, ℕ, List, [], ◌∷◌, Option, Some, None, Result, Ok, Err, refl, sym, ap, subst, ◌∙◌, arith}
 use Rattle.mach_base.specs.Context.{pointer_size}
@@ -80,9 +80,9 @@ module _ (one : OneListOfFixups) where
         one_bindings (binds_in bytes h.cs) (chained_in h.ctx bytes h.cs) (pointer_size h.ctx.container) (libs_in bytes h.cs)
         (lossy_segments_in h.ctx bytes h.cs) items others h.holds second
 
--- ---- beside imports
+-- ---- agreement with imports
 
--- nothing behind what ends at a fault, if there is one
+-- nothing follows a list that ends at a fault, if there is one
 ended_once : (items : List (Result Binding Fault)) → upto_fault (upto_fault items ++ []) ≡ upto_fault items
 ended_once [] = refl
 ended_once (Ok b ∷ items) = ap (λ (xs : List (Result Binding Fault)). Ok b ∷ xs) (ended_once items)
@@ -117,7 +117,7 @@ binds_are_lazy : (bytes : List ℕ) (cs : List Command) → IsSecondLazy (binds_
 binds_are_lazy bytes cs = last_lazy bytes cs None tt
 
 module _ (tell : dyld.StreamsTellTheSame) where
-  -- the bindings are those of the opcodes, where there are no chains
+  -- the bindings are those of the opcodes, if there are no chains
   opcodes_alone : (b : BindRanges) (n : ℕ) (libs : List (List ℕ)) (segments : List SegmentView) (items by_opcodes by_chains : List (Result Binding Fault))
       → AreOpcodeBindings (Some b) n libs segments by_opcodes → by_chains ≡ [] → items ≡ upto_fault (by_opcodes ++ by_chains) → items ≡ by_opcodes
   opcodes_alone b n libs segments items by_opcodes by_chains (ps, qs, are) none is =

@@ -40,7 +40,7 @@ use Rattle.mach_layout.specs.declared.fault.Part.TheVariants as part
 use Rattle.mach_layout.specs.declared.fault.Rule.{Rule}
 use Rattle.mach_layout.specs.declared.fault.Rule.TheVariants as rule
 
--- what is told of some ranges is one list
+-- the faults of ranges that share a place are one list
 abbrev pub OneShared : Type 0
 OneShared = (rule : Rule) (ranges : List Claim) (told others : List LayoutFault) → AreShared rule ranges told → AreShared rule ranges others → told ≡ others
 

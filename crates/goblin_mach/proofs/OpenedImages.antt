@@ -1,4 +1,4 @@
--- No fault stands where an image opens.
+-- No fault occurs if an image opens.
 use Rattle.std.proofs.Common.{◌≡◌, ℕ, ◌+◌, ◌≤◌, inl, inr, List, length, Option, Some, None, Result, Ok, Err, IsOk, sym, ap, subst, ◌∙◌}
 use Rattle.std.proofs.Common.{arith}
 use Rattle.std.specs.Prelude.{IfErr}
@@ -39,18 +39,18 @@ not_other bytes o m n c p q =
     let e : None ≡ Some c = ap (λ (x : ℕ × Option Ctx). x.1) made in
     cc
 
--- the conditions on an image speak of one context
+-- the conditions on an image concern one context
 as_header : (bytes : List ℕ) (o : ℕ) (c d : Ctx) (cs : List Command) → HasHeader bytes o c → LossyOpensAs bytes o d cs → LossyOpensAs bytes o c cs
 as_header bytes o c d cs held opened = subst (λ (x : Ctx). LossyOpensAs bytes o x cs) (same_header bytes o d c opened.header held) opened
 
--- a command of the front is one of the chain
+-- one of the first commands is one of the chain
 in_chain : (bytes : List ℕ) (o : ℕ) (c : Ctx) (front cs : List Command) (d : Command) → HasFront bytes o c front → HasChain bytes o c cs → IsAmong d front
     → IsAmong d cs
 in_chain bytes o c front cs d some chain among =
     let few : length front ≤ length cs = (let fewer = some.count in let all = chain.count in omega arith) in
     among-front c.le bytes (o + header_size c.container) front cs d some.chain chain.chain few among
 
--- what can't be read in the front can't be read in the chain
+-- a fault of the first commands is a fault of the chain
 unread_in_chain : {V : Type 0} (reading : Reading V) (bytes : List ℕ) (o : ℕ) (c : Ctx) (front cs : List Command) (f : Fault) → HasFront bytes o c front
     → HasChain bytes o c cs → IsUnread reading front f → AllRead reading cs → ⊥
 unread_in_chain reading bytes o c front cs f some chain unread all =
@@ -63,7 +63,7 @@ unread_in_chain reading bytes o c front cs f some chain unread all =
 not_ok : (r : Result EntryPoint Fault) (f : Fault) → r ≡ Err f → IsOk r → ⊥
 not_ok r f e ok = let wrong = rw e at ok in cc
 
--- no fault stands where an image opens in lossy mode
+-- no fault occurs if an image opens in lossy mode
 pub fault-excludes_lossy : (bytes : List ℕ) (o : ℕ) (f : Fault) → LossyFault bytes o f → LossyOpens bytes o → ⊥
 fault-excludes_lossy bytes o _ (no_magic f e) opens = let h = opens.2.header.magic_is in cc
 fault-excludes_lossy bytes o _ (other_magic m e) opens = not_other bytes o m opens.2.header.magic opens.0 e opens.2.header.magic_is

@@ -1,4 +1,4 @@
--- The fields of an image that was made of what was read.
+-- The fields of an image that was built from what was read.
 use Rattle.std.proofs.Common.{◌≡◌, ℕ, List, map, Ok, sym, ap, subst, ◌∙◌}
 use Rattle.std.specs.Prelude.{option_map}
 use Rattle.mach_load.specs.Command.{Command}

@@ -19,7 +19,7 @@ use Rattle.mach_parts.specs.declared.segment.section.Section.{Section}
 use Rattle.goblin_mach.specs.Relocations.{RelocatedSection, relocated_view, relocated_section, relocated_sections_of, relocated_sections_in, with_front}
 
 module _ (ctx : Ctx) (bytes : List ℕ) where
-  -- of some sections that are numbered from n on, those that have relocations
+  -- those of some sections, numbered from n on, that have relocations
   abbrev pub among_from : ℕ → List Section → List RelocatedSection
   among_from n sections = map (relocated_section ctx bytes) (filter (λ s. nat_lt 0 s.1.nreloc) (enumerate_from n sections))
 
@@ -27,7 +27,7 @@ module _ (ctx : Ctx) (bytes : List ℕ) where
   abbrev pub found_from : ℕ → Result (List (Section × List ℕ)) Fault → Result (List RelocatedSection) Fault
   found_from n sections = sections >>= (λ found. Ok (among_from n (map (λ s. s.0) found)))
 
-  -- the relocations of sections that may be refused
+  -- the relocations of sections, or the fault of one that can't be read
   abbrev pub left_from : ℕ → List (Result (Section × List ℕ) Fault) → Result (List RelocatedSection) Fault
   left_from n items = found_from n (all_read items)
 
@@ -44,7 +44,7 @@ module _ (ctx : Ctx) (bytes : List ℕ) where
       → with_front front (relocated_sections_of ctx bytes segment) ≡ with_front front (left_from n items)
   left-first segment front n items none all = rw (none, all) refl
 
-  -- at a section that has relocations, its entry goes behind those before it
+  -- at a section that has relocations, its entry follows those before it
   pub left-taken : (n m number : ℕ) (s : Section) (held : List ℕ) (it : RelocationIterator)
       (front pushed : List (ℕ × RelocationIterator × Section)) (item : Result (Section × List ℕ) Fault) (items after : List (Result (Section × List ℕ) Fault))
       → items ≡ item ∷ after → item ≡ Ok (s, held) → m ≡ n + 1 → number ≡ n → 0 < s.nreloc
@@ -75,14 +75,14 @@ module _ (ctx : Ctx) (bytes : List ℕ) where
   joined-refused front f (Ok list) rest e = absurd (cc)
   joined-refused front f (Err g) rest e = e
 
-  -- what is listed before some segments and of them
+  -- what is listed before some segments, followed by what they give
   abbrev listed : List RelocatedSection → List Segment → Result (List RelocatedSection) Fault
   listed front segments = with_front front (relocated_sections_in ctx bytes (map segment_view segments))
 
   abbrev listed_of : List RelocatedSection → Segment → Result (List RelocatedSection) Fault
   listed_of front segment = with_front front (relocated_sections_of ctx bytes (segment_view segment))
 
-  -- what the next segment has goes behind what those before it have
+  -- what the next segment gives follows what those before it give
   pub listed-more : (front pushed : List RelocatedSection) (xs : List Segment) (i : ℕ) (d : Segment) → i < length xs
       → listed_of front (get_or xs i d) ≡ Ok pushed
       → listed front (drop i xs) ≡ listed pushed (drop (i + 1) xs)
@@ -90,14 +90,14 @@ module _ (ctx : Ctx) (bytes : List ℕ) where
       at_drop_more (λ left. listed front left) xs i d lt
       ∙ joined-more front pushed _ (all_read (map (relocated_sections_of ctx bytes) (map segment_view (drop (i + 1) xs)))) e
 
-  -- a fault of the next segment is that of all
+  -- a fault of the next segment is the fault of the whole
   pub listed-refused : (front : List RelocatedSection) (f : Fault) (xs : List Segment) (i : ℕ) (d : Segment) → i < length xs
       → listed_of front (get_or xs i d) ≡ Err f → listed front (drop i xs) ≡ Err f
   listed-refused front f xs i d lt e =
       at_drop_more (λ left. listed front left) xs i d lt
       ∙ joined-refused front f _ (all_read (map (relocated_sections_of ctx bytes) (map segment_view (drop (i + 1) xs)))) e
 
--- an error fails as what comes first where its fault is that of the whole
+-- an error fails as its first part does, if the fault of that part is the fault of the whole
 pub FailsAs-whole : {Y Z : Type 0} (e : Error) (first : Result Y Fault) (whole : Result Z Fault) → ((f : Fault) → first ≡ Err f → whole ≡ Err f)
     → FailsAs e first → FailsAs e whole
 FailsAs-whole (errors.Malformed m) first whole to h = to malformed h

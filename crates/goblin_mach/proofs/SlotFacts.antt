@@ -1,4 +1,4 @@
--- Facts on the slots, the providers and the numbered sections of an image that was opened.
+-- Facts on the slots, the providers and the numbered sections of an opened image.
 use Rattle.std.proofs.Common.{◌≡◌, ℕ}
 use Rattle.mach_base.specs.Text.{texts}
 use Rattle.mach_parts.specs.SectionRecord.{section_holding, section_by_number}

@@ -100,7 +100,7 @@ none_opcodes : (s : Option CutStream) (le : Endian) (pointer : ℕ) (segments : 
 none_opcodes None le pointer segments items e h = h
 none_opcodes (Some s) le pointer segments items e h = absurd (cc)
 
--- the rebases among fixups that end at a fault, if there is one, end there
+-- the rebases among fixups end where the fixups end at a fault, if there is one
 end_before : (r : Option Rebase) (items : List (Result Rebase Fault)) → upto_fault items ≡ items → upto_fault (rebases_before r items) ≡ rebases_before r items
 end_before None items e = e
 end_before (Some r) items e = ap (λ rest. Ok r ∷ rest) e

@@ -23,7 +23,7 @@ use Rattle.goblin_mach.specs.declared.view.LinkView.{LinkView}
 use Rattle.goblin_mach.specs.declared.macho.MachO.{MachO}
 use Rattle.goblin_mach.proofs.ImageFacts.{exports_are, exports_fail, imports_are, imports_fail}
 
--- an error that stands is told
+-- an error for a fault that occurs is an item's error
 pub tells : (P Q : Fault → Type 0) (e : Error) → IsTold e → ((f : Fault) → P f → Q f) → Stands P e → Tells Q e
 tells P Q (errors.Malformed m) t to h = to malformed h
 tells P Q (errors.BadMagic n) t to h = to (bad_magic n) h
@@ -43,7 +43,7 @@ image-links bytes m list imports p exported imported =
       imports_are = ((imports_are m).strict bytes 0 p imports).1 imported;
     }
 
--- a fault in one of them stands in the bytes
+-- a fault in one of them is a fault of the bytes
 pub image-fails : {A : Type 0} (bytes : List ℕ) (m : MachO A) (f : Fault) → IsImage bytes 0 m → FaultHeld m f → LinksFault bytes f
 image-fails bytes m f p fault =
     record {
@@ -66,7 +66,7 @@ pub entry_of_image : {A B : Type 0} (r : Result (Result (LinkView B) Error) Erro
 entry_of_image r m (archive slice) is item = absurd is
 entry_of_image r m (image slice) is item = item slice is
 
--- one more item, where those that are left follow it
+-- one more item, with those that are left after it
 pub one_more_item : {A : Type 0} (entry : ℕ → Result FatEntry Fault) (i n : ℕ) (items : List (Result (LinkView A) Error))
     (x : Result (LinkView A) Error) (all : List (Result FatEntry Fault)) → i < n → IsViewItem (entry i) x
     → ((rest : List (Result (LinkView A) Error)) → AreViewItems (items_from entry i (n - i)) rest → AreViewItems all (items ++ rest))
@@ -75,7 +75,7 @@ one_more_item entry i n items x all inside is go rest later =
     subst (AreViewItems all) (sym (append_assoc items (x ∷ []) rest))
     (go (x ∷ rest) (subst (λ (es : List (Result FatEntry Fault)). AreViewItems es (x ∷ rest)) (sym (items_from-first entry i n inside)) (is, later)))
 
--- where none are left all are there
+-- if none are left, all are there
 pub all_items : {A : Type 0} (entry : ℕ → Result FatEntry Fault) (i n : ℕ) (items : List (Result (LinkView A) Error)) (all : List (Result FatEntry Fault))
     → n ≤ i
     → ((rest : List (Result (LinkView A) Error)) → AreViewItems (items_from entry i (n - i)) rest → AreViewItems all (items ++ rest)) → AreViewItems all items

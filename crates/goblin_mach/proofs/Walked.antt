@@ -1,4 +1,4 @@
--- What a walk of the trie of an image says: the trie of no bytes has no exports and no fault.
+-- What a walk of the trie of an image reports: the trie of no bytes has no exports and no fault.
 use Rattle.std.proofs.Common.{◌≡◌, ℕ, List, [], Option, Some, None, refl, arith}
 use Rattle.mach_base.specs.Fault.{Fault}
 use Rattle.mach_dyld.specs.Trie.{Entry}
@@ -29,7 +29,7 @@ pub walked_fault : (t : Option TrieRange) (libs : List (List ℕ)) (f : Fault) �
 walked_fault None libs f s = empty_fault libs f s
 walked_fault (Some t) libs f s = s
 
--- so of the bytes
+-- the same of the bytes
 pub walked_exports : {A : Type 0} (m : MachO A)
     → InBothModes m (λ bytes o. (list : List Entry) → ListsExports (trie_or_empty (trie_held m)) (texts m.libs.items) list → HasExports bytes o list)
 walked_exports m =

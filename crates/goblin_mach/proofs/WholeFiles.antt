@@ -1,4 +1,4 @@
--- No fault stands where a whole file has entries.
+-- No fault occurs if a whole file has entries.
 use Rattle.std.proofs.Common.{◌≡◌, ℕ, ◌≤◌, inl, inr, List, [], ◌∷◌, length, Result, Ok, Err, IsOk, nat_le, Bool, true, false, refl, sym, subst, ◌∙◌, arith}
 use Rattle.std.proofs.lemmas.Bool.{leb-true}
 use Rattle.std.specs.Prelude.{IfErr}
@@ -14,7 +14,7 @@ use Rattle.goblin_mach.specs.Image.{Opens}
 use Rattle.goblin_mach.specs.View.{HasEntries, one_image, fat_table, ViewFault, of_file, of_table}
 use Rattle.goblin_mach.proofs.Files.{fault-excludes_mach, fat-excludes_image}
 
--- fewer than 8 bytes are no fat file
+-- fewer than 8 bytes are not a fat file
 too_few : (bytes : List ℕ) (file : FatFile) (none : Bool) → nat_le (length bytes) 0 ≡ none → nat_le 8 (length bytes) ≡ false → fat_file_in bytes ≡ Ok file → ⊥
 too_few bytes file true none few is = let wrong = rw none at is in cc
 too_few bytes file false none few is = let wrong = rw (none, few) at is in cc
@@ -27,7 +27,7 @@ header_by bytes file false few is = absurd (too_few bytes file (nat_le (length b
 pub header_of_fat : (bytes : List ℕ) (file : FatFile) → fat_file_in bytes ≡ Ok file → 8 ≤ length bytes
 header_of_fat bytes file is = header_by bytes file (nat_le 8 (length bytes)) refl is
 
--- an answer is no fault
+-- a result that is Ok is not a fault
 not_both : (r : Result (List FatArch) Fault) (f : Fault) → IsOk r → r ≡ Err f → ⊥
 not_both (Ok x) f ok is = cc
 not_both (Err e) f ok is = cc
@@ -48,6 +48,6 @@ pub ok_where_viewed : {X : Type 0} (r : Result X Error) (bytes : List ℕ) (entr
 ok_where_viewed (Ok x) bytes entries h has = tt
 ok_where_viewed (Err e) bytes entries h has = Stands-in (ViewFault bytes) (λ _. ⊥) e (λ f k. view_fault-excludes bytes f entries k has) h
 
--- an image that opens at the front begins with another magic than a fat file
+-- an image that opens at the start has another magic than a fat file
 pub entries_of_image : (bytes : List ℕ) → Opens bytes 0 → HasEntries bytes (Ok (image bytes) ∷ [])
 entries_of_image bytes opens = one_image opens (λ fat. fat-excludes_image bytes fat (opens.0, opens.1, opens.2.lossy))

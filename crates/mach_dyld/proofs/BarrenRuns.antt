@@ -1,4 +1,5 @@
--- How many branches that lead nowhere follow each other: what is known of a place, from what is known of the one behind a branch there.
+-- How many branches that lead nowhere follow each other: what is known of a place, from what is known of the place after a
+-- branch there.
 use Rattle.mach_dyld.proofs.TrieNames.{◌≡◌, ◌<◌, ◌≤◌, ◌+◌, ◌-◌, ℕ, zero, suc, Bool, true, false, List}
 use Rattle.mach_dyld.proofs.TrieNames.{◌∷◌, Ok, Err, Result, Option, Some, None, refl, sym, ap, ◌∙◌, subst}
 use Rattle.mach_dyld.proofs.TrieNames.{arith, cond, inl, inr, length, take, drop, get_or}
@@ -25,7 +26,7 @@ use Rattle.mach_dyld.specs.Views.{those_read}
 use Rattle.mach_dyld.specs.Tails.{IsTail}
 use Rattle.mach_dyld.specs.declared.trie.runs.Tail.{Tail}
 
--- that a list is barren is that it can be read, and leads nowhere
+-- a barren list can be read, and leads nowhere
 pub barren_read : (upto : ℕ) (r : Result (List Branch) Fault) → is_barren upto r ≡ true → (bs : List Branch) × (r ≡ Ok bs) × (lead_nowhere upto bs ≡ true)
 barren_read upto (Ok bs) e = (bs, refl, e)
 barren_read upto (Err f) e = absurd (not_both e refl)
@@ -64,7 +65,7 @@ module _ (s : Source) where
       let both = both_nowhere s.upto first.0.0 rest.0 (subst (λ (bs : List Branch). lead_nowhere s.upto bs ≡ true) (sym (same_ok rest.2)) read.2) in
       (first.0, first.1, both.0, barren_is s.upto (branches_at s.bytes.now s.from n first.0.1) rest.0 rest.1 both.1)
 
-  -- one more, before the others
+  -- one more branch, before the others
   pub one_more_barren : (n place after : ℕ) (b : Branch) → branch_at s.bytes.now s.from place ≡ Ok (b, after) → s.upto ≤ b.start → barren_at n after ≡ true
       → barren_at (suc n) place ≡ true
   unfolding branches_at
@@ -73,7 +74,7 @@ module _ (s : Source) where
       let test = le-leb s.upto b.start out in
       rw (first, read.1, test) read.2
 
-  -- fewer are barren, too
+  -- fewer branches are barren, too
   pub fewer_barren : (m n place : ℕ) → m ≤ n → barren_at n place ≡ true → barren_at m place ≡ true
   fewer_barren zero n place le e = no_barren place
   fewer_barren (suc m) zero place le e = absurd (omega (arith, le))
@@ -81,7 +82,7 @@ module _ (s : Source) where
       let first = first_barren n place e in
       one_more_barren m place first.0.1 first.0.0 first.1 first.2 (fewer_barren m n first.0.1 (omega (arith, le)) first.3)
 
-  -- those that are as many as one or the other number are
+  -- a number of branches that is at most one or the other of two numbers
   pub either_barren : (k m n place : ℕ) → k ≤ max m n → barren_at m place ≡ true → barren_at n place ≡ true → barren_at k place ≡ true
   either_barren k m n place le one other = elim (cases_lt m k) [
     | inl lt ↦ fewer_barren k n place (omega (arith, le, lt)) other
@@ -96,7 +97,7 @@ module _ (s : Source) where
   abbrev checked : ℕ × ℕ → Result (ℕ × ℕ) Fault
   checked c = cond (ltb (length s.bytes.now) c.0) (Err (too_short c.0 (codes "branches"))) (Ok c)
 
-  -- a count that is read
+  -- a count that was read
   count_parts : (place count first : ℕ) → count_at s.bytes.now place ≡ Ok (count, first)
       → (uleb_at s.bytes.now place ≡ Ok (count, first)) × (ltb (length s.bytes.now) count ≡ false)
   count_parts place count first e =
@@ -108,13 +109,13 @@ module _ (s : Source) where
             (read.1 ∙ ap Ok same, subst (λ (x : ℕ × ℕ). ltb (length s.bytes.now) x.0 ≡ false) same few.0)
       ]
 
-  -- the branches behind it are those of the list
+  -- the branches after it are those of the list
   pub children_are : (place count first : ℕ) → count_at s.bytes.now place ≡ Ok (count, first)
       → children_at s.bytes.now s.from place ≡ branches_at s.bytes.now s.from count first
   unfolding children_at
   children_are place count first e = let parts = count_parts place count first e in rw (parts.0, parts.1) refl
 
-  -- where none is read there is no list
+  -- if no count can be read there is no list
   pub no_children : (place : ℕ) (f : Fault) → count_at s.bytes.now place ≡ Err f → children_at s.bytes.now s.from place ≡ Err f
   unfolding children_at
   no_children place f e = by (uleb_at s.bytes.now place) e
@@ -131,7 +132,7 @@ module _ (s : Source) where
       by (Ok c) e = checked_fails c (ltb (length s.bytes.now) c.0) e
       by (Err g) e = let same : g ≡ f = same_err e in ap Err same
 
-  -- what is known of a list is known of as many branches as its count says
+  -- what is known of a list is known of as many branches as its count states
   pub known_is : (known : List ℕ) (place count first : ℕ) → count_at s.bytes.now place ≡ Ok (count, first) → IsKnownBarren s known place
       → count ≤ get_or known first 0
   known_is known place count first e is =
@@ -148,7 +149,7 @@ module _ (s : Source) where
       let read = barren_read s.upto (branches_at s.bytes.now s.from count first) (fewer_barren count n first le barren) in
       (read.0, children_are place count first e ∙ read.1, read.2)
 
-  -- what is known of the other places stays, and of this one so many are barren, too
+  -- what is known of the other places stays, and from this one `count` branches are barren, too
   pub raised_barren : (old new : List ℕ) (place count : ℕ) → AreBarren s old → barren_at count place ≡ true
       → get_or new place 0 ≤ max count (get_or old place 0)
       → ((other : ℕ) → other ≢ place → get_or new other 0 ≡ get_or old other 0) → AreBarren s new
@@ -171,7 +172,7 @@ module _ (s : Source) where
 
   -- ---- what follows a place
 
-  -- nothing behind the last
+  -- nothing follows the last place
   pub tail_at_end : IsTail s (length s.bytes.now) (record { end = length s.bytes.now; low = length s.bytes.now; after = None })
   tail_at_end = record {
     from_place = omega arith;
@@ -204,7 +205,7 @@ module _ (s : Source) where
         length-take (t.end - place) rest ∙ (let more : t.end - place ≤ length rest = omega (arith, len, le, inside) in min-eq_left more),
       )
 
-  -- a branch by what follows
+  -- the branch at a place, by what follows it
   branch_there : (place after : ℕ) (t : Tail) → IsTail s place t → t.low ≡ place → t.after ≡ Some after
       → (b : Branch) × (branch_at s.bytes.now s.from place ≡ Ok (b, after)) × (s.upto ≤ b.start)
   branch_there place after t is low there =
@@ -238,7 +239,7 @@ utf8_from xs place low end a b front back =
     ∙ ap (λ n. take n (drop place xs)) whole in
     subst IsUtf8 parts (IsUtf8-append _ _ front back)
 
--- where bytes are read as a text they are UTF-8
+-- if bytes can be read as a text they are UTF-8
 pub ok_is_utf8 : {X E U : Type 0} (P : X → Type 0) (Q : E → Type 0) (r : Result X E) → is_ok r ≡ true → MatchResult r (λ x. P x × U) Q → U
 ok_is_utf8 P Q (Ok x) is h = h.1
 ok_is_utf8 P Q (Err e) is h = absurd (not_both is refl)

@@ -29,7 +29,7 @@ held offset s h e = by_test (nat_lt offset s.command.vmsize) refl e
     by_test true lt e = (ltb-true offset s.command.vmsize lt, same_ok e)
     by_test false lt e = absurd (cc)
 
--- a segment that holds an offset, and the sums there, of which something is made
+-- a segment that holds an offset, and the sums there, from which something is made
 pub record Spot {T : Type 0} (hold : SegmentView → Result SegmentView Fault) (make : ℕ → ℕ → T) (segments : List SegmentView) (k offset : ℕ)
     (t : T) : Type 0 where
   pub segment : SegmentView

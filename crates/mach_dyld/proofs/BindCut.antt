@@ -1,4 +1,4 @@
--- A range that is cut behind a DONE.
+-- A range that is cut after a DONE.
 use Rattle.mach_dyld.proofs.BindNames.{◌≡◌, ℕ, ◌+◌, ◌-◌, ◌*◌, ◌%◌, ◌^◌, ◌<◌, ◌≤◌, List, [], ◌∷◌, ◌++◌, map, Bool, true, false, Some, None, Result, Ok, Err}
 use Rattle.mach_dyld.proofs.BindNames.{refl}
 use Rattle.mach_dyld.proofs.BindNames.{sym, ap, subst, ◌∙◌, arith, zero-add, pos, filter_map, range_with_len, cons_option, AllByRecursion, cond, map-append}
@@ -241,7 +241,7 @@ stream_end-push : (place : ℕ) (ps : List Placed) (d : Placed) → stream_end p
 stream_end-push place ps d = stream_end-append place ps (d ∷ [])
 
 module _ (x : Input) (r : Range) (front : List Placed) (d : Placed) (list : List Import) (b : IsBeginning x r (front ++ d ∷ [])) (e : is_done d ≡ true) where
-  -- the front with its DONE, the ranges of both parts, and what there is where both have a list
+  -- the first part with its DONE, the ranges of both parts, and what there is if both have a list
   abbrev heads : List Placed
   heads = front ++ d ∷ []
 

@@ -1,4 +1,4 @@
--- What a list of imports that ends at an error says, and one that ends with both streams.
+-- A list of imports that ends at an error, and one that ends with both streams.
 use Rattle.mach_dyld.proofs.BindNames.{◌≡◌, ◌∙◌, ℕ, List, [], ◌∷◌, ◌++◌, Result, Err, sym, ap, Stands, Fault, fault_of, Error, Stands-reported, SegmentView}
 use Rattle.mach_dyld.proofs.BindNames.{Placed}
 use Rattle.mach_dyld.proofs.BindNames.{Import, BindRanges, input_in, ListsImports, BindFault, AreBindItems}

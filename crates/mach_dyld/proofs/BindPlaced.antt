@@ -1,4 +1,4 @@
--- Where the name of a bind stands, and which library it is of.
+-- The place of the name of a bind, and its library.
 use Rattle.mach_dyld.proofs.BindNames.{◌≡◌, ◌⊎◌, ◌≤◌, ◌-◌, ◌^◌, ℕ, List, [], Option, Some, None, Result, Ok, Err, refl, sym, ap, ◌∙◌, arith, inl, inr}
 use Rattle.mach_dyld.proofs.BindNames.{length, Bool, true, false, cond, malformed}
 use Rattle.mach_dyld.proofs.BindNames.{slice_get, found_or_malformed, ◌>>=◌, bind_ok, same_ok, Fault, Input, Bind, Import, Target, target_of, import_of}
@@ -12,12 +12,12 @@ use Rattle.mach_dyld.specs.NamePlaces.{IsNamed, text_or_none}
 use Rattle.mach_dyld.specs.SiteCursors.{place_named}
 use Rattle.std.proofs.lemmas.Bool.{le-leb}
 
--- outside the bytes stands no text
+-- there is no text outside the bytes
 pub outside : (bytes : List ℕ) (s : ℕ) → length bytes ≤ s → text_or_none (text_at bytes s) ≡ []
 unfolding text_at
 outside bytes s out = rw (le-leb (length bytes) s out) refl
 
--- a text stands inside them
+-- a text is inside them
 pub inside : (bytes : List ℕ) (s : ℕ) (text : List ℕ) → text_at bytes s ≡ Ok text → length bytes ≤ s → ⊥
 unfolding text_at
 inside bytes s text e out = let x = rw (le-leb (length bytes) s out) at e in cc
@@ -83,7 +83,7 @@ made_of x g b i e = by_test (is_complete g) refl e
 pub binding_tells : (x : Input) (g : SetBefore) (b : Bind) (i : Binding) → binding_of x g b ≡ Ok i → b.name ≡ i.name
 binding_tells x g b i e = let made = made_of x g b i e in ap (λ (j : Binding). j.name) made.5
 
--- a name that is known stands there
+-- a name that is known is there
 pub stands : (bytes name : List ℕ) (place : ℕ) → IsNamed bytes name place → (name ≡ []) ⊎ (text_at bytes place ≡ Ok name)
 stands bytes name place (inl none) = inl none.0
 stands bytes name place (inr there) = inr there

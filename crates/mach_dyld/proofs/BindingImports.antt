@@ -1,4 +1,4 @@
--- Where imports and bindings read two streams alike, each binding tells what the import at its place tells.
+-- If imports and bindings read two streams alike, each binding agrees with the import at its place.
 use Rattle.mach_dyld.proofs.BindNames.{◌≡◌, ◌≢◌, ◌⊎◌, inl, inr, ℕ, ℤ, zero, suc, ◌+◌, ◌-◌, ◌*◌, ◌%◌, ◌^◌, ◌<◌, ◌≤◌, List, [], ◌∷◌, ◌++◌, map, Bool, true, false}
 use Rattle.mach_dyld.proofs.BindNames.{Option, Some, None, Result, Ok, Err, refl, reverse, nat_lt, cases_eq, cases_Bool, ◌>>=◌, append_assoc, append-nil}
 use Rattle.mach_dyld.proofs.BindNames.{bind_ok}
@@ -37,7 +37,7 @@ use Rattle.mach_dyld.proofs.BindLast.{onto-reverse}
 
 -- ---- one instruction
 
--- what the byte at its place is, if one stands there
+-- what the byte at its place is, if there is one
 abbrev PlainByte : Result ℕ Fault → Type 0
 PlainByte there = (byte : ℕ) → there ≡ Ok byte → bit_and byte 0xf0 ≢ 0x30
 
@@ -97,7 +97,7 @@ undone_of i = i
 abbrev undone : Placed → Placed
 undone p = record { place = p.place; instruction = undone_of p.instruction; after = p.after }
 
--- it has what both have
+-- it has what both instructions have
 undone-same : {A : Type 0} (f : Instruction → A) → f nothing ≡ f done → (i : Instruction) → f (undone_of i) ≡ f i
 undone-same {A} f e done = e
 undone-same {A} f e _ = refl
@@ -143,7 +143,7 @@ advances-undone pointer (p ∷ back) =
     ap (λ n. n + advances pointer (map undone back)) (undone-same (advance_of pointer) refl p.instruction)
     ∙ ap (λ n. advance_in pointer p + n) (advances-undone pointer back)
 
--- ---- what is set behind the last DONE is what is set in all
+-- ---- what is set after the last DONE is what is set in all
 
 near_far : (back : List Placed) → (far : List Placed) × (back ≡ nearer_than is_done back ++ far)
 near_far [] = ([], refl)
@@ -179,7 +179,7 @@ set_nowhere {A} fresh operand back e =
     (sym (filter_map-append operand near m.0) ∙ ap (filter_map operand) (sym m.1) ∙ e) in
     ap (nearest_or fresh) (none ∙ sym e)
 
--- an operand that stands where another does
+-- an operand in the same place as another
 cons_none : {A : Type 0} (o : Option A) (xs : List A) → cons_option o xs ≡ [] → (o ≡ None) × (xs ≡ [])
 cons_none {A} None xs e = (refl, e)
 cons_none {A} (Some x) xs e = absurd (cc)
@@ -204,7 +204,7 @@ set_segment : (i : Instruction) → segment_is i ≡ false → segment_of i ≡ 
 set_segment (segment k n) e = absurd (cc)
 set_segment _ e = refl
 
--- where a segment is set in the front, those since are of the front
+-- if a segment is set in the nearer part, the instructions since then are in that part
 since_front : (near far : List Placed) → filter_map segment_in near ≢ [] → nearer_than sets_segment (near ++ far) ≡ nearer_than sets_segment near
 since_front [] far h = absurd (h refl)
 since_front (p ∷ near) far h = by_test (since_front near far) (sets_segment p) refl
@@ -215,10 +215,10 @@ since_front (p ∷ near) far h = by_test (since_front near far) (sets_segment p)
     by_test others false e =
         ap (λ ps. p ∷ ps) (others (λ none. h (ap (λ o. cons_option o (filter_map segment_in near)) (set_segment p.instruction e) ∙ none)))
 
--- ---- the bind behind both
+-- ---- the bind after both
 
 module _ (pointer : ℕ) (r : Range) (back : List Placed) (own : ℕ) where
-  -- it differs in its sequence alone
+  -- it differs only in its sequence
   abbrev IsSameBind : Type 0
   IsSameBind = bind_after pointer r (map undone back) own ≡ record (bind_after pointer r back own) { sequence = sequence_of r.from (map undone back) }
 
@@ -282,7 +282,7 @@ module _ (pointer : ℕ) (r : Range) (back : List Placed) (own : ℕ) where
       ∙ ap (parts (last_setting 0 library_in back) (last_setting 0 flags_in back) (last_setting [] symbol_name_in back) (last_setting (pos 0) addend_in back)
       (last_setting 0 segment_in back)) (anew_reached h.segment)
 
--- where no DONE stands, both are one
+-- if there is no DONE, both are the same
 abbrev NoDone : List Placed → Type 0
 NoDone ps = AllByRecursion (λ p. is_done p ≡ false) ps
 
@@ -353,7 +353,7 @@ module _ (x : Input) (first : List ℕ) (others : List (List ℕ)) (libs : x.lib
   one_tells i (Ok b) is bs h k = (h, k)
   one_tells i (Err f) is bs h k = tt
 
-  -- the bind that comes of what bindings read tells what that of imports does
+  -- the binding of what bindings read agrees with the import of what imports read
   bind_alike : (r : Range) (back : List Placed) (g : SetBefore) (own : ℕ) → IsSameBind x.pointer r back own
       → g.ordinal ≡ pos (last_setting 0 library_in (map undone back))
       → Tells (import_of x (bind_after x.pointer r back own)) (binding_of x g (bind_after x.pointer r (map undone back) own))
@@ -387,7 +387,7 @@ module _ (x : Input) (first : List ℕ) (others : List (List ℕ)) (libs : x.lib
   abbrev placed : ℕ → Instruction → ℕ → Placed
   placed place i after = record { place = place; instruction = i; after = after }
 
-  -- what comes of one instruction of both
+  -- the items of one instruction of both
   here_tells : (r : Range) (back : List Placed) (place after : ℕ) (i : Instruction) (is : List Item) (bs : List (Result Binding Fault))
       → (0 < count_of i → (own : ℕ) → IsSameBind x.pointer r back own)
       → last_ordinal x.bytes (undone (placed place i after) ∷ map undone back)
@@ -412,7 +412,7 @@ module _ (x : Input) (first : List ℕ) (others : List (List ℕ)) (libs : x.lib
     abbrev read_bindings : Reader
     read_bindings = opcode_at r x.pointer x.bytes
 
-    -- what bindings read where imports read this: what both have, or a DONE that leads to the end
+    -- what bindings read where imports read this: the same, or a DONE that leads to the end
     abbrev ReadsAs : Found → Found → Type 0
     ReadsAs p q = (q ≡ (undone_of p.0, p.1)) ⊎ ((done_is p.0 ≡ true) × (r.is_lazy ≡ false) × (q.0 ≡ nothing) × (r.upto ≤ q.1))
 
@@ -447,7 +447,7 @@ module _ (x : Input) (first : List ℕ) (others : List (List ℕ)) (libs : x.lib
         with_end : Instruction → ℕ → Found
         with_end i n = (i, n)
 
-    -- where imports can't read, bindings can't
+    -- where imports can't read an instruction, bindings can't
     both_read : (place : ℕ) (f : Fault) (q : Found) → read_binds place ≡ Err f → read_bindings place ≡ Ok q → ⊥
     unfolding opcode_at
     both_read place f q e g =
@@ -466,7 +466,7 @@ module _ (x : Input) (first : List ℕ) (others : List (List ℕ)) (libs : x.lib
     abbrev Dones : List Placed → Type 0
     Dones ps = AllByRecursion (λ p. is_done p ≡ true) ps
 
-    -- behind the first are only DONEs
+    -- after the first DONE there are only DONEs
     abbrev Ends : List Placed → Type 0
     Ends [] = Unit {0}
     Ends (p ∷ ps) = (is_done p ≡ true → Dones ps) × Ends ps
@@ -488,7 +488,7 @@ module _ (x : Input) (first : List ℕ) (others : List (List ℕ)) (libs : x.lib
     done_among [] behind p h = h.0
     done_among (y ∷ front) behind p h = done_among front behind p h.1
 
-    -- no DONE stands before a bind
+    -- no DONE comes before a bind
     before_bind : (ps front : List Placed) (p : Placed) (behind : List Placed) → Ends ps → ps ≡ front ++ p ∷ behind → 0 < count_in p → NoDone front
     before_bind ps [] p behind h e more = tt
     before_bind [] (y ∷ front) p behind h e more = absurd (cc)
@@ -524,14 +524,14 @@ module _ (x : Input) (first : List ℕ) (others : List (List ℕ)) (libs : x.lib
     placed_is : (p q : Placed) → q.place ≡ p.place → ◌≡◌ {A = Found} (q.instruction, q.after) (undone_of p.instruction, p.after) → q ≡ undone p
     placed_is p q e f = ap (λ n. placed n q.instruction q.after) e ∙ ap (λ (y : Found). placed p.place y.0 y.1) f
 
-    -- behind the end of the range nothing is read
+    -- after the end of the range nothing is read
     nothing_behind : (place : ℕ) (qs : List Placed) (s : Option Fault) → r.upto ≤ place → AllStandBy read_bindings r.upto qs → Follow place qs
         → StopsBy read_bindings r.upto (stream_end place qs) s → (qs ≡ []) × (s ≡ None)
     nothing_behind place [] None h a f e = (refl, refl)
     nothing_behind place [] (Some g) h a f e = absurd (omega (arith, h, e.0))
     nothing_behind place (q ∷ qs) s h a f e = absurd (omega (arith, h, a.0.within, f.0))
 
-    -- what comes of both, before what comes of others
+    -- the items of both, before the items of others
     abbrev Tell : List Placed → List Placed → List Placed → Option Fault → Option Fault → List Item → List (Result Binding Fault) → Type 0
     Tell back ps qs s t is bs = EachTells first (from_binds back ps ++ (fault_item s ++ is)) (from_bindings (map undone back) qs ++ (fault_item t ++ bs))
 

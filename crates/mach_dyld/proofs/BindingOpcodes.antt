@@ -69,7 +69,7 @@ quiet_not_done : (i : Instruction) → is_quiet i ≡ true → done_is i ≡ fal
 quiet_not_done done h = cc
 quiet_not_done _ h = refl
 
--- what holds of a library's instruction, where it is one, and of those that set none, holds of that of a row
+-- what holds of an instruction that sets the library, and of those that set none, holds of the instruction in a row
 module _ (P : Instruction → Type 0) (pointer : ℕ) (bytes : List ℕ) (opcode imm place : ℕ) where
   row_imm : opcode ≡ 0x10 → row_at pointer bytes opcode imm place ≡ Ok (library imm, place)
   unfolding row_at
@@ -103,12 +103,12 @@ no_done pointer bytes opcode imm place found row d =
 
 -- ---- the ordinal
 
--- a byte that stands at the place of an instruction
+-- a byte at the place of an instruction
 abbrev pub at_byte : ℕ → Instruction → ℕ → Placed
 at_byte place i after = record { place = place; instruction = i; after = after }
 
 module _ (bytes : List ℕ) (place byte : ℕ) (there : byte_at bytes place ≡ Ok byte) (special : Option ℤ) (end : ℕ) (b : Bind) (after : ℕ) where
-  -- the ordinal is kept
+  -- the ordinal is unchanged
   kept : (i : Instruction) → is_quiet i ≡ true → bit_and byte 0xf0 ≢ 0x30
       → ordinal_after bytes (at_byte place i after) (ordinal_now special b.library) ≡ ordinal_now special (set_by i end b).library
   unfolding set_by moved
@@ -132,7 +132,7 @@ module _ (bytes : List ℕ) (place byte : ℕ) (there : byte_at bytes place ≡ 
   unfolding row_at
   row_special pointer e = rw e refl
 
-  -- a DONE sets none
+  -- a DONE sets no ordinal
   pub next_nothing : opcode_there ≡ 0x00 → Next nothing
   unfolding set_by
   next_nothing e = rw (there, e) refl

@@ -11,7 +11,7 @@ module _ (r : Range) (pointer : ℕ) (bytes : List ℕ) (place byte : ℕ) (ther
   unfolding opcode_at
   by_table = rw there refl
 
-  -- above the table
+  -- an opcode above the table
   pub unknown : nat_lt (highest_opcode r.is_lazy) (bit_and byte 0xf0) ≡ true → opcode_at r pointer bytes place ≡ Err malformed
   unfolding bindings_row
   unknown h = by_table ∙ rw h refl
@@ -31,7 +31,7 @@ module _ (r : Range) (pointer : ℕ) (bytes : List ℕ) (place byte : ℕ) (ther
   unfolding bindings_row
   as_read h d = by_table ∙ rw (h, ne_eqb (bit_and byte 0xf0) 0x00 d) refl
 
-  -- where it can't be read
+  -- an instruction that can't be read
   pub unread : nat_lt (highest_opcode r.is_lazy) (bit_and byte 0xf0) ≡ false → IsErr (opcode_at r pointer bytes place)
       → opcode_at r pointer bytes place ≡ instruction_at pointer bytes place
   unread h e = elim (cases_eq (bit_and byte 0xf0) 0x00) [
@@ -39,7 +39,7 @@ module _ (r : Range) (pointer : ℕ) (bytes : List ℕ) (place byte : ℕ) (ther
     | inr d ↦ as_read h d ∙ sym (by_row pointer bytes place byte there)
   ]
 
--- where no byte stands
+-- a place without a byte
 pub past_end : (r : Range) (pointer : ℕ) (bytes : List ℕ) (place : ℕ) → byte_at bytes place ≡ Err (bad_offset place)
     → opcode_at r pointer bytes place ≡ Err (bad_offset place)
 unfolding opcode_at

@@ -1,4 +1,4 @@
--- What comes of bindings by settings that run forward is what looking back finds.
+-- The bindings by settings that run forward are what looking back finds.
 use Rattle.mach_dyld.proofs.BindNames.{◌≡◌, ℕ, ℤ, ◌+◌, ◌-◌, List, ◌∷◌, Bool, true, false, Option, Some, None, Ok, refl, sym, ap, subst}
 use Rattle.mach_dyld.proofs.BindNames.{◌∙◌, pos, cond, ◌==◌, bit_and, nat_lt, inl, inr, cases_eq, cases_Bool, ne_eqb, bind_ok, same_ok}
 use Rattle.mach_dyld.proofs.BindNames.{Instruction, done, byte_at, Placed, Range, Input, bind_after}
@@ -86,7 +86,7 @@ module _ (x : Input) (r : Range) (back : List Placed) (p : Placed) (m : Extra) (
     ]
   ]
 
--- after an instruction that stands there
+-- after an instruction at its place
 next_given : (x : Input) (r : Range) (m : Extra) (back : List Placed) (p : Placed) → StandsBy (reader_by binding_rules x r) r.upto p → Tied x r m back
     → Tied x r (set_after binding_rules (byte_at x.bytes p.place) m) (p ∷ back)
 unfolding opcode_at

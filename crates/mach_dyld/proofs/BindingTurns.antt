@@ -1,4 +1,4 @@
--- What comes of the turns of one instruction, and whether all of them lie in a segment.
+-- The items of the turns of one instruction, and whether all of them lie in a segment.
 use Rattle.mach_dyld.proofs.BindNames.{◌≡◌, ℕ, zero, suc, ◌+◌, ◌-◌, ◌*◌, ◌%◌, ◌^◌, ◌<◌, ◌≤◌, List, [], ◌∷◌, ◌++◌, map, true, false, Some, None}
 use Rattle.mach_dyld.proofs.BindNames.{Result, Ok, Err, refl, sym, ap, subst, ◌∙◌, arith, cond, append_assoc, Fault, malformed, Bind, Input, Range, State}
 use Rattle.mach_dyld.proofs.BindNames.{slice_get, map-append}
@@ -46,7 +46,7 @@ module _ {A : Type 0} where
   fault-cons (Ok i) items e = e
   fault-cons (Err f) items e = refl
 
-  -- ---- what comes of turns
+  -- ---- the items of turns
 
   pub faultless : (makes : Bind → Result A Fault) (c : Bind) (s k : ℕ)
       → ((j : ℕ) → j < k → (y : A) × (makes (at_offset c (offset_at c.offset s j)) ≡ Ok y)) → has_fault (map makes (strides c s k)) ≡ false
@@ -65,7 +65,7 @@ module _ {A : Type 0} where
   faulty makes c s (suc k) (suc j) f lt e =
       fault-cons (makes c) (map makes (strides (moved s c) s k)) (faulty makes (moved s c) s k j f (omega (arith, lt)) e)
 
--- ---- behind them
+-- ---- after them
 
 pub length-strides : (c : Bind) (s k : ℕ) → length (strides c s k) ≡ k
 unfolding strides
@@ -116,7 +116,7 @@ module _ {M A : Type 0} (u : Rules M A) (x : Input) (lazy : Range) (m : M) (s : 
       ap has_fault (all_items on) ∙ fault-upto (made ++ ran ++ stop ++ then_lazy) ∙ ap has_fault (joined made ran stop then_lazy)
       ∙ fault-front made (ran ++ stop ++ then_lazy) some
 
--- ---- the first so many of them
+-- ---- the first of them
 
 strides-append : (c : Bind) (s n k : ℕ) → strides c s (k + n) ≡ strides c s n ++ strides (after_strides c s n) s k
 unfolding strides after_strides
@@ -246,7 +246,7 @@ offset_is offset stride (suc j) small =
     offset_is ((offset + stride) % 2 ^ 64) stride j (mod-lt (offset + stride) (omega arith)) ∙ mod-add_first (offset + stride) (j * stride) (2 ^ 64)
     ∙ ap (λ n. n % 2 ^ 64) sum
 
--- an offset that is moved so far that those above the highest come to the ring's start
+-- an offset that is moved so far that the offsets above the highest come to the ring's start
 module _ (highest : ℕ) (small : highest < 2 ^ 64) where
   abbrev above : ℕ
   above = 2 ^ 64 - 1 - highest

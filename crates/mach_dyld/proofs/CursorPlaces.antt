@@ -1,4 +1,4 @@
--- Where an export stands that a cursor gave.
+-- The place of an export that a cursor returned.
 use Rattle.mach_dyld.proofs.TrieNames.{◌≡◌, ◌==◌, ◌>>=◌, ℕ, List, cond, Option, None, Some, Result, Ok, Err, sym, ap, subst, ◌∙◌, inl, inr}
 use Rattle.mach_dyld.proofs.TrieNames.{Fault, Branch, Info, Node, slice_get, bind_ok, chosen, same_ok, found_or_malformed, sum_of, uleb_at, text_at, own_at}
 use Rattle.mach_dyld.proofs.TrieNames.{children_at, terminal_at, inner_at, node_at}
@@ -16,7 +16,7 @@ module _ (bytes : List ℕ) (libs : List (List ℕ)) (lib : List ℕ) (name : Op
   abbrev there : Info
   there = reexport lib name said
 
-  -- a regular export and a stub are none
+  -- a regular export or a stub is no re-export
   no_regular : (flags place : ℕ) → regular_at bytes flags place ≡ Ok there → ⊥
   unfolding regular_at
   no_regular flags place e = let a = bind_ok (uleb_at bytes place) (λ (n : ℕ × ℕ). Ok (regular n.0 flags)) there e in absurd (let x = a.2 in cc)
@@ -33,7 +33,7 @@ module _ (bytes : List ℕ) (libs : List (List ℕ)) (lib : List ℕ) (name : Op
   a_reexport_of a_reexport flags place e = e
   a_reexport_of a_stub flags place e = absurd (no_stub flags place e)
 
-  -- what stands there
+  -- the parts of a re-export
   in_reexport : (flags place : ℕ) → reexport_at bytes libs flags place ≡ Ok there
       → (found : ℕ × ℕ) × (uleb_at bytes place ≡ Ok found) × IsReexportAt bytes libs lib name (Some found)
   unfolding reexport_at
@@ -53,7 +53,7 @@ module _ (bytes : List ℕ) (libs : List (List ℕ)) (lib : List ℕ) (name : Op
   unfolding info_at
   in_info flags place e = in_reexport flags place (a_reexport_of (info_kind flags) flags place e)
 
-  -- behind the size
+  -- the same after the size
   in_own : (size place : ℕ) (own : Info × ℕ) → own_at bytes libs size place ≡ Ok own → own.0 ≡ there
       → (flags : ℕ × ℕ) × (uleb_at bytes place ≡ Ok flags) × (found : ℕ × ℕ) × (uleb_at bytes flags.1 ≡ Ok found)
       × IsReexportAt bytes libs lib name (Some found)
@@ -103,7 +103,7 @@ module _ (bytes : List ℕ) (libs : List (List ℕ)) (lib : List ℕ) (name : Op
               (o.2, first ∙ second ∙ o.3, o.4))
         ]
 
--- where a re-export stands, its ordinal and its name there are read
+-- at a re-export, its ordinal and its name there are read
 pub reexport_there : (bytes : List ℕ) (libs : List (List ℕ)) (from start : ℕ) (lib : List ℕ) (name : Option (List ℕ)) (flags : ℕ)
     → IsOwnAt bytes libs from start (reexport lib name flags)
     → (found : ℕ × ℕ) × (place_at bytes start ≡ Ok found) × IsReexportAt bytes libs lib name (Some found)

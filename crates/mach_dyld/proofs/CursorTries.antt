@@ -1,4 +1,4 @@
--- What a cursor has given of the trie that it goes over.
+-- What a cursor has returned of the trie that it walks.
 use Rattle.mach_dyld.proofs.TrieNames.{◌≡◌, ◌<◌, ◌≤◌, ◌-◌, length, Some, ℕ, List, [], ◌⊎◌, refl, ap, arith, inl, inr, malformed, Entry, ExportsFault}
 use Rattle.mach_dyld.proofs.TrieNames.{ListBegins, TrieRange, ListsExports, trie_there, Unfolds, nothing_read, passed, Open}
 use Rattle.mach_dyld.proofs.Starts.{starts_from}
@@ -11,13 +11,13 @@ use Rattle.mach_dyld.specs.declared.trie.cursor.NextExport.{NextExport}
 use Rattle.mach_dyld.specs.declared.trie.cursor.NextExport.TheVariants.{Export, End, Refused, NameTooLong, StackTooShort}
 use Rattle.mach_dyld.specs.declared.trie.cursor.TrieCursor.{TrieCursor}
 
--- where all is met, the trie has that list, or a node is met twice
+-- if all exports were met, the trie has that list, or a node is met twice
 whole_or_not : (t : TrieRange) (libs : List (List ℕ)) {n : ℕ} {found : List Entry} → Unfolds (trie_there t libs) t.from n found []
     → ListsExports t libs found ⊎ ExportsFault t libs malformed
 whole_or_not t libs read = elim (tree_or_twice (reading read)) [ inl tree ↦ inl (tree, met.all_met read) | inr fault ↦ inr fault ]
 
 module _ {t : TrieRange} {libs : List (List ℕ)} {c : TrieCursor} {name : List ℕ} {stack : List Open} {found : List Entry} where
-  -- what was given is a beginning
+  -- what was returned is a prefix of the list
   pub begins_there : HasGivenTo t libs c name stack found → ListBegins (trie_there t libs) t.from [] found
   begins_there (at_root phase at) = met.met_begins at.is_read.read
   begins_there (between n phase kept k) = met.met_begins k.read
@@ -33,13 +33,13 @@ module _ {t : TrieRange} {libs : List (List ℕ)} {c : TrieCursor} {name : List 
   next_gives (NameTooLong n) come stopped gives = let b = stopped tt in rw (b.same_cursor, b.same_name, b.same_stack) come
   next_gives (StackTooShort) come stopped gives = let b = stopped tt in rw (b.same_cursor, b.same_name, b.same_stack) come
 
-  -- where it is over
+  -- a cursor that is over
   pub over_gives : 1 < c.phase → HasCome t libs c name stack found → NextGives t libs found End c name stack
   over_gives over (at_root phase at) = absurd (omega arith)
   over_gives over (between n phase kept k) = absurd (omega arith)
   over_gives over (all_met n phase read) = (all_met n phase read, (n, read), whole_or_not t libs read)
 
-  -- where it is not over the open nodes are those of the stack
+  -- unless it is over, the open nodes are those of the stack
   pub too_deep : c.phase ≤ 1 → length stack < c.depth → HasCome t libs c name stack found → ⊥
   too_deep on deep (at_root phase at) = let k = at.kept.depth in omega arith
   too_deep on deep (between n phase kept k) = let k = kept.depth in omega arith
@@ -51,11 +51,11 @@ module _ {t : TrieRange} {libs : List (List ℕ)} {c : TrieCursor} {name : List 
   too_far on far (between n phase kept k) = let k = kept.visits in omega arith
   too_far on far (all_met n phase read) = omega arith
 
--- one that was over goes over no more branches
+-- a cursor that was over follows no more branches
 pub ended : {c d : TrieCursor} {name name' : List ℕ} {stack stack' : List Open} → d.phase ≤ 1 → 1 < c.phase → IsAsBefore c d name name' stack stack' → ⊥
 ended on over before = let same = ap (λ (x : TrieCursor). x.phase) before.same_cursor in omega (arith, on, over, same)
 
--- a cursor that has given nothing yet
+-- a cursor that has returned nothing yet
 module _ (t : TrieRange) (libs : List (List ℕ)) (c : TrieCursor) (name : List ℕ) (stack : List Open) where
   pub starts : t.from < t.upto → c.phase ≡ 0 → c.visits_left ≡ t.upto - t.from → c.name_len ≡ 0 → c.depth ≡ 0 → c.top.left ≡ 0 → c.top.name_len ≡ 0
       → HasCome t libs c name stack []

@@ -25,7 +25,7 @@ one_below stack d x there =
     ∙ reverse-append (take d stack) (x ∷ [])
 
 module _ {t : TrieRange} {libs : List (List ℕ)} where
-  -- the same reading under equal parts
+  -- the same reading with equal parts
   moved : {name name' : List ℕ} {next : List Ahead} {os os' : List Open} {found : List Entry} {n : ℕ} → name' ≡ name → os' ≡ os
       → IsReadSoFar t libs name next os found n → IsReadSoFar t libs name' next os' found n
   moved a b k = rw (a, b) k
@@ -46,7 +46,7 @@ module _ {t : TrieRange} {libs : List (List ℕ)} where
       pub comes_next : d.node ≡ b.start → IsNextNode (trie_there t libs) t.from found (name_met_last d name') d.node
       comes_next there = rw (named, there) (is_next at.is_read.read)
 
-    -- a branch to nothing is passed
+    -- a branch to nothing is skipped
     pub passes : t.upto ≤ b.start → (d : TrieCursor) → d.phase ≡ 1 → d.visits_left ≡ c.visits_left → d.name_len ≡ c.name_len → d.depth ≡ c.depth
         → d.top ≡ rest → HasCome t libs d name stack found
     passes out d phase visits len depth top =
@@ -130,14 +130,14 @@ module _ {t : TrieRange} {libs : List (List ℕ)} where
         (moved (ap (λ (k : ℕ). take k name) len) (rw (top, depth) (sym below_is)) (nodes.closes k none))
     falls none e x deep there d phase' visits len depth top (all_met n phase read) = absurd (omega arith)
 
-    -- the branch that comes next
+    -- the next branch
     pub at_next : (some : 0 < c.top.left) {b : Branch} {after : ℕ} → branch_at t.bytes t.from c.top.place ≡ Ok (b, after) → HasCome t libs c name stack found
         → IsAtChild t libs c name stack b (record { left = c.top.left - 1; place = after; name_len = c.top.name_len }) found
     at_next some first (at_root phase at) = absurd (omega arith)
     at_next some first (between n phase kept k) = record { nodes = n; kept = kept; is_read = nodes.goes_on k some first }
     at_next some first (all_met n phase read) = absurd (omega arith)
 
-    -- it can be read
+    -- the next branch can be read
     pub unreadable : (some : 0 < c.top.left) → IsErr (branch_at t.bytes t.from c.top.place) → HasCome t libs c name stack found → ⊥
     unreadable some err (at_root phase at) = omega arith
     unreadable some err (between n phase kept k) = let first = nodes.is_readable k some in let e = rw first.1 at err in cc
@@ -150,7 +150,7 @@ module _ {t : TrieRange} {libs : List (List ℕ)} where
   at_the_root e (between n phase kept k) = absurd (omega arith)
   at_the_root e (all_met n phase read) = absurd (omega arith)
 
--- what comes of a memory that is too short
+-- a memory that is too short
 module _ (bytes : List ℕ) (from : ℕ) where
   pub full_by : (c d : TrieCursor) (name name' label : List ℕ) (stack stack' : List Open) (given : Option NextExport) → IsNextLabel bytes from c label
       → (IsStopped given → IsAsBefore c d name name' stack stack')

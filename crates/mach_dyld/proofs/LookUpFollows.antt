@@ -1,4 +1,4 @@
--- The state of a look-up before it searches: the nodes on the way so far, each behind the one before.
+-- The state of a look-up before it searches: the nodes on the way so far, each after the one before it in the bytes.
 use Rattle.std.proofs.Common.{◌≡◌, ◌<◌, ◌≤◌, ◌+◌, ◌-◌, ◌*◌, ℕ, List, [], ◌∷◌, ◌++◌, inl, inr, length, drop, map, Option, None, refl, sym, ap}
 use Rattle.std.proofs.Common.{subst, ◌∙◌, arith, length-append}
 use Rattle.std.proofs.Math.Seq.{drop-append_seam}
@@ -83,7 +83,7 @@ module _ (s : Source) (name : List ℕ) where
       | inr old ↦ (let one = h.each p old in let inside = h.inside in ((one.0, one.1, omega (arith, one.2)), one.4, one.5))
     ]
 
-    -- the node is the last that is visited
+    -- the node is the last one visited
     pub ended : {now : ℕ} → now ≡ steps + 1 → LookUpVisits (source_trie s) s.from name first now
     ended {now} one_more = record {
       paths = h.path ∷ h.before;
@@ -96,7 +96,7 @@ module _ (s : Source) (name : List ℕ) where
       count = let count = h.count in omega (arith, one_more);
     }
 
-    -- a search goes on from the node
+    -- a search continues from the node
     pub searched : {now end : ℕ} → now ≡ steps + 1 → SearchVisits (source_trie s) start rest now end → LookUpVisits (source_trie s) s.from name first end
     searched {now} {end} one_more sv = record {
       paths = h.before;
@@ -116,7 +116,7 @@ module _ (s : Source) (name : List ℕ) where
       count = let count = h.count in let all = sv.count in let b = length-map sv.paths (λ (q : List ℕ). h.path ++ q) in omega (arith, one_more, count, all, b);
     }
 
-    -- to the one child
+    -- to the one child that matches
     module _ {child len : ℕ} (turn : (start < child) × IsPassed s start rest (λ bs. LeadsOn (source_trie s) rest bs child len)) where
       on : LeadsOn (source_trie s) rest turn.1.0.branches child len
       on = turn.1.3
@@ -148,7 +148,7 @@ module _ (s : Source) (name : List ℕ) where
         count = let count = h.count in omega (arith, one_more, count);
       })
 
-  -- where nothing begins
+  -- a range without a node
   pub root_none : s.upto ≤ s.from → Finds (source_trie s) s.from name None
   root_none out = at_nothing out refl
 

@@ -16,7 +16,7 @@ unfoldable use Rattle.mach_dyld.specs.Nodes.{children_at, terminal_at, inner_at,
 use Rattle.mach_dyld.specs.declared.trie.walk.Source.{Source}
 use Rattle.mach_base.specs.declared.error.Error.TheVariants as errors
 
--- an error of one thing is one of what follows from it
+-- an error of one part is an error of what follows from it
 pub FailsAs-first : {X Y : Type 0} (e : Error) (first : Result X Fault) (all : Result Y Fault) → ((f : Fault) → first ≡ Err f → all ≡ Err f) → FailsAs e first
     → FailsAs e all
 FailsAs-first (errors.Malformed msg) first all same fails = same _ fails
@@ -45,7 +45,7 @@ module _ (s : Source) where
     unfolding terminal_at
     own_some some = let test : eqb size 0 ≡ false = ne_eqb size 0 some in rw test refl
 
-    -- the own export, and then the branches
+    -- the own export, then the branches
     pub in_parts : (own : Option Info) (after : ℕ) → OwnEnds s size place own after → node_behind s size place ≡ with_branches own after
     in_parts None after h = own_none h.0 ∙ rw h.1 refl
     in_parts (Some info) after h = own_some h.0 ∙ rw h.1 refl

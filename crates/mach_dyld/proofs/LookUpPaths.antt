@@ -1,4 +1,4 @@
--- Paths of a look-up, one behind the other: where they lead, what they spell, and the faults behind them.
+-- Paths of a look-up, one after the other: where they lead, what they spell, and the faults after them.
 use Rattle.std.proofs.Common.{◌≡◌, ◌<◌, ℕ, List, [], ◌∷◌, ◌++◌, Some, Result, Ok, Err, refl, sym, ap, subst, ◌∙◌}
 use Rattle.std.proofs.Common.{append_assoc}
 use Rattle.std.specs.Prelude.{slice_get, IfErr}
@@ -38,7 +38,7 @@ module _ (t : Trie) where
     front.2 ∙ (ap (λ (x : List ℕ). front.0 ++ x) more.2 ∙ sym (append_assoc front.0 more.0 others)),
   )
 
-  -- by one branch more
+  -- one branch further
   pub spells_on : (p : List ℕ) (a b : ℕ) (name rest others : List ℕ) (node : Node) (k : ℕ) (branch : Branch) → Leads t p a b → PathSpells t a name p rest
       → t.node b ≡ Ok node → slice_get node.branches k ≡ Some branch → rest ≡ branch.label ++ others → PathSpells t a name (p ++ k ∷ []) others
   spells_on p a b name rest others node k branch l front at there e =
@@ -49,7 +49,7 @@ module _ (t : Trie) where
       append_nil_own [] = refl
       append_nil_own (x ∷ xs) = ap (λ (ys : List ℕ). x ∷ ys) (append_nil_own xs)
 
-  -- what is on the way behind a node on it is on the way
+  -- what is on the way from a node on it is on the way
   pub way_behind : (p q : List ℕ) (a b : ℕ) (name rest : List ℕ) → Leads t p a b → PathSpells t a name p rest → IsOnWay t b rest q → IsOnWay t a name (p ++ q)
   way_behind p q a b name rest l spelled way = (
     (way.0.0, Leads-append t p q a b way.0.0 l way.0.1, way.0.2),

@@ -17,7 +17,7 @@ use Rattle.mach_dyld.proofs.LookUpSettles.{readable_as, stopped_there}
 use Rattle.mach_dyld.proofs.Marking as mark
 use Rattle.mach_dyld.proofs.Readings.{before_deeper, before_child, beside_before, beside_deeper, beside_sibling}
 
--- a node whose branches are being tried: the path to it, what is left of the name there, and the number of its next branch
+-- a node whose branches are being tried: the path to it, the rest of the name there, and the number of its next branch
 pub record Frame : Type 0 where
   pub path : List ℕ
   pub start : ℕ
@@ -68,7 +68,7 @@ abbrev pub IsBeforeAll : List ℕ → List Frame → Type 0
 IsBeforeAll p [] = Unit {0}
 IsBeforeAll p (f ∷ fs) = Before p (f.path ++ f.next ∷ []) × IsBeforeAll p fs
 
--- it leaves each of them by an earlier branch
+-- the path leaves each of them by an earlier branch
 abbrev pub IsBesideAll : List ℕ → List Frame → Type 0
 IsBesideAll p [] = Unit {0}
 IsBesideAll p (f ∷ fs) = IsBeside p (f.path ++ f.next ∷ []) × IsBesideAll p fs
@@ -248,7 +248,7 @@ module _ (s : Source) (root : ℕ) (name : List ℕ) where
   elsewhere [] own h = inl (h refl)
   elsewhere (x ∷ xs) own h = inr (λ e. cc)
 
-  -- a branch of the top, which was settled, spells a beginning of what is left, and leads to a node
+  -- a branch of the top, which was settled, spells a prefix of the rest, and leads to a node
   pub record Taken (c : Choice) (cs : List Choice) (marks : List Bool) (first steps : ℕ) (label : List ℕ) (start after : ℕ) : Type 0 where
     pub held : Holds c cs marks first steps
     pub some : 0 < c.branches.left
@@ -302,7 +302,7 @@ module _ (s : Source) (root : ℕ) (name : List ℕ) where
     pub child_fault : (f : Fault) → node_in s start ≡ Err f → FaultOnWay (source_trie s) root name f
     child_fault f e = at_node_on_way f (h.top.path ++ h.top.next ∷ []) start child_way child_leads e
 
-    -- a child that is marked is met by a second path
+    -- a marked child is met by a second path
     pub met : {marked : Bool} → marked ≡ get_or marks (start - s.from) false → marked ≡ true → FaultOnWay (source_trie s) root name malformed
     met is_mark is_on =
         let old = mark.met h.marked path child_leads low (sym is_mark ∙ is_on) in
@@ -337,7 +337,7 @@ module _ (s : Source) (root : ℕ) (name : List ℕ) where
         within = let w = h.shown.within in omega arith;
       }
 
-      -- what is found behind the branch, or behind the others where nothing is
+      -- what is found through the branch, or through the others if nothing is
       through_branch : (info : Info) → Finds (source_trie s) start others (Some info) → BranchesFind (source_trie s) h.top.rest (left_of h.top) (Some info)
       through_branch info finds = subst (λ (x : List Branch). BranchesFind (source_trie s) h.top.rest x (Some info)) (sym rest_of.1)
           (behind others info rest_is finds refl)
@@ -394,7 +394,7 @@ module _ (s : Source) (root : ℕ) (name : List ℕ) where
         ]);
       }
 
-  -- the second choice is settled, and left out where nothing is left of it
+  -- the second choice is settled, and left out if nothing is left of it
   pub settled_below : (c e d : Choice) (cs : List Choice) {marks : List Bool} {first steps : ℕ} (bs : List Branch) → Holds c (e ∷ cs) marks first steps
       → d.at ≡ e.at
       → branches_at s.bytes.now s.from d.branches.left d.branches.place ≡ Ok bs

@@ -1,4 +1,4 @@
--- Where the branches of a node go on, one branch after the other.
+-- Which branches of a node match, one branch after the other.
 use Rattle.std.proofs.Common.{◌≡◌, ◌<◌, ◌≤◌, ℕ, zero, suc, List, [], ◌∷◌, ◌++◌, ◌⊎◌, inl, inr, length, Option, Some, None, refl, sym, subst}
 use Rattle.std.specs.Prelude.{slice_get}
 use Rattle.mach_dyld.specs.Trie.{Info, Branch, Trie}
@@ -9,7 +9,7 @@ use Rattle.mach_dyld.specs.declared.trie.look_up.Way.TheVariants.{Nowhere, One, 
 use Rattle.mach_dyld.proofs.Beginnings.{begins_or_not}
 
 module _ (t : Trie) (rest : List ℕ) where
-  -- nothing is found through some branches: those behind them decide
+  -- nothing is found through some branches: those after them decide
   none_then : (xs ys : List Branch) (nothing found : Option Info) → BranchesFind t rest xs nothing → nothing ≡ None → BranchesFind t rest ys found
       → BranchesFind t rest (xs ++ ys) found
   none_then [] ys nothing found (none_left e) is more = more
@@ -17,7 +17,7 @@ module _ (t : Trie) (rest : List ℕ) where
   none_then (b ∷ xs) ys nothing found (behind others info r finds e) is more = absurd (cc)
   none_then (b ∷ xs) ys nothing found (gone_back others r absent finds) is more = gone_back others r absent (none_then xs ys nothing found finds is more)
 
-  -- nothing is found through the branches behind some, which decide
+  -- nothing is found through the branches after some, which decide
   then_none : (xs ys : List Branch) (found : Option Info) → BranchesFind t rest xs found → BranchesFind t rest ys None → BranchesFind t rest (xs ++ ys) found
   then_none [] ys found (none_left e) over = subst (BranchesFind t rest ys) (sym e) over
   then_none (b ∷ xs) ys found (passed other finds) over = passed other (then_none xs ys found finds over)

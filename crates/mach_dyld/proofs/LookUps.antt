@@ -1,4 +1,4 @@
--- What is found of a name is what a list says of it, and stands by the paths.
+-- What is found of a name is what a list has for it, and holds by the paths.
 use Rattle.std.proofs.Common.{◌≡◌, ℕ, zero, suc, List, [], ◌∷◌, ◌++◌, inl, inr, Option, Some, None, Result, Ok, Err, refl, sym, ap, subst, ◌∙◌, arith}
 use Rattle.std.proofs.Common.{append_assoc}
 use Rattle.std.specs.Prelude.{slice_get, IfOk}
@@ -10,7 +10,7 @@ use Rattle.mach_dyld.specs.TerminalPaths.{EndsWith, IsNameOf}
 use Rattle.mach_dyld.specs.LookUp.{IsFirstOf, IsExportOf, StandsFor}
 use Rattle.mach_dyld.specs.Finds.{IsElsewhere, Finds, BranchesFind, at_nothing, here, below, none_left, passed, behind, gone_back}
 
--- lists behind one another
+-- lists one after another
 
 joined : (xs ys zs : List ℕ) → (xs ++ ys) ++ zs ≡ xs ++ (ys ++ zs)
 joined xs ys zs = simp append_assoc
@@ -26,7 +26,7 @@ some_then : (name : List ℕ) (xs ys : List Entry) (info : Info) → IsFirstOf n
 some_then name [] ys info some = absurd (cc)
 some_then name (x ∷ xs) ys info some = elim some [ inl hit ↦ inl hit | inr miss ↦ inr (miss.0, some_then name xs ys info miss.1) ]
 
--- a name that does not begin with the prefix is not listed
+-- a name that doesn't begin with the prefix isn't in the list
 own_not : (p : List ℕ) (own : Option Info) (name : List ℕ) → ((q : List ℕ) → name ≡ p ++ q → ⊥) → IsFirstOf name (own_entries p own) None
 own_not p None name other = refl
 own_not p (Some info) name other = inr (λ h. other [] (sym h ∙ sym (append-nil p)), refl)
@@ -47,7 +47,7 @@ mutual
       (not_listed t b.start (p ++ b.label) xs name first (λ q h. other (b.label ++ q) (h ∙ joined p b.label q)))
       (branches_not t p bs ys name rest other))
 
--- the own export of a node where it is not the one sought
+-- the own export of a node that isn't the one searched for
 own_elsewhere : (p rest : List ℕ) (own : Option Info) → IsElsewhere rest own → IsFirstOf (p ++ rest) (own_entries p own) None
 own_elsewhere p rest None other = refl
 own_elsewhere p rest (Some info) other = elim other [

@@ -42,7 +42,7 @@ bit_tested word k h =
           ap not (eq-eqb _ 0 (rw (e, none) (omega arith))) ∙ sym (ne_eqb b 1 other))
     ]
 
--- the words with one bit set mark one place more
+-- the words with one more bit set mark one more place
 pub marked_at : (words : List ℕ) (len at word : ℕ) → len ≤ 64 * length words → at < len → word ≡ get_or words (at / 64) 0
     → marks_of (set words (at / 64) (bit_or word (1 * 2 ^ (at % 64) % 2 ^ 64))) len ≡ set (marks_of words len) at true
 marked_at words len at word room within read =

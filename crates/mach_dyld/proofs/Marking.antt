@@ -1,4 +1,4 @@
--- The marks of a walk or a search: of each place to which a path was followed.
+-- The marks of a walk or a search: one for each place to which a path was followed.
 use Rattle.mach_dyld.proofs.TrieNames.{◌≡◌, ◌<◌, ◌≤◌, ◌+◌, ◌-◌, ℕ, zero, suc, Bool, true, false, cond, List, [], ◌∷◌, inl, inr, length, set, get_or, replicate}
 use Rattle.mach_dyld.proofs.TrieNames.{refl, sym, ap, subst, ◌∙◌, arith, cases_eq, length-set, length-replicate, get_or-set_same, get_or-set_other, sum_by-set}
 use Rattle.mach_dyld.proofs.TrieNames.{Trie, Entry, Leads, IsAmong, AreMarked, MarksThoseRead, ComesNext, WasRead, Ahead, Unfolds, unmarked}
@@ -33,20 +33,20 @@ none_marked t root from = record {
   met = λ o is. absurd (not_both is (all_clear (t.upto - from) o));
 }
 
--- where a path leads
+-- the place to which a path leads
 module _ {t : Trie} {root from : ℕ} {marks : List Bool} {paths : List (List ℕ)} (h : AreMarked t root from marks paths)
     (p : List ℕ) {at : ℕ} (lead : Leads t p root at) (low : from ≤ at) where
   pub within : at < t.upto → at - from < length marks
   within inside = let size = h.size in omega arith
 
-  -- a place that is marked was met on another path
+  -- a marked place was met on another path
   pub met : get_or marks (at - from) false ≡ true → (q : List ℕ) × IsAmong q paths × Leads t q root at
   met marked =
       let old = h.met (at - from) marked in
       let same : from + (at - from) ≡ at = omega arith in
       (old.0, old.1, subst (λ x. Leads t old.0 root x) same old.2)
 
-  -- one that isn't is now
+  -- a place that wasn't marked is marked now
   pub one_marked : at < t.upto → get_or marks (at - from) false ≡ false → AreMarked t root from (set marks (at - from) true) (p ∷ paths)
   one_marked inside clear =
       let there = within inside in
@@ -76,7 +76,7 @@ none_read t root n = record {
   met = λ o is. absurd (not_both is (all_clear n o));
 }
 
--- the node that comes next is marked and read
+-- the next node is marked and read
 pub one_read : {t : Trie} {root n : ℕ} {marks : List Bool} {found : List Entry} {x : Ahead} {others : List Ahead} → MarksThoseRead t root marks n
     → Unfolds t root n found (x ∷ others) → x.start < t.upto → root ≤ x.start → x.start - root < length marks
     → get_or marks (x.start - root) false ≡ false → MarksThoseRead t root (set marks (x.start - root) true) (suc n)

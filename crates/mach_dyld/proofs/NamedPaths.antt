@@ -1,4 +1,4 @@
--- A path of its name leads to each node that is ahead in a reading.
+-- For each node that is ahead in a reading, a path of its name leads to it.
 use Rattle.mach_dyld.proofs.TrieNames.{◌≡◌, ℕ, suc, List, [], ◌∷◌, ◌++◌, drop, refl, sym, subst, append-nil, Branch, Node, Trie, Entry, IsNode, Leads}
 use Rattle.mach_dyld.proofs.TrieNames.{Ahead, ahead, Unfolds, nothing_read, passed, node_read}
 use Rattle.mach_dyld.specs.TerminalPaths.{IsNameOf}
@@ -35,7 +35,7 @@ module _ {t : Trie} {root : ℕ} where
       let rest = are_named before in
       subst (AreNamed t root) (sym left_is) (children_named next.name next.start node rest.0 is 0 node.branches others refl rest.1)
 
-  -- the node that comes next
+  -- the next node
   pub is_next : {n : ℕ} {found : List Entry} {next : Ahead} {others : List Ahead} → Unfolds t root n found (next ∷ others)
       → IsNextNode t root found next.name next.start
   is_next {n} {others = others} read = record { nodes = n; others = others; read = read; leads = (are_named read).0 }

@@ -25,9 +25,9 @@ first_nowhere upto b bs others e out = let test = le-leb upto b.start out in rw 
 pub first_leads : (upto : ℕ) (b : Branch) (bs others : List Branch) → bs ≡ b ∷ others → b.start < upto → lead_nowhere upto bs ≡ false
 first_leads upto b bs others e inside = let test = lt-leb upto b.start inside in rw (e, test) refl
 
--- ---- what a walk passes
+-- ---- branches that a walk skips
 
--- all of them are passed
+-- all of them are skipped
 pub all_passed : {t : Trie} {root n : ℕ} {found : List Entry} (name : List ℕ) (bs : List Branch) (left : List Ahead) → lead_nowhere t.upto bs ≡ true
     → Unfolds t root n found (ahead name bs ++ left) → Unfolds t root n found left
 all_passed name [] left none u = u
@@ -50,7 +50,7 @@ none_barren s known e = λ place. rw e refl
 pub no_room : (s : Source) (known : List ℕ) → known ≡ [] → HaveRoom s known
 no_room s known e = λ some. absurd (let none = ap (λ (x : List ℕ). length x) e in omega arith)
 
--- the count of a list stands within the bytes
+-- the count of a list is within the bytes
 pub count_inside : (bytes : List ℕ) (from place : ℕ) (bs : List Branch) → children_at bytes from place ≡ Ok bs → place < length bytes
 unfolding children_at
 count_inside bytes from place bs e = elim (cases_lt place (length bytes)) [

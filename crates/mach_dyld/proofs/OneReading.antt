@@ -1,4 +1,4 @@
--- A trie is read as if it were a tree in one order.
+-- A trie is read as if it were a tree in only one order.
 use Rattle.mach_dyld.proofs.TrieNames.{◌≡◌, ◌<◌, ◌≤◌, ℕ, suc, List, [], ◌∷◌, ◌++◌, length, Some, Ok, Info, refl, sym, ap, subst, ◌∙◌, inl, inr, arith}
 use Rattle.mach_dyld.proofs.TrieNames.{cases_eq, cases_lt, Fault, ComesNext, WasRead, IsEndOfWalk}
 use Rattle.mach_dyld.proofs.TrieNames.{length-append, Node, Trie, IsNode, Entry, own_entries, Ahead, ahead, Unfolds, nothing_read, passed, node_read}
@@ -11,13 +11,13 @@ same_head e = cc
 same_tail : {x y : Ahead} {xs ys : List Ahead} → x ∷ xs ≡ y ∷ ys → xs ≡ ys
 same_tail e = cc
 
--- how many branches were taken or passed
+-- the number of branches that were followed or skipped
 abbrev steps : {t : Trie} {root n : ℕ} {found : List Entry} {left : List Ahead} → Unfolds t root n found left → ℕ
 steps nothing_read = 0
 steps (passed before out) = suc (steps before)
 steps (node_read node before is met_is left_is) = suc (steps before)
 
--- a reading of n nodes up to a step of it, by which no more was met
+-- a reading of n nodes up to a step of it, which met no more exports
 record UpTo (t : Trie) (root k n : ℕ) (found : List Entry) : Type 0 where
   nodes : ℕ
   met : List Entry
@@ -28,7 +28,7 @@ record UpTo (t : Trie) (root k n : ℕ) (found : List Entry) : Type 0 where
   not_more : nodes ≤ n
 
 module _ {t : Trie} {root : ℕ} where
-  -- as many steps come to one place
+  -- equal numbers of steps come to one place
   one_reading : {n m : ℕ} {found met : List Entry} {left ahead_then : List Ahead} (u : Unfolds t root n found left) (v : Unfolds t root m met ahead_then)
       → steps u ≡ steps v → (n ≡ m) × (found ≡ met) × (left ≡ ahead_then)
   one_reading nothing_read nothing_read e = (refl, refl, refl)
@@ -72,7 +72,7 @@ module _ {t : Trie} {root : ℕ} where
         record { nodes = r.nodes; met = r.met; left = r.left; read = r.read; count = r.count; few = omega arith; not_more = omega arith })
   ]
 
-  -- behind a node's own export more was met
+  -- after a node's own export more exports were met
   not_behind : {n m : ℕ} {found : List Entry} {x : Ahead} {others left : List Ahead} (u : Unfolds t root n found (x ∷ others)) (node : Node) (info : Info)
       → IsNode t x.start node → node.own ≡ Some info → (v : Unfolds t root m found left) → steps u < steps v → ⊥
   not_behind {found = found} {x = x} u node info is own v less =
@@ -95,7 +95,7 @@ module _ {t : Trie} {root : ℕ} where
     ]
   ]
 
-  -- the step behind a node that comes next reads it
+  -- the step after a node that came next reads it
   next_read : {n k : ℕ} {found met : List Entry} {x : Ahead} {others left : List Ahead} (u : Unfolds t root n found (x ∷ others)) → x.start < t.upto
       → (w : Unfolds t root k met left) → steps w ≡ suc (steps u) → (n < k) × (node : Node) × (t.node x.start ≡ Ok node)
   next_read u inside nothing_read e = absurd (omega arith)
@@ -105,7 +105,7 @@ module _ {t : Trie} {root : ℕ} where
       let same = one_reading u w (omega arith) in
       let count = same.0 in (omega arith, node, subst (λ (z : Ahead). t.node z.start ≡ Ok node) (sym (same_head same.2)) is.1)
 
-  -- a reading that goes on behind a node that comes next has read it
+  -- a reading that continues after a node that came next has read it
   goes_past : {n m : ℕ} {found met : List Entry} {x : Ahead} {others left : List Ahead} (u : Unfolds t root n found (x ∷ others)) → x.start < t.upto
       → (v : Unfolds t root m met left) → steps u < steps v → (n < m) × (node : Node) × (t.node x.start ≡ Ok node)
   goes_past u inside v less =
@@ -113,7 +113,7 @@ module _ {t : Trie} {root : ℕ} where
       let past = next_read u inside r.read r.count in
       let many = past.0 in let few = r.not_more in (omega arith, past.1, past.2)
 
-  -- behind a number of nodes one comes next
+  -- after a number of nodes only one comes next
   pub one_comes_next : {n start : ℕ} {found : List Entry} {x : Ahead} {others : List Ahead} (c : ComesNext t root n start)
       (v : Unfolds t root n found (x ∷ others)) → x.start < t.upto → start ≡ x.start
   one_comes_next c v inside = elim (cases_lt (steps c.read) (steps v)) [
@@ -124,7 +124,7 @@ module _ {t : Trie} {root : ℕ} where
     ]
   ]
 
-  -- what was read isn't malformed
+  -- a node that was read isn't malformed
   was_node : {n : ℕ} {found : List Entry} {x : Ahead} {others : List Ahead} (v : Unfolds t root n found (x ∷ others)) → x.start < t.upto
       → WasRead t root n x.start → (node : Node) × (t.node x.start ≡ Ok node)
   was_node v inside was =
@@ -138,7 +138,7 @@ module _ {t : Trie} {root : ℕ} where
         ]
       ]
 
-  -- no walk goes on behind an end
+  -- no walk continues after an end
   not_past_end : {found met : List Entry} {f g : Fault} (p : IsEndOfWalk t root found f) (q : IsEndOfWalk t root met g) → steps p.read < steps q.read → ⊥
   not_past_end {found} p q less =
       let past = goes_past p.read p.inside q.read less in

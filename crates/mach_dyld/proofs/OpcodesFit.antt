@@ -1,4 +1,4 @@
--- Each opcode begins behind the one before it, at a byte that is there.
+-- Each opcode begins after the one before it, at an existing byte.
 use Rattle.std.proofs.Common.{◌≡◌, ◌<◌, ◌≤◌, ℕ, ◌-◌, List, [], ◌∷◌, length, min, Ok, Err, Option, None, ap, arith, ◌⊎◌, inl, inr}
 use Rattle.std.specs.Prelude.{slice_get, Some}
 use Rattle.std.proofs.Common.{get_or}
@@ -22,7 +22,7 @@ no_byte : (bytes : List ℕ) (place : ℕ) → slice_get bytes place ≡ None �
 unfolding byte_at
 no_byte bytes place none = ap (λ (found : Option ℕ). byte_of place found) none
 
--- not more than either of two
+-- at most either of two
 least : (a b from n : ℕ) → n ≤ a - from → n ≤ b - from → n ≤ min a b - from
 least a b from n = by (cases_lt a b)
   where
@@ -41,7 +41,7 @@ module _ (reader : Reader) (bytes : List ℕ) (moves : Moves reader)
       by (inl h) = h.1
       by (inr h) = let refused = none place (bad_offset place) (no_byte bytes place h.1) in absurd (cc)
 
-  -- those from a place on are as many as its bytes up to the end at most
+  -- from a place on there are at most as many as bytes up to the end
   few : (upto place : ℕ) (ps : List Placed) → Follow place ps → AllStandBy reader upto ps → (length ps ≤ upto - place) × (length ps ≤ length bytes - place)
   few upto place [] follow stand = (omega arith, omega arith)
   few upto place (p ∷ ps) follow stand =
@@ -56,7 +56,7 @@ module _ (reader : Reader) (bytes : List ℕ) (moves : Moves reader)
   pub fit : (r : Range) (ps : List Placed) → IsBeginningBy reader r ps → length ps ≤ bytes_in bytes r
   fit r ps is = let both = few r.upto r.from ps is.follow is.stand in least r.upto (length bytes) r.from (length ps) both.0 both.1
 
-  -- and have no more bytes than are there from the place on
+  -- and they take at most the bytes that exist from the place on
   short : (upto place : ℕ) (ps : List Placed) → Follow place ps → AllStandBy reader upto ps → opcode_bytes bytes ps ≤ length bytes - place
   short upto place [] follow stand = omega arith
   short upto place (p ∷ ps) follow stand =

@@ -13,7 +13,7 @@ use Rattle.mach_dyld.specs.Nowhere.{lead_nowhere}
 -- ---- what is ahead
 
 module _ (bytes : List ℕ) (from : ℕ) where
-  -- under another name with the same front
+  -- with another name that has the same prefix
   renamed : (name name' : List ℕ) (o : Open) (os : List Open) (left : List Ahead) → take o.name_len name ≡ take o.name_len name' → o.name_len ≤ length name'
       → AreAhead bytes from name (o ∷ os) left → AreAhead bytes from name' (o ∷ os) left
   renamed name name' o os left same fits a = (
@@ -32,7 +32,7 @@ module _ (bytes : List ℕ) (from : ℕ) where
       let fits = a.3 in
       renamed (take k name) name o os left (take-take o.name_len k name (omega arith)) (omega arith) a
 
-  -- of a node without branches nothing is ahead
+  -- nothing is ahead in a node without branches
   pub dropped : (name : List ℕ) (o : Open) (os : List Open) (left : List Ahead) → o.left ≡ 0 → AreAhead bytes from name (o ∷ os) left
       → AreAhead bytes from name os left
   dropped name o os left none a =
@@ -40,7 +40,7 @@ module _ (bytes : List ℕ) (from : ℕ) where
       subst (λ (x : List Ahead). AreAhead bytes from name os x) (sym (a.5 ∙ ap (λ (bs : List Branch). ahead (take o.name_len name) bs ++ a.1) no))
       (widened o.name_len name os a.1 a.4)
 
-  -- a node over others
+  -- a node above others
   put_over : (name : List ℕ) (o : Open) (os : List Open) (branches : List Branch) (left : List Ahead) → o.name_len ≡ length name
       → branches_at bytes from o.left o.place ≡ Ok branches → AreAhead bytes from name os left
       → AreAhead bytes from name (o ∷ os) (ahead name branches ++ left)
@@ -54,7 +54,7 @@ module _ (bytes : List ℕ) (from : ℕ) where
         ap (λ (x : List ℕ). ahead x branches ++ left) (sym whole),
       )
 
-  -- behind a branch, under the name of its child
+  -- after a branch, with the name of its child
   module _ (name : List ℕ) (o : Open) (os : List Open) (left : List Ahead) (label given : List ℕ) (spelled : given ≡ take o.name_len name ++ label)
       (a : AreAhead bytes from name (o ∷ os) left) where
     pub given_len : length given ≡ o.name_len + length label
@@ -74,7 +74,7 @@ module _ (bytes : List ℕ) (from : ℕ) where
         ∙ take-take o.name_len o.name_len name (omega arith) in
         renamed name given o os left (sym same) (omega arith) a
 
-    -- the child, over the node or in its place
+    -- the child, above the node or instead of it
     pub opened : (c : Open) (os' : List Open) (branches : List Branch) → c.name_len ≡ length given → branches_at bytes from c.left c.place ≡ Ok branches
         → (0 < o.left → os' ≡ o ∷ os) → (o.left ≡ 0 → os' ≡ os) → AreAhead bytes from given (c ∷ os') (ahead given branches ++ left)
     opened c os' branches len read over in_place = put_over given c os' branches left len read (elim (cases_eq o.left 0) [
@@ -84,7 +84,7 @@ module _ (bytes : List ℕ) (from : ℕ) where
 
 -- ---- turns of a reading
 
--- the root, over nothing
+-- the root, above nothing
 pub root_ahead : (bytes : List ℕ) (from : ℕ) (name : List ℕ) (o : Open) (os : List Open) → o.left ≡ 0 → o.name_len ≡ 0 → os ≡ []
     → AreAhead bytes from name (o ∷ os) []
 unfolding branches_at
@@ -109,12 +109,12 @@ split name all first others left e = rw (e, map-append) (simp append_assoc)
 module _ {t : TrieRange} {libs : List (List ℕ)} {name : List ℕ} {found : List Entry} {n : ℕ} {o : Open} {os : List Open} where
   -- at a branch
   module _ {x : Ahead} (k : IsReadSoFar t libs name (x ∷ []) (o ∷ os) found n) where
-    -- what is nothing is passed
+    -- nothing is skipped
     abbrev pub passes : t.upto ≤ x.start → IsReadSoFar t libs name [] (o ∷ os) found n
     passes out = record { left = k.left; read = passed k.read out; ahead = k.ahead }
 
     module _ (label : List ℕ) (spelled : x.name ≡ take o.name_len name ++ label) (node : Node) (is : IsNode (trie_there t libs) x.start node) where
-      -- a node is read; of its branches some come next, and the others are kept
+      -- a node is read; some of its branches come next, and the others are kept
       abbrev pub enters : (first others : List Branch) → node.branches ≡ first ++ others → (c : Open) (os' : List Open) → c.name_len ≡ length x.name
           → branches_at t.bytes t.from c.left c.place ≡ Ok others → (0 < o.left → os' ≡ o ∷ os) → (o.left ≡ 0 → os' ≡ os)
           → IsReadSoFar t libs x.name (ahead x.name first) (c ∷ os') (found ++ own_entries x.name node.own) (suc n)
@@ -124,7 +124,7 @@ module _ {t : TrieRange} {libs : List (List ℕ)} {name : List ℕ} {found : Lis
         ahead = opened t.bytes t.from name o os k.left label x.name spelled k.ahead c os' others len read over in_place;
       }
 
-      -- one without branches
+      -- a node without branches
       abbrev pub enters_leaf : node.branches ≡ [] → IsReadSoFar t libs x.name [] (o ∷ os) (found ++ own_entries x.name node.own) (suc n)
       enters_leaf none = record {
         left = k.left;
@@ -132,7 +132,7 @@ module _ {t : TrieRange} {libs : List (List ℕ)} {name : List ℕ} {found : Lis
         ahead = behind t.bytes t.from name o os k.left label x.name spelled k.ahead;
       }
 
-      -- one whose branches all lead nowhere
+      -- a node whose branches all lead nowhere
       abbrev pub enters_barren : lead_nowhere t.upto node.branches ≡ true
           → IsReadSoFar t libs x.name [] (o ∷ os) (found ++ own_entries x.name node.own) (suc n)
       enters_barren none = record {
@@ -154,7 +154,7 @@ module _ {t : TrieRange} {libs : List (List ℕ)} {name : List ℕ} {found : Lis
     pub all_read : o.left ≡ 0 → os ≡ [] → Unfolds (trie_there t libs) t.from n found []
     all_read none bottom = subst (λ (x : List Ahead). Unfolds (trie_there t libs) t.from n found x) (none_ahead none bottom) k.read
 
-    -- one is left
+    -- a branch of the top is left
     module _ (some : 0 < o.left) where
       pub is_readable : (x : Branch × ℕ) × (branch_at t.bytes t.from o.place ≡ Ok x)
       is_readable = first_branch t.bytes t.from o.left o.place k.ahead.0 some k.ahead.2

@@ -100,7 +100,7 @@ module _ {t : Trie} {root : ℕ} where
         let next = subst (IsAmong next_path.0) (sym next_path.2) (inl refl) in
         not_before_itself next_path.0 (subst (λ z. Before z next_path.0) e (h.before p next_path.0 i next))
 
-  -- what is nothing is passed
+  -- nothing is skipped
   pub passes : {paths : List (List ℕ)} (others : List (List ℕ)) {x : Ahead} {left : List Ahead} → HasRead t root paths others (x ∷ left) → t.upto ≤ x.start
       → (qs : List (List ℕ)) × HasRead t root paths qs left
   passes [] h out = absurd h.led
@@ -191,7 +191,7 @@ few_own : (prefix : List ℕ) (own : Option Info) → length (own_entries prefix
 few_own prefix None = omega arith
 few_own prefix (Some info) = omega arith
 
--- no more exports are met than nodes are read
+-- at most as many exports are met as nodes are read
 pub few_met : {t : Trie} {root n : ℕ} {found : List Entry} {left : List Ahead} → Unfolds t root n found left → length found ≤ n
 few_met nothing_read = omega arith
 few_met (passed before out) = few_met before
@@ -218,7 +218,7 @@ same_path t root (r ∷ ps) apart p q at i j a b = elim i [
 ]
 
 module _ {t : Trie} {root : ℕ} where
-  -- where nothing is ahead, all paths to nodes were followed
+  -- if nothing is ahead, all paths to nodes were followed
   module _ {paths others : List (List ℕ)} (h : HasRead t root paths others []) where
     pub all_paths : (p : List ℕ) → Path t root p → IsAmong p paths
     all_paths p path = of others h.led (h.all p path)
@@ -230,7 +230,7 @@ module _ {t : Trie} {root : ℕ} where
     pub is_tree : AreApart t root paths → IsTree t root
     is_tree apart p q at a b inside = same_path t root paths apart p q at (all_paths p (at, a, inside)) (all_paths q (at, b, inside)) a b
 
-  -- a path that leads where one of these does
+  -- a path that leads to the place of one of these
   meets : (p : List ℕ) (at : ℕ) → Leads t p root at → at < t.upto → (qs : List (List ℕ)) → ((q : List ℕ) → IsAmong q qs → Path t root q × Before q p)
       → ((q : List ℕ) (a : ℕ) → IsAmong q qs → Leads t p root a → Leads t q root a → ⊥) ⊎ TrieFault t root malformed
   meets p at lead inside [] each = inl (λ q a i x y. absurd i)
@@ -261,7 +261,7 @@ module _ {t : Trie} {root : ℕ} where
   pub tree_or_twice : {n : ℕ} → Reading t root n [] → IsTree t root ⊎ TrieFault t root malformed
   tree_or_twice r = elim (apart_or_twice r.paths r.met.lead r.met.last_first) [ inl apart ↦ inl (is_tree r.met apart) | inr fault ↦ inr fault ]
 
-  -- behind as many nodes as the range has places
+  -- after as many nodes as the range has places
   pub twice : {n : ℕ} {x : Ahead} {left : List Ahead} → StartsFrom t root → Reading t root n (x ∷ left) → x.start < t.upto → n ≡ t.upto - root
       → TrieFault t root malformed
   twice {x = x} starts r inside many =

@@ -1,4 +1,4 @@
--- What comes of rebases by settings that run forward is what looking back finds.
+-- The rebases by settings that run forward are what looking back finds.
 use Rattle.mach_dyld.proofs.BindNames.{◌≡◌, ℕ, ◌+◌, ◌*◌, List, ◌∷◌, Bool, true, false, Result, Ok, Err, refl, sym, ap, ◌∙◌, subst, ◌>>=◌, ◌==◌, Fault}
 use Rattle.mach_dyld.proofs.BindNames.{cond, bit_and, bind_ok, same_ok, malformed, uleb_at, Instruction, segment, advance, binds, byte_at, with_uleb, times_at}
 use Rattle.mach_dyld.proofs.BindNames.{Placed, Range, Input, Bind, fresh, run, set_after, bind_after, StandsBy, AllStandBy, reader_by}
@@ -14,7 +14,7 @@ use Rattle.mach_dyld.specs.RebasesLeft.{first_rebasing, rebase_rules, rebase_set
 use Rattle.mach_dyld.specs.declared.rebases.Rebasing.{Rebasing}
 use Rattle.mach_dyld.proofs.StreamSettings.{setting_after}
 
--- ---- what an opcode reads is no DONE, and gives no row of its own
+-- ---- what an opcode reads is not a DONE, and gives no row of its own
 
 abbrev Calm : Instruction → Type 0
 Calm i = (done_is i ≡ false) × (strong_is i ≡ false)
@@ -57,7 +57,7 @@ calm_row r pointer bytes opcode imm place =
     (calm_either (opcode == 0x70) _ _ (calm_uleb (binds 1) bytes place (λ n. (refl, refl)))
     (calm_either (opcode == 0x80) _ _ (calm_times bytes place) (calm_none malformed)))))))))
 
--- the byte at the place of what stands there
+-- the byte at the place of an instruction
 read_at : (x : Input) (r : Range) (p : Placed) → StandsBy (reader_by rebase_rules x r) r.upto p
     → (byte : ℕ) × (byte_at x.bytes p.place ≡ Ok byte) × Calm p.instruction
 unfolding rebase_opcode_at

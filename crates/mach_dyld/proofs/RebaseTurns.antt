@@ -1,4 +1,4 @@
--- The turns that an iterator over rebases keeps make what the rules make.
+-- The turns that an iterator over rebases keeps give what the rules give.
 use Rattle.std.proofs.Common.{◌≡◌, ℕ, zero, suc, ◌+◌, ◌*◌, ◌%◌, ◌^◌, ◌<◌, ◌≤◌, ◌∙◌, ◌∷◌, ◌⊎◌, List, [], map, true, false, refl, sym, ap, arith}
 use Rattle.std.proofs.Common.{Option, Some, None, Result, Ok, nat_eq, cond, inl, inr}
 use Rattle.std.proofs.Math.Nat.{mod-eq_of_lt}
@@ -68,7 +68,7 @@ module _ (x : Input) (le : Endian) (g : RebaseSet) (b : Bind) (set : g.has_segme
       let same : (o + stride) % 2 ^ 64 ≡ o + stride = mod-eq_of_lt (omega (arith, here, address)) in
       (here, omega (arith, sum, inside, same))
 
-  -- so many, one more than j, whose last lies in the segment
+  -- j + 1 turns, of which the last lies in the segment
   pub turns_made : (j o : ℕ) (t : Turn) → At o t → o + j * stride ≤ highest_rebase x.pointer s
       → map (rebase_of x le g) (strides (at_offset b o) stride (suc j)) ≡ map Ok (turn_rebases t (suc j))
   unfolding strides moved turn_rebases

@@ -1,4 +1,4 @@
--- Places on a ring, by the shorter way round, and those behind each start of a new round.
+-- Places on a ring, with the shorter step of the two directions, and the first places of each new round.
 use Rattle.std.proofs.Common.{◌≡◌, ℕ, zero, suc, ◌+◌, ◌-◌, ◌*◌, ◌/◌, ◌%◌, ◌<◌, ◌≤◌, inl, inr, sym, ap, subst, ◌∙◌, arith}
 use Rattle.std.specs.Prelude.{◌↔◌}
 use Rattle.std.proofs.Math.Nat.{add-mul-mod_self_right, mod-add-div', mod-eq_of_lt, mod-lt, lt_of_mul-lt-mul_right, mul-le-mul_right}
@@ -9,12 +9,12 @@ use Rattle.mach_dyld.proofs.BindModulus.{mod-add_first}
 use Rattle.mach_dyld.specs.Turns.{turn_place, AnyBelow, last_turn_place, IsRing}
 use Rattle.mach_dyld.specs.declared.stride.Turns.{Turns}
 
--- ---- the shorter way round
+-- ---- the shorter step
 
 abbrev turned : Turns → Turns
 turned t = record { count = t.count; first = last_turn_place t % t.size; step = t.size - t.step; size = t.size }
 
--- place j of the way back is place n of the way there, where both numbers make the last one
+-- place j in the other direction is place n, if j and n add up to the last number
 turned_place : (t : Turns) (j n : ℕ) → t.step < t.size → j + n + 1 ≡ t.count → turn_place (turned t) j ≡ turn_place t n
 turned_place t j n small same =
     let e : ℕ = t.size - t.step in
@@ -38,7 +38,7 @@ turned_same t limit small = (
       (j, omega (arith, same), subst (λ k. k < limit) (sym (turned_place t j n small same)) below),
 )
 
--- ---- the places behind each start of a new round
+-- ---- the first places of each new round
 
 positive : (w size v at : ℕ) → v + w * size ≡ at → v < at → 0 < w
 positive zero size v at e lt = absurd (omega (arith, e, lt))
@@ -51,14 +51,14 @@ by_one : (count step : ℕ) → 0 < count → count * step ≡ (count - 1) * ste
 by_one zero step some = absurd (omega (arith, some))
 by_one (suc n) step some = let e : suc n - 1 ≡ n = omega arith in rw e (omega arith)
 
--- how far a step is from the rest of the ring by steps
+-- the distance from a whole ring to the next multiple of the step
 abbrev back_of : Turns → ℕ
 back_of t = t.step - t.size % t.step
 
 abbrev behind : Turns → Turns
 behind t = record { count = last_turn_place t / t.size; first = (t.first + back_of t) % t.step; step = back_of t % t.step; size = t.step }
 
--- a whole ring and so much back are whole steps
+-- a whole ring and that distance are whole steps
 whole_steps : (t : Turns) → 0 < t.step → t.size + back_of t ≡ (t.size / t.step + 1) * t.step
 whole_steps t some =
     let rest = mod-lt t.size some in
@@ -72,7 +72,7 @@ mod-mul_second a k b m =
     let whole : (a + k * (b % m)) + (k * q) * m ≡ a + k * (b % m + q * m) = omega arith in
     sym (add-mul-mod_self_right (a + k * (b % m)) (k * q) m) ∙ ap (λ n. n % m) (whole ∙ ap (λ c. a + k * c) (sym parts))
 
--- place k behind the starts
+-- place k among the first places of new rounds
 behind_place : (t : Turns) (k : ℕ) → turn_place (behind t) k ≡ (t.first + (k + 1) * back_of t) % t.step
 behind_place t k =
     let back : ℕ = back_of t in
@@ -88,7 +88,7 @@ module _ (t : Turns) (limit : ℕ) (ring : IsRing t) (some : 0 < t.count) (step 
   abbrev q : ℕ
   q = t.size / t.step + 1
 
-  -- w rounds, and w times `back`, are whole steps
+  -- w rounds and w times `back` are whole steps
   rounds : (w : ℕ) → w * t.size + w * back ≡ w * q * t.step
   rounds w =
       let whole : t.size + back ≡ q * t.step = whole_steps t step in
@@ -155,10 +155,10 @@ module _ (t : Turns) (limit : ℕ) (ring : IsRing t) (some : 0 < t.count) (step 
   pub behind_same : AnyBelow limit (behind t) ↔ AnyBelow limit t
   behind_same = (from_here, from_there)
 
--- ---- a step of no more than the limit
+-- ---- a step of at most the limit
 
 module _ (t : Turns) (limit : ℕ) (ring : IsRing t) (some : 0 < t.count) (above : limit ≤ t.first) (short : t.step ≤ limit) where
-  -- the first place behind the first round
+  -- the first place after the first round
   crossing : (n : ℕ) → t.size ≤ t.first + n * t.step
       → (j : ℕ) × (j ≤ n) × (t.size ≤ t.first + j * t.step) × (t.first + j * t.step < t.size + t.step)
   crossing zero past = let first = ring.first in absurd (omega (arith, past, first))

@@ -18,7 +18,7 @@ is_below a b h = grind (arith, nat_tests)
 not_below : (a b : ℕ) → b ≤ a → nat_lt a b ≡ false
 not_below a b h = grind (arith, nat_tests)
 
--- where a DONE leads
+-- the place to which a DONE leads
 pub ends_there : (r : Range) (place : ℕ) → place < r.upto → range_end r (place + 1) ≡ r.upto
 ends_there r place h = omega (arith, h)
 
@@ -66,7 +66,7 @@ module _ (r : Range) (pointer : ℕ) (bytes : List ℕ) (place byte : ℕ) (ther
   weak_by_tests false true is_low is_high d none = weak_high d (ltb-false opcode 0x40 is_low) (ltb-true 0xc0 opcode is_high)
   weak_by_tests false false is_low is_high d none = absurd (none (ltb-false opcode 0x40 is_low) (ltb-false 0xc0 opcode is_high))
 
-  -- an opcode that is none of those of the stream
+  -- an opcode that isn't one of the stream
   pub weak_unknown : opcode ≢ 0x00 → (0x40 ≤ opcode → opcode ≤ 0xc0 → ⊥) → weak_opcode_at r pointer bytes place ≡ Err malformed
   weak_unknown d none = weak_by_tests (nat_lt opcode 0x40) (nat_lt 0xc0 opcode) refl refl d none
 
@@ -78,7 +78,7 @@ module _ (r : Range) (pointer : ℕ) (bytes : List ℕ) (place byte : ℕ) (ther
   pub weak_no_done : IsErr (weak_opcode_at r pointer bytes place) → opcode ≢ 0x00
   weak_no_done h = λ e. let k = rw (weak_zero e) at h in cc
 
-  -- where it can't be read, and its opcode is another one of the table
+  -- an opcode of the table, other than 0x40, that can't be read
   pub weak_unread : IsErr (weak_opcode_at r pointer bytes place) → 0x40 ≤ opcode → opcode ≤ 0xc0 → opcode ≢ 0x40
       → weak_opcode_at r pointer bytes place ≡ instruction_at pointer bytes place
   weak_unread h l m n = weak_other (weak_no_done h) l m n ∙ sym (by_row pointer bytes place byte there)
@@ -93,7 +93,7 @@ module _ (r : Range) (pointer : ℕ) (bytes : List ℕ) (place byte : ℕ) (ther
   unfolding rebase_row
   rebase_done e h = rebase_table ∙ rw e (ap (λ (n : ℕ). Ok (nothing, n)) (ends_there r place h))
 
--- where no byte stands
+-- a place without a byte
 pub weak_past : (r : Range) (pointer : ℕ) (bytes : List ℕ) (place : ℕ) → byte_at bytes place ≡ Err (bad_offset place)
     → weak_opcode_at r pointer bytes place ≡ Err (bad_offset place)
 unfolding weak_opcode_at
@@ -104,7 +104,7 @@ pub rebase_past : (r : Range) (pointer : ℕ) (bytes : List ℕ) (place : ℕ) �
 unfolding rebase_opcode_at
 rebase_past r pointer bytes place e = rw e refl
 
--- behind the bytes
+-- a place after the bytes
 pub past_bytes : (bytes : List ℕ) (place : ℕ) → length bytes ≤ place → byte_at bytes place ≡ Err (bad_offset place)
 unfolding byte_at
 past_bytes bytes place h = rw (slice_get_past bytes place h) refl

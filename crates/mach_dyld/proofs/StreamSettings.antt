@@ -6,7 +6,7 @@ if_set : {A : Type 0} (b : Bool) (old new : A) → cond b new old ≡ set_or old
 if_set {A} true old new = refl
 if_set {A} false old new = refl
 
--- after an instruction that is no DONE
+-- after an instruction that isn't a DONE
 pub setting_after : {A : Type 0} (back : List Placed) (p : Placed) (b : Bool) (fresh new : A) {old : A} (operand : Placed → Option A) → is_done p ≡ false
     → operand p ≡ cond b (Some new) None → old ≡ last_setting fresh operand back → cond b new old ≡ last_setting fresh operand (p ∷ back)
 setting_after {A} back p b fresh new operand none here e =

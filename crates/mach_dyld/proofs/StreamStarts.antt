@@ -9,7 +9,7 @@ use Rattle.mach_dyld.proofs.BindReading.{reading_longest, one_longest}
 use Rattle.mach_dyld.specs.Faults.{AreItemsAlone}
 use Rattle.mach_dyld.proofs.BindNames.{append-nil, add-zero}
 
--- ---- at the start, by what comes of the instructions of a range
+-- ---- at the start, by the items of the instructions of a range
 
 abbrev ComesTo : {M A : Type 0} → Rules M A → Input → (Range → List Placed → List (Result A Fault)) → Type 0
 ComesTo u x made = (r : Range) (ps : List Placed) → AllStandBy (reader_by u x r) r.upto ps → run u x r (fresh r.is_lazy 0) (u.first r.is_lazy) ps ≡ made r ps
@@ -50,7 +50,7 @@ module _ {M A : Type 0} (u : Rules M A) (laws : ReadsForward u) (x : Input) (mad
     unfolding reads_of
     start_reads = ap (λ (t : Bool). length (ahead non_lazy).read + cond t 0 (length (ahead lazy).read)) first
 
-    -- what is left at the start is that of both streams
+    -- what is left at the start is all of both streams
     pub starts : (items : List (Result A Fault)) (reads : ℕ) → items ≡ items_of u x lazy (u.first false) (start_of non_lazy)
         → reads ≡ reads_of u x lazy (start_of non_lazy)
         → (ps : List Placed) × (qs : List Placed) × AreItems (reader_by u x) made non_lazy lazy ps qs items × (reads ≡ length ps + length qs)
@@ -89,7 +89,7 @@ module _ {M A : Type 0} (u : Rules M A) (laws : ReadsForward u) (x : Input) (laz
       ap (λ (t : Bool). length alone.read + cond t 0 (length (reading_from (reader_by u x lazy) lazy.upto lazy.from).read)) last
       ∙ add-zero (length alone.read)
 
-  -- what is left at the start is that of the stream
+  -- what is left at the start is all of the stream
   pub starts_alone : (items : List (Result A Fault)) (reads : ℕ) → items ≡ items_of u x lazy m (start_of r) → reads ≡ reads_of u x lazy (start_of r)
       → (ps : List Placed) × AreItemsAlone (reader_by u x r) made r ps items × (reads ≡ length ps)
   starts_alone items reads is reads_are =
@@ -136,11 +136,11 @@ module _ {A : Type 0} (P : A → Type 0) where
   of_upto (Ok i ∷ a) h = All-cons OfItem (Ok i) (upto_fault a) (All-head OfItem (Ok i) a h) (of_upto a (All-tail OfItem (Ok i) a h))
   of_upto (Err f ∷ a) h = All-cons OfItem (Err f) [] tt (All-nil OfItem)
 
-  -- that of the items of one stream
+  -- what holds of the items of one stream
   pub of_one : (a : List (Result A Fault)) (s : Option Fault) → All OfItem a → All OfItem (upto_fault (a ++ fault_item s))
   of_one a s h = of_upto _ (All-append OfItem a (fault_item s) h (of_fault s))
 
-  -- that of the items of both streams
+  -- what holds of the items of both streams
   pub of_both : (a b : List (Result A Fault)) (s t : Option Fault) → All OfItem a → All OfItem b
       → All OfItem (upto_fault (a ++ fault_item s ++ b ++ fault_item t))
   of_both a b s t h k =

@@ -1,4 +1,4 @@
--- What is left where no item comes.
+-- What is left at a stop.
 use Rattle.mach_dyld.proofs.BindNames.{◌≡◌, ◌-◌, ℕ, suc, [], ◌∷◌, true, Err, arith, Fault, malformed, input_of, lazy_of, state_of, items_left, opcodes_left}
 use Rattle.mach_dyld.proofs.BindNames.{Rules, ReadsForward}
 use Rattle.mach_dyld.specs.Machine.{IsNextUnreadable, MakesNothing, IsAtEnd, next_read}
@@ -11,7 +11,7 @@ module _ {M A : Type 0} (u : Rules M A) (laws : ReadsForward u) (it : Stream M) 
   unfolding items_left
   at_instruction byte f a e = after_fault u laws (input_of it.source) (lazy_of it) it.more (state_of it.state) a.count a.on f a.within e
 
-  -- that of the bind
+  -- the fault of the bind
   pub at_bind : MakesNothing u it → items_left u it ≡ Err malformed ∷ []
   unfolding items_left
   at_bind a =
@@ -19,7 +19,7 @@ module _ {M A : Type 0} (u : Rules M A) (laws : ReadsForward u) (it : Stream M) 
       let k : it.state.count ≡ suc (it.state.count - 1) = omega (arith, more) in
       after_refusal u laws (input_of it.source) (lazy_of it) it.more (state_of it.state) (it.state.count - 1) malformed k a.on a.none
 
-  -- nothing at the end of both streams, nor behind it
+  -- nothing is left at the end of both streams, nor after it
   abbrev IsEmpty : Type 0
   IsEmpty = (items_left u it ≡ []) × (opcodes_left u it ≡ 0)
 

@@ -1,4 +1,4 @@
--- What comes of the turns of one instruction: of weak binds, and of rebases.
+-- The items of the turns of one instruction: of weak binds, and of rebases.
 use Rattle.std.proofs.Common.{◌≡◌, ℕ, ◌+◌, ◌<◌, ◌≤◌, ◌^◌, true, false, Some, None, Ok, Err, refl, arith, inl, inr}
 use Rattle.std.proofs.Math.Nat.{le-min}
 use Rattle.std.proofs.lemmas.Bool.{cases_lt, le-leb, lt-leb, lt-ltb, le-ltb}

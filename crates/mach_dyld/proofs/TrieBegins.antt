@@ -1,4 +1,4 @@
--- A beginning of a list of exports is one of the list, where there is one.
+-- A prefix of a list of exports, as `ListBegins` defines it, is a prefix of the list itself, if there is one.
 use Rattle.mach_dyld.proofs.TrieNames.{◌≡◌, ℕ, List, [], ◌∷◌, ◌++◌, refl, sym, ap, subst, ◌∙◌, arith, append_assoc, inl, inr, Branch, Node, Trie, Entry}
 use Rattle.mach_dyld.proofs.TrieNames.{own_entries, Lists, BranchesList, nothing, a_node, one_more, ListBegins, BranchesBegin, none_yet, node_begun}
 use Rattle.mach_dyld.proofs.TrieNames.{no_further, one_begun, one_whole, source_trie, HasFound}
@@ -37,7 +37,7 @@ mutual
             ∙ (sym (append_assoc first some more.0) ∙ ap (λ (x : List Entry). x ++ more.0) (sym e)))),
       )
 
--- what a walk has found is a beginning
+-- what a walk has found is a prefix
 pub found_begins : {A : Type 0} {n : ℕ} (found : List Entry) (w : Walker A) → HasFound found n w
     → ListBegins (source_trie w.source) w.source.from [] found
 found_begins found w f = elim f [
@@ -45,7 +45,7 @@ found_begins found w f = elim f [
   | inr end ↦ whole_list (source_trie w.source) w.source.from [] found end.1.listed
 ]
 
--- what is known of a walk's source is known of the trie that it goes over
+-- what is known of a walk's source is known of the trie that it walks
 module _ (s : Source) (t : TrieRange) (libs : List (List ℕ)) (same : source_trie s ≡ trie_there t libs) (from : s.from ≡ t.from) where
   pub listed_there : {found : List Entry} {m : ℕ} → HasListed s found m → ListsExports t libs found
   listed_there {found} l = (

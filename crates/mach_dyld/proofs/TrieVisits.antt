@@ -1,4 +1,4 @@
--- How many visits a walk of the trie makes.
+-- The number of visits that a walk of the trie makes.
 use Rattle.mach_dyld.proofs.TrieNames.{◌≡◌, ◌≤◌, ◌<◌, ◌+◌, ◌↔◌, ℕ, zero, suc, Bool, true, false, cond, eqb, nat_le, List, [], ◌∷◌, ◌⊎◌, inl, inr, length, Some}
 use Rattle.mach_dyld.proofs.TrieNames.{Result, Ok, Err, refl, sym, ap, subst, ◌∙◌, arith, slice_get, cases_Bool, eqb-true, leb-true, Fault, Branch, Node, Trie}
 use Rattle.mach_dyld.proofs.TrieNames.{Leads, Path, Before, AreInOrder, IsAmong, AreApart, Visits}
@@ -24,7 +24,7 @@ leave_out x (z ∷ xs) i = elim i [
       ))
 ]
 
--- where each of some things belongs to one in a list, and no two to the same, they are no more than the list
+-- if each of some things belongs to one in a list, and no two to the same, there are at most as many of them as in the list
 module _ {X Y : Type 0} (Belongs : X → Y → Type 0) where
   abbrev pub Apart : List X → Type 0
   Apart [] = Unit {0}
@@ -44,7 +44,7 @@ apart_by_place : (t : Trie) (root : ℕ) (ps : List (List ℕ)) → AreApart t r
 apart_by_place t root [] apart = tt
 apart_by_place t root (p ∷ ps) apart = (λ q at i a b. apart.0 q at i a b, apart_by_place t root ps apart.1)
 
--- paths of which no two lead to one place are no more than the places of a list that holds all of these
+-- if no two paths lead to one place, there are at most as many as in a list that holds all these places
 pub no_more_paths : (t : Trie) (root : ℕ) (nodes : List ℕ) → ((path : List ℕ) (at : ℕ) → Leads t path root at → at < t.upto → IsAmong at nodes)
     → (ps : List (List ℕ)) → AreApart t root ps → ((p : List ℕ) → IsAmong p ps → Path t root p) → length ps ≤ length nodes
 no_more_paths t root nodes all ps apart leads = no_more_than (λ p at. Leads t p root at) ps nodes (apart_by_place t root ps apart)
@@ -60,7 +60,7 @@ pub in_range : (a n x : ℕ) → a ≤ x → x < a + n → IsAmong x (range_with
 in_range a zero x low high = absurd (omega arith)
 in_range a (suc n) x low high = elim (cases_eq x a) [ inl here ↦ inl here | inr other ↦ inr (in_range (a + 1) n x (omega arith) (omega arith)) ]
 
--- nor more than the range has places
+-- and at most as many as the range has places
 pub few_paths : (t : Trie) (root from : ℕ) → StartsFrom t from → from ≤ root → (ps : List (List ℕ)) → AreApart t root ps
     → ((p : List ℕ) → IsAmong p ps → Path t root p) → length ps ≤ t.upto - from
 few_paths t root from starts low ps apart leads =
@@ -89,7 +89,7 @@ of_paths t root old new x paths visits order all =
     let least = no_more_than (λ (p q : List ℕ). p ≡ q) paths visits.paths (apart_in_order paths order) (λ p i. (p, visits.all p ((all p).0 i), refl)) in
     let count = visits.count in omega arith
 
--- where some starts hold the root and the children of each that is a node, they hold all nodes to which paths lead
+-- if some starts include the root and the children of each that is a node, they include all nodes to which paths lead
 
 abbrev pub every : {X : Type 0} → (X → Bool) → List X → Bool
 every test [] = true
@@ -103,7 +103,7 @@ abbrev pub holds_children : ℕ → List ℕ → Result Node Fault → Bool
 holds_children upto starts (Err f) = true
 holds_children upto starts (Ok node) = every (λ b. cond (nat_le upto b.start) true (is_in b.start starts)) node.branches
 
--- the starts hold the children of each
+-- the starts include the children of each
 abbrev pub is_closed : Trie → List ℕ → Bool
 is_closed t starts = every (λ at. holds_children t.upto starts (t.node at)) starts
 

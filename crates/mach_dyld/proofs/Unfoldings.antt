@@ -1,4 +1,4 @@
--- What a reading of a trie has met is a beginning of its list, and all of it where nothing is ahead.
+-- What a reading of a trie has met is a prefix of its list, and all of it if nothing is ahead.
 use Rattle.mach_dyld.proofs.TrieNames.{◌≡◌, ℕ, List, [], ◌∷◌, ◌++◌, ◌⊎◌, inl, inr, refl, sym, ap, subst, ◌∙◌, append_assoc, append-nil}
 use Rattle.mach_dyld.proofs.TrieNames.{Branch, Trie, Entry, own_entries, Lists, BranchesList, a_node, nothing}
 use Rattle.mach_dyld.proofs.TrieNames.{no_more, one_more, ListBegins, BranchesBegin, none_yet, node_begun, no_further, one_begun, one_whole}
@@ -6,7 +6,7 @@ use Rattle.mach_dyld.proofs.TrieNames.{Ahead, ahead, Unfolds, nothing_read, pass
 
 -- ---- lists
 
--- the lists of what is ahead, one behind the other
+-- the lists of what is ahead, one after the other
 abbrev pub ListsAhead : Trie → List Ahead → List Entry → Type 0
 ListsAhead t [] es = es ≡ []
 ListsAhead t (a ∷ others) es =
@@ -37,13 +37,13 @@ lists_ahead {t} {root} {found = met} (node_read {found = found} {next = next} {o
     (own ++ split.0, split.1, a_node node is split.2 refl, split.3, ap (λ (x : List Entry). own ++ x) split.4 ∙ sym (append_assoc own split.0 split.1)) in
     subst (λ (x : List Entry). Lists t root [] x) (sym (append_assoc found own es) ∙ ap (λ (x : List Entry). x ++ es) (sym met_is)) whole
 
--- where nothing is ahead, all is met
+-- if nothing is ahead, all exports were met
 pub all_met : {t : Trie} {root n : ℕ} {found : List Entry} → Unfolds t root n found [] → Lists t root [] found
 all_met {t} {root} {n} {found} u = subst (λ (x : List Entry). Lists t root [] x) (append-nil found) (lists_ahead u [] refl)
 
--- ---- beginnings
+-- ---- prefixes
 
--- a list is a beginning of itself
+-- a list is a prefix of itself
 whole_branches : (t : Trie) (prefix : List ℕ) (bs : List Branch) (es : List Entry) → BranchesList t prefix bs es → BranchesBegin t prefix bs es
 whole_branches t prefix [] es no_more = no_further
 whole_branches t prefix (b ∷ bs) es (one_more {others = others} one rest e) = one_whole one (whole_branches t prefix bs others rest) e
@@ -52,7 +52,7 @@ pub whole_list : (t : Trie) (s : ℕ) (p : List ℕ) (xs : List Entry) → Lists
 whole_list t s p [] (nothing out) = none_yet
 whole_list t s p xs (a_node {others = others} node is all e) = node_begun node is (whole_branches t p node.branches others all) e
 
--- a beginning of the lists of what is ahead
+-- a prefix of the lists of what is ahead
 abbrev pub BegunAhead : Trie → List Ahead → List Entry → Type 0
 BegunAhead t [] es = es ≡ []
 BegunAhead t (a ∷ others) es = ListBegins t a.start a.name es

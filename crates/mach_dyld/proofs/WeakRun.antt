@@ -1,4 +1,4 @@
--- What comes of weak binds by settings that run forward is what looking back finds.
+-- The weak binds by settings that run forward are what looking back finds.
 use Rattle.mach_dyld.proofs.BindNames.{◌≡◌, ℕ, ◌+◌, List, [], ◌∷◌, map, Bool, true, false, Result, Ok, refl, sym, ap, ◌∙◌, subst, ◌>>=◌, ◌==◌, Fault}
 use Rattle.mach_dyld.proofs.BindNames.{cond, bit_and, inl, inr, cases_eq, cases_Bool, ne_eqb, nat_lt, bind_ok, same_ok, text_at, length, Instruction, symbol}
 use Rattle.mach_dyld.proofs.BindNames.{binds, byte_at, Placed, Range, Input, Bind, fresh, run, set_after, set_by, StandsBy, AllStandBy, reader_by}
@@ -33,7 +33,7 @@ name_found flags bytes place found e =
     let b = bind_ok (name_before_end bytes place a.0) end found a.2 in
     (b.0, ap (λ (y : Instruction × ℕ). y.0) (same_ok b.2))
 
--- it is no DONE, and gives a row of its own where it names a symbol of the image's own
+-- it is not a DONE, and gives a row of its own if it names a symbol that the image itself defines
 abbrev Known : ℕ → ℕ → Instruction → Type 0
 Known opcode imm i = (done_is i ≡ false) × (strong_is i ≡ cond (opcode == 0x40) (is_own imm) false)
 
@@ -101,7 +101,7 @@ tied_next x r m back p stands t =
     (after_byte x m back p b.0 b.1
     (known_row r x.pointer x.bytes (bit_and b.0 0xf0) (bit_and b.0 0x0f) (p.place + 1) (p.instruction, p.after) b.2) t)
 
--- ---- what comes of it
+-- ---- its rows
 
 binds_made : (x : Input) (m : WeakExtra) (g : WeakSet) (ds : List Bind) → false ≡ m.is_own → set_now m ≡ g
     → map (λ d. weak_made x d m) ds ≡ map (weak_bind_of x g) ds

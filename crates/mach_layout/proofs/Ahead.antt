@@ -1,4 +1,4 @@
--- The next of some items, where those in front of it are taken.
+-- The next of some items, if those before it were taken.
 use Rattle.std.proofs.Common.{◌≡◌, ℕ, zero, suc, ◌+◌, List, [], ◌∷◌, drop, Option, Some, None, MatchOption, slice_get, refl, sym, ap, ◌∙◌, arith}
 
 none_ahead : {X : Type 0} (xs : List X) (k : ℕ) → drop k xs ≡ [] → (slice_get xs k ≡ None) × (drop (suc k) xs ≡ [])
@@ -13,7 +13,7 @@ some_ahead [] (suc k) x rest e = absurd (cc)
 some_ahead (y ∷ ys) zero x rest e = (cc, cc)
 some_ahead (y ∷ ys) (suc k) x rest e = some_ahead ys k x rest e
 
--- what an iterator gives next is item k, and those behind it are left
+-- the item that an iterator returns next is item k, and those after it are left
 pub next_ahead : {X : Type 0} (xs : List X) (k : ℕ) (r : Option X) (rest left : List X) → rest ≡ drop k xs
     → MatchOption r ((rest ≡ []) × (left ≡ [])) (λ x. rest ≡ x ∷ left) → (slice_get xs k ≡ r) × (left ≡ drop (k + 1) xs)
 next_ahead xs k None rest left at steps =

@@ -1,10 +1,10 @@
--- Faults that are told by chains over segments and sections, and the last command.
+-- Faults found by chains over segments and sections, and the last command.
 use Rattle.std.proofs.Common.{◌≡◌, ℕ, suc, ◌-◌, List, [], ◌∷◌, length, map, Option, Some, Result, Ok, sym, ap, subst, ◌∙◌, arith}
 use Rattle.std.specs.Prelude.{slice_get}
 use Rattle.std.specs.List.{last_or}
 use Rattle.std.specs.Result.{OnOk}
 
--- what holds of an answer that is Ok
+-- what holds of a result that is Ok
 pub at_ok : {X E : Type 0} {P : Type 0} (r : Result X E) (x : X) → r ≡ Ok x → OnOk r P → P
 at_ok {P = P} r x e held = subst (λ s. OnOk s P) e held
 

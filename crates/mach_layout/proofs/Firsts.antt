@@ -1,4 +1,4 @@
--- The first command of each set, among those that were gone over.
+-- The first command of each set, among those already visited.
 use Rattle.std.proofs.Common.{◌≡◌, ◌≢◌, ◌<◌, ℕ, ◌+◌, true, false, cond, eqb, Bool, List, [], ◌∷◌, ◌++◌, length, map, take, drop, get_or, Option, Some, None}
 use Rattle.std.proofs.Common.{inl, inr, refl, sym, ap, ◌∙◌, append-nil, arith, set, eq-eqb}
 use Rattle.std.proofs.lemmas.Bool.{cases_eq, ne_eqb}
@@ -16,7 +16,7 @@ use Rattle.mach_layout.specs.declared.fault.LayoutFault.{LayoutFault}
 use Rattle.mach_layout.specs.declared.fault.Owner.{Owner}
 use Rattle.mach_layout.proofs.OneByOne.{from_here, before_next, onto}
 
--- what is told of the next one stands in front of what is told of those behind it
+-- the fault of the next command comes before the faults of those after it
 pub again_next : (fs : List LayoutFault) (xs : List LoadCommand) (i : ℕ) (d : LoadCommand) → i < length xs
     → (fs ++ option_to_list (command_again (map command_of (take i xs)) (command_of (get_or xs i d))))
     ++ commands_again (map command_of (take (i + 1) xs)) (map command_of (drop (i + 1) xs))
@@ -54,17 +54,17 @@ module _ (before : List Command) (c : Command) (s : ℕ) where
   pub first_left : is_of_set s c ≡ false → first_owner (before ++ c ∷ []) s ≡ first_owner before s
   first_left e = one_more false e ∙ or_none (find (is_of_set s) before)
 
-  -- and so does any, where there is a first one
+  -- and so does any command, if there is a first one
   pub first_kept : (first : Owner) → first_owner before s ≡ Some first → first_owner (before ++ c ∷ []) s ≡ Some first
   first_kept first e =
       ap (λ (o : Option Command). option_map command_owner o) (find-append (is_of_set s) before (c ∷ []))
       ∙ or_found (find (is_of_set s) before) (next (is_of_set s c)) first e
 
-  -- where there is none, one of this set is the first
+  -- if there is none, one of this set is the first
   pub first_made : first_owner before s ≡ None → is_of_set s c ≡ true → first_owner (before ++ c ∷ []) s ≡ Some (command_owner c)
   first_made none e = one_more true e ∙ or_other (find (is_of_set s) before) (next true) none
 
--- what is told of a command, by its set and that one's first
+-- the fault of a command, by its set and the first of that set
 pub again_none : (before : List Command) (c : Command) → set_of c.kind ≡ None → command_again before c ≡ None
 again_none before c e = ap (option_and_then (λ (k : ℕ). option_map (once_more c) (first_owner before k))) e
 
@@ -79,7 +79,7 @@ of_no_set c s e = ap (is_number s) e
 pub of_set : (c : Command) (s own : ℕ) → set_of c.kind ≡ Some own → is_of_set s c ≡ eqb own s
 of_set c s own e = ap (is_number s) e
 
--- what is told so far and of those from the next one on is what is told of those behind it as well
+-- the faults so far, followed by those from the next command on, are the same after the next command
 pub told_on : (fs more all : List LayoutFault) (xs : List LoadCommand) (i : ℕ) (d : LoadCommand) (told : Option LayoutFault) → i < length xs
     → command_again (map command_of (take i xs)) (command_of (get_or xs i d)) ≡ told → more ≡ fs ++ option_to_list told
     → fs ++ commands_again (map command_of (take i xs)) (map command_of (drop i xs)) ≡ all
@@ -88,7 +88,7 @@ told_on fs more all xs i d told lt is added so_far =
     let behind = commands_again (map command_of (take (i + 1) xs)) (map command_of (drop (i + 1) xs)) in
     ap (λ (gs : List LayoutFault). gs ++ behind) (added ∙ ap (λ (o : Option LayoutFault). fs ++ option_to_list o) (sym is)) ∙ again_next fs xs i d lt ∙ so_far
 
--- the marks say whose the first command of each set is, among the first ones
+-- the marks hold the first command of each set, among the first ones, as an owner
 abbrev pub AreFirsts : List (Option Owner) → List Command → Type 0
 AreFirsts marks before = (s : ℕ) → s < 22 → get_or marks s None ≡ first_owner before s
 
@@ -127,7 +127,7 @@ module _ (marks : List (Option Owner)) (xs : List LoadCommand) (i : ℕ) (d : Lo
     | inr ne ↦ get_or-set_other marks own s (Some first) None (λ same. ne (sym same)) ∙ were s few ∙ other_set own s e ne
   ]
 
--- how the faults go on at the next one: it is of no set, or the first of one, or not the first
+-- how the faults continue at the next command: it belongs to no set, or is the first of its set, or isn't the first
 module _ (fs more all : List LayoutFault) (marks : List (Option Owner)) (xs : List LoadCommand) (i : ℕ) (d : LoadCommand) (lt : i < length xs)
     (so_far : fs ++ commands_again (map command_of (take i xs)) (map command_of (drop i xs)) ≡ all) where
   abbrev goes_on : List LayoutFault → Type 0

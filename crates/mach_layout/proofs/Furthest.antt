@@ -1,4 +1,4 @@
--- The furthest of some ranges and one more, and what is told of it.
+-- The furthest of some ranges and one more, and its fault.
 use Rattle.std.proofs.Common.{◌≡◌, ◌<◌, ℕ, ◌+◌, List, [], ◌∷◌, ◌++◌, take, drop, length, get_or, Option, Some, None, refl, sym, ap, ◌∙◌, append_assoc, add-one}
 use Rattle.std.proofs.lemmas.List.{take_more}
 use Rattle.std.proofs.Math.Seq.{drop-cons}
@@ -21,7 +21,7 @@ onto : (o : Option LayoutFault) (xs ys : List LayoutFault) → (xs ++ option_to_
 onto None xs ys = append_assoc xs [] ys
 onto (Some x) xs ys = append_assoc xs (x ∷ []) ys
 
--- what is told of the next one stands in front of what is told of those behind it
+-- the fault of the next range comes before the faults of those after it
 pub told_next : (rule : Rule) (fs : List LayoutFault) (rs : List Claim) (k : ℕ) (d : Claim) → k < length rs
     → (fs ++ option_to_list (shared rule (furthest (take k rs)) (get_or rs k d))) ++ shared_behind rule (take (k + 1) rs) (drop (k + 1) rs)
     ≡ fs ++ shared_behind rule (take k rs) (drop k rs)
@@ -33,7 +33,7 @@ told_next rule fs rs k d lt =
     ∙ ap (λ (b : List Claim). fs ++ cons_option (shared rule (furthest before) r) (shared_behind rule b (drop (k + 1) rs))) (take_more rs k d lt)
     ∙ ap (λ (left : List Claim). fs ++ shared_behind rule before left) (sym here)
 
--- the furthest, when the next one was taken
+-- the furthest, after the next one was taken
 pub furthest_here : (rs : List Claim) (k : ℕ) (d : Claim) (f : Option Claim) (r : Claim) → k < length rs → f ≡ furthest (take k rs)
     → r ≡ further f (get_or rs k d) → Some r ≡ furthest (take (k + 1) rs)
 furthest_here rs k d f r lt was is =

@@ -1,14 +1,14 @@
--- Lists of faults that are told one after the other.
+-- Lists of faults, one after the other.
 use Rattle.std.proofs.Common.{◌≡◌, List, ◌++◌, Option, ap, ◌∙◌, append_assoc}
 use Rattle.std.specs.Prelude.{option_to_list}
 use Rattle.mach_layout.specs.declared.fault.LayoutFault.{LayoutFault}
 
--- some faults are told, and then others
+-- some faults, then others
 pub then_others : (old some others : List LayoutFault) {one all : List LayoutFault} → one ≡ old ++ some → all ≡ one ++ others
     → all ≡ old ++ (some ++ others)
 then_others old some others first then = then ∙ ap (λ (fs : List LayoutFault). fs ++ others) first ∙ append_assoc old some others
 
--- at most one is told, which is this
+-- at most one fault, which is this
 pub told_as : (old : List LayoutFault) {one : List LayoutFault} {told is : Option LayoutFault} → one ≡ old ++ option_to_list told → told ≡ is
     → one ≡ old ++ option_to_list is
 told_as old first is = first ∙ ap (λ (o : Option LayoutFault). old ++ option_to_list o) is

@@ -20,11 +20,11 @@ use Rattle.mach_layout.specs.Segments.{same_name, segment_name, named_among, nam
 use Rattle.mach_layout.specs.declared.fault.LayoutFault.{LayoutFault}
 use Rattle.mach_layout.specs.declared.placed_sections.PlacedSegment.{PlacedSegment}
 
--- where two texts are the same
+-- two texts that are the same
 same_text : (xs ys : List ℕ) → bytes_eq xs ys ≡ true → xs ≡ ys
 same_text xs ys e = (bytes_eq-Decides xs ys).0 e
 
--- of a name that is kept nothing changes
+-- nothing changes for a name that is kept
 pub kept : (f : List ℕ → Option ℕ) (name : List ℕ) (place earlier : ℕ) (q : List ℕ) → f name ≡ Some earlier → f q ≡ first_place_kept (f q) name place q
 kept f name place earlier q here = by (f q) (bytes_eq name q) refl refl
   where
@@ -48,7 +48,7 @@ added f g name place q none new = new ∙ by (f q) (bytes_eq name q) refl refl
 abbrev pub place_of : Option PlacedSegment → Option ℕ
 place_of o = option_map (λ (s : PlacedSegment). s.place) o
 
--- what is kept of a name behind one more segment
+-- what is kept for a name after one more segment
 pub kept_behind : (q : List ℕ) (earlier : List PlacedSegment) (s : PlacedSegment) (old new : Option ℕ)
     → old ≡ place_of (named_among q earlier) → new ≡ first_place_kept old (segment_name s) s.place q
     → new ≡ place_of (named_among q (earlier ++ s ∷ []))
@@ -63,7 +63,7 @@ kept_behind q earlier s old new before now =
     by None true e = rw e refl
     by None false e = rw e refl
 
--- the fault of one more segment goes behind those before it
+-- the fault of one more segment comes after those before it
 pub told_behind : (front pushed : List LayoutFault) (earlier rest : List PlacedSegment) (s : PlacedSegment) (met : Option ℕ)
     → met ≡ place_of (named_among (segment_name s) earlier) → pushed ≡ front ++ name_again met s.place
     → front ++ names_again earlier (s ∷ rest) ≡ pushed ++ names_again (earlier ++ s ∷ []) rest
@@ -110,7 +110,7 @@ module _ (cs : List LoadCommand) (i : ℕ) (d : LoadCommand) (inside : i < lengt
   no_segment None e = refl
   no_segment (Some s) e = absurd (cc)
 
-  -- a command of no segment leaves both
+  -- a command that isn't a segment's leaves both unchanged
   pub unnamed_next : None ≡ option_map name_and_place here → (before cs (i + 1) ≡ before cs i) × (from_on cs i ≡ from_on cs (i + 1))
   unnamed_next e =
       let none = no_segment here e in (
@@ -137,7 +137,7 @@ module _ (cs : List LoadCommand) (i : ℕ) (d : LoadCommand) (inside : i < lengt
               ∙ ap (λ (l : List PlacedSegment). pushed ++ names_again l (from_on cs (i + 1))) (sym b),
         )
 
-    -- a command of a segment goes from the one to the other
+    -- a segment's command moves from the one to the other
     pub named_next : (name : List ℕ) (place : ℕ) → Some (name, place) ≡ option_map name_and_place here
         → ((q : List ℕ) → old q ≡ place_of (named_among q (before cs i)))
         → ((q : List ℕ) → new q ≡ first_place_kept (old q) name place q)
@@ -158,7 +158,7 @@ module _ (cs : List LoadCommand) (i : ℕ) (d : LoadCommand) (inside : i < lengt
             all
             (more ∙ ap (λ (x : List ℕ). front ++ name_again (old x) place) n ∙ ap (λ (y : ℕ). front ++ name_again (old (segment_name s)) y) p)
 
--- how many bytes stand before the first that passes, where a search found its place or found none
+-- the number of bytes before the first that passes, if a search found its place or found none
 pub first_place_or_len : (p : ℕ → Bool) (xs : List ℕ) (r : Option ℕ)
     → r ≡ (if nat_lt (position_or_len p xs) (length xs) then Some (position_or_len p xs) else None) → unwrap_or r (length xs) ≡ position_or_len p xs
 first_place_or_len p xs r e = ap (λ (o : Option ℕ). unwrap_or o (length xs)) e ∙ by (nat_lt (position_or_len p xs) (length xs)) refl

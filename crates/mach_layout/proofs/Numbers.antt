@@ -1,4 +1,4 @@
--- What is told of the numbers of a range.
+-- The results for the numbers of a range.
 use Rattle.std.proofs.Common.{◌≡◌, ℕ, zero, suc, ◌+◌, ◌-◌, ◌<◌, List, [], ◌∷◌, ◌++◌, Option, Some, None, refl, ap, sym, ◌∙◌, append_assoc, arith}
 use Rattle.std.proofs.lemmas.List.{append-nil}
 use Rattle.std.specs.List.{filter_map, range_with_len, cons_option}
@@ -9,7 +9,7 @@ cons_option-append : {Y : Type 0} (o : Option Y) (xs ys : List Y) → cons_optio
 cons_option-append None xs ys = refl
 cons_option-append (Some y) xs ys = refl
 
--- one number more
+-- one more number
 told-more : {Y : Type 0} (h : ℕ → Option Y) (a n : ℕ)
     → filter_map h (range_with_len a (suc n)) ≡ filter_map h (range_with_len a n) ++ cons_option (h (a + n)) []
 told-more h a zero = ap (λ (k : ℕ). cons_option (h k) []) (omega arith)
@@ -27,14 +27,14 @@ told-next h n =
     ∙ told-more h 0 n
     ∙ ap (λ (k : ℕ). filter_map h (range_with_len 0 n) ++ cons_option (h k) []) from_none
 
--- nothing is told of the next number
+-- no result for the next number
 pub told_none : {Y : Type 0} (h : ℕ → Option Y) (old so_far : List Y) (n : ℕ)
     → so_far ≡ old ++ filter_map h (range_with_len 0 n) → h n ≡ None → so_far ≡ old ++ filter_map h (range_with_len 0 (n + 1))
 told_none h old so_far n before none =
     before
     ∙ sym (ap (λ told. old ++ told) (told-next h n ∙ ap (λ o. filter_map h (range_with_len 0 n) ++ cons_option o []) none ∙ append-nil _))
 
--- something is told of it
+-- a result for it
 pub told_some : {Y : Type 0} (h : ℕ → Option Y) (old so_far new : List Y) (n : ℕ) (y : Y)
     → so_far ≡ old ++ filter_map h (range_with_len 0 n) → h n ≡ Some y → new ≡ so_far ++ y ∷ []
     → new ≡ old ++ filter_map h (range_with_len 0 (n + 1))
@@ -44,7 +44,7 @@ told_some h old so_far new n y before some pushed =
     ∙ append_assoc old _ _
     ∙ sym (ap (λ told. old ++ told) (told-next h n ∙ ap (λ o. filter_map h (range_with_len 0 n) ++ cons_option o []) some))
 
--- ---- the first number of which something is told
+-- ---- the first number with a result
 
 -- it is this one
 pub first_here : (tell : ℕ → Option LayoutFault) (k upto : ℕ) (f : LayoutFault) → k < upto → tell k ≡ Some f → Some f ≡ first_told tell k (upto - k)
@@ -59,7 +59,7 @@ first_later tell k upto inside here =
     let one_more : upto - k ≡ suc (upto - (k + 1)) = omega arith in
     sym (ap (λ (n : ℕ). first_told tell k n) one_more ∙ ap (λ o. first_of_two o (first_told tell (k + 1) (upto - (k + 1)))) here)
 
--- ---- lists that are told one behind the other
+-- ---- lists of results, one after the other
 
 pub then_told : {Y : Type 0} (old before more so_far new : List Y) → so_far ≡ old ++ before → new ≡ so_far ++ more → new ≡ old ++ (before ++ more)
 then_told old before more so_far new front last = last ∙ ap (λ told. told ++ more) front ∙ append_assoc old before more

@@ -1,4 +1,4 @@
--- There is one arrangement of some ranges by their starts, and so one list of what is told of those that share a place.
+-- Ranges have one arrangement by their starts, and so one list of faults of those that share a place.
 use Rattle.std.proofs.Common.{◌≡◌, ℕ, suc, ◌≤◌, ◌<◌, ◌&&◌, not, Bool, true, false, cond, List, [], ◌∷◌, length, get_or, refl, sym, ap, ◌∙◌, arith}
 use Rattle.std.proofs.Common.{inl, inr}
 use Rattle.std.proofs.lemmas.Bool.Decides.{leb_tells}
@@ -13,14 +13,14 @@ use Rattle.mach_layout.specs.declared.claim.Claim.{Claim}
 use Rattle.mach_layout.specs.declared.fault.LayoutFault.{LayoutFault}
 use Rattle.mach_layout.specs.declared.fault.Rule.{Rule}
 
--- a filter that none passes
+-- a filter that no item passes
 filter_none : {X : Type 0} (p : X → Bool) (xs : List X) → ((k : ℕ) (d : X) → k < length xs → p (get_or xs k d) ≡ false) → filter p xs ≡ []
 filter_none p [] h = refl
 filter_none p (x ∷ xs) h =
     ap (λ (b : Bool). cond b (x ∷ filter p xs) (filter p xs)) (h 0 x (omega arith))
     ∙ filter_none p xs (λ k d lt. h (suc k) d (omega (arith, lt)))
 
--- lists that agree with one item in front agree without it
+-- lists that agree with one item before them agree without it
 kept : {X : Type 0} (b : Bool) (y : X) (xs zs : List X) → cond b (y ∷ xs) xs ≡ cond b (y ∷ zs) zs → xs ≡ zs
 kept true y xs zs e = cc
 kept false y xs zs e = e
@@ -36,7 +36,7 @@ module _ {X : Type 0} (n : X → ℕ) (t : X → X → Bool) (yes : (x y : X) �
   rises_behind : (x : X) (xs : List X) → IsNonDecreasingBy n (x ∷ xs) → IsNonDecreasingBy n xs
   rises_behind x xs h = λ i j d le lt. h (suc i) (suc j) d (omega (arith, le)) (omega (arith, lt))
 
-  -- none that rise from one on tie with what is less
+  -- in a rising list, no item ties with a smaller one
   none_less : (y z : X) (zs : List X) → IsNonDecreasingBy n (z ∷ zs) → n y < n z → filter (t y) (z ∷ zs) ≡ []
   none_less y z zs h less = filter_none (t y) (z ∷ zs) (λ k d lt.
       let first : n z ≤ n (get_or (z ∷ zs) k d) = h 0 k d (omega arith) lt in
@@ -49,7 +49,7 @@ module _ {X : Type 0} (n : X → ℕ) (t : X → X → Bool) (yes : (x y : X) �
   not_less y z ys zs h same less =
       let e : y ∷ filter (t y) ys ≡ [] = sym (first_kept y y ys refl) ∙ same ∙ none_less y z zs h less in cc
 
-  -- two lists that rise, and have the same items that tie with any one in the same order, are one
+  -- two rising lists that have, for each item, the same items that tie with it in the same order, are equal
   pub one_rising : (ys zs : List X) → IsNonDecreasingBy n ys → IsNonDecreasingBy n zs → ((x : X) → filter (t x) ys ≡ filter (t x) zs) → ys ≡ zs
   one_rising [] [] h g same = refl
   one_rising [] (z ∷ zs) h g same = absurd (let e : [] ≡ z ∷ filter (t z) zs = same z ∙ first_kept z z zs refl in cc)
@@ -65,7 +65,7 @@ module _ {X : Type 0} (n : X → ℕ) (t : X → X → Bool) (yes : (x y : X) �
 
 -- ---- ranges
 
--- by its start the first of two begins in front of the second
+-- by their starts, the first of two comes before the second
 abbrev before : Claim → Claim → Bool
 before x y = is_lt (nat_cmp x.start y.start)
 
@@ -84,7 +84,7 @@ one_by_start ranges xs ys p q =
     (IsNonDecreasingBy-from_sort (λ (r : Claim). r.start) xs p.ordered) (IsNonDecreasingBy-from_sort (λ (r : Claim). r.start) ys q.ordered)
     (λ x. p.stable x ∙ sym (q.stable x))
 
--- what is told of ranges that share a place is one list
+-- the faults of ranges that share a place are one list
 pub one_shared : (rule : Rule) (ranges : List Claim) (told others : List LayoutFault) → AreShared rule ranges told → AreShared rule ranges others
     → told ≡ others
 one_shared rule ranges told others p q =

@@ -1,4 +1,4 @@
--- Going over the commands of an image one by one.
+-- Visiting the commands of an image one by one.
 use Rattle.std.proofs.Common.{◌≡◌, ◌<◌, ◌≤◌, ℕ, zero, suc, ◌+◌, true, false, cond, Bool, List, [], ◌∷◌, ◌++◌, length, map, take, drop, get_or}
 use Rattle.std.proofs.Common.{Option, Some, None, refl, ap, ◌∙◌, arith, add-one, append_assoc}
 use Rattle.std.proofs.lemmas.List.{drop_all}
@@ -9,7 +9,7 @@ use Rattle.mach_load.specs.Variants.{command_of}
 use Rattle.mach_load.specs.declared.load_command.LoadCommand.{LoadCommand}
 use Rattle.mach_layout.specs.declared.fault.LayoutFault.{LayoutFault}
 
--- the commands from one on begin with it
+-- the commands from a number on begin with that one
 pub from_here : (xs : List LoadCommand) (i : ℕ) (d : LoadCommand) → i < length xs
     → map command_of (drop i xs) ≡ command_of (get_or xs i d) ∷ map command_of (drop (i + 1) xs)
 from_here [] i d lt = absurd (omega arith)
@@ -28,12 +28,12 @@ before_next (x ∷ xs) (suc i) d lt =
 pub none_left : (xs : List LoadCommand) (i : ℕ) → length xs ≤ i → map command_of (drop i xs) ≡ []
 none_left xs i past = ap (λ (ys : List LoadCommand). map command_of ys) (drop_all i xs past)
 
--- what is told is put in front of the rest
+-- a fault is put before the rest
 pub onto : (o : Option LayoutFault) (xs ys : List LayoutFault) → (xs ++ option_to_list o) ++ ys ≡ xs ++ cons_option o ys
 onto None xs ys = append_assoc xs [] ys
 onto (Some x) xs ys = append_assoc xs (x ∷ []) ys
 
--- a test of the next one settles whether one of those from it on passes, or leaves it to those behind
+-- a test of the next command decides whether one of those from it on passes, or leaves it to those after it
 pub any_here : (p : Command → Bool) (xs : List LoadCommand) (i : ℕ) (d : LoadCommand) → i < length xs → p (command_of (get_or xs i d)) ≡ true
     → list_any p (map command_of (drop i xs)) ≡ true
 any_here p xs i d lt e =
@@ -47,7 +47,7 @@ any_further p xs i d lt e =
 pub any_none : (p : Command → Bool) (xs : List LoadCommand) (i : ℕ) → length xs ≤ i → list_any p (map command_of (drop i xs)) ≡ false
 any_none p xs i past = ap (list_any p) (none_left xs i past)
 
--- and likewise which is the first that passes
+-- and likewise which one is the first that passes
 pub find_here : (p : Command → Bool) (xs : List LoadCommand) (i : ℕ) (d : LoadCommand) → i < length xs → p (command_of (get_or xs i d)) ≡ true
     → find p (map command_of (drop i xs)) ≡ Some (command_of (get_or xs i d))
 find_here p xs i d lt e =

@@ -18,7 +18,7 @@ drop_at {X} xs k x there =
     let lt : k < length xs = slice_get_within xs k x there in
     rw add-one (drop-cons xs k x lt ∙ ap (λ (y : X). y ∷ drop (suc k) xs) (get_or_from_slice_get xs k x x there))
 
--- the next table is taken where nothing comes before it
+-- the next table is taken if nothing comes before it
 pub table_next : (laid : Laid) (o : Open) (c : Bor LoadCommand) (x : Claim) → o.first ≡ None
     → open_sections laid.ctx laid.bytes o.segment o.taken ≡ [] → o.command ≡ Some c
     → slice_get (tables_by laid.ctx (command_of c.now)) o.field ≡ Some x → open_left laid o ≡ x ∷ open_left laid (record o { field = o.field + 1 })

@@ -1,4 +1,4 @@
--- The sections of a segment, from one on.
+-- The sections of a segment, from a number on.
 use Rattle.std.proofs.Common.{◌≡◌, ℕ, ◌+◌, ◌-◌, ◌<◌, ◌≤◌, List, [], ◌∷◌, Some, Result, Ok, Err, refl, ap, ◌∙◌, arith}
 use Rattle.std.specs.Result.{result_ok}
 use Rattle.mach_base.specs.Answer.{Reads}
@@ -17,20 +17,20 @@ module _ (ctx : Ctx) (bytes : List ℕ) (s : PlacedSegment) (k : ℕ) where
   abbrev behind : List PlacedSection
   behind = sections_from ctx bytes s (k + 1)
 
-  -- those from number k on are it and those behind it
+  -- those from number k on are section k and those after it
   from_here : k < own_sections ctx.container s → sections_from ctx bytes s k
       ≡ in_front (placed_section_at ctx bytes s k ∷ items_from (placed_section_at ctx bytes s) (k + 1) (own_sections ctx.container s - (k + 1)))
   from_here inside =
       ap (λ (items : List (Result PlacedSection Fault)). in_front items)
       (items_from-first (placed_section_at ctx bytes s) k (own_sections ctx.container s) inside)
 
-  -- the answer of a read of the section says whether it is there
+  -- the result of reading the section says whether it exists
   pub taken_or_over : (answer : Result PlacedSection Error) → k < own_sections ctx.container s → Reads (λ x. x) answer (placed_section_at ctx bytes s k)
       → TakesSection ctx bytes (Some s) k (result_ok answer)
   taken_or_over (Ok found) inside reads = from_here inside ∙ rw reads refl
   taken_or_over (Err e) inside reads = from_here inside ∙ rw reads refl
 
-  -- behind the last there is none
+  -- after the last there is none
   pub none_behind : own_sections ctx.container s ≤ k → sections_from ctx bytes s k ≡ []
   none_behind past =
       let none : own_sections ctx.container s - k ≡ 0 = omega arith in

@@ -1,4 +1,4 @@
--- Both of two ranges of which it is told that they share a place are among the ranges.
+-- Both ranges in a fault of ranges that share a place are among the ranges.
 use Rattle.std.proofs.Common.{List, [], ◌∷◌, ◌++◌, Option, Some, None, refl, sym, subst, inl, inr, nat_lt}
 use Rattle.std.proofs.lemmas.Bool.{cases_Bool, ltb-true}
 use Rattle.std.proofs.lemmas.List.Elements.{All-nil, All-cons, All-head, All-tail, All-push, All-contains_itself, All-filter}
@@ -49,7 +49,7 @@ module _ (rule : Rule) (ranges : List Claim) where
       one_told (furthest before) r (shared_behind rule (before ++ r ∷ []) rs) (furthest_in None before tt front) here
       (all_told (before ++ r ∷ []) rs (All-push In before r front here) (All-tail In r rs all))
 
--- by the ranges that are judged, which are all among others
+-- for the ranges that are checked, which are all among others
 told_among : (rule : Rule) (ranges among : List Claim) (told : List LayoutFault) → All (Contains among) ranges → AreShared rule ranges told
     → All (IsOfTwo rule among) told
 told_among rule ranges among told all are =

@@ -1,4 +1,4 @@
--- Going over the slices of a fat file one by one.
+-- Visiting the slices of a fat file one by one.
 use Rattle.std.proofs.Common.{◌≡◌, ◌<◌, ◌≤◌, ℕ, suc, ◌+◌, ◌-◌, List, [], ◌∷◌, ◌++◌, length, drop, get_or, Option, Some, None, Result, Ok, Err}
 use Rattle.std.proofs.Common.{sym, ap, subst, ◌∙◌, arith, add-one, append_assoc, append-nil}
 use Rattle.std.proofs.lemmas.List.{drop_all}
@@ -21,7 +21,7 @@ onto : {Y : Type 0} (o : Option Y) (xs ys : List Y) → (xs ++ option_to_list o)
 onto None xs ys = append_assoc xs [] ys
 onto (Some x) xs ys = append_assoc xs (x ∷ []) ys
 
--- what is kept of the next one stands in front of what is kept of those behind it
+-- what is kept of the next one comes before what is kept of those after it
 pub kept_next : {X Y : Type 0} (f : X → Option Y) (o : Option Y) (old new : List Y) (xs : List X) (i : ℕ) (d : X) → i < length xs
     → o ≡ f (get_or xs i d) → new ≡ old ++ option_to_list o → new ++ filter_map f (drop (i + 1) xs) ≡ old ++ filter_map f (drop i xs)
 kept_next {X} {Y} f o old new xs i d lt is added =
@@ -56,11 +56,11 @@ pub slices_done : {R : Type 0} (form : ArchForm R) (bytes : List ℕ) (k count :
 slices_done form bytes k count found past =
     let left : count - k ≡ 0 = omega arith in ap (λ (n : ℕ). found ++ slices_from form bytes k n) left ∙ append-nil found
 
--- some faults were told, and then more
+-- some faults, then more
 pub and_more : {X : Type 0} (more : List X) {f g x : List X} → f ≡ x → g ≡ f ++ more → g ≡ x ++ more
 and_more {X} more e then = then ∙ ap (λ (l : List X). l ++ more) e
 
--- what some rules tell of some slices
+-- the faults that some rules find in some slices
 abbrev pub told_by : List ℕ → ℕ → List Rule → List PlacedSlice → List LayoutFault
 told_by bytes end rules slices = told_over rules (λ r. slice_owner) (slice_sees bytes end) slices
 

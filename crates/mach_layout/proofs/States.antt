@@ -6,13 +6,13 @@ use Rattle.mach_base.specs.Number.{number}
 use Rattle.mach_base.specs.declared.context.Endian.{Endian}
 use Rattle.mach_layout.specs.Commands.{state_size, states_size}
 
--- no state is there
+-- there is no state
 pub no_state : (n : ℕ) (le : Endian) (rest : List ℕ) → length rest < state_size le rest → states_size n le rest ≡ 0
 no_state zero le rest short = refl
 no_state (suc n) le rest short =
     ap (λ (b : Bool). cond b (state_size le rest + states_size n le (drop (state_size le rest) rest)) 0) (lt-leb (state_size le rest) (length rest) short)
 
--- a state is there, and then those behind it
+-- there is a state, followed by those after it
 pub one_state : (n : ℕ) (le : Endian) (rest : List ℕ) → state_size le rest ≤ length rest
     → states_size (suc n) le rest ≡ state_size le rest + states_size n le (drop (state_size le rest) rest)
 one_state n le rest fits =
@@ -21,7 +21,7 @@ one_state n le rest fits =
 abbrev counted : Endian → List ℕ → ℕ → Type 0
 counted le rest words = words ≡ number le 4 (drop 4 rest)
 
--- what was counted is all, where no state is there
+-- the count is complete if there is no further state
 pub stopped : (n size : ℕ) (le : Endian) (rest : List ℕ) (words total : ℕ) → size + states_size n le rest ≡ total → counted le rest words
     → length rest < 8 + 4 * words → size ≡ total
 stopped n size le rest words total inv is short =
@@ -31,7 +31,7 @@ stopped n size le rest words total inv is short =
 pub ended : (n size : ℕ) (le : Endian) (rest : List ℕ) (total : ℕ) → size + states_size n le rest ≡ total → length rest < 8 → size ≡ total
 ended n size le rest total inv short = stopped n size le rest (number le 4 (drop 4 rest)) total inv refl (omega arith)
 
--- it goes on behind the state that is there
+-- the count continues after the state
 pub went_on : (n size : ℕ) (le : Endian) (rest next : List ℕ) (words total : ℕ) → length rest ≤ n → 8 ≤ length rest
     → size + states_size n le rest ≡ total → counted le rest words → 8 + 4 * words ≤ length rest
     → next ≡ take (length rest - (8 + 4 * words)) (drop (8 + 4 * words) rest)

@@ -1,4 +1,4 @@
--- Where the last text among some strings ends.
+-- The place where the last text among some strings ends.
 use Rattle.std.proofs.Common.{◌≡◌, ℕ, ◌-◌, ◌≤◌, ◌<◌, ◌==◌, List, length, get_or, not, true, false, sym, ap, ◌∙◌, arith, inl, inr}
 use Rattle.std.proofs.lemmas.Bool.Decides.{eqb_tells, leb_tells}
 use Rattle.std.proofs.lemmas.List.Sums.{suffix_len_is}
@@ -8,7 +8,7 @@ use Rattle.mach_layout.specs.Symbols.{texts_end}
 other_than_zero : (b : ℕ) → (b ≡ 0 → ⊥) → not (b == 0) ≡ true
 other_than_zero b h = elim (eqb_tells b 0) [ inl same ↦ absurd (h same.1) | inr other ↦ ap not other.0 ]
 
--- no zero byte stands from a place on
+-- there is no zero byte from a place on
 abbrev pub NoneFrom : List ℕ → ℕ → Type 0
 NoneFrom xs n = (k : ℕ) → n ≤ k → k < length xs → not (get_or xs k 0 == 0) ≡ true
 

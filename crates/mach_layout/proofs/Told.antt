@@ -1,4 +1,4 @@
--- What rules tell of items that are seen as others, and of numbers; and faults that are told one after the other.
+-- The faults that rules find in items that are seen as others, and in numbers; and faults one after the other.
 use Rattle.std.proofs.Common.{◌≡◌, ◌<◌, ◌≤◌, ℕ, suc, ◌+◌, ◌-◌, List, [], ◌∷◌, ◌++◌, map, Option, refl, ap, ◌∙◌, arith}
 use Rattle.std.specs.Prelude.{filter_map}
 use Rattle.std.specs.List.{cons_option, range_with_len}
@@ -12,7 +12,7 @@ filter_map-map : {X Y Z : Type 0} (f : Y → Option Z) (v : X → Y) (xs : List 
 filter_map-map f v [] = refl
 filter_map-map {Z = Z} f v (x ∷ xs) = ap (λ (zs : List Z). cons_option (f (v x)) zs) (filter_map-map f v xs)
 
--- told of items as they are seen, or of what is seen of them
+-- the faults of items as they are seen, or of what is seen of them
 pub told_of_seen : {X Y : Type 0} (v : X → Y) (rules : List Rule) (owner : Rule → Y → Owner) (sees : Rule → Y → Seen) (xs : List X)
     → told_over rules (λ r x. owner r (v x)) (λ r x. sees r (v x)) xs ≡ told_over rules owner sees (map v xs)
 told_of_seen v [] owner sees xs = refl
@@ -21,7 +21,7 @@ told_of_seen v (r ∷ rs) owner sees xs =
     (filter_map-map (λ y. told r (owner r y) (sees r y)) v xs)
     ∙ ap (λ (fs : List LayoutFault). filter_map (λ y. told r (owner r y) (sees r y)) (map v xs) ++ fs) (told_of_seen v rs owner sees xs)
 
--- the numbers from one on are it and those behind it, and none from the end on
+-- the numbers from one on are that one and those after it; from the end on there are none
 pub numbers_next : (a upto : ℕ) → a < upto → range_with_len a (upto - a) ≡ a ∷ range_with_len (a + 1) (upto - (a + 1))
 numbers_next a upto lt =
     let more : upto - a ≡ suc (upto - (a + 1)) = omega arith in

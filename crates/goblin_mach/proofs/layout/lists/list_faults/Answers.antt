@@ -14,7 +14,7 @@ use Rattle.mach_layout.specs.declared.fault.Part.TheVariants as part
 use Rattle.mach_layout.specs.declared.fault.Rule.TheVariants as rule
 use Rattle.goblin_mach.proofs.layout.lists.list_faults.Goals as goal
 
--- what is told of a list, by what it is told as
+-- the fault of a list, as the definitions have it
 told_of : (result : Option LayoutFault) (stands : Bool) (fault : LayoutFault) → option_to_list result ≡ told_where stands fault
     → (some : Bool) → stands ≡ some → (other : LayoutFault) → fault ≡ other → option_to_list result ≡ told_where some other
 told_of result stands fault told some same other alike =
@@ -23,7 +23,7 @@ told_of result stands fault told some same other alike =
 grouped : (old a b c d : List LayoutFault) → old ++ a ++ b ++ c ++ d ≡ old ++ (a ++ b ++ c ++ d)
 grouped old a b c d = simp append_assoc
 
--- one behind the other
+-- one after the other
 behind : (x y z more told : List LayoutFault) → x ≡ y ++ more → more ≡ told → y ≡ z → x ≡ z ++ told
 behind x y z more told e f h = e ∙ ap (λ ms. y ++ ms) f ∙ ap (λ ys. ys ++ told) h
 

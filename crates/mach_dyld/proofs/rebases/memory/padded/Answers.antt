@@ -3,7 +3,7 @@ use Rattle.std.proofs.Math.Seq.{take-append-add, take-length}
 use Rattle.std.proofs.lemmas.List.{drop-replicate, length-drop, take-replicate}
 use Rattle.mach_dyld.proofs.rebases.memory.padded.Goals as goal
 
--- fewer than eight numbers, and zeros up to eight
+-- fewer than eight numbers, followed by zeros up to eight
 filled : (xs : List ℕ) (n : ℕ) → length xs ≡ n → n < 8 → take n xs ++ drop (length (take n xs)) (replicate 8 0) ≡ take 8 (xs ++ replicate 8 0)
 filled xs n e few =
     let whole : take n xs ≡ xs = ap (λ k. take k xs) (sym e) ∙ take-length xs in

@@ -2,7 +2,7 @@ use Rattle.mach_dyld.proofs.TrieNames.{◌≡◌, ◌-◌, List, Branch, Ok, bra
 use Rattle.mach_dyld.specs.Nowhere.{lead_nowhere}
 use Rattle.mach_dyld.proofs.trie.walk.all_lead_nowhere.Given as goal
 
--- those that are left lead nowhere where all of them do
+-- the branches that are left lead nowhere if all of them do
 abbrev pub invariant-loop : goal.invariant-loop
 invariant-loop l = (bs : List Branch)
     × (branches_at l.source.bytes.now l.source.from (l.fn.branches.left - l.counter) l.place ≡ Ok bs)
