@@ -34,7 +34,7 @@ impl Subject for ChainedPlaces {
 
     ghost reading = { λ _. chained_place_by };
 
-    /// It never fails.
+    /// Reads the command. It never fails.
     fn read(&self, command: &LoadCommand) -> Option<Result<LinkeditDataCommand>> {
         match &command.command {
             CommandVariant::DyldChainedFixups(c) => Some(Ok(*c)),

@@ -33,7 +33,7 @@ impl<'a> Subject for RebaseStreams<'a> {
 
     ghost reading = { λ s. rebase_stream_by s.bytes.now };
 
-    /// It never fails.
+    /// Reads the command. It never fails.
     fn read(&self, command: &LoadCommand) -> Option<Result<RebaseStream<'a>>> {
         match &command.command {
             CommandVariant::DyldInfo(c) | CommandVariant::DyldInfoOnly(c) => {

@@ -159,7 +159,7 @@ impl<'a> Subject for LossySegmentData<'a> {
 
     ghost reading = { λ s. lossy_segment_by s.ctx s.bytes.now };
 
-    /// It never fails.
+    /// Reads the command. It never fails.
     fn read(&self, command: &LoadCommand) -> Option<Result<Segment<'a>>> {
         let offset = command.offset;
         match &command.command {
@@ -219,7 +219,7 @@ impl<'a> Subject for Tries<'a> {
 
     ghost reading = { λ s. trie_by s.bytes.now };
 
-    /// It never fails.
+    /// Reads the command. It never fails.
     fn read(&self, command: &LoadCommand) -> Option<Result<ExportTrie<'a>>> {
         match &command.command {
             CommandVariant::DyldInfo(c) | CommandVariant::DyldInfoOnly(c) => {
@@ -251,7 +251,7 @@ impl<'a> Subject for Binds<'a> {
 
     ghost reading = { λ s. binds_by s.bytes.now };
 
-    /// It never fails.
+    /// Reads the command. It never fails.
     fn read(&self, command: &LoadCommand) -> Option<Result<BindInterpreter<'a>>> {
         match &command.command {
             CommandVariant::DyldInfo(c) | CommandVariant::DyldInfoOnly(c) => {

@@ -21,7 +21,7 @@ impl Subject for StartPlaces {
 
     ghost reading = { λ _. starts_place_by };
 
-    /// It never fails.
+    /// Reads the command. It never fails.
     fn read(&self, command: &LoadCommand) -> Option<Result<LinkeditDataCommand>> {
         match &command.command {
             CommandVariant::FunctionStarts(c) => Some(Ok(*c)),
@@ -43,7 +43,7 @@ impl Subject for DataPlaces {
 
     ghost reading = { λ _. data_place_by };
 
-    /// It never fails.
+    /// Reads the command. It never fails.
     fn read(&self, command: &LoadCommand) -> Option<Result<LinkeditDataCommand>> {
         match &command.command {
             CommandVariant::DataInCode(c) => Some(Ok(*c)),

@@ -24,7 +24,7 @@ impl<'a> Subject for WeakBindStreams<'a> {
 
     ghost reading = { λ s. weak_stream_by s.bytes.now };
 
-    /// It never fails.
+    /// Reads the command. It never fails.
     fn read(&self, command: &LoadCommand) -> Option<Result<WeakBindStream<'a>>> {
         match &command.command {
             CommandVariant::DyldInfo(c) | CommandVariant::DyldInfoOnly(c) => {

@@ -96,7 +96,7 @@ slice_sees bytes end rule.SliceOutOfFile s =
 slice_sees bytes end rule.SliceInRecords s = measured (nat_le end s.offset) s.offset end
 -- its alignment is at most 2 to the power of 15
 slice_sees bytes end rule.SliceAlignment s = measured (nat_le s.align 15) s.align 15
--- it begins at a multiple of its alignment, if the alignment is no greater
+-- it begins at a multiple of its alignment, if that is at most 2 to the power of 15
 slice_sees bytes end rule.SliceUnaligned s =
     if nat_lt 15 s.align then sound else measured (s.offset % 2 ^ s.align == 0) s.offset (2 ^ s.align)
 -- its image is of its cpu

@@ -41,7 +41,7 @@ impl Subject for IndirectPlaces {
 
     ghost reading = { λ _. indirect_place_by };
 
-    /// It never fails.
+    /// Reads the command. It never fails.
     fn read(&self, command: &LoadCommand) -> Option<Result<DysymtabCommand>> {
         match &command.command {
             CommandVariant::Dysymtab(c) => Some(Ok(*c)),
