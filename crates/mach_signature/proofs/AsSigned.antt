@@ -1,4 +1,4 @@
--- An image has a signature without a fault exactly where it is as it was signed.
+-- An image has a signature without a fault exactly when it is as it was signed.
 use Rattle.std.proofs.Common.{◌≡◌, ℕ, List, [], ◌∷◌, Bool, Option, Some, None, Result, Ok, Err, refl, sym, ap, ◌∙◌}
 use Rattle.std.specs.Prelude.{◌↔◌, IsTrue}
 use Rattle.mach_base.specs.Answer.{◌>>=◌}
@@ -18,7 +18,7 @@ module _ (bytes : List ℕ) (cs : List Command) (segments : List SegmentView) wh
   abbrev image_of : ℕ × ℕ → SuperBlob → SignedImage
   image_of place s = record { bytes = bytes; dataoff = place.0; signature = s; plist = plist_of bytes segments }
 
-  -- where nothing is told a command brings a signature
+  -- if no fault is reported, a command places a signature
   placed : (place : Option (ℕ × ℕ)) → faults_there bytes place segments ≡ Ok (Some []) → (p : ℕ × ℕ) × (place ≡ Some p)
   placed None e = absurd (cc)
   placed (Some p) e = (p, refl)
@@ -53,9 +53,9 @@ pub as_signed : (bytes : List ℕ) (cs : List Command) (segments : List SegmentV
     → (image_faults bytes cs segments ≡ Ok (Some [])) ↔ IsImageAsSigned bytes cs segments
 as_signed bytes cs segments = (signed bytes cs segments, untold bytes cs segments)
 
--- ---- whether it is, by what is told
+-- ---- whether it is as signed, from the reports
 
--- what is told of a signature
+-- the reports on a signature
 abbrev Found : Type 0
 Found = Result (Option (List SignatureFaultSeen)) Fault
 

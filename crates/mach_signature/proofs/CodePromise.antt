@@ -1,4 +1,4 @@
--- There is nothing wrong with the code exactly where it is as signed.
+-- The code has no fault exactly when it is as signed.
 use Rattle.std.proofs.Common.{◌≡◌, ◌≤◌, ◌<◌, ℕ, Bool, true, false, cond, List, [], ◌∷◌, length, Option, Some, None, refl, sym, ap, subst, ◌∙◌, arith}
 use Rattle.std.specs.Prelude.{nat_lt, ◌==◌, if◌then◌else◌}
 use Rattle.std.specs.Str.{bytes_eq}
@@ -11,7 +11,7 @@ use Rattle.mach_signature.specs.declared.fault.CodeFault.{CodeFault}
 use Rattle.mach_signature.specs.declared.fault.CodeFault.TheVariants.{Scattered, Limit, Slots, Page}
 use Rattle.mach_signature.proofs.ToldNone.{if_none, none_if, some_if, told_of-none, none-told_of}
 
--- what a form without a fault says
+-- what follows if the form has no fault
 pub record IsWholeForm (d : Directory) (image : List ℕ) : Type 0 where
   pub not_scattered : scatter_place d.scatter_offset ≡ 0
   pub in_image : code_limit_of d ≤ length image
@@ -41,7 +41,7 @@ form_of_whole d image w =
     let each : (d.head.n_code_slots == page_count_of d) ≡ true = eq-eqb d.head.n_code_slots (page_count_of d) w.slot_each in
     rw (scattered, long, each) refl
 
--- a page is told of exactly where its hash isn't its slot
+-- a page is reported exactly when its hash isn't its slot
 page_by : (d : Directory) (image : List ℕ) (k : ℕ) (slot : List ℕ) → page_fault_by d image k (Some slot) ≡ None → hash_of d.hash (page_bytes d image k) ≡ slot
 page_by d image k slot e =
     (bytes_eq-Decides (hash_of d.hash (page_bytes d image k)) slot).0

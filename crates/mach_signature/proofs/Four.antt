@@ -1,4 +1,4 @@
--- Where a directory counts there are at most four.
+-- If a directory counts there are at most four.
 use Rattle.std.proofs.Common.{◌≡◌, ◌≤◌, ◌⊎◌, ℕ, suc, ◌+◌, Bool, true, false, cond, List, [], ◌∷◌, length, Option, Some, None, Result, Ok, Err, refl, sym}
 use Rattle.std.proofs.Common.{ap, ◌∙◌, inl, inr, arith}
 use Rattle.std.specs.Prelude.{filter, ◌==◌}
@@ -27,7 +27,7 @@ is_one [] o e = omega arith
 is_one (d ∷ []) o e = omega arith
 is_one (d ∷ e2 ∷ ds) o e = absurd (cc)
 
--- each is of one of the four ranks
+-- each has one of the four ranks
 more_by : (b : Bool) (x : Directory) (xs : List Directory) → length (cond b (x ∷ xs) xs) ≡ cond b (suc (length xs)) (length xs)
 more_by true x xs = refl
 more_by false x xs = refl

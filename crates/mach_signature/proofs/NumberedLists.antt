@@ -1,21 +1,21 @@
--- Lists of what is told of things by their number.
+-- Lists of reports on numbered things.
 use Rattle.std.proofs.Common.{◌≡◌, ℕ, suc, ◌∷◌, ◌+◌, ◌-◌, ◌<◌, ◌≤◌, Bool, cond, List, [], Option, Some, None, refl, sym, ap, ◌∙◌, arith}
 use Rattle.std.specs.Prelude.{filter_map, find}
 use Rattle.std.specs.List.{range_with_len, cons_option}
 
--- from a number on, where there is one more
+-- the numbers from `next` on, if there is one more
 pub range_first : (next count : ℕ) → next < count → range_with_len next (count - next) ≡ next ∷ range_with_len (next + 1) (count - (next + 1))
 range_first next count inside =
     let one_more : count - next ≡ suc (count - (next + 1)) = omega (arith, inside) in
     ap (λ (n : ℕ). range_with_len next n) one_more
 
--- where there is none
+-- none are left if `next` reaches the count
 pub range_none : (next count : ℕ) → count ≤ next → range_with_len next (count - next) ≡ []
 range_none next count outside =
     let none : count - next ≡ 0 = omega (arith, outside) in
     ap (λ (n : ℕ). range_with_len next n) none
 
--- what is told from a number on
+-- the reports from a number on
 pub told_first : {V : Type 0} (tells : ℕ → Option V) (next count : ℕ) → next < count
     → filter_map tells (range_with_len next (count - next)) ≡ cons_option (tells next) (filter_map tells (range_with_len (next + 1) (count - (next + 1))))
 told_first tells next count inside = ap (filter_map tells) (range_first next count inside)
@@ -23,7 +23,7 @@ told_first tells next count inside = ap (filter_map tells) (range_first next cou
 pub told_none : {V : Type 0} (tells : ℕ → Option V) (next count : ℕ) → count ≤ next → filter_map tells (range_with_len next (count - next)) ≡ []
 told_none tells next count outside = ap (filter_map tells) (range_none next count outside)
 
--- what is found from a number on
+-- the number found from a number on
 pub found_first : (test : ℕ → Bool) (next count : ℕ) → next < count
     → find test (range_with_len next (count - next)) ≡ cond (test next) (Some next) (find test (range_with_len (next + 1) (count - (next + 1))))
 found_first test next count inside = ap (find test) (range_first next count inside)

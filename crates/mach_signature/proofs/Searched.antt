@@ -1,4 +1,4 @@
--- A search among the first so many of a list.
+-- A search in the first elements of a list.
 use Rattle.std.proofs.Common.{◌≡◌, ◌≤◌, ◌<◌, ℕ, zero, suc, ◌+◌, ◌-◌, Bool, false, cond, List, [], ◌∷◌, take, Option, Some, None, refl, sym, ap, ◌∙◌, arith}
 use Rattle.std.specs.Prelude.{find}
 
@@ -11,7 +11,7 @@ module _ {X : Type 0} (p : X → Bool) where
   none_of_none zero = refl
   none_of_none (suc n) = refl
 
-  -- of the first so many, k were looked at
+  -- after k of the first `most` were looked at
   pub searched_first : (most k : ℕ) (x : X) (xs left : List X) → left ≡ x ∷ xs → k < most
       → find p (take (most - k) left) ≡ cond (p x) (Some x) (find p (take (most - (k + 1)) xs))
   searched_first most k x xs left is some =

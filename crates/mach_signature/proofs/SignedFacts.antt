@@ -1,4 +1,4 @@
--- The signature that an image holds is that of the bytes that it was opened in.
+-- The signature of an opened image is that of the bytes in which it was opened.
 use Rattle.std.proofs.Common.{◌≡◌, ℕ, Bool, Ok, Err, sym}
 use Rattle.std.specs.Prelude.{◌↔◌, IsTrue}
 use Rattle.mach_base.specs.Fault.{Fault}
@@ -20,7 +20,7 @@ module _ {A : Type 0} (m : MachO A) where
   pub faults_are : HoldsAs m HasSignatureFaults (image_faults (bytes_held m) (commands_held m) (segments_held m))
   faults_are = said_of m (λ found f. found ≡ image_faults f.bytes f.commands f.segments)
 
-  -- so is whether it is as it was signed
+  -- so is whether the image is as it was signed
   pub as_signed_is : InBothModes m (λ bytes o. (is : Bool) → is_as_signed (image_faults (bytes_held m) (commands_held m) (segments_held m)) ≡ Ok is
       → IsTrue is ↔ HoldsAsSigned bytes o)
   as_signed_is =
@@ -30,7 +30,7 @@ module _ {A : Type 0} (m : MachO A) where
       let there = facts_are bytes o m p (λ f. IsImageAsSigned f.bytes f.commands f.segments) in
       ((λ is_so. there.1 (held.0 is_so)), (λ holds. held.1 (there.0 holds))))
 
-  -- and why that can't be told
+  -- and the reason why that can't be decided
   pub refusal_is : InBothModes m (λ bytes o. (f : Fault) → is_as_signed (image_faults (bytes_held m) (commands_held m) (segments_held m)) ≡ Err f
       → HasSignatureFaults bytes o (Err f))
   refusal_is =

@@ -1,4 +1,4 @@
--- There is nothing wrong with the special slots exactly where each seals what is there.
+-- The special slots have no fault exactly when each seals what is there.
 use Rattle.std.proofs.Common.{◌≡◌, ◌≤◌, ◌<◌, ◌⊎◌, ℕ, zero, suc, ◌+◌, ◌-◌, Bool, true, false, cond, List, [], ◌∷◌, ◌++◌, Option, Some, None, Result, Ok, Err}
 use Rattle.std.proofs.Common.{refl, sym, ap, subst, ◌∙◌, inl, inr, arith}
 use Rattle.std.specs.Prelude.{nat_lt, nat_le, ◌==◌, ◌&&◌, if◌then◌else◌, IsTrue}
@@ -172,7 +172,7 @@ entry_untold : (d : Directory) (slot : ℕ) → (12 ≤ slot → slot ≤ 0xfff 
 entry_untold d slot not has =
     tests_entry (unknown_test slot) (unsealed_test d slot) (Unknown slot) (Unsealed slot) (no_unknown slot not) (no_unsealed d slot has)
 
--- ---- both ways
+-- ---- both directions
 
 before : (k : ℕ) → 1 ≤ k → (k - 1) + 1 ≡ k
 before k low = omega (arith, low)

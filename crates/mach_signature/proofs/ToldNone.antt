@@ -1,4 +1,4 @@
--- Nothing is told exactly where there is nothing to be told of each thing.
+-- Nothing is reported exactly when there is nothing to report on any thing.
 use Rattle.std.proofs.Common.{◌≡◌, ℕ, zero, suc, ◌+◌, ◌<◌, Bool, true, false, cond, List, [], ◌∷◌, ◌++◌, ◌⊎◌, inl, inr, Option, Some, None, refl, sym, ap}
 use Rattle.std.proofs.Common.{subst, ◌∙◌, arith}
 use Rattle.std.specs.Prelude.{filter_map, map, flat_map, option_to_list}
@@ -11,7 +11,7 @@ pub if_none : {A : Type 0} (b : Bool) (x y : Option A) → cond b x y ≡ None �
 if_none true x y e = inl (refl, e)
 if_none false x y e = inr (refl, e)
 
--- of nothing and something it is nothing only where the test holds
+-- a choice between nothing and something is nothing only if the test holds
 pub none_if : {A : Type 0} (b : Bool) (x : A) → cond b None (Some x) ≡ None → b ≡ true
 none_if true x e = refl
 none_if false x e = absurd (cc)
@@ -24,7 +24,7 @@ cons_none : {A : Type 0} (o : Option A) (rest : List A) → cons_option o rest �
 cons_none None rest e = (refl, e)
 cons_none (Some x) rest e = absurd (cc)
 
--- ---- what is told of things by their number
+-- ---- reports on numbered things
 
 none_from : {V : Type 0} (tells : ℕ → Option V) (a n : ℕ) → filter_map tells (range_with_len a n) ≡ [] → (k : ℕ) → k < n → tells (a + k) ≡ None
 none_from tells a zero e k below = absurd (omega (arith, below))
@@ -48,7 +48,7 @@ told_of-none tells n e k below = ap tells (let same : k ≡ 0 + k = omega arith 
 pub none-told_of : {V : Type 0} (tells : ℕ → Option V) (n : ℕ) → ((k : ℕ) → k < n → tells k ≡ None) → told_of tells n ≡ []
 none-told_of tells n all = from_none tells 0 n (λ k below. ap tells (let same : 0 + k ≡ k = omega arith in same) ∙ all k below)
 
--- ---- lists one behind the other
+-- ---- lists one after the other
 
 pub both_empty : {A : Type 0} (xs ys : List A) → xs ++ ys ≡ [] → (xs ≡ []) × (ys ≡ [])
 both_empty [] ys e = (refl, e)

@@ -1,4 +1,4 @@
--- What of a signature isn't as it was signed, and the promise that all is.
+-- The faults of a signature, and the promise that everything is as signed.
 use Rattle.std.specs.Prelude.{◌≡◌, ◌≤◌, ◌<◌, ℕ, List, [], ◌∷◌, ◌++◌, map, flat_map, length, take, option_to_list, Option, Some, None, Result, Ok, Err}
 use Rattle.std.specs.Prelude.{nat_lt, ◌==◌}
 use Rattle.std.specs.Prelude.{if◌then◌else◌, IsTrue, IsOk}
@@ -23,15 +23,15 @@ pub record SignedImage : Type 0 where
   pub signature : SuperBlob
   pub plist : Option (List ℕ)
 
--- the bytes of the command's range: none where it has none
+-- the bytes of the command's range; none if it is empty
 abbrev pub signature_bytes : List ℕ → (dataoff datasize : ℕ) → Result (List ℕ) Fault
 signature_bytes image dataoff datasize = if datasize == 0 then Ok [] else slice_at datasize image dataoff
 
--- the signature that a command brings (`mach-o/loader.h`, struct linkedit_data_command of LC_CODE_SIGNATURE)
+-- the signature at the place that a command gives (`mach-o/loader.h`, struct linkedit_data_command of LC_CODE_SIGNATURE)
 unfoldable pub signature_in : List ℕ → (dataoff datasize : ℕ) → Result SuperBlob Fault
 signature_in image dataoff datasize = signature_bytes image dataoff datasize >>= signature_at
 
--- ---- the list of faults, with errors as the faults that they report
+-- ---- the list of faults; errors appear as the faults that they report
 
 pub data DirectoryFaultSeen : Type 0 where
   identifier_refused : Fault → DirectoryFaultSeen
@@ -47,7 +47,7 @@ pub data SignatureFaultSeen : Type 0 where
   of_first : DirectoryFaultSeen → SignatureFaultSeen
   of_alternate : (slot : ℕ) → DirectoryFaultSeen → SignatureFaultSeen
 
--- a blob that can't be read, or whose magic is none of its slot
+-- a blob that can't be read, or whose magic isn't one of its slot
 abbrev pub blob_fault_by : ℕ → Result BlobThere Fault → Option SignatureFaultSeen
 blob_fault_by k (Err f) = Some (blob_refused k f)
 blob_fault_by k (Ok blob) = if has_magic blob.slot blob.magic then None else Some (wrong_magic k blob.slot blob.magic)
@@ -55,18 +55,18 @@ blob_fault_by k (Ok blob) = if has_magic blob.slot blob.magic then None else Som
 unfoldable pub blob_fault : SuperBlob → ℕ → Option SignatureFaultSeen
 blob_fault s k = blob_fault_by k (blob_at s k)
 
--- why something can't be read, if it can't
+-- the reason why something can't be read, if it can't
 abbrev pub refusal_of : {A : Type 0} → Result A Fault → Option Fault
 refusal_of (Ok x) = None
 refusal_of (Err f) = Some f
 
--- it begins before all bytes in front of the signature are covered
+-- the signature begins before the end of the bytes that it should cover: fewer are covered than lie before it
 abbrev pub short_fault : SignedImage → Directory → Option DirectoryFaultSeen
 short_fault x d =
     if nat_lt (code_limit_of d) x.dataoff then (if scatter_place d.scatter_offset == 0 then Some (short (code_limit_of d) x.dataoff) else None)
     else None
 
--- what is wrong with a directory: its names, what it leaves out, its code, and what it seals beside
+-- the faults of a directory: of its names, of what it leaves out, of its code, and of its special slots
 unfoldable pub directory_faults_of : SignedImage → Directory → List DirectoryFaultSeen
 directory_faults_of x d =
     map identifier_refused (option_to_list (refusal_of (identifier_of d)))
@@ -75,7 +75,7 @@ directory_faults_of x d =
     ++ (map of_code (code_faults_of d x.bytes)
     ++ map of_special (special_faults_of d x.signature x.plist))))
 
--- the same, of an alternate directory with its slot
+-- a fault of a directory, with the slot if it is an alternate one
 abbrev pub of_slot : ℕ → DirectoryFaultSeen → SignatureFaultSeen
 of_slot slot fault = if slot == 0 then of_first fault else of_alternate slot fault
 
@@ -83,23 +83,23 @@ abbrev pub slot_faults_of : SignedImage → SlotDirectory → List SignatureFaul
 slot_faults_of x (slot, Ok d) = map (of_slot slot) (directory_faults_of x d)
 slot_faults_of x (slot, Err f) = []
 
--- of each directory, in the order of the index; where none counts, that alone
+-- the faults of each directory, in the order of the index; if none counts, that alone
 abbrev pub judged_faults : SignedImage → Result Directory Fault → List SignatureFaultSeen
 judged_faults x (Ok d) = flat_map (slot_faults_of x) (directories_of x.signature)
 judged_faults x (Err f) = directory_refused f ∷ []
 
--- all of them: those of the blobs, and then those of the directories
+-- all faults: those of the blobs, then those of the directories
 abbrev pub signature_faults_of : SignedImage → List SignatureFaultSeen
 signature_faults_of x = told_of (blob_fault x.signature) x.signature.count ++ judged_faults x (directory_of x.signature)
 
--- those of the signature that a command brings
+-- the faults of the signature that a command places
 abbrev pub faults_in : List ℕ → (dataoff datasize : ℕ) → Option (List ℕ) → Result (List SignatureFaultSeen) Fault
 faults_in image dataoff datasize plist = signature_in image dataoff datasize
     >>= (λ s. Ok (signature_faults_of (record { bytes = image; dataoff = dataoff; signature = s; plist = plist })))
 
 -- ---- the promise
 
--- The directory can be read, covers all bytes in front of the signature, and code and all beside it are as it says.
+-- The directory can be read and covers all bytes before the signature; the code and all that the special slots seal are as it says.
 pub record IsDirectoryAsSigned (x : SignedImage) (d : Directory) : Type 0 where
   pub identifier : IsOk (identifier_of d)
   pub team : IsOk (team_of d)
@@ -107,11 +107,11 @@ pub record IsDirectoryAsSigned (x : SignedImage) (d : Directory) : Type 0 where
   pub code : IsCodeAsSigned d x.bytes
   pub special : IsSpecialAsSigned d x.signature x.plist
 
--- the directory stands at a slot of the signature
+-- the signature has the directory at a slot
 abbrev pub HasDirectory : SuperBlob → ℕ → Directory → Type 0
 HasDirectory s slot d = IsAmong (slot, Ok d) (directories_of s)
 
--- Each blob can be read and is of its slot's kind, a directory counts, and each of the directories, which are four at most, is as signed.
+-- Each blob can be read and has a magic of its slot, a directory counts, and each of the directories, at most four, is as signed.
 pub record IsAsSigned (x : SignedImage) : Type 0 where
   pub blobs : (k : ℕ) → k < x.signature.count → (blob : BlobThere) × (blob_at x.signature k ≡ Ok blob) × IsTrue (has_magic blob.slot blob.magic)
   pub counts : IsOk (directory_of x.signature)

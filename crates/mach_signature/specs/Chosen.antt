@@ -23,17 +23,17 @@ directory_in s k = blob_at s k >>= (λ blob. directory_at blob.bytes)
 abbrev pub directory_entry : SuperBlob → ℕ → Option SlotDirectory
 directory_entry s k = if is_directory_slot (slot_at s k) then Some (slot_at s k, directory_in s k) else None
 
--- all directories, in the order of the index
+-- all directories with their slots, in the order of the index
 abbrev pub directories_of : SuperBlob → List SlotDirectory
 directories_of s = filter_map (directory_entry s) (range_with_len 0 s.count)
 
--- the first that can't be read
+-- the refusal of the first that can't be read
 abbrev pub first_refused : List SlotDirectory → Option Fault
 first_refused [] = None
 first_refused ((slot, Ok d) ∷ ds) = first_refused ds
 first_refused ((slot, Err f) ∷ ds) = Some f
 
--- those that can
+-- the directory, if it can be read
 abbrev pub readable_one : Result Directory Fault → List Directory
 readable_one (Ok d) = d ∷ []
 readable_one (Err f) = []
@@ -41,17 +41,17 @@ readable_one (Err f) = []
 abbrev pub readable_directories : List SlotDirectory → List Directory
 readable_directories ds = flat_map (λ (x : SlotDirectory). readable_one x.1) ds
 
--- those whose hash has a rank
+-- those whose hash has the given rank
 abbrev pub filter_rank : ℕ → List Directory → List Directory
 filter_rank rank ds = filter (λ d. hash_rank d.hash == rank) ds
 
--- of some directories none or one; else they are malformed
+-- the directory, if there is one; two or more are malformed
 abbrev pub at_most_one : List Directory → Result (Option Directory) Fault
 at_most_one [] = Ok None
 at_most_one (d ∷ []) = Ok (Some d)
 at_most_one (d ∷ e ∷ ds) = Err malformed
 
--- the directory of a hash, of which there may be no two
+-- the directory whose hash has the rank; two of one rank are malformed
 abbrev pub of_rank : ℕ → List SlotDirectory → Result (Option Directory) Fault
 of_rank rank ds = at_most_one (filter_rank rank (readable_directories ds))
 
@@ -59,7 +59,7 @@ abbrev pub or_lower : Option Directory → Option Directory → Option Directory
 or_lower None lower = lower
 or_lower (Some d) lower = Some d
 
--- the one of the highest rank
+-- the directory of the highest rank
 abbrev pub highest_of : List SlotDirectory → Result (Option Directory) Fault
 highest_of ds = do
   sha384 ← of_rank 4 ds
@@ -72,13 +72,13 @@ abbrev pub none_refused : Option Fault → Result Directory Fault → Result Dir
 none_refused None there = there
 none_refused (Some f) there = Err f
 
--- The one that counts: all can be read, no two are of one hash, and this one is of the highest rank.
+-- The directory that counts: all can be read, no two have the same hash, and this one has the highest rank.
 unfoldable pub directory_of : SuperBlob → Result Directory Fault
 directory_of s = none_refused (first_refused (directories_of s)) (highest_of (directories_of s) >>= found_or_malformed)
 
--- ---- the words of a refusal
+-- ---- the text of a refusal
 
--- why none counts of directories that can all be read: two are of one hash, or there is none
+-- why no directory counts although all can be read: two have the same hash, or there is none
 pub data NoneCounts : Type 0 where
   two_of_one_hash : NoneCounts
   no_directory : NoneCounts
@@ -92,7 +92,7 @@ none_counts (Ok (Some d)) = None
 none_counts (Ok None) = Some no_directory
 none_counts (Err f) = Some two_of_one_hash
 
--- an error says these words
+-- the text of an error
 abbrev pub SaysWords : Error → List ℕ → Type 0
 SaysWords (errors.Malformed msg) words = msg.now ≡ words
 SaysWords (errors.BadMagic magic) words = ⊥
@@ -100,6 +100,6 @@ SaysWords (errors.Scroll e) words = ⊥
 SaysWords (errors.BufferTooShort count what) words = ⊥
 SaysWords (errors.Memory e) words = ⊥
 
--- an error says why none counts
+-- an error gives the reason why none counts
 abbrev pub SaysNoneCounts : Error → SuperBlob → Type 0
 SaysNoneCounts e s = (why : NoneCounts) × (none_counts (highest_of (directories_of s)) ≡ Some why) × SaysWords e (words_of_none why)

@@ -22,6 +22,6 @@ blob_count b = b.signature.count
 abbrev pub directory_told : DirectoryBlobs → ℕ → Option SlotDirectory
 directory_told b k = directory_entry (signature_view b.signature) k
 
--- what an iterator has yet to give
+-- the items that an iterator has left
 abbrev pub directories_left : Directories → List SlotDirectory
 directories_left it = told_left blob_count directory_told it.told

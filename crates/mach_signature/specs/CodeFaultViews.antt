@@ -1,4 +1,4 @@
--- What an iterator over the faults of code has yet to give.
+-- The items that an iterator over the faults of code has left.
 use Rattle.std.specs.Prelude.{ℕ, List, ◌++◌, Option, option_to_list}
 use Rattle.mach_signature.specs.CodeFaults.{page_fault}
 use Rattle.mach_signature.specs.DirectoryViews.{directory_view}

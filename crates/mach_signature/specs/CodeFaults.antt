@@ -1,4 +1,4 @@
--- What is wrong with the code that a directory covers.
+-- The faults of the code that a directory covers.
 use Rattle.std.specs.Prelude.{◌≡◌, ◌≤◌, ◌<◌, ◌⊎◌, ℕ, List, [], ◌∷◌, length, Bool, Option, Some, None, Result, Ok, Err, nat_lt, ◌==◌, if◌then◌else◌}
 use Rattle.std.specs.Str.{bytes_eq}
 use Rattle.mach_signature.specs.Directories.{Directory, code_limit_of, page_count_of, page_start, page_end, page_bytes, code_slot_of}
@@ -7,14 +7,14 @@ use Rattle.mach_signature.specs.Numbered.{told_of}
 use Rattle.mach_signature.specs.declared.fault.CodeFault.{CodeFault}
 use Rattle.mach_signature.specs.declared.fault.CodeFault.TheVariants.{Scattered, Limit, Slots, Page}
 
--- ---- the list of them
+-- ---- the list of faults
 
--- where the scatter vector stands, 0 where there is none
+-- the offset of the scatter vector, 0 if there is none
 abbrev pub scatter_place : Option ℕ → ℕ
 scatter_place None = 0
 scatter_place (Some place) = place
 
--- why the pages can't be judged
+-- the reason why the pages can't be judged
 abbrev pub form_fault : Directory → List ℕ → Option CodeFault
 form_fault d image =
     if scatter_place d.scatter_offset == 0 then
@@ -36,13 +36,13 @@ abbrev pub pages_judged : Directory → List ℕ → Option CodeFault → List C
 pages_judged d image None = told_of (page_fault d image) d.head.n_code_slots
 pages_judged d image (Some fault) = fault ∷ []
 
--- why the pages can't be judged, or those that aren't as signed, in order
+-- the reason why the pages can't be judged, or the pages that aren't as signed, in order
 abbrev pub code_faults_of : Directory → List ℕ → List CodeFault
 code_faults_of d image = pages_judged d image (form_fault d image)
 
 -- ---- the promise
 
--- The image has the bytes that the directory covers, one after the other, and each page's hash is its code slot.
+-- The image has all bytes that the directory covers, without a gap, and the hash of each page is its code slot.
 pub record IsCodeAsSigned (d : Directory) (image : List ℕ) : Type 0 where
   pub not_scattered : scatter_place d.scatter_offset ≡ 0
   pub in_image : code_limit_of d ≤ length image

@@ -1,4 +1,5 @@
--- A code directory (`cs_blobs.h`, struct __CodeDirectory; CodeDirectory of Security): what it says of the code that it covers. Places count from its byte 0.
+-- A code directory (`cs_blobs.h`, struct __CodeDirectory; CodeDirectory of Security): what it says about the code that it covers.
+-- Offsets count from its first byte.
 use Rattle.std.specs.Prelude.{ℕ, ◌+◌, ◌-◌, ◌*◌, ◌/◌, ◌^◌, min, List, length, take, drop, Option, Some, None, Result, Ok, Err, nat_lt, nat_le, ◌==◌, ◌&&◌, Bool}
 use Rattle.std.specs.Prelude.{if◌then◌else◌, codes}
 use Rattle.std.specs.List.{list_any}
@@ -16,7 +17,7 @@ use Rattle.mach_signature.specs.declared.records.DirectoryHead.{DirectoryHead}
 use Rattle.mach_signature.specs.declared.records.ExecutableSegment.{ExecutableSegment}
 use Rattle.mach_signature.specs.declared.records.RuntimeFields.{RuntimeFields}
 
--- its bytes, the fields that each has, how it hashes, and the fields that its version may lack
+-- its bytes, the fields that every version has, its hash, and the fields that its version may lack
 pub record Directory : Type 0 where
   pub bytes : List ℕ
   pub head : DirectoryHead
@@ -28,7 +29,7 @@ pub record Directory : Type 0 where
   pub executable : Option ExecutableSegment
   pub runtime : Option RuntimeFields
 
--- ---- what is a code directory
+-- ---- which bytes are a code directory
 
 abbrev pub directory_magic : ℕ → Result ℕ Fault
 directory_magic magic = if magic == 0xfade0c02 then Ok magic else Err (bad_magic magic)
@@ -40,7 +41,7 @@ directory_head_at bytes = record_at Big directory_head_fields bytes 0 >>= (λ vs
 abbrev pub readable_version : ℕ → Result ℕ Fault
 readable_version v = if nat_lt v 0x20001 then Err malformed else if nat_lt 0x2f000 v then Err malformed else Ok v
 
--- how many bytes the fields of a version have
+-- how many bytes the fields of a version take
 abbrev pub fields_len : ℕ → ℕ
 fields_len v =
     if nat_lt v 0x20100 then 44
@@ -50,13 +51,13 @@ fields_len v =
     else if nat_lt v 0x20500 then 88
     else 96
 
--- the hash of its type is of its size, and a page has no more than 2 ^ 31 bytes
+-- the hash has the size that the directory gives, and a page has no more than 2 ^ 31 bytes
 abbrev pub sized_hash : DirectoryHead → HashType → Result HashType Fault
 sized_hash head hash =
     if head.hash_size == hash_len hash then (if nat_lt 31 head.page_size then Err malformed else Ok hash)
     else Err malformed
 
--- the slots lie in it: the special ones before hash_offset, the code slots from there on
+-- the slots lie in the bytes: the special ones before hash_offset, the code slots from there on
 abbrev pub with_slots : List ℕ → DirectoryHead → HashType → Result HashType Fault
 with_slots bytes head hash =
     if nat_lt (length bytes) head.hash_offset then Err (bad_offset head.hash_offset)
@@ -64,7 +65,7 @@ with_slots bytes head hash =
     else if nat_lt (length bytes - head.hash_offset) (head.n_code_slots * head.hash_size) then Err (too_short head.n_code_slots (codes "code slots"))
     else Ok hash
 
--- a field that directories have from a version on
+-- a field that directories have since version `first`
 abbrev pub field_from : {A : Type 0} → ℕ → ℕ → A → Option A
 field_from version first field = if nat_lt version first then None else Some field
 
@@ -74,12 +75,12 @@ executable_of version bytes =
     field_from version 0x20400
     (record { base = number Big 8 (drop 64 bytes); limit = number Big 8 (drop 72 bytes); flags = number Big 8 (drop 80 bytes) })
 
--- the version of the runtime, and where the hashes of pages before their encryption stand
+-- the version of the runtime, and the offset of the hashes of pages before their encryption
 abbrev pub runtime_of : ℕ → List ℕ → Option RuntimeFields
 runtime_of version bytes =
     field_from version 0x20500 (record { version = number Big 4 (drop 88 bytes); pre_encrypt_offset = number Big 4 (drop 92 bytes) })
 
--- the directory that these bytes are, where its fields and slots lie in them
+-- the directory of these bytes; its fields and slots lie in them
 abbrev pub directory_with : List ℕ → DirectoryHead → HashType → Directory
 directory_with bytes head hash = record {
   bytes = bytes;
@@ -93,7 +94,7 @@ directory_with bytes head hash = record {
   runtime = runtime_of head.version bytes;
 }
 
--- the directory that these bytes are
+-- the directory of these bytes, or why they are none
 unfoldable pub directory_at : List ℕ → Result Directory Fault
 directory_at bytes = do
   magic ← number_at Big 4 bytes 0
@@ -108,11 +109,11 @@ directory_at bytes = do
 
 -- ---- texts
 
--- the text at a place, which ends with a zero byte
+-- the text at a place, up to a zero byte, which must be there
 abbrev pub closed_text_at : List ℕ → ℕ → Result (List ℕ) Fault
 closed_text_at bytes s = rest_from bytes s >>= (λ rest. if list_any is_zero rest then text_at bytes s else Err malformed)
 
--- the name at a place, if there is one: 0 is none
+-- the name at a place; 0 means none
 abbrev pub name_at : List ℕ → Option ℕ → Result (Option (List ℕ)) Fault
 name_at bytes None = Ok None
 name_at bytes (Some s) = if s == 0 then Ok None else (closed_text_at bytes s >>= (λ name. Ok (Some name)))
@@ -125,16 +126,16 @@ team_of d = name_at d.bytes d.team_offset
 
 -- ---- what it covers
 
--- the number of 64 bits where it is there and not 0, else that of 32
+-- the limit of 64 bits if it is there and not 0, else that of 32
 abbrev pub limit_by : Option ℕ → ℕ → ℕ
 limit_by None short = short
 limit_by (Some long) short = if long == 0 then short else long
 
--- so many bytes of the image
+-- how many bytes of the image are covered
 abbrev pub code_limit_of : Directory → ℕ
 code_limit_of d = limit_by d.code_limit64 d.head.code_limit
 
--- their pages: all of 2 ^ page_size bytes but the last, which may be shorter; or one page of all, where page_size is 0
+-- how many pages they have: each of 2 ^ page_size bytes except the last, which may be shorter; one page of all bytes if page_size is 0
 abbrev pub page_count_of : Directory → ℕ
 page_count_of d =
     let limit = code_limit_of d in
@@ -151,7 +152,7 @@ page_end d k = if d.head.page_size == 0 then code_limit_of d else min ((k + 1) *
 abbrev pub bytes_between : List ℕ → (start end : ℕ) → List ℕ
 bytes_between image start end = take (end - start) (drop start image)
 
--- the bytes of a page, as they are: the last is not filled up
+-- the bytes of a page; the last one isn't padded
 abbrev pub page_bytes : Directory → List ℕ → ℕ → List ℕ
 page_bytes d image k = bytes_between image (page_start d k) (page_end d k)
 
@@ -160,20 +161,20 @@ page_bytes d image k = bytes_between image (page_start d k) (page_end d k)
 abbrev pub slot_bytes : Directory → ℕ → List ℕ
 slot_bytes d place = take d.head.hash_size (drop place d.bytes)
 
--- that of a page
+-- the hash of a page
 abbrev pub code_slot_bytes : Directory → ℕ → List ℕ
 code_slot_bytes d k = slot_bytes d (d.head.hash_offset + k * d.head.hash_size)
 
 abbrev pub code_slot_of : Directory → ℕ → Option (List ℕ)
 code_slot_of d k = if nat_lt k d.head.n_code_slots then Some (code_slot_bytes d k) else None
 
--- that of a special slot: they are counted from hash_offset downwards, the first of number 1
+-- the hash of a special slot; they count from hash_offset downwards, and the first is number 1
 abbrev pub special_slot_bytes : Directory → ℕ → List ℕ
 special_slot_bytes d k = slot_bytes d (d.head.hash_offset - k * d.head.hash_size)
 
 abbrev pub special_slot_of : Directory → ℕ → Option (List ℕ)
 special_slot_of d k = if nat_le 1 k && nat_le k d.head.n_special_slots then Some (special_slot_bytes d k) else None
 
--- its own: what a caller compares, to know that it is this directory
+-- the directory's own hash, by which callers identify it
 abbrev pub cdhash_of : Directory → List ℕ
 cdhash_of d = take 20 (hash_of d.hash d.bytes)

@@ -1,4 +1,4 @@
--- The fields that each code directory has (`cs_blobs.h`, struct __CodeDirectory).
+-- The fields that every code directory has (`cs_blobs.h`, struct __CodeDirectory).
 use Rattle.std.specs.Prelude.{List, [], ◌∷◌}
 use Rattle.mach_base.specs.Record.{Field, num, Value, number_is, number_among}
 use Rattle.mach_signature.specs.declared.records.DirectoryHead.{DirectoryHead}

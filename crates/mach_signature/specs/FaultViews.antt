@@ -1,4 +1,4 @@
--- What contracts see of faults, and what their iterators have yet to give.
+-- What contracts see of faults, and the items that their iterators have left.
 use Rattle.std.specs.Prelude.{ℕ, List, [], ◌++◌, map, flat_map, option_to_list, Option, Some, None, Result}
 use Rattle.std.specs.Option.{option_map}
 use Rattle.mach_base.specs.declared.error.Error.{Error}
@@ -45,7 +45,7 @@ blobs_tested b = b.signature.count
 abbrev pub blob_tested : BlobTests → ℕ → Option SignatureFaultSeen
 blob_tested b k = blob_fault (signature_view b.signature) k
 
--- an error that is kept, as the fault that it reports
+-- a stored error, as the fault that it reports
 abbrev pub kept_fault : Option Error → List Fault
 kept_fault kept = option_to_list (option_map fault_of kept)
 
@@ -57,7 +57,7 @@ directory_faults_left it =
     ++ (map of_code (code_faults_left it.code)
     ++ map of_special (special_faults_left it.special))))
 
--- those of the directory that is being judged, if one is
+-- the faults left of the directory that is being judged, if one is
 abbrev pub slot_faults_left : ℕ → Option DirectoryFaults → List SignatureFaultSeen
 slot_faults_left slot None = []
 slot_faults_left slot (Some it) = map (of_slot slot) (directory_faults_left it)

@@ -6,7 +6,7 @@ use Rattle.sha2.specs.Sha512.{sha384}
 use Rattle.mach_signature.specs.declared.hash.HashType.{HashType}
 use Rattle.mach_signature.specs.declared.hash.HashType.TheVariants.{Sha1, Sha256, Sha256Truncated, Sha384}
 
--- the four that are read, by their numbers
+-- the four hashes that are read, by their numbers
 abbrev pub hash_type_of : ℕ → Option HashType
 hash_type_of n =
     if n == 1 then Some Sha1
@@ -22,7 +22,7 @@ hash_len Sha256 = 32
 hash_len Sha256Truncated = 20
 hash_len Sha384 = 48
 
--- of two directories the one of the higher rank counts
+-- the rank of a hash: of two directories the one of the higher rank counts
 abbrev pub hash_rank : HashType → ℕ
 hash_rank Sha1 = 1
 hash_rank Sha256Truncated = 2

@@ -18,6 +18,6 @@ blob_view b = record { slot = b.slot; offset = b.offset; magic = b.magic; bytes 
 abbrev pub blob_read : Result Blob Error → Result BlobThere Fault
 blob_read answer = read_as blob_view answer
 
--- what an iterator has yet to give
+-- the items that an iterator has left
 abbrev pub blobs_left : Blobs → List (Result BlobThere Fault)
 blobs_left it = items_from (blob_at (signature_view it.signature)) it.index (it.signature.count - it.index)

@@ -1,4 +1,4 @@
--- The words of what isn't as it was signed.
+-- The texts of the faults of a signature.
 use Rattle.std.specs.Prelude.{ℕ, List, [], ◌∷◌, ◌++◌, false, codes}
 use Rattle.std.specs.Fmt.{decimal, digits}
 use Rattle.mach_base.specs.Named.{Named, name_or}
@@ -64,7 +64,7 @@ directory_fault_words (directory.Short limit dataoff) = codes "covers 0x" ++ (he
 directory_fault_words (directory.Code fault) = code_fault_words fault
 directory_fault_words (directory.Special fault) = special_fault_words fault
 
--- one line; that of an alternate directory begins with the name of its slot
+-- one line; the line of an alternate directory begins with the name of its slot
 abbrev pub signature_fault_words : SignatureFault → List ℕ
 signature_fault_words (signature.Blob index error) = codes "blob " ++ (decimal index ++ (codes ": " ++ words_of error))
 signature_fault_words (signature.Magic index slot magic) =

@@ -1,4 +1,4 @@
--- What the bytes say of the signature of the image that opens at a place.
+-- What the bytes say about the signature of the image that opens at a place.
 use Rattle.std.specs.Prelude.{◌≡◌, ℕ, List, Option, Result}
 use Rattle.mach_base.specs.Fault.{Fault}
 use Rattle.goblin_mach.specs.Facts.{OfImage}
@@ -12,14 +12,14 @@ use Rattle.mach_signature.specs.SignedImages.{image_signature, image_directory, 
 abbrev pub HasSignature : List ℕ → ℕ → Result (Option SuperBlob) Fault → Type 0
 HasSignature bytes o found = OfImage bytes o (λ ctx cs. found ≡ image_signature bytes cs)
 
--- its code directory that counts, if it has a signature, or why that can't be told
+-- the code directory that counts, if the image has a signature, or why there is none
 abbrev pub HasCodeDirectory : List ℕ → ℕ → Result (Option Directory) Fault → Type 0
 HasCodeDirectory bytes o found = OfImage bytes o (λ ctx cs. found ≡ image_directory bytes cs)
 
--- what of it isn't as it was signed
+-- the faults of its signature
 abbrev pub HasSignatureFaults : List ℕ → ℕ → Result (Option (List SignatureFaultSeen)) Fault → Type 0
 HasSignatureFaults bytes o found = OfImage bytes o (λ ctx cs. found ≡ image_faults bytes cs (lossy_segments_in ctx bytes cs))
 
--- it is as it was signed
+-- the image is as it was signed
 abbrev pub HoldsAsSigned : List ℕ → ℕ → Type 0
 HoldsAsSigned bytes o = OfImage bytes o (λ ctx cs. IsImageAsSigned bytes cs (lossy_segments_in ctx bytes cs))

@@ -21,22 +21,22 @@ use Rattle.mach_signature.specs.Chosen.{directory_of}
 use Rattle.mach_signature.specs.Directories.{Directory}
 use Rattle.mach_signature.specs.SuperBlob.{SuperBlob}
 
--- ---- where it lies
+-- ---- where the signature lies
 
--- the place and the size that a command gives a signature (struct linkedit_data_command, dataoff and datasize)
+-- the offset and the size that a command gives the signature (struct linkedit_data_command, dataoff and datasize)
 abbrev pub signature_place_of : Kind → List Value → Option (ℕ × ℕ)
 signature_place_of code_signature values = Some (number_among values 2, number_among values 3)
 signature_place_of _ values = None
 
--- placing it is never refused
+-- the reading of a signature's place; it never fails
 abbrev pub signature_place_by : Reading (ℕ × ℕ)
 signature_place_by c = option_map (λ place. Ok place) (signature_place_of c.kind c.values)
 
--- that of an image: the first
+-- the place in an image: that of the first such command
 abbrev pub signature_place_in : List Command → Option (ℕ × ℕ)
 signature_place_in cs = first_of (read_of signature_place_by cs)
 
--- the signature that lies there, if one does, or why it can't be read
+-- the signature at the place, if there is one, or why it can't be read
 abbrev pub signature_there : List ℕ → Option (ℕ × ℕ) → Result (Option SuperBlob) Fault
 signature_there bytes None = Ok None
 signature_there bytes (Some place) = signature_in bytes place.0 place.1 >>= (λ s. Ok (Some s))
@@ -44,7 +44,7 @@ signature_there bytes (Some place) = signature_in bytes place.0 place.1 >>= (λ 
 abbrev pub image_signature : List ℕ → List Command → Result (Option SuperBlob) Fault
 image_signature bytes cs = signature_there bytes (signature_place_in cs)
 
--- its code directory that counts, if there is a signature
+-- the code directory that counts, if there is a signature
 abbrev pub directory_there : Option SuperBlob → Result (Option Directory) Fault
 directory_there None = Ok None
 directory_there (Some s) = directory_of s >>= (λ d. Ok (Some d))
@@ -52,27 +52,27 @@ directory_there (Some s) = directory_of s >>= (λ d. Ok (Some d))
 abbrev pub image_directory : List ℕ → List Command → Result (Option Directory) Fault
 image_directory bytes cs = image_signature bytes cs >>= directory_there
 
--- ---- what it seals as Info.plist
+-- ---- the section that is sealed as Info.plist
 
--- whether a name can be read and is __info_plist
+-- whether a name can be read and is `__info_plist`
 abbrev pub is_named_plist : Result (List ℕ) Fault → Bool
 is_named_plist (Ok name) = bytes_eq name (codes "__info_plist")
 is_named_plist (Err f) = false
 
--- whether it is the section __info_plist of __TEXT, by its own names
+-- whether a section is `__info_plist` of `__TEXT`, by its own names
 abbrev pub is_info_plist : NumberedSection → Bool
 is_info_plist n = if is_text_name n.section.segname then is_named_plist (text_at n.section.sectname 0) else false
 
--- its bytes: none where they are not in the file
+-- the bytes of the section; none if they are not in the file
 abbrev pub plist_bytes : List ℕ → Option NumberedSection → Option (List ℕ)
 plist_bytes bytes None = None
 plist_bytes bytes (Some n) = result_ok (slice_at n.section.size bytes n.section.offset)
 
--- that of an image: the first of the sections that are in the bytes, of which at most as many are looked at as there are bytes
+-- the section of an image: the first among those in the bytes; no more sections are looked at than there are bytes
 abbrev pub plist_of : List ℕ → List SegmentView → Option (List ℕ)
 plist_of bytes segments = plist_bytes bytes (find is_info_plist (take (length bytes) (readable_sections segments)))
 
--- ---- what isn't as it was signed
+-- ---- the faults of an image
 
 abbrev pub faults_there : List ℕ → Option (ℕ × ℕ) → List SegmentView → Result (Option (List SignatureFaultSeen)) Fault
 faults_there bytes None segments = Ok None
@@ -81,7 +81,7 @@ faults_there bytes (Some place) segments = faults_in bytes place.0 place.1 (plis
 abbrev pub image_faults : List ℕ → List Command → List SegmentView → Result (Option (List SignatureFaultSeen)) Fault
 image_faults bytes cs segments = faults_there bytes (signature_place_in cs) segments
 
--- An image is as it was signed: a command brings a signature, it can be read, and all is as it says.
+-- An image is as it was signed: a command places a signature, it can be read, and everything is as it says.
 pub record IsImageAsSigned (bytes : List ℕ) (cs : List Command) (segments : List SegmentView) : Type 0 where
   pub place : ℕ × ℕ
   pub placed : signature_place_in cs ≡ Some place
@@ -89,7 +89,7 @@ pub record IsImageAsSigned (bytes : List ℕ) (cs : List Command) (segments : Li
   pub reads : signature_in bytes place.0 place.1 ≡ Ok signature
   pub holds : IsAsSigned (record { bytes = bytes; dataoff = place.0; signature = signature; plist = plist_of bytes segments })
 
--- whether no fault is told of a signature that is there, or why it can't be read
+-- whether there is a signature, and it has no fault
 abbrev pub are_untold : Option (List SignatureFaultSeen) → Bool
 are_untold None = false
 are_untold (Some []) = true

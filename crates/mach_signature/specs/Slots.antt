@@ -11,7 +11,7 @@ is_directory_slot slot = slot == 0 || (nat_le 0x1000 slot && nat_le slot 0x1004)
 abbrev pub is_outside : ℕ → Bool
 is_outside slot = slot == 1 || slot == 3 || slot == 4 || slot == 6
 
--- the magic of a slot's blob, if it has one; slots that aren't named here have blobs of any magic
+-- which magic a blob of the slot has; slots that aren't named here may have blobs of any magic
 abbrev pub slot_magic : ℕ → SlotMagic
 slot_magic slot =
     if is_directory_slot slot then Only 0xfade0c02

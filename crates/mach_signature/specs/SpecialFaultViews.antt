@@ -1,4 +1,4 @@
--- What an iterator over the faults of special slots has yet to give.
+-- The items that an iterator over the faults of special slots has left.
 use Rattle.std.specs.Prelude.{ℕ, ◌+◌, List, ◌++◌, Option}
 use Rattle.std.specs.Borrow.{Bor}
 use Rattle.std.specs.Option.{option_map}

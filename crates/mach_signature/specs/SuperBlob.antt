@@ -1,4 +1,4 @@
--- A signature: blobs by slots, behind an index (`cs_blobs.h`, struct __SC_SuperBlob; all numbers are big-endian).
+-- A signature: blobs by slots, after an index (`cs_blobs.h`, struct __SC_SuperBlob; all numbers are big-endian).
 use Rattle.std.specs.Prelude.{ℕ, ◌+◌, ◌*◌, List, length, take, drop, find, Option, Some, None, Result, Ok, Err, nat_lt, ◌==◌, if◌then◌else◌, codes}
 use Rattle.std.specs.List.{range_with_len}
 use Rattle.mach_base.specs.declared.context.Endian.TheVariants.{Big}
@@ -11,12 +11,12 @@ use Rattle.mach_signature.specs.SignRecords.{super_blob_fields, super_blob_of_va
 use Rattle.mach_signature.specs.declared.records.SuperBlobHead.{SuperBlobHead}
 use Rattle.mach_signature.specs.declared.records.BlobHead.{BlobHead}
 
--- the bytes, as many as it says that it has, and how many blobs the index names
+-- its bytes, cut at the length that it gives, and how many blobs the index names
 pub record SuperBlob : Type 0 where
   pub bytes : List ℕ
   pub count : ℕ
 
--- a blob: what it is for, where it stands, its magic, and its bytes with the head of 8 bytes
+-- a blob: its slot, its offset, its magic, and its bytes with the head of 8 bytes
 pub record BlobThere : Type 0 where
   pub slot : ℕ
   pub offset : ℕ
@@ -26,7 +26,7 @@ pub record BlobThere : Type 0 where
 abbrev pub super_blob_head_at : List ℕ → Result SuperBlobHead Fault
 super_blob_head_at bytes = record_at Big super_blob_fields bytes 0 >>= (λ vs. Ok (super_blob_of_values vs))
 
--- the signature that a head begins: cut at its length, with its index in it
+-- the signature after a head: cut at its length, with the index in it
 abbrev pub signature_behind : List ℕ → SuperBlobHead → Result SuperBlob Fault
 signature_behind bytes h =
     if h.magic == 0xfade0cc0 then
@@ -36,11 +36,11 @@ signature_behind bytes h =
     else Ok (record { bytes = take h.length bytes; count = h.count }))
     else Err (bad_magic h.magic)
 
--- the signature at the front of the bytes
+-- the signature at the start of the bytes
 unfoldable pub signature_at : List ℕ → Result SuperBlob Fault
 signature_at bytes = super_blob_head_at bytes >>= signature_behind bytes
 
--- what the index says of a blob: its slot, and where it stands
+-- what the index says about a blob: its slot, and its offset
 abbrev pub slot_at : SuperBlob → ℕ → ℕ
 slot_at s k = number Big 4 (drop (12 + 8 * k) s.bytes)
 
@@ -50,7 +50,7 @@ blob_place s k = number Big 4 (drop (16 + 8 * k) s.bytes)
 abbrev pub blob_head_at : List ℕ → ℕ → Result BlobHead Fault
 blob_head_at bytes s = record_at Big blob_head_fields bytes s >>= (λ vs. Ok (blob_head_of_values vs))
 
--- the bytes of a blob that has 8 at least
+-- the bytes of a blob; it has at least 8
 abbrev pub blob_bytes_at : List ℕ → ℕ → BlobHead → Result (List ℕ) Fault
 blob_bytes_at bytes s head = if nat_lt head.length 8 then Err malformed else slice_at head.length bytes s
 
@@ -78,11 +78,11 @@ blob_if_any s (Some k) = blob_at s k >>= (λ blob. Ok (Some blob))
 unfoldable pub blob_of : SuperBlob → ℕ → Result (Option BlobThere) Fault
 blob_of s slot = blob_if_any s (first_blob_of s slot)
 
--- what a blob has behind its head of 8 bytes
+-- the bytes of a blob after its head of 8 bytes
 abbrev pub content_if_any : Option BlobThere → Option (List ℕ)
 content_if_any None = None
 content_if_any (Some blob) = Some (drop 8 blob.bytes)
 
--- what the first blob of a slot has behind its head
+-- the bytes of the first blob of a slot after its head
 unfoldable pub content_of : SuperBlob → ℕ → Result (Option (List ℕ)) Fault
 content_of s slot = blob_of s slot >>= (λ blob. Ok (content_if_any blob))

@@ -1,4 +1,4 @@
-//! What is wrong with the code that a directory covers.
+//! The faults of the code that a directory covers.
 
 ghost use Rattle.std.specs.Prelude.{◌≡◌};
 ghost use Rattle.mach_signature.specs.Directories as defined;
@@ -10,7 +10,7 @@ use crate::directory::CodeDirectory;
 use crate::fault::CodeFault;
 use crate::numbered::{Numbered, Told};
 
-// The bytes of an image between two places, so far as they are there.
+// Returns the bytes of an image between two places, as far as they are there.
 fn bytes_between(image: &[u8], start: u64, end: u64) -> &[u8]
     ensures { result.now ≡ defined.bytes_between image.now start end }
 {
@@ -21,7 +21,7 @@ fn bytes_between(image: &[u8], start: u64, end: u64) -> &[u8]
     &image[start as usize..end.min(len) as usize]
 }
 
-// The pages that a directory covers, the first so many of which are judged.
+// The pages that a directory covers; the first `count` of them are judged.
 #[derive(Clone, Copy, Drop)]
 pub struct Pages<'a> {
     pub directory: CodeDirectory<'a>,
@@ -66,7 +66,7 @@ impl<'a> Numbered for Pages<'a> {
     }
 }
 
-/// What is wrong with the code, in order: why the pages can't be judged, or each page that isn't what was signed.
+/// An iterator over the faults of the code: the reason why the pages can't be judged, or each page that differs from what was signed.
 #[derive(Clone, Drop)]
 pub struct CodeFaults<'a> {
     pub(crate) first: Option<CodeFault>,
@@ -91,7 +91,7 @@ impl<'a> Iterator for CodeFaults<'a> {
 }
 
 impl<'a> CodeDirectory<'a> {
-    // Why the pages of an image can't be judged.
+    // Returns the reason why the pages of an image can't be judged, if there is one.
     fn form_fault(&self, image: &[u8]) -> Option<CodeFault>
         ensures { result ≡ form_fault (directory_view self.now) image.now }
     {
@@ -112,8 +112,8 @@ impl<'a> CodeDirectory<'a> {
         None
     }
 
-    /// What is wrong with the code of an image that this directory covers, in order. There is nothing exactly where the
-    /// image has the bytes that are covered, and each page's hash is its code slot.
+    /// Returns the faults of the image's code that this directory covers, in order. There are none exactly when the image has all
+    /// covered bytes and the hash of each page is its code slot.
     pub fn code_faults(&self, image: &'a [u8]) -> CodeFaults<'a>
         ensures { code_faults_left result ≡ code_faults_of (directory_view self.now) image.now }
     {

@@ -14,7 +14,7 @@ use crate::signature::CodeSignature;
 use crate::slots::is_directory_slot;
 use mach_base::{Error, Result};
 
-// The blobs of a signature, of which directories are told.
+// The blobs of a signature; those of directory slots are reported.
 #[derive(Clone, Copy, Drop)]
 pub struct DirectoryBlobs<'a> {
     pub signature: CodeSignature<'a>,
@@ -47,14 +47,14 @@ impl<'a> Numbered for DirectoryBlobs<'a> {
     }
 }
 
-/// The code directories of a signature in the order of its index, each with its slot.
+/// An iterator over the code directories of a signature with their slots, in the order of its index.
 #[derive(Clone, Drop)]
 pub struct Directories<'a> {
     pub(crate) told: Told<DirectoryBlobs<'a>>,
 }
 
 impl<'a> Directories<'a> {
-    // None of a signature.
+    // An iterator over none of a signature's directories.
     #[tactic(auto, using(crate::proofs::NumberedLists::told_none))]
     pub(crate) fn none(signature: CodeSignature<'a>) -> Directories<'a>
         ensures { directories_left result ≡ [] }
@@ -83,7 +83,7 @@ impl<'a> Iterator for Directories<'a> {
     }
 }
 
-// The directory, if it can be read and its hash has a rank.
+// Returns the directory if it can be read and its hash has the given rank.
 fn if_of_rank(directory: Result<CodeDirectory<'_>>, rank: u8) -> Option<CodeDirectory<'_>>
     ensures { option_to_list (option_map directory_view result) ≡ defined.filter_rank rank (defined.readable_one (read_as directory_view directory.entry)) }
 {
@@ -98,7 +98,7 @@ impl<'a> CodeSignature<'a> {
     ghost use Rattle.mach_signature.specs.Chosen.{directories_of, directory_in, first_refused, of_rank, highest_of, directory_of};
     ghost use Rattle.mach_signature.specs.Chosen.{two_of_one_hash, words_of_none, SaysWords, SaysNoneCounts};
 
-    // A blob as a code directory.
+    // Reads a blob as a code directory.
     #[tactic(auto, unfolding(crate::specs::Chosen::directory_in))]
     fn directory_in(&self, index: u32) -> Result<CodeDirectory<'a>>
         requires { index < self.now.count }
@@ -107,8 +107,7 @@ impl<'a> CodeSignature<'a> {
         CodeDirectory::parse(self.blob_at(index)?.bytes)
     }
 
-    /// The code directories in the order of the index, each with its slot: those of slot 0 and of the alternate slots, 0x1000
-    /// to 0x1004.
+    /// Returns the code directories with their slots, in the order of the index. Their slots are 0 and the alternate ones, 0x1000 to 0x1004.
     pub fn directories(&self) -> Directories<'a>
         ensures { directories_left result ≡ directories_of (signature_view self.now) }
     {
@@ -117,7 +116,7 @@ impl<'a> CodeSignature<'a> {
         }
     }
 
-    // The error of the first directory that can't be read.
+    // Returns the error of the first directory that can't be read.
     fn refused(&self) -> Option<Error>
         ensures { option_map fault_of result ≡ first_refused (directories_of (signature_view self.now)) }
     {
@@ -130,7 +129,7 @@ impl<'a> CodeSignature<'a> {
         None
     }
 
-    // The directory whose hash has a rank.
+    // Returns the directory whose hash has the given rank.
     fn of_rank(&self, rank: u8) -> Result<Option<CodeDirectory<'a>>>
         ensures value { Reads (option_map directory_view) result (of_rank rank (directories_of (signature_view self.now))) }
         ensures words { IfErr result (λ e. SaysWords e (words_of_none two_of_one_hash)) }
@@ -149,7 +148,7 @@ impl<'a> CodeSignature<'a> {
         Ok(found)
     }
 
-    // The directory whose hash has the highest rank.
+    // Returns the directory whose hash has the highest rank.
     fn highest(&self) -> Result<Option<CodeDirectory<'a>>>
         ensures value { Reads (option_map directory_view) result (highest_of (directories_of (signature_view self.now))) }
         ensures words { IfErr result (λ e. SaysWords e (words_of_none two_of_one_hash)) }
@@ -161,9 +160,9 @@ impl<'a> CodeSignature<'a> {
         Ok(sha384.or(sha256.or(truncated.or(sha1))))
     }
 
-    /// The code directory that counts: the one whose hash has the highest rank. It is the error of the first that can't be
-    /// read, and `Malformed` where there is none, or where two have one hash, and then says which; so no signature has more
-    /// than four.
+    /// Returns the code directory that counts: the one whose hash has the highest rank. If a directory can't be read, the error
+    /// is that of the first such directory. If there is no directory, or two have the same hash, it is `Malformed` and says
+    /// which. So a signature has at most four.
     #[tactic(auto, unfolding(crate::specs::Chosen::directory_of))]
     pub fn directory(&self) -> Result<CodeDirectory<'a>>
         ensures value { Reads directory_view result (directory_of (signature_view self.now)) }

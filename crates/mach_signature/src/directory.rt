@@ -1,4 +1,4 @@
-//! A code directory: the hashes of the pages of an image, and of what stands beside it (`cs_blobs.h`).
+//! A code directory: the hashes of the pages of an image, and of the other things that its signature seals (`cs_blobs.h`).
 
 ghost use Rattle.std.specs.Prelude.{◌≡◌, ◌≤◌, ◌<◌, ◌+◌, ◌-◌, ◌*◌, ◌/◌, ◌^◌, length, take, drop, IfOk, OnOk, Option};
 ghost use Rattle.std.specs.Option.{option_map};
@@ -15,33 +15,33 @@ use mach_base::{
 };
 use std::ops::Range;
 
-/// A code directory. Places count from its byte 0.
+/// A code directory. Offsets count from its first byte.
 #[derive(Clone, Copy)]
 pub struct CodeDirectory<'a> {
-    /// Its bytes, which are those of its blob.
+    /// The bytes of its blob.
     pub bytes: &'a [u8],
-    /// The fields that each has.
+    /// The fields that every version has.
     pub head: DirectoryHead,
-    /// How it hashes.
+    /// The hash that it uses.
     pub hash: HashType,
-    /// Where its scatter vector stands, from version 0x20100 on; 0 where it has none.
+    /// The offset of its scatter vector, since version 0x20100; 0 if it has none.
     pub scatter_offset: Option<u32>,
-    /// Where the name of its team stands, from version 0x20200 on; 0 where it has none.
+    /// The offset of the team's name, since version 0x20200; 0 if it has none.
     pub team_offset: Option<u32>,
-    /// Not used, from version 0x20300 on.
+    /// Not used; since version 0x20300.
     pub spare3: Option<u32>,
-    /// How many bytes of the image are covered, from version 0x20300 on; 0 where `head` has it.
+    /// How many bytes of the image are covered, since version 0x20300; 0 if `head.code_limit` says it.
     pub code_limit64: Option<u64>,
-    /// The executable segment, from version 0x20400 on.
+    /// The executable segment, since version 0x20400.
     pub executable: Option<ExecutableSegment>,
-    /// What the hardened runtime is asked, from version 0x20500 on.
+    /// The fields for the hardened runtime, since version 0x20500.
     pub runtime: Option<RuntimeFields>,
     ghost special_inside: { head.n_special_slots * head.hash_size ≤ head.hash_offset },
     ghost code_inside: { head.hash_offset + head.n_code_slots * head.hash_size ≤ length bytes.now },
     ghost power: { head.page_size ≤ 31 },
 }
 
-// The room that some bytes have from the first on.
+// Returns `n` if the bytes have this length at least.
 fn room(bytes: &[u8], n: usize) -> Result<usize>
     ensures room { Reads (λ n. n) result (room_at n bytes.now 0) }
     ensures within { OnOk result (n ≤ length bytes.now) }
@@ -50,7 +50,7 @@ fn room(bytes: &[u8], n: usize) -> Result<usize>
     Ok(n)
 }
 
-// How many bytes the fields of a version have.
+// Returns how many bytes the fields of a version take.
 fn fields_len(version: u32) -> usize
     ensures { result ≡ defined.fields_len version }
 {
@@ -64,7 +64,7 @@ fn fields_len(version: u32) -> usize
     }
 }
 
-// The version, if it is one that is read.
+// Returns the version if it is one that is read.
 fn readable_version(version: u32) -> Result<u32>
     ensures { Reads (λ v. v) result (defined.readable_version version) }
 {
@@ -74,7 +74,7 @@ fn readable_version(version: u32) -> Result<u32>
     Ok(version)
 }
 
-// The hash, where it is of the size that the directory says; its pages are of a size that is read.
+// Returns the hash if its size is the one that the directory gives, and the page size is one that is read.
 fn sized_hash(head: &DirectoryHead, hash: HashType) -> Result<HashType>
     ensures hash { Reads (λ h. h) result (defined.sized_hash head.now hash) }
     ensures power { OnOk result (head.now.page_size ≤ 31) }
@@ -88,7 +88,7 @@ fn sized_hash(head: &DirectoryHead, hash: HashType) -> Result<HashType>
     Ok(hash)
 }
 
-// The hash, where the slots lie in the directory.
+// Returns the hash if the slots lie in the directory.
 fn with_slots(bytes: &[u8], head: &DirectoryHead, hash: HashType) -> Result<HashType>
     ensures hash { Reads (λ h. h) result (defined.with_slots bytes.now head.now hash) }
     ensures special { OnOk result (head.now.n_special_slots * head.now.hash_size ≤ head.now.hash_offset) }
@@ -110,7 +110,7 @@ fn with_slots(bytes: &[u8], head: &DirectoryHead, hash: HashType) -> Result<Hash
     Ok(hash)
 }
 
-// The number of four bytes at a place, which directories have from a version on.
+// Reads a field of four bytes that directories have since version `first`.
 fn short_from(version: u32, first: u32, bytes: &[u8], place: usize) -> Option<u32>
     requires { first ≤ version → place + 4 ≤ length bytes.now }
     ensures { result ≡ defined.field_from version first (number Big 4 (drop place bytes.now)) }
@@ -121,7 +121,7 @@ fn short_from(version: u32, first: u32, bytes: &[u8], place: usize) -> Option<u3
     Some(BE.u32_at(bytes, place))
 }
 
-// The number of eight bytes at a place, which directories have from a version on.
+// Reads a field of eight bytes that directories have since version `first`.
 fn long_from(version: u32, first: u32, bytes: &[u8], place: usize) -> Option<u64>
     requires { first ≤ version → place + 8 ≤ length bytes.now }
     ensures { result ≡ defined.field_from version first (number Big 8 (drop place bytes.now)) }
@@ -132,7 +132,7 @@ fn long_from(version: u32, first: u32, bytes: &[u8], place: usize) -> Option<u64
     Some(BE.u64_at(bytes, place))
 }
 
-// The executable segment, which directories have from version 0x20400 on.
+// Reads the executable segment, which directories have since version 0x20400.
 fn executable_of(version: u32, bytes: &[u8]) -> Option<ExecutableSegment>
     requires { defined.fields_len version ≤ length bytes.now }
     ensures { result ≡ defined.executable_of version bytes.now }
@@ -147,7 +147,7 @@ fn executable_of(version: u32, bytes: &[u8]) -> Option<ExecutableSegment>
     })
 }
 
-// What the hardened runtime is asked, of which directories tell from version 0x20500 on.
+// Reads the fields for the hardened runtime, which directories have since version 0x20500.
 fn runtime_of(version: u32, bytes: &[u8]) -> Option<RuntimeFields>
     requires { defined.fields_len version ≤ length bytes.now }
     ensures { result ≡ defined.runtime_of version bytes.now }
@@ -161,7 +161,7 @@ fn runtime_of(version: u32, bytes: &[u8]) -> Option<RuntimeFields>
     })
 }
 
-// How many pages of a size so many bytes have.
+// Returns how many pages of `size` bytes cover `limit` bytes.
 fn pages_of(limit: u64, size: u64) -> u64
     requires { 1 ≤ size }
     ensures { result ≡ (limit + (size - 1)) / size }
@@ -169,7 +169,7 @@ fn pages_of(limit: u64, size: u64) -> u64
     limit.div_ceil(size)
 }
 
-// The name at a place, if there is one: 0 is none. It is `Malformed` where no zero byte ends it.
+// Returns the name at a place; 0 means none. It is `Malformed` if no zero byte ends it.
 fn name_at(bytes: &[u8], place: Option<u32>) -> Result<Option<&str>>
     ensures { Reads (option_map (λ name. name.now)) result (defined.name_at bytes.now place) }
 {
@@ -192,10 +192,10 @@ impl<'a> CodeDirectory<'a> {
     ghost use Rattle.mach_signature.specs.Directories.{directory_at, identifier_of, team_of, code_limit_of, page_count_of, page_start, page_end};
     ghost use Rattle.mach_signature.specs.Directories.{code_slot_of, special_slot_of, cdhash_of};
 
-    /// The directory that a blob is.
+    /// Reads a blob as a code directory.
     ///
-    /// It is `BadMagic` where it begins with another magic, `Malformed` where version, hash or page size are none that is
-    /// read, and `BadOffset` or `BufferTooShort` where its slots don't lie in it.
+    /// It is `BadMagic` if the blob begins with another magic. It is `Malformed` if the version, the hash or the page size isn't
+    /// one that is read, and `BadOffset` or `BufferTooShort` if the slots don't lie in the blob.
     #[tactic(auto, unfolding(crate::specs::Directories::directory_at))]
     pub fn parse(bytes: &'a [u8]) -> Result<CodeDirectory<'a>>
         ensures { Reads directory_view result (directory_at bytes.now) }
@@ -215,7 +215,7 @@ impl<'a> CodeDirectory<'a> {
         Ok(Self::with(bytes, head, hash))
     }
 
-    // The directory whose fields and slots lie in the bytes.
+    // Builds the directory from its head; its fields and slots lie in the bytes.
     fn with(bytes: &'a [u8], head: DirectoryHead, hash: HashType) -> CodeDirectory<'a>
         requires room { defined.fields_len head.version ≤ length bytes.now }
         requires special { head.n_special_slots * head.hash_size ≤ head.hash_offset }
@@ -243,8 +243,8 @@ impl<'a> CodeDirectory<'a> {
         }
     }
 
-    /// The identifier of the code, if it has one. It is `BadOffset` where it doesn't stand in the directory, `Malformed`
-    /// where no zero byte ends it, and `BadInput` where it isn't UTF-8.
+    /// Returns the identifier of the code, if it has one. It is `BadOffset` if it doesn't lie in the directory, `Malformed` if no
+    /// zero byte ends it, and `BadInput` if it isn't UTF-8.
     #[tactic(auto, unfolding(crate::specs::Directories::identifier_of))]
     pub fn identifier(&self) -> Result<Option<&'a str>>
         ensures { Reads (option_map (λ name. name.now)) result (identifier_of (directory_view self.now)) }
@@ -252,7 +252,7 @@ impl<'a> CodeDirectory<'a> {
         name_at(self.bytes, Some(self.head.ident_offset))
     }
 
-    /// The name of the team, if it has one; errors as those of `identifier`.
+    /// Returns the name of the team, if it has one. Errors are those of `identifier`.
     #[tactic(auto, unfolding(crate::specs::Directories::team_of))]
     pub fn team(&self) -> Result<Option<&'a str>>
         ensures { Reads (option_map (λ name. name.now)) result (team_of (directory_view self.now)) }
@@ -260,7 +260,7 @@ impl<'a> CodeDirectory<'a> {
         name_at(self.bytes, self.team_offset)
     }
 
-    /// How many bytes of the image are covered.
+    /// Returns how many bytes of the image are covered.
     pub fn code_limit(&self) -> u64
         ensures { result ≡ code_limit_of (directory_view self.now) }
     {
@@ -270,7 +270,7 @@ impl<'a> CodeDirectory<'a> {
         }
     }
 
-    // How many bytes a page has that isn't the last.
+    // Returns how many bytes each page has except the last.
     fn page_len(&self) -> u64
         ensures value { result ≡ 2 ^ self.now.head.page_size }
         ensures some { 1 ≤ result }
@@ -279,7 +279,7 @@ impl<'a> CodeDirectory<'a> {
         1 << self.head.page_size
     }
 
-    /// How many pages the covered bytes have.
+    /// Returns how many pages the covered bytes have.
     pub fn page_count(&self) -> u64
         ensures { result ≡ page_count_of (directory_view self.now) }
     {
@@ -290,7 +290,7 @@ impl<'a> CodeDirectory<'a> {
         pages_of(limit, self.page_len())
     }
 
-    /// Where the bytes of a page stand in the image.
+    /// Returns the range of a page's bytes in the image.
     pub fn page(&self, index: u32) -> Range<u64>
         ensures { result ≡ record { start = page_start (directory_view self.now) index; end = page_end (directory_view self.now) index } }
     {
@@ -302,7 +302,7 @@ impl<'a> CodeDirectory<'a> {
         start..(start + self.page_len()).min(limit)
     }
 
-    // The hash at a place.
+    // Returns the hash at a place.
     fn slot_at(&self, place: usize) -> &'a [u8]
         requires { place + self.now.head.hash_size ≤ length self.now.bytes.now }
         ensures { result.now ≡ defined.slot_bytes (directory_view self.now) place }
@@ -310,7 +310,7 @@ impl<'a> CodeDirectory<'a> {
         &self.bytes[place..place + usize::from(self.head.hash_size)]
     }
 
-    /// The hash of a page, if there is one of this number.
+    /// Returns the hash of a page, if there is a page of this number.
     pub fn code_slot(&self, index: u32) -> Option<&'a [u8]>
         ensures { slot_read result ≡ code_slot_of (directory_view self.now) index }
     {
@@ -321,7 +321,7 @@ impl<'a> CodeDirectory<'a> {
         Some(self.slot_at(self.head.hash_offset as usize + before))
     }
 
-    /// The hash of a special slot, if there is one of this number: they are counted from 1.
+    /// Returns the hash of a special slot, if there is one of this number. Special slots count from 1.
     pub fn special_slot(&self, number: u32) -> Option<&'a [u8]>
         ensures { slot_read result ≡ special_slot_of (directory_view self.now) number }
     {
@@ -332,7 +332,7 @@ impl<'a> CodeDirectory<'a> {
         Some(self.slot_at(self.head.hash_offset as usize - behind))
     }
 
-    /// The first 20 bytes of the directory's own hash: what a caller compares to know that it is this directory.
+    /// Returns the first 20 bytes of the directory's own hash. Callers compare them to identify the directory.
     pub fn cdhash(&self) -> [u8; 20]
         ensures { result ≡ cdhash_of (directory_view self.now) }
     {

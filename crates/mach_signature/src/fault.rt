@@ -1,4 +1,4 @@
-//! What isn't as it was signed, and its words.
+//! What differs from what was signed, and the text of each fault.
 
 ghost use Rattle.std.specs.Prelude.{◌≡◌};
 ghost use Rattle.mach_signature.specs.SignWords as defined;
@@ -7,7 +7,7 @@ use mach_base::{Error, describe};
 use std::fmt;
 use std::fmt::{Display, Formatter, Write};
 
-/// A slot that is written by its name, or by its number where it has none.
+/// A slot that is written as its name, or as its number if it has none.
 #[derive(Clone, Copy, Debug, PartialEq)]
 pub struct SlotName(pub u32);
 
@@ -44,14 +44,14 @@ impl Display for SlotName {
     }
 }
 
-/// What is wrong with the code that a directory covers.
+/// A fault of the code that a directory covers.
 #[derive(Clone, Copy, Debug, PartialEq)]
 pub enum CodeFault {
-    /// The pages are scattered, as the vector at this place says, and aren't looked at.
+    /// The pages are scattered, as the vector at this place says, and aren't judged.
     Scattered { place: u32 },
-    /// More is covered than the image has bytes.
+    /// More bytes are covered than the image has.
     Limit { limit: u64, len: u64 },
-    /// There isn't a code slot for each page.
+    /// The number of code slots isn't the number of pages.
     Slots { slots: u32, pages: u64 },
     /// A page isn't what was signed.
     Page { index: u32, start: u64, end: u64 },
@@ -79,12 +79,12 @@ impl Display for CodeFault {
     }
 }
 
-/// What is wrong with a special slot, or with a blob that has none.
+/// A fault of a special slot, or of a blob that no slot seals.
 #[derive(Clone, Copy, Debug, PartialEq)]
 pub enum SpecialFault {
-    /// The slot is none that is known.
+    /// The slot isn't known.
     Unknown { slot: u32 },
-    /// What is there has no hash.
+    /// Something is there, but the directory has no hash of it.
     Unsealed { slot: u32 },
     /// What is there isn't what was signed.
     Changed { slot: u32 },
@@ -119,18 +119,18 @@ impl Display for SpecialFault {
     }
 }
 
-/// What is wrong with a code directory, or with what it covers.
+/// A fault of a code directory, or of what it covers.
 #[derive(Debug, Drop)]
 pub enum DirectoryFault {
     /// The identifier can't be read.
     Identifier(Error),
     /// The name of the team can't be read.
     Team(Error),
-    /// Less is covered than stands before the signature.
+    /// Fewer bytes are covered than the image has before its signature.
     Short { limit: u64, dataoff: u32 },
-    /// The code.
+    /// A fault of the code.
     Code(CodeFault),
-    /// A special slot.
+    /// A fault of a special slot.
     Special(SpecialFault),
 }
 
@@ -158,18 +158,18 @@ impl Display for DirectoryFault {
     }
 }
 
-/// What of a signature isn't as it was signed.
+/// A fault of a signature: something that isn't as it was signed.
 #[derive(Debug, Drop)]
 pub enum SignatureFault {
     /// A blob can't be read.
     Blob { index: u32, error: Error },
-    /// A blob's magic is none of its slot.
+    /// The magic of a blob isn't one of its slot.
     Magic { index: u32, slot: u32, magic: u32 },
     /// No code directory counts.
     Refused(Error),
-    /// The first code directory, or what it covers.
+    /// A fault of the first code directory, or of what it covers.
     First(DirectoryFault),
-    /// The code directory of an alternate slot, or what it covers.
+    /// A fault of the code directory of an alternate slot, or of what it covers.
     Alternate { slot: u32, fault: DirectoryFault },
 }
 

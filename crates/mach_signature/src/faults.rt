@@ -1,4 +1,4 @@
-//! All that isn't as it was signed, in order.
+//! All faults of a signature, in order.
 
 ghost use Rattle.std.specs.Prelude.{◌≡◌, Option};
 ghost use Rattle.std.specs.Option.{option_map};
@@ -22,8 +22,8 @@ use crate::slots::has_magic;
 use crate::special_faults::SpecialFaults;
 use mach_base::{Error, Result, bytes_at};
 
-/// The signature of an image, which a command brings: `datasize` bytes at `dataoff`. Errors as those of `CodeSignature::parse`, and of
-/// the bounded read where the range isn't in the image.
+/// Reads the signature at the place that a command gives: `datasize` bytes at `dataoff` of the image. Errors are those of
+/// `CodeSignature::parse`, and of a bounded read if the range isn't in the image.
 #[tactic(auto, unfolding(crate::specs::AsSigned::signature_in))]
 pub fn code_signature(image: &[u8], dataoff: u32, datasize: u32) -> Result<CodeSignature<'_>>
     ensures { Reads signature_view result (defined.signature_in image.now dataoff datasize) }
@@ -40,14 +40,14 @@ pub fn code_signature(image: &[u8], dataoff: u32, datasize: u32) -> Result<CodeS
 pub struct SignedBytes<'a> {
     /// The bytes of the image.
     pub image: &'a [u8],
-    /// Where the signature begins.
+    /// The offset of the signature in the image.
     pub dataoff: u32,
     pub signature: CodeSignature<'a>,
-    /// The section `__info_plist` of `__TEXT`, where the image has one.
+    /// The section `__info_plist` of `__TEXT`, if the image has one.
     pub plist: Option<&'a [u8]>,
 }
 
-// The blobs of a signature, each against its slot.
+// The blobs of a signature, each checked against its slot.
 #[derive(Clone, Copy, Drop)]
 pub struct BlobTests<'a> {
     pub signature: CodeSignature<'a>,
@@ -92,7 +92,7 @@ impl<'a> Numbered for BlobTests<'a> {
     }
 }
 
-// What is wrong with a directory, in order.
+// An iterator over the faults of a directory, in order.
 #[derive(Drop)]
 pub struct DirectoryFaults<'a> {
     pub identifier: Option<Error>,
@@ -127,7 +127,7 @@ impl<'a> DirectoryFaults<'a> {
 }
 
 impl<'a> SignedBytes<'a> {
-    // That less is covered than stands before the signature, if so.
+    // Returns a fault if fewer bytes are covered than the image has before its signature.
     fn short_fault(&self, directory: &CodeDirectory<'a>) -> Option<DirectoryFault>
         ensures { option_map directory_fault_view result ≡ defined.short_fault (signed_view self.now) (directory_view directory.now) }
     {
@@ -141,7 +141,7 @@ impl<'a> SignedBytes<'a> {
         None
     }
 
-    // What is wrong with a directory.
+    // Returns the faults of a directory.
     #[tactic(auto, unfolding(crate::specs::FaultViews::directory_faults_left, crate::specs::AsSigned::directory_faults_of))]
     fn faults_of(&self, directory: &CodeDirectory<'a>) -> DirectoryFaults<'a>
         ensures { directory_faults_left result ≡ defined.directory_faults_of (signed_view self.now) (directory_view directory.now) }
@@ -156,7 +156,7 @@ impl<'a> SignedBytes<'a> {
     }
 }
 
-// A fault of the directory of a slot.
+// Returns a fault of the directory at `slot`.
 fn of_slot(slot: u32, fault: DirectoryFault) -> SignatureFault
     ensures { signature_fault_view result ≡ defined.of_slot slot (directory_fault_view fault) }
 {
@@ -166,7 +166,7 @@ fn of_slot(slot: u32, fault: DirectoryFault) -> SignatureFault
     SignatureFault::Alternate { slot, fault }
 }
 
-// What is wrong with the directory of a slot, if one is being judged.
+// An iterator over the faults of the directory at a slot, if one is being judged.
 #[derive(Drop)]
 pub struct Current<'a> {
     pub slot: u32,
@@ -190,7 +190,7 @@ impl<'a> Current<'a> {
 }
 
 impl<'a> SignedBytes<'a> {
-    // What is wrong with the directory of a slot; nothing of one that can't be read, which is told before.
+    // Returns the faults of the directory at a slot. A directory that can't be read has none here: that was reported before.
     #[tactic(auto, unfolding(crate::specs::FaultViews::current_left))]
     fn current(&self, slot: u32, directory: Result<CodeDirectory<'a>>) -> Current<'a>
         ensures { current_left result ≡ defined.slot_faults_of (signed_view self.now) (slot_directory_read (slot, directory.entry)) }
@@ -202,7 +202,7 @@ impl<'a> SignedBytes<'a> {
         Current { slot, faults }
     }
 
-    /// All that isn't as it was signed, in order.
+    /// Returns all faults of the signature, in order.
     #[tactic(auto, unfolding(crate::specs::FaultViews::signature_faults_left, crate::specs::FaultViews::current_left))]
     pub fn faults(&self) -> SignatureFaults<'a>
         ensures { signature_faults_left result ≡ defined.signature_faults_of (signed_view self.now) }
@@ -226,14 +226,14 @@ impl<'a> SignedBytes<'a> {
     }
 }
 
-/// What of a signature isn't as it was signed, in order: of the blobs, and then of each code directory; or, where no directory
-/// counts, that alone behind what is wrong with the blobs.
+/// An iterator over the faults of a signature, in order: those of its blobs, then those of each code directory. If no directory
+/// counts, only that is reported after the faults of the blobs.
 #[derive(Drop)]
 pub struct SignatureFaults<'a> {
     pub(crate) signed: SignedBytes<'a>,
     pub(crate) blobs: Told<BlobTests<'a>>,
     pub(crate) refused: Option<Error>,
-    // The directory that is being judged, and those behind it.
+    // The directory that is being judged; `directories` are those after it.
     pub(crate) current: Current<'a>,
     pub(crate) directories: Directories<'a>,
 }
@@ -267,8 +267,8 @@ impl<'a> Iterator for SignatureFaults<'a> {
     }
 }
 
-/// What of the signature that a command brings isn't as it was signed, in order; errors as those of `code_signature`. `plist`
-/// is the section `__info_plist` of `__TEXT`, where the image has one. There is nothing exactly where all is as signed.
+/// Returns the faults of the signature that a command places, in order. Errors are those of `code_signature`. `plist` is the
+/// section `__info_plist` of `__TEXT`, if the image has one. There are none exactly when everything is as signed.
 #[tactic(auto, unfolding(crate::specs::FaultViews::signature_faults_left))]
 pub fn signature_faults<'a>(
     image: &'a [u8],

@@ -9,7 +9,7 @@ use mach_base::array_at;
 use sha1::Sha1;
 use sha2::{Digest, Sha256, Sha384};
 
-/// How a code directory hashes.
+/// The hash that a code directory uses.
 #[derive(Clone, Copy, Debug, PartialEq)]
 pub enum HashType {
     /// SHA-1: 20 bytes.
@@ -23,7 +23,7 @@ pub enum HashType {
 }
 
 impl HashType {
-    /// The hash of a number, if it is one of the four.
+    /// Returns the hash of a number, if it is one of the four.
     pub fn of(number: u8) -> Option<HashType>
         ensures { result ≡ defined.hash_type_of number }
     {
@@ -36,7 +36,7 @@ impl HashType {
         }
     }
 
-    /// How many bytes a hash has.
+    /// Returns how many bytes a hash has.
     pub fn size(self) -> u8
         ensures { result ≡ defined.hash_len self }
     {
@@ -48,7 +48,7 @@ impl HashType {
         }
     }
 
-    /// Its rank: of two code directories the one of the higher rank counts.
+    /// Returns the rank of the hash. Of two code directories the one of the higher rank counts.
     pub fn rank(self) -> u8
         ensures { result ≡ defined.hash_rank self }
     {
@@ -85,7 +85,7 @@ impl HashType {
         }
     }
 
-    /// The first 20 bytes of the hash of some bytes.
+    /// Returns the first 20 bytes of the hash of some bytes.
     #[tactic(auto, unfolding(crate::specs::Hashes::hash_of))]
     pub fn first_bytes(self, bytes: &[u8]) -> [u8; 20]
         ensures { result ≡ take 20 (hash_of self bytes.now) }

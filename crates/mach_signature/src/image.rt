@@ -1,4 +1,4 @@
-//! The signature of an image, and what isn't as it was signed.
+//! The signature of an image, and its faults.
 
 ghost use Rattle.std.specs.Prelude.{◌≡◌, option_map};
 ghost use Rattle.mach_base.specs.Answer.{Reads};
@@ -18,8 +18,8 @@ use goblin_mach::MachO;
 use mach_base::Result;
 use std::alloc::Allocator;
 
-/// The code signature of an image: that of the first `LC_CODE_SIGNATURE` among the commands that it holds; none without one. Opening
-/// an image tests nothing of it. Errors as those of `crate::faults::code_signature`. It takes no memory.
+/// Returns the code signature of an image: the one that its first `LC_CODE_SIGNATURE` places, or none without such a command.
+/// Opening an image checks nothing of it. Errors are those of `crate::faults::code_signature`. It allocates nothing.
 pub fn code_signature<'a, A: Allocator>(image: &MachO<'a, A>) -> Result<Option<CodeSignature<'a>>>
     ensures { Reads (option_map signature_view) result (image_signature (bytes_held image.now) (commands_held image.now)) }
 {
@@ -30,8 +30,8 @@ pub fn code_signature<'a, A: Allocator>(image: &MachO<'a, A>) -> Result<Option<C
     Ok(Some(signature))
 }
 
-/// The code directory that counts of the signature of an image: by it the system knows the code. None without a signature. Errors as
-/// those of `code_signature`, and of `CodeSignature::directory`. It takes no memory.
+/// Returns the code directory that counts in the signature of an image: the system knows the code by it. It is none without a
+/// signature. Errors are those of `code_signature` and of `CodeSignature::directory`. It allocates nothing.
 pub fn code_directory<'a, A: Allocator>(image: &MachO<'a, A>) -> Result<Option<CodeDirectory<'a>>>
     ensures { Reads (option_map directory_view) result (image_directory (bytes_held image.now) (commands_held image.now)) }
 {
@@ -42,15 +42,16 @@ pub fn code_directory<'a, A: Allocator>(image: &MachO<'a, A>) -> Result<Option<C
     Ok(Some(directory))
 }
 
-/// The section that the signature of an image seals as its Info.plist, if it has one and its bytes are in the file.
+/// Returns the section that the signature of an image seals as its Info.plist, if there is one and its bytes are in the file.
 pub fn image_plist<'a, A: Allocator>(image: &MachO<'a, A>) -> Option<&'a [u8]>
     ensures { slot_read result ≡ plist_of (bytes_held image.now) (segments_held image.now) }
 {
     info_plist(image.bytes(), image.segments.as_slice())
 }
 
-/// What of an image isn't as it was signed, in order; none where no command brings a signature. There is nothing exactly where all
-/// is as signed. Errors as those of `code_signature`. It takes no memory, and hashes the image at most once for each of four directories.
+/// Returns the faults of an image's signature, in order; none if no command places one. The list is empty exactly when everything
+/// is as signed. Errors are those of `code_signature`. It allocates nothing, and hashes the image at most once for each of four
+/// directories.
 pub fn signature_faults<'a, A: Allocator>(
     image: &MachO<'a, A>,
 ) -> Result<Option<SignatureFaults<'a>>>
@@ -64,7 +65,7 @@ pub fn signature_faults<'a, A: Allocator>(
     Ok(Some(faults))
 }
 
-// Whether no fault is told of a signature, if there is one.
+// Whether there is a signature, and it has no fault.
 fn are_untold(faults: Option<SignatureFaults<'_>>) -> bool
     ensures { result ≡ are_untold (option_map signature_faults_left faults.entry) }
 {
@@ -77,7 +78,7 @@ fn are_untold(faults: Option<SignatureFaults<'_>>) -> bool
     }
 }
 
-/// Whether an image has a signature, and is as it was signed. Errors as those of `code_signature`. It takes no memory.
+/// Whether an image has a signature and is as it was signed. Errors are those of `code_signature`. It allocates nothing.
 pub fn is_as_signed<A: Allocator>(image: &MachO<'_, A>) -> Result<bool>
     ensures { Reads (λ is. is) result
         (defined.is_as_signed (image_faults (bytes_held image.now) (commands_held image.now) (segments_held image.now))) }

@@ -1,4 +1,4 @@
-//! Theorems on the definitions alone: functions with nothing to do, whose contracts are laws.
+//! Theorems about the definitions alone: functions with an empty body, whose contracts are laws.
 
 mod images;
 mod signatures;

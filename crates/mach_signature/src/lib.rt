@@ -1,5 +1,5 @@
-//! Apple's code signatures: the blobs of a signature, its code directories, and each fault: what isn't as it was signed.
-//! Signatures are read from bytes (`code_signature`) or from an image (`image::code_signature`).
+//! Apple's code signatures: the blobs of a signature, its code directories, and its faults, which say what isn't as it was
+//! signed. A signature is read from bytes (`code_signature`) or from an image (`image::code_signature`).
 #![tactic(auto)]
 
 // Signatures, read from bytes.

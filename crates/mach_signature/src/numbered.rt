@@ -1,36 +1,36 @@
-//! What is told of things that go by their number: in order, of those of which something is to be told.
+//! Reports on numbered things: in order, for those that have something to report.
 
 ghost use Rattle.std.specs.Prelude.{◌≡◌, ◌<◌, ℕ, Option};
 ghost use Rattle.std.specs.Option.{option_map};
 ghost use Rattle.std.specs.Iterator.{YieldsFirstBy};
 ghost use Rattle.mach_signature.specs.Numbered.{told_left};
 
-/// Things that go by their number, and what is told of each.
+/// Numbered things, and the report on each.
 pub trait Numbered: Drop {
-    /// What is told.
+    /// What is reported.
     type Item: Drop;
 
-    // What contracts see of it.
+    // What contracts see of a report.
     ghost View: { Type 0 };
 
     ghost view: { Self.Item → View };
 
-    // How many things there are, and what is told of each.
+    // How many things there are, and the report on each.
     ghost count: { Self → ℕ };
 
     ghost tells: { Self → ℕ → Option View };
 
-    /// How many things there are.
+    /// Returns how many things there are.
     fn count(&self) -> u32
         ensures { result ≡ count self.now };
 
-    /// What is told of one, if something is.
+    /// Returns the report on one thing, if there is one.
     fn tell(&self, number: u32) -> Option<Self::Item>
         requires { number < count self.now }
         ensures { option_map view result ≡ tells self.now number };
 }
 
-/// What is told of things from a number on.
+/// An iterator over the reports, from a number on.
 #[derive(Clone, Copy, Drop)]
 pub struct Told<T> {
     pub things: T,
@@ -38,14 +38,14 @@ pub struct Told<T> {
 }
 
 impl<T: Numbered> Told<T> {
-    /// What is told of all.
+    /// Returns the reports on all things.
     pub fn of(things: T) -> Told<T>
         ensures { result ≡ record { things = things; next = 0 } }
     {
         Told { things, next: 0 }
     }
 
-    /// The next that is told.
+    /// Returns the next report.
     #[tactic(auto, using(crate::proofs::NumberedLists::told_first, crate::proofs::NumberedLists::told_none))]
     #[inline(always)]
     pub fn take_next(&mut self) -> Option<T::Item>

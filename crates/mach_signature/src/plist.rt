@@ -10,7 +10,7 @@ use goblin_mach::entry::is_text;
 use mach_base::{bytes_at, read_text};
 use mach_parts::segment::{NumberedSection, ReadableSections, Segment};
 
-// Whether it is the section `__info_plist` of `__TEXT`.
+// Whether a section is `__info_plist` of `__TEXT`.
 fn is_info_plist(section: &NumberedSection) -> bool
     ensures { result ≡ defined.is_info_plist section.now }
 {
@@ -23,7 +23,7 @@ fn is_info_plist(section: &NumberedSection) -> bool
     }
 }
 
-// The first of the sections in the bytes that is it. At most so many are looked at.
+// Returns the first `__info_plist` of `__TEXT` in the bytes. It looks at no more sections than it is given as a bound.
 #[tactic(auto, using(crate::proofs::Searched::searched_first, crate::proofs::Searched::searched_none, crate::proofs::Searched::searched_all))]
 fn among_sections(most: usize, segments: &[Segment<'_>]) -> Option<NumberedSection>
     ensures { result ≡ find defined.is_info_plist (take most (readable_sections (map segment_view segments.now))) }
@@ -40,9 +40,11 @@ fn among_sections(most: usize, segments: &[Segment<'_>]) -> Option<NumberedSecti
     None
 }
 
-/// The bytes of the first section `__info_plist` of `__TEXT` among those of some segments, by a section's own names, if one is there
-/// and its bytes are in the file. Of each segment the sections in front of the first that isn't in the bytes are looked at, and of all
-/// at most as many as there are bytes: so no count in a file is work.
+/// Returns the bytes of the first section `__info_plist` of `__TEXT` in some segments, if there is one and its bytes are in the
+/// file. The section's own names decide.
+///
+/// In each segment it looks at the sections before the first that isn't in the bytes, and in all at no more sections than there
+/// are bytes. So a count in a file never sets the work.
 pub fn info_plist<'a>(bytes: &'a [u8], segments: &[Segment<'_>]) -> Option<&'a [u8]>
     ensures { slot_read result ≡ defined.plist_of bytes.now (map segment_view segments.now) }
 {

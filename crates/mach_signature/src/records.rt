@@ -1,8 +1,8 @@
-//! The records of a signature (`cs_blobs.h`), all of whose numbers are big-endian.
+//! The records of a signature (`cs_blobs.h`). All their numbers are big-endian.
 
 use mach_base::{Endian, Record, RecordBytes};
 
-/// What a signature begins with (struct __SC_SuperBlob).
+/// The head of a signature (struct __SC_SuperBlob).
 #[derive(Clone, Copy, Debug)]
 pub struct SuperBlobHead {
     /// The magic number.
@@ -43,12 +43,12 @@ impl Record for SuperBlobHead {
     }
 }
 
-/// What a blob begins with (struct __SC_GenericBlob).
+/// The head of a blob (struct __SC_GenericBlob).
 #[derive(Clone, Copy, Debug)]
 pub struct BlobHead {
     /// The magic number.
     pub magic: u32,
-    /// How many bytes the blob has, with these.
+    /// How many bytes the blob has, including this head.
     pub length: u32,
 }
 
@@ -78,20 +78,20 @@ impl Record for BlobHead {
     }
 }
 
-/// The fields that each code directory has (struct __CodeDirectory).
+/// The fields that every code directory has (struct __CodeDirectory).
 #[derive(Clone, Copy, Debug)]
 pub struct DirectoryHead {
     /// The magic number.
     pub magic: u32,
     /// How many bytes the directory has.
     pub length: u32,
-    /// Which fields it has.
+    /// The version, which says which fields follow.
     pub version: u32,
-    /// What is asked of the code, a bit each.
+    /// The flags of the code (`CS_ADHOC` and others).
     pub flags: u32,
-    /// Where the first code slot stands; the special slots stand before it.
+    /// The offset of the first code slot; the special slots lie before it.
     pub hash_offset: u32,
-    /// Where the identifier stands.
+    /// The offset of the identifier.
     pub ident_offset: u32,
     /// How many special slots there are.
     pub n_special_slots: u32,
@@ -101,11 +101,11 @@ pub struct DirectoryHead {
     pub code_limit: u32,
     /// How many bytes a hash has.
     pub hash_size: u8,
-    /// How it hashes, one of the numbers of `HashType`.
+    /// The hash that it uses, by the number of its `HashType`.
     pub hash_type: u8,
-    /// The platform of what belongs to the system, else 0.
+    /// The number of the platform if the code belongs to the system, else 0.
     pub platform: u8,
-    /// A page has 2 to this power of bytes, or any number where it is 0.
+    /// The size of a page as a power of 2; 0 if all covered bytes are one page.
     pub page_size: u8,
     /// Not used.
     pub spare2: u32,
@@ -163,22 +163,22 @@ impl Record for DirectoryHead {
     }
 }
 
-/// The executable segment, of which code directories tell from version 0x20400 on.
+/// The executable segment, which code directories have since version 0x20400.
 #[derive(Clone, Copy, Debug)]
 pub struct ExecutableSegment {
-    /// Where it begins in the file.
+    /// The file offset of the segment.
     pub base: u64,
     /// How many bytes it has.
     pub limit: u64,
-    /// What it may do, a bit each.
+    /// Its flags (`CS_EXECSEG_MAIN_BINARY` and others).
     pub flags: u64,
 }
 
-/// What the hardened runtime is asked, of which code directories tell from version 0x20500 on.
+/// The fields for the hardened runtime, which code directories have since version 0x20500.
 #[derive(Clone, Copy, Debug)]
 pub struct RuntimeFields {
-    /// The version of the runtime: a number in 16 bits, and two in 8 bits each.
+    /// The version of the runtime: 16 bits for the first number, 8 bits for each of two others.
     pub version: u32,
-    /// Where the hashes of pages before their encryption stand.
+    /// The offset of the hashes of pages before their encryption.
     pub pre_encrypt_offset: u32,
 }

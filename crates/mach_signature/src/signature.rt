@@ -1,4 +1,4 @@
-//! A signature: blobs by slots, behind an index (`cs_blobs.h`, struct __SC_SuperBlob).
+//! A signature: blobs by slots, after an index (`cs_blobs.h`, struct __SC_SuperBlob).
 
 ghost use Rattle.std.specs.Prelude.{◌≡◌, ◌≤◌, ◌<◌, ◌+◌, ◌*◌, length, drop};
 ghost use Rattle.mach_base.specs.declared.context.Endian.TheVariants.{Big};
@@ -11,7 +11,7 @@ use crate::slots::{
 };
 use mach_base::{BE, Error, Record, Result, ScrollError, bytes_at};
 
-/// A signature: its bytes, as many as it says that it has, and how many blobs its index names.
+/// A signature: its bytes, cut at the length that it gives, and how many blobs its index names.
 #[derive(Clone, Copy)]
 pub struct CodeSignature<'a> {
     pub bytes: &'a [u8],
@@ -22,13 +22,13 @@ pub struct CodeSignature<'a> {
 /// A blob of a signature.
 #[derive(Clone, Copy)]
 pub struct Blob<'a> {
-    /// What it is for.
+    /// The slot, which says what the blob is for.
     pub slot: u32,
-    /// Where it stands in the signature.
+    /// Its offset in the signature.
     pub offset: usize,
     /// Its magic number.
     pub magic: u32,
-    /// Its bytes, of which the first 8 are its magic and its length.
+    /// Its bytes. The first 8 are its magic and its length.
     pub bytes: &'a [u8],
 }
 
@@ -36,10 +36,10 @@ impl<'a> CodeSignature<'a> {
     ghost use Rattle.mach_signature.specs.SuperBlob.{signature_at, blob_at, blobs_of, slot_at, first_blob_of, blob_of, content_of};
     ghost use Rattle.mach_signature.specs.SignViews.{signature_view, blob_view, blobs_left};
 
-    /// The signature at the front of the bytes. What lies behind its length is not looked at.
+    /// Reads the signature at the start of the bytes. Bytes past its length are ignored.
     ///
-    /// It is `BadMagic` where it begins with another magic, `Malformed` where it says that it has less than 12 bytes, and
-    /// `BufferTooShort` where its index doesn't lie in it.
+    /// It is `BadMagic` if the bytes begin with another magic, `Malformed` if its length is below 12, and `BufferTooShort` if the
+    /// index doesn't lie in the length.
     #[tactic(auto, unfolding(crate::specs::SuperBlob::signature_at))]
     pub fn parse(bytes: &'a [u8]) -> Result<CodeSignature<'a>>
         ensures { Reads signature_view result (signature_at bytes.now) }
@@ -67,7 +67,7 @@ impl<'a> CodeSignature<'a> {
         })
     }
 
-    /// The slot of a blob.
+    /// Returns the slot of a blob.
     pub fn slot(&self, index: u32) -> u32
         requires { index < self.now.count }
         ensures { result ≡ slot_at (signature_view self.now) index }
@@ -75,7 +75,7 @@ impl<'a> CodeSignature<'a> {
         BE.u32_at(self.bytes, 12 + 8 * index as usize)
     }
 
-    /// A blob. It is `Malformed` where it says that it has less than 8 bytes.
+    /// Returns a blob. It is `Malformed` if its length is below 8.
     #[tactic(auto, unfolding(crate::specs::SuperBlob::blob_at))]
     pub fn blob_at(&self, index: u32) -> Result<Blob<'a>>
         requires { index < self.now.count }
@@ -95,7 +95,7 @@ impl<'a> CodeSignature<'a> {
         })
     }
 
-    /// The blobs in the order of the index, exactly as many as it has, unreadable ones included.
+    /// Returns the blobs in the order of the index, exactly as many as it names. A blob that can't be read is an item with its error.
     pub fn blobs(&self) -> Blobs<'a>
         ensures { blobs_left result ≡ blobs_of (signature_view self.now) }
     {
@@ -105,7 +105,7 @@ impl<'a> CodeSignature<'a> {
         }
     }
 
-    // The number of the first blob of a slot.
+    // Returns the number of the first blob of a slot.
     #[tactic(auto, using(crate::proofs::NumberedLists::found_first, crate::proofs::NumberedLists::found_none))]
     fn first_of(&self, slot: u32) -> Option<u32>
         ensures first { result ≡ first_blob_of (signature_view self.now) slot }
@@ -119,7 +119,7 @@ impl<'a> CodeSignature<'a> {
         None
     }
 
-    /// The first blob of a slot.
+    /// Returns the first blob of a slot.
     #[tactic(auto, unfolding(crate::specs::SuperBlob::blob_of))]
     pub fn blob(&self, slot: u32) -> Result<Option<Blob<'a>>>
         ensures { Reads (option_map blob_view) result (blob_of (signature_view self.now) slot) }
@@ -130,7 +130,7 @@ impl<'a> CodeSignature<'a> {
         }
     }
 
-    // What the first blob of a slot has behind its head.
+    // Returns the content of the first blob of a slot: the bytes after its head.
     #[tactic(auto, unfolding(crate::specs::SuperBlob::content_of))]
     fn content(&self, slot: u32) -> Result<Option<&'a [u8]>>
         ensures { Reads (option_map (λ content. content.now)) result (content_of (signature_view self.now) slot) }
@@ -141,28 +141,28 @@ impl<'a> CodeSignature<'a> {
         }
     }
 
-    /// The entitlements in XML, if there are any: what the blob of their slot has behind its 8 bytes of head.
+    /// Returns the entitlements in XML, if there are any: the bytes after the head of their blob.
     pub fn entitlements(&self) -> Result<Option<&'a [u8]>>
         ensures { Reads (option_map (λ content. content.now)) result (content_of (signature_view self.now) 5) }
     {
         self.content(SLOT_ENTITLEMENTS)
     }
 
-    /// The entitlements in DER, if there are any.
+    /// Returns the entitlements in DER, if there are any.
     pub fn der_entitlements(&self) -> Result<Option<&'a [u8]>>
         ensures { Reads (option_map (λ content. content.now)) result (content_of (signature_view self.now) 7) }
     {
         self.content(SLOT_DER_ENTITLEMENTS)
     }
 
-    /// The requirements, if there are any.
+    /// Returns the requirements, if there are any.
     pub fn requirements(&self) -> Result<Option<&'a [u8]>>
         ensures { Reads (option_map (λ content. content.now)) result (content_of (signature_view self.now) 2) }
     {
         self.content(SLOT_REQUIREMENTS)
     }
 
-    /// The CMS, if there is one: it says who signed, and is not verified. Of an ad hoc signature it is none, or empty.
+    /// Returns the CMS message, if there is one. It says who signed, and isn't verified. An ad hoc signature has none, or an empty one.
     pub fn cms(&self) -> Result<Option<&'a [u8]>>
         ensures { Reads (option_map (λ content. content.now)) result (content_of (signature_view self.now) 0x10000) }
     {
@@ -170,7 +170,7 @@ impl<'a> CodeSignature<'a> {
     }
 }
 
-// What some bytes have behind 8 bytes of head.
+// Returns the bytes after a head of 8 bytes.
 fn behind_head(bytes: &[u8]) -> &[u8]
     ensures { result.now ≡ drop 8 bytes.now }
 {
@@ -180,7 +180,7 @@ fn behind_head(bytes: &[u8]) -> &[u8]
 ghost use Rattle.std.specs.Prelude.{IfSome};
 ghost use Rattle.std.specs.Option.{option_map};
 
-/// The blobs of a signature one after the other.
+/// An iterator over the blobs of a signature.
 #[derive(Clone, Drop)]
 pub struct Blobs<'a> {
     signature: CodeSignature<'a>,
@@ -208,7 +208,7 @@ impl<'a> Iterator for Blobs<'a> {
         Some(item)
     }
 
-    /// How many items are left, exactly.
+    /// Returns how many items are left, exactly.
     fn size_hint(&self) -> (usize, Option<usize>)
         ensures lower { IsWithinCount result.0 (item_count blobs_left self.now) }
         ensures upper { IfSome result.1 (UpTo (item_count blobs_left self.now)) }
@@ -220,7 +220,7 @@ impl<'a> Iterator for Blobs<'a> {
 }
 
 impl<'a> ExactSizeIterator for Blobs<'a> {
-    /// How many items are left.
+    /// Returns how many items are left.
     fn len(&self) -> usize {
         self.signature.count.saturating_sub(self.index) as usize
     }

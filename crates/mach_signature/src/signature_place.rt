@@ -1,4 +1,4 @@
-//! Where the commands of an image place its signature.
+//! The place that the commands of an image give its signature.
 
 ghost use Rattle.std.specs.Prelude.{◌≡◌, ℕ, map, option_map};
 ghost use Rattle.mach_load.specs.Variants.{command_of};
@@ -22,7 +22,7 @@ impl Subject for SignaturePlaces {
 
     ghost reading = { λ _. signature_place_by };
 
-    /// It is never refused.
+    /// Reading it never fails.
     fn read(&self, command: &LoadCommand) -> Option<Result<LinkeditDataCommand>> {
         match &command.command {
             CommandVariant::CodeSignature(c) => Some(Ok(*c)),
@@ -31,7 +31,7 @@ impl Subject for SignaturePlaces {
     }
 }
 
-/// The place and the size of the signature: those of the first `LC_CODE_SIGNATURE` among the commands, if one is there.
+/// Returns the offset and the size that the first `LC_CODE_SIGNATURE` gives the signature, if there is such a command.
 pub fn signature_place(commands: &[LoadCommand]) -> Option<(u32, u32)>
     ensures { result ≡ signature_place_in (map command_of commands.now) }
 {

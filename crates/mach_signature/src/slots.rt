@@ -18,28 +18,28 @@ pub const SLOT_ENTITLEMENTS: u32 = 5;
 /// The slot of the entitlements, in DER.
 pub const SLOT_DER_ENTITLEMENTS: u32 = 7;
 
-/// The slot of the CMS, which says who signed.
+/// The slot of the CMS message, which says who signed.
 pub const SLOT_CMS: u32 = 0x10000;
 
-/// Whether a slot is that of a code directory: the first or an alternate one.
+/// Whether a slot is one of a code directory: the first or an alternate one.
 pub fn is_directory_slot(slot: u32) -> bool
     ensures { result ≡ defined.is_directory_slot slot }
 {
     slot == 0 || (0x1000 <= slot && slot <= 0x1004)
 }
 
-/// What blobs a slot may have.
+/// The blobs that a slot may have.
 #[derive(Clone, Copy, Debug, PartialEq)]
 pub enum SlotMagic {
-    /// One of this magic.
+    /// A blob of this magic.
     Only(u32),
-    /// None: what it seals is no blob.
+    /// None: what the slot seals is no blob.
     NoBlob,
-    /// One of any magic.
+    /// A blob of any magic.
     Any,
 }
 
-/// What blobs a slot may have.
+/// Returns which blobs a slot may have.
 pub fn slot_magic(slot: u32) -> SlotMagic
     ensures { result ≡ defined.slot_magic slot }
 {
@@ -57,7 +57,7 @@ pub fn slot_magic(slot: u32) -> SlotMagic
     }
 }
 
-/// Whether a slot may have a blob of a magic.
+/// Whether a slot may have a blob of the given magic.
 pub fn has_magic(slot: u32, magic: u32) -> bool
     ensures { result ≡ defined.has_magic slot magic }
 {
@@ -68,7 +68,7 @@ pub fn has_magic(slot: u32, magic: u32) -> bool
     }
 }
 
-/// Whether what a slot seals may be out of the image: another file, as the resources of a bundle.
+/// Whether a slot may seal something outside of the image, for example the resources of a bundle.
 pub fn is_outside(slot: u32) -> bool
     ensures { result ≡ defined.is_outside slot }
 {

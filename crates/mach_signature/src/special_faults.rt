@@ -1,4 +1,4 @@
-//! What is wrong with the special slots of a directory, and with blobs that have none.
+//! The faults of the special slots of a directory, and of blobs that no slot seals.
 
 ghost use Rattle.std.specs.Prelude.{◌≡◌, Option};
 ghost use Rattle.std.specs.Option.{option_map};
@@ -15,15 +15,15 @@ use crate::signature::CodeSignature;
 use crate::slots::is_outside;
 use mach_base::Result;
 
-/// Whether a slot seals nothing: it is all zeros.
+/// Whether a slot seals nothing: all its bytes are zero.
 pub fn is_unsealing(slot: &[u8]) -> bool
     ensures { result ≡ defined.is_unsealing slot.now }
 {
     slot.iter().all(|byte| *byte == 0)
 }
 
-/// What stands there to be sealed by a special slot: the first blob of the slot, with its head; or of slot 1 without one `plist`,
-/// the section `__info_plist` of `__TEXT`.
+/// Returns what a special slot seals in the image: the first blob of the slot, with its head. For slot 1 without a blob it is
+/// `plist`, the section `__info_plist` of `__TEXT`.
 #[tactic(auto, unfolding(crate::specs::SpecialFaults::component_of))]
 pub fn component<'a>(
     signature: &CodeSignature<'a>,
@@ -48,7 +48,7 @@ pub struct SpecialSlots<'a> {
 }
 
 impl<'a> SpecialSlots<'a> {
-    // What is wrong with a slot that is known, of these bytes.
+    // Returns the fault of a known slot, if it has one.
     fn sealed_fault(&self, number: u32, slot: &[u8]) -> Option<SpecialFault>
         ensures { result ≡ defined.sealed_fault (directory_view self.now.directory) number slot.now
             (defined.component_of (signature_view self.now.signature) (slot_read self.now.plist) number) }
@@ -74,7 +74,7 @@ impl<'a> SpecialSlots<'a> {
         }
     }
 
-    // What is wrong with a slot.
+    // Returns the fault of a slot, if it has one.
     #[tactic(auto, unfolding(crate::specs::SpecialFaults::special_fault))]
     fn slot_fault(&self, number: u32) -> Option<SpecialFault>
         ensures { result ≡ defined.special_fault (directory_view self.now.directory) (signature_view self.now.signature) (slot_read self.now.plist) number }
@@ -115,7 +115,7 @@ impl<'a> Numbered for SpecialSlots<'a> {
     }
 }
 
-// The blobs of a signature, each of which is to have its hash in a directory.
+// The blobs of a signature. Each should have its hash in the directory.
 #[derive(Clone, Copy, Drop)]
 pub struct Entries<'a> {
     pub directory: CodeDirectory<'a>,
@@ -152,7 +152,7 @@ impl<'a> Numbered for Entries<'a> {
     }
 }
 
-/// What is wrong with the special slots, from 1 on, and with the blobs that have none, in the order of the index.
+/// An iterator over the faults of the special slots, from 1 on, and then of the blobs that no slot seals, in the order of the index.
 #[derive(Clone, Drop)]
 pub struct SpecialFaults<'a> {
     pub(crate) slots: Told<SpecialSlots<'a>>,
@@ -177,7 +177,7 @@ impl<'a> Iterator for SpecialFaults<'a> {
 }
 
 impl<'a> CodeDirectory<'a> {
-    /// What is wrong with one special slot; slots count from 1. `plist` as for `special_faults`.
+    /// Returns the fault of one special slot, if it has one. Slots count from 1. `plist` is as for `special_faults`.
     pub fn special_fault(
         &self,
         signature: &CodeSignature<'a>,
@@ -194,8 +194,8 @@ impl<'a> CodeDirectory<'a> {
         slots.slot_fault(number)
     }
 
-    /// What is wrong with what this directory seals beside the code, in order. `plist` is the section `__info_plist` of
-    /// `__TEXT`, where the image has one. There is nothing exactly where each slot seals what is there.
+    /// Returns the faults of the special slots and of the blobs that no slot seals, in order. `plist` is the section
+    /// `__info_plist` of `__TEXT`, if the image has one. There are none exactly when each slot seals what is there.
     pub fn special_faults(
         &self,
         signature: &CodeSignature<'a>,

@@ -1,4 +1,4 @@
-//! Laws between an image that was opened and the bytes that it was opened in.
+//! Laws that relate an opened image to the bytes in which it was opened.
 
 ghost use Rattle.std.specs.Prelude.{◌≡◌, ◌↔◌, [], ℕ, Bool, IsTrue, List, Some, Ok, Err};
 ghost use Rattle.mach_base.specs.Fault.{Fault};
@@ -12,28 +12,28 @@ ghost use Rattle.mach_signature.specs.SignedImages.{image_signature, image_direc
 use goblin_mach::MachO;
 use std::alloc::Allocator;
 
-/// What `code_signature` answers is what the bytes say.
+/// `code_signature` answers what the bytes say.
 pub fn signature_of_image<A: Allocator>(image: &MachO<'_, A>)
     ensures { HoldsAs image.now HasSignature (image_signature (bytes_held image.now) (commands_held image.now)) }
 {}
 
-/// What `code_directory` answers is what the bytes say.
+/// `code_directory` answers what the bytes say.
 pub fn directory_of_image<A: Allocator>(image: &MachO<'_, A>)
     ensures { HoldsAs image.now HasCodeDirectory (image_directory (bytes_held image.now) (commands_held image.now)) }
 {}
 
-/// What `signature_faults` answers is what the bytes say.
+/// `signature_faults` answers what the bytes say.
 pub fn signature_faults_of_image<A: Allocator>(image: &MachO<'_, A>)
     ensures { HoldsAs image.now HasSignatureFaults (image_faults (bytes_held image.now) (commands_held image.now) (segments_held image.now)) }
 {}
 
-/// An image has a signature without a fault exactly where it is as it was signed.
+/// An image has a signature without a fault exactly when it is as it was signed.
 pub fn image_as_signed()
     ensures { (bytes : List ℕ) (cs : List Command) (segments : List SegmentView)
         → (image_faults bytes cs segments ≡ Ok (Some [])) ↔ IsImageAsSigned bytes cs segments }
 {}
 
-/// What `is_as_signed` answers is what the bytes say: whether the image is as it was signed, or why its signature can't be read.
+/// `is_as_signed` answers what the bytes say: whether the image is as it was signed, or why its signature can't be read.
 pub fn as_signed_of_image<A: Allocator>(image: &MachO<'_, A>)
     ensures said { InBothModes image.now (λ bytes o. (is : Bool)
         → is_as_signed (image_faults (bytes_held image.now) (commands_held image.now) (segments_held image.now)) ≡ Ok is → IsTrue is ↔ HoldsAsSigned bytes o) }
