@@ -23,7 +23,7 @@ module _ (form : FatForm) (es : List FatEntryView) where
       → fat_file_of form es ≡ Ok (fat_bytes form es)
   file_is near apart said = rw (near, apart, said) refl
 
-  -- what was written, and want of memory, answer what there is
+  -- a written file, and a refusal of memory, answer what the definition says
   pub file_answered : {V : Type 0} (items : V → List ℕ) (r : Result V Error) → list_any is_far_aligned es ≡ false → any_two are_of_one_cpu es ≡ false
       → can_be_said form es ≡ true → IfOk r (λ file. items file ≡ fat_bytes form es) → IsOkUnlessMemory r
       → MatchResult r (λ file. fat_file_of form es ≡ Ok (items file)) (λ e. RefusesFat e (fat_file_of form es))
@@ -34,7 +34,7 @@ module _ (form : FatForm) (es : List FatEntryView) where
   file_answered items (Err (errors.BufferTooShort count what)) near apart said written only = absurd only
   file_answered items (Err (errors.Memory e)) near apart said written only = tt
 
-  -- the three parts, one behind the other
+  -- the three parts, one after the other
   pub bytes_are : (from : ℕ) → from ≡ table_end form (length es)
       → (fat_front form (length es) ++ fat_records form from es) ++ fat_contents from es ≡ fat_bytes form es
   unfolding fat_bytes

@@ -1,4 +1,4 @@
--- The first entry of a cputype and an alignment, found before or not.
+-- The first entry of a cputype and an alignment, already found or not.
 use Rattle.std.proofs.Common.{◌≡◌, ◌==◌, ◌&&◌, ℕ, suc, ◌+◌, ◌<◌, Bool, true, false, cond, if◌then◌else◌, List, [], ◌∷◌, ◌++◌, length, take, get_or}
 use Rattle.std.proofs.Common.{Option, Some, None, is_some, unwrap_or}
 use Rattle.std.proofs.Common.{inl, inr, refl, sym, ap, ◌∙◌, arith, ltb}
@@ -12,7 +12,7 @@ use Rattle.mach_fat_writer.specs.Entries.{FatEntryView, fat_entry_view, entry_vi
 use Rattle.mach_fat_writer.specs.declared.entry.FatEntry.{FatEntry}
 use Rattle.mach_fat_writer.specs.CreatedOrder.{FatRank, fat_rank, fat_rank_by, alike_cmp, is_keyed, first_keyed}
 
--- a key is found where a map's order says that it is the same
+-- a key is found if a map's order says that it is equal
 eq_of_cmp : (a b : ℕ) → is_eq (nat_cmp a b) ≡ (a == b)
 eq_of_cmp a b = elim (cases_Bool (ltb a b)) [
   | inl less ↦
@@ -34,7 +34,7 @@ of_both ordering.Greater p = refl
 keyed_by_cmp : (e : FatEntryView) (key : ℕ × ℕ) → is_eq (alike_cmp (e.cputype, e.align) key) ≡ is_keyed key e
 keyed_by_cmp e key = of_both (nat_cmp e.cputype key.0) (nat_cmp e.align key.1) ∙ rw (eq_of_cmp e.cputype key.0, eq_of_cmp e.align key.1) refl
 
--- the first, or one behind them
+-- the first, or one after them
 abbrev first_or : Option ℕ → Bool → ℕ → Option ℕ
 first_or (Some i) b n = Some i
 first_or None true n = Some n
@@ -74,7 +74,7 @@ first_more test (x ∷ es) e = elim (cases_Bool (test x)) [
       ∙ ap (first_or (first_at test (x ∷ es)) (test e)) (let one : 1 + length es ≡ suc (length es) = omega arith in one))))
 ]
 
--- the firsts of one entry more, which is new, or isn't
+-- the first entries with one entry more, whose key is new or isn't
 keyed_more : (es : List FatEntry) (i : ℕ) (d : FatEntry) (key : ℕ × ℕ) → i < length es
     → first_keyed (entry_views (take (i + 1) es)) key
     ≡ first_or (first_keyed (entry_views (take i es)) key) (is_keyed key (fat_entry_view (get_or es i d))) i
@@ -96,7 +96,7 @@ added_or None true n none = refl
 added_or (Some i) false n none = refl
 added_or (Some i) true n none = absurd (let wrong = none refl in cc)
 
--- two that one key says are of the same key
+-- two entries with the same key
 same_key : (e : FatEntryView) (key : ℕ × ℕ) → is_keyed key e ≡ true → (e.cputype, e.align) ≡ key
 same_key e key both =
     let parts = and_parts (e.cputype == key.0) (e.align == key.1) both in
@@ -106,7 +106,7 @@ same_key e key both =
 abbrev key_at : List FatEntry → ℕ → FatEntry → ℕ × ℕ
 key_at es i d = ((get_or es i d).cputype, (get_or es i d).align)
 
--- the firsts are kept, where an entry's key has one, and else it is added
+-- the first entries stay if the key of the entry is among them; else it is added
 pub firsts_kept : (es : List FatEntry) (i : ℕ) (d : FatEntry) (old : ℕ × ℕ → Option ℕ) → i < length es
     → ((key : ℕ × ℕ) → old key ≡ first_keyed (entry_views (take i es)) key) → is_some (old (key_at es i d)) ≡ true → (key : ℕ × ℕ)
     → old key ≡ first_keyed (entry_views (take (i + 1) es)) key

@@ -1,10 +1,10 @@
--- What both forms of fat files have in common: their records hold what they are said to.
+-- What both forms of fat files have in common: their records hold the values of their entries.
 use Rattle.std.proofs.Common.{◌≡◌, ℕ, ◌^◌, ◌<◌, ◌≤◌, length, refl, arith}
 use Rattle.mach_base.specs.Record.{AllFit, number_among, size}
 use Rattle.mach_fat_writer.specs.Entries.{FatEntryView}
 use Rattle.mach_fat_writer.specs.FatForms.{FatForm, fat_form_32, fat_form_64}
 
--- a record of a form holds the numbers of an entry, each at its index
+-- a record of a form holds the numbers of an entry, each in its field
 pub record HoldsEntries (form : FatForm) : Type 0 where
   pub magic : form.magic < 2 ^ 32
   pub some : 0 < size form.fields

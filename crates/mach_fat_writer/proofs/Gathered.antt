@@ -1,4 +1,4 @@
--- Lists that are gathered item by item, where one that is refused refuses them all.
+-- Lists that are collected item by item; one refused item refuses them all.
 use Rattle.std.proofs.Common.{◌≡◌, ℕ, ◌+◌, ◌-◌, ◌<◌, ◌≤◌, List, [], ◌∷◌, ◌++◌, length, drop, get_or, Some, None, Result, Ok, Err}
 use Rattle.std.proofs.Common.{suc, refl, sym, ap, ◌∙◌, append_assoc, arith}
 use Rattle.std.proofs.lemmas.List.{append-nil, at_drop_more, drop_all}
@@ -34,7 +34,7 @@ read_before : {A : Type 0} (x : A) (items : List (Result A Fault)) (rest : Resul
 read_before x items (Ok xs) is = rw is refl
 read_before x items (Err f) is = rw is refl
 
--- so many items, one of which was read
+-- n items, one of which was read
 module _ {A : Type 0} (item : ℕ → Result A Fault) (n : ℕ) where
   items_more : (i : ℕ) → i < n → items_from item i (n - i) ≡ item i ∷ items_from item (i + 1) (n - (i + 1))
   items_more i inside = ap (items_from item i) (let one : n - i ≡ suc (n - (i + 1)) = omega (arith, inside) in one)

@@ -1,4 +1,4 @@
--- Entries that are gathered part by part, and what is told where they aren't.
+-- Entries that are collected part by part, and the error if they can't be.
 use Rattle.std.proofs.Common.{◌≡◌, ℕ, ◌+◌, ◌<◌, ◌≤◌, List, [], ◌∷◌, ◌++◌, length, drop, get_or, Result, Ok, Err, inl, inr, refl, sym, ap, ◌∙◌, append_assoc}
 use Rattle.std.proofs.lemmas.List.{append-nil, at_drop_more, drop_all}
 use Rattle.mach_base.specs.Answer.{FailsAs, Stands, ◌>>=◌}
@@ -53,7 +53,7 @@ module _ (bytes : List ℕ) (parts : List FatPart) where
   parts_all found i past gathered =
       gathered ∙ ap (λ ps. before found (part_entries bytes ps)) (drop_all i parts past) ∙ ap Ok (append-nil found)
 
-  -- an error that tells why a part isn't there, and one that tells why there is no file
+  -- an error that says why a part isn't there is one that says why there is no file
   pub parts_stand : (form : FatForm) (e : Error) → FailsAs e (part_entries bytes parts) → Stands (IsPartsFault bytes parts form) e
   parts_stand form (errors.Malformed msg) why = inl why
   parts_stand form (errors.BadMagic magic) why = inl why

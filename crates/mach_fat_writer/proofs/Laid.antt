@@ -1,4 +1,4 @@
--- Entries one behind the other: what is said of those from one on, and of it and those behind it.
+-- Entries one after the other: what holds for those from one on holds for it and for those after it.
 use Rattle.std.proofs.Common.{◌≡◌, ◌&&◌, ◌||◌, ℕ, ◌+◌, ◌^◌, ◌<◌, ◌≤◌, Bool, true, false, List}
 use Rattle.std.proofs.Common.{[], ◌∷◌, ◌++◌, length, drop, replicate, get_or, refl, sym, ap, ◌∙◌, append_assoc}
 use Rattle.std.specs.List.{list_any}
@@ -11,14 +11,14 @@ use Rattle.mach_fat_writer.specs.Entries.{FatEntryView, fat_entry_view, entry_vi
 use Rattle.mach_fat_writer.specs.FatForms.{FatForm, gap_behind, fat_place_behind, end_behind, fat_end, fat_records, fat_contents}
 use Rattle.mach_fat_writer.specs.FatWrites.{is_far_aligned, can_lie, all_can_lie}
 
--- those from index i on
+-- the entries from index i on
 abbrev pub left_at : List FatEntry → ℕ → List FatEntryView
 left_at es i = entry_views (drop i es)
 
 pub none_left : {Y : Type 0} (F : List FatEntryView → Y) (es : List FatEntry) (i : ℕ) → length es ≤ i → F (left_at es i) ≡ F []
 none_left F es i past = ap (λ (xs : List FatEntry). F (entry_views xs)) (drop_all i es past)
 
--- one that lies where it can
+-- an entry whose place and length fit
 pub record Lies (form : FatForm) (from : ℕ) (e : FatEntryView) : Type 0 where
   pub place : fat_place_behind from e ≤ form.most
   pub len : length e.bytes ≤ form.most

@@ -16,7 +16,7 @@ use Rattle.mach_fat_writer.specs.FatWrites.{fat_file_of, RefusesFat}
 use Rattle.mach_fat_writer.specs.Placed.{AreSet, IsWrittenInto}
 use Rattle.mach_fat_writer.proofs.Places.{length-contents}
 
--- fields of numbers, and numbers
+-- values that fit fields of numbers
 abbrev AreNumbers : List Field → List Value → Type 0
 AreNumbers [] [] = Unit {0}
 AreNumbers [] (v ∷ vs) = ⊥

@@ -1,4 +1,4 @@
--- Two of some numbers that are one: found among neighbours, once they are sorted.
+-- Two equal numbers in a list: once it is sorted they are neighbours.
 use Rattle.std.proofs.Common.{◌≡◌, ◌==◌, ◌||◌, ℕ, suc, ◌+◌, ◌*◌, ◌^◌, ◌<◌, ◌≤◌, Bool, true}
 use Rattle.std.proofs.Common.{false, cond, List, [], ◌∷◌, length, map, get_or, None, Some, inl, inr}
 use Rattle.std.proofs.Common.{refl, sym, ap, ◌∙◌, subst, arith}
@@ -11,7 +11,7 @@ use Rattle.std.proofs.Math.Nat.{mod-lt}
 use Rattle.mach_parts.specs.Cpu.{kind_of_cpu}
 use Rattle.mach_fat_writer.specs.Entries.{FatEntryView, are_of_one_cpu, any_two, any_again, cpu_number}
 
--- how often a number stands among some
+-- how often a number occurs: one place of the list
 abbrev one_at : ℕ → ℕ → ℕ
 one_at k n = cond (k == n) 1 0
 
@@ -70,14 +70,14 @@ from_twice k (n ∷ ns) some = elim (cases_Bool (k == n)) [
       or_right (list_any (λ m. n == m) ns) (any_same ns) (from_twice k ns (let sum = times_more k n ns in omega (arith, none, sum)))
 ]
 
--- in another order there are the same
+-- another order has the same repetitions
 any_same-moved : (ms ns : List ℕ) → IsPermutation ms ns → any_same ns ≡ any_same ms
 any_same-moved ms ns moved =
     same_bools (any_same ns) (any_same ms)
     (λ e. let found = twice ns e in from_twice found.0 ms (omega (arith, found.1, sum_by-IsPermutation (one_at found.0) ms ns moved)))
     (λ e. let found = twice ms e in from_twice found.0 ns (omega (arith, found.1, sum_by-IsPermutation (one_at found.0) ms ns moved)))
 
--- a number below all others isn't among them
+-- a number below all others doesn't occur among them
 apart : (k : ℕ) (ns : List ℕ) → ((i : ℕ) → i < length ns → k < get_or ns i 0) → list_any (λ n. k == n) ns ≡ false
 apart k [] below = refl
 apart k (n ∷ ns) below =
@@ -85,7 +85,7 @@ apart k (n ∷ ns) below =
     let test : (k == n) ≡ false = ne_eqb k n (λ same. omega (arith, same, first)) in
     rw test (apart k ns (λ i inside. below (suc i) (omega (arith, inside))))
 
--- in order, what is there again stands behind itself
+-- in a sorted list a repeated number follows its equal
 again_behind : (last : ℕ) (ns : List ℕ) → IsNonDecreasingBy (λ n. n) (last ∷ ns)
     → any_again (Some last) ns ≡ (list_any (λ n. last == n) ns || any_same ns)
 again_behind last [] up = refl
@@ -112,11 +112,11 @@ again_first : (ns : List ℕ) → IsNonDecreasingBy (λ n. n) ns → any_again N
 again_first [] up = refl
 again_first (n ∷ ns) up = again_behind n ns up
 
--- so a sort tells
+-- so a sort decides it
 pub sort_tells : (ms ns : List ℕ) → IsPermutation ms ns → IsNonDecreasingBy (λ n. n) ns → any_again None ns ≡ any_two (λ m n. m == n) ms
 sort_tells ms ns moved up = again_first ns up ∙ any_same-moved ms ns moved
 
--- the numbers of two cpus are one where the cpus are
+-- two cpus have the same number exactly when they are equal
 one_number : (a b k l : ℕ) → k < 2 ^ 24 → l < 2 ^ 24 → a * 2 ^ 24 + k ≡ b * 2 ^ 24 + l → (a ≡ b) × (k ≡ l)
 one_number a b k l low lower e = (omega (arith, low, lower, e), omega (arith, low, lower, e))
 

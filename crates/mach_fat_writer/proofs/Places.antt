@@ -1,4 +1,4 @@
--- Where entries stand: at multiples of their alignments, one behind the other.
+-- Where entries are: at multiples of their alignments, one after the other.
 use Rattle.std.proofs.Common.{◌≡◌, ℕ, ◌+◌, ◌-◌, ◌*◌, ◌/◌, ◌%◌, ◌^◌, ◌<◌, ◌≤◌, List, [], ◌∷◌, ◌++◌, length, replicate, inl, inr, refl, ap, ◌∙◌, arith}
 use Rattle.std.proofs.lemmas.Bool.{cases_eq}
 use Rattle.std.proofs.lemmas.List.{length-append, length-replicate}
@@ -26,7 +26,7 @@ gap_fills from unit some = elim (cases_eq (from % unit) 0) [
       ∙ (ap (λ (n : ℕ). n % unit) sum ∙ (add-mod_right (from / unit * unit) unit ∙ mul-mod_left (from / unit) unit))
 ]
 
--- the first multiple at a place or behind it
+-- the first multiple at a place or after it
 pub first_multiple : (from align : ℕ)
     → ((from + gap_behind from align) % 2 ^ align ≡ 0) × (from ≤ from + gap_behind from align) × (from + gap_behind from align < from + 2 ^ align)
 first_multiple from align =
@@ -42,7 +42,7 @@ fat_end-append : (from : ℕ) (es fs : List FatEntryView) → fat_end from (es +
 fat_end-append from [] fs = refl
 fat_end-append from (e ∷ es) fs = fat_end-append (end_behind from e) es fs
 
--- an entry stands behind all before it
+-- an entry lies after all entries before it
 pub stands_behind : (from : ℕ) (before : List FatEntryView) (e : FatEntryView) → from ≤ fat_place_behind (fat_end from before) e
 stands_behind from before e = let ends = ends_behind from before in omega (arith, ends)
 
@@ -53,7 +53,7 @@ stand_apart from before between e f =
     let behind = ends_behind (end_behind (fat_end from before) e) between in
     omega (arith, whole, behind)
 
--- how many bytes entries take with their zeros
+-- how many bytes entries take with their padding
 pub length-contents : (from : ℕ) (es : List FatEntryView) → from + length (fat_contents from es) ≡ fat_end from es
 length-contents from [] = omega arith
 length-contents from (e ∷ es) =

@@ -1,4 +1,4 @@
--- A file that was written says the entries that it was written of.
+-- A written file holds the entries that it was written from.
 use Rattle.std.proofs.Common.{◌≡◌, ℕ, suc, ◌+◌, ◌*◌, ◌^◌, ◌<◌, Bool, true, false, cond, List, [], ◌∷◌, ◌++◌, length, drop, take, replicate, Result, Ok, Err}
 use Rattle.std.proofs.Common.{nat_le, nat_lt, ◌⊎◌, inl, inr, refl, sym, ap, ◌∙◌, subst, append_assoc, arith}
 use Rattle.std.specs.List.{list_any}
@@ -90,7 +90,7 @@ module _ (form : FatForm) (holds : HoldsEntries form) where
       next_len say.1 in
       rw (here, next) refl
 
-  -- the entries that they say
+  -- the entries of these records
   entries_back : (whole : List ℕ) (from : ℕ) (before : List ℕ) (es : List FatEntryView) → whole ≡ before ++ fat_contents from es
       → length before ≡ from → entries_of_records whole (records_of form from es) ≡ es
   entries_back whole from before [] is len = refl
@@ -118,7 +118,7 @@ module _ (form : FatForm) (holds : HoldsEntries form) where
   front_fits : (n : ℕ) → n < 2 ^ 32 → AllFit fat_header_fields (number_is form.magic ∷ number_is n ∷ [])
   front_fits n low = (holds.magic, (low, tt))
 
-  -- what a file says that was written
+  -- what a written file holds
   file_says : (es : List FatEntryView) → HaveNumbers es → list_any is_far_aligned es ≡ false → can_be_said form es ≡ true
       → (number Big 4 (fat_bytes form es) ≡ form.magic) × (length (fat_bytes form es) ≡ fat_end (table_end form (length es)) es)
       × (records_said form (fat_bytes form es) ≡ Ok (records_of form (table_end form (length es)) es))
@@ -156,12 +156,12 @@ module _ (form : FatForm) (holds : HoldsEntries form) where
         entries_back (front ++ (records ++ contents)) from (front ++ records) es (sym (append_assoc front records contents)) ends,
       )
 
--- which of two an answer is
+-- which of two answers it is
 chosen_of : {A E : Type 0} (b : Bool) (x y z : Result A E) → cond b x y ≡ z → ((b ≡ true) × (x ≡ z)) ⊎ ((b ≡ false) × (y ≡ z))
 chosen_of true x y z e = inl (refl, e)
 chosen_of false x y z e = inr (refl, e)
 
--- where there is a file, no test refuses its entries
+-- if there is a file, no test refuses its entries
 record WasWritten (form : FatForm) (es : List FatEntryView) (file : List ℕ) : Type 0 where
   pub near : list_any is_far_aligned es ≡ false
   pub said : can_be_said form es ≡ true
@@ -181,7 +181,7 @@ was_written form es file e =
       ]
     ]
 
--- a file that was written says its entries, whole
+-- the whole list of entries is read back from a written file
 pub read_back : (form : FatForm) → HoldsEntries form → (es : List FatEntryView) (file : List ℕ) → HaveNumbers es → fat_file_of form es ≡ Ok file
     → (number Big 4 file ≡ form.magic) × (length file ≡ fat_end (table_end form (length es)) es)
     × (records_said form file ≡ Ok (records_of form (table_end form (length es)) es))
@@ -193,7 +193,7 @@ read_back form holds es file numbers e =
     × (entries_of_records xs (records_of form (table_end form (length es)) es) ≡ es))
     was.is (file_says form holds es numbers was.near was.said)
 
--- and is written again of the entries that its records say
+-- and the entries of its records are written as the same file
 pub written_again : (form : FatForm) → HoldsEntries form → (es : List FatEntryView) (file : List ℕ) (records : List (List Value)) → HaveNumbers es
     → fat_file_of form es ≡ Ok file → records_said form file ≡ Ok records → fat_file_of form (entries_of_records file records) ≡ Ok file
 written_again form holds es file records numbers e said =

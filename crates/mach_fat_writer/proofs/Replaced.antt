@@ -1,4 +1,4 @@
--- Entries of a fat file that are replaced or removed, and one that is sought by its cpu.
+-- Entries of a fat file that are replaced or removed, and one that is searched by its cpu.
 use Rattle.std.proofs.Common.{arith, suc, ◌≡◌, ℕ, ◌+◌, ◌<◌, ◌≤◌, List, ◌++◌, length, take, drop, get_or, map, Bool, true, false, nat_lt}
 use Rattle.std.proofs.Common.{Result, Ok, Err, inl, inr, ◌⊎◌, sym, ap, ◌∙◌}
 use Rattle.std.specs.List.{list_any, remove}
@@ -22,7 +22,7 @@ use Rattle.mach_fat_writer.specs.declared.entry_record.EntryRecord.{EntryRecord}
 use Rattle.mach_fat_writer.specs.declared.refusal.EntryRefusal.{EntryRefusal}
 use Rattle.mach_fat_writer.specs.declared.refusal.FileRefusal.{FileRefusal}
 
--- an entry is sought among records, where those in front of one are for other cpus
+-- a search for an entry among records; those before it are for other cpus
 module _ (bytes : List ℕ) (cputype : ℕ) (records : List EntryRecord) (i : ℕ) where
   pub cpu_behind : (d : EntryRecord) → i < length records → ((get_or records i d).cputype ≡ cputype → ⊥)
       → first_for_cpu bytes cputype 0 records ≡ first_for_cpu bytes cputype i (drop i records)
@@ -62,7 +62,7 @@ module _ (es : List FatEntry) (new : FatEntryView) where
   pub none_replaced : list_any (λ e. are_of_one_cpu (fat_entry_view e) new) es ≡ false → replaced_among (entry_views es) new ≡ Err (no_such_cpu new.cputype)
   none_replaced has = replaced_if false has
 
--- entries without that of an index
+-- the entries without the one at an index
 module _ (i : ℕ) (es : List FatEntry) where
   others_if : (b : Bool) → nat_lt i (length (entry_views es)) ≡ b
       → others_among i (entry_views es) ≡ (if b then Ok (take i (entry_views es) ++ drop (i + 1) (entry_views es)) else Err (no_such_entry i))
@@ -86,7 +86,7 @@ module _ (i : ℕ) (es : List FatEntry) where
       ∙ ap Ok (sym (map-append fat_entry_view (take i es) (drop (i + 1) es)))
       ∙ ap (λ xs. Ok (entry_views xs)) (sym (are ∙ ap (λ n. take i es ++ drop n es) next))
 
--- the entries of a fat file with another file's in the place of some, step by step
+-- the entries of a fat file with another file's instead of some, step by step
 module _ (bytes new : List ℕ) (form : FatForm) where
   abbrev behind_entries : List FatEntryView → Result (List FatEntryView) UnfitFile
   behind_entries es = if_fit (λ e. of_file 0 (replaced_among es e)) (of_file 1 (if_read (created_entry new)))

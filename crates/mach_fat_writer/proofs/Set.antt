@@ -1,4 +1,4 @@
--- Bytes that are set one behind the other.
+-- Bytes that are set one after the other.
 use Rattle.std.proofs.Common.{◌≡◌, ℕ, ◌+◌, ◌*◌, ◌≤◌, ◌<◌, ◌++◌, List, length, take, drop, get_or, replicate, false, true, sym, subst, ap, ◌∙◌, arith}
 use Rattle.std.proofs.Math.ListN.{take-append-drop}
 use Rattle.std.specs.List.{list_any}
@@ -14,7 +14,7 @@ use Rattle.mach_fat_writer.proofs.Files.{bytes_are}
 use Rattle.mach_fat_writer.proofs.Laid.{left_at, aligned_first, lie_first, ends_more, contents_more, records_more}
 use Rattle.mach_fat_writer.proofs.Places.{ends_behind}
 
--- what was set up to a place, and the rest: these bytes follow what stood in front, and nothing behind was changed
+-- the buffer after bytes were set up to a place: they follow what came before, and nothing after them changed
 pub record Sets (old : List ℕ) (from : ℕ) (bytes new : List ℕ) (to : ℕ) : Type 0 where
   pub front : take to new ≡ take from old ++ bytes
   pub rest : (n : ℕ) → to ≤ n → drop n new ≡ drop n old
@@ -30,7 +30,7 @@ pub record Setting (form : FatForm) (es : List FatEntry) (from : ℕ) (old : Lis
   pub rest : (n : ℕ) → fat_end from (entry_views es) ≤ n → drop n out ≡ drop n old
   pub long : length out ≡ length old
 
--- the first of those that are left ends within what they all take
+-- the first of the entries left ends within what all of them take
 pub first_within : (from : ℕ) (es : List FatEntry) (i most : ℕ) (d : FatEntry) → i < length es → fat_end from (left_at es i) ≤ most
     → end_behind from (fat_entry_view (get_or es i d)) ≤ most
 first_within from es i most d inside room =
@@ -115,7 +115,7 @@ record_more form width es begin from old at end i out d place last to new inside
     next : (width begin at to i : ℕ) → to ≡ at + width → at ≡ begin + width * i → to ≡ begin + width * (i + 1)
     next width begin at to i one two = grind (arith, one, two)
 
--- ---- the file: its front, its records, its entries' bytes
+-- ---- the file: its header, its records, its entries' bytes
 pub all_set : (form : FatForm) (es : List FatEntryView) (from : ℕ) (old one two new : List ℕ) (first second last : ℕ) → from ≡ table_end form (length es)
     → take first one ≡ fat_front form (length es) → ((n : ℕ) → first ≤ n → drop n one ≡ drop n old) → Sets one first (fat_records form from es) two second
     → second ≡ from → first ≤ second → Sets two from (fat_contents from es) new last → last ≡ fat_end from es

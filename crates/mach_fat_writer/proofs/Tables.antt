@@ -36,13 +36,13 @@ pub header_count : (bytes : List ℕ) (h : FatHeader) → record_at Big fat_head
 header_count bytes h is =
     sym (bounded_of 8 bytes 0 (λ vs. number_among vs 1) (values_in Big fat_header_fields 0 bytes)) ∙ ap (read_of (λ vs. number_among vs 1)) is
 
--- a table that the bytes could hold is what its records are
+-- a table that fits the bytes is the list of its records
 pub table_is : (form : FatForm) (bytes : List ℕ) (n : ℕ) (records : Result (List EntryRecord) Fault)
     → bounded 8 bytes 0 (number Big 4 (drop 4 bytes)) ≡ Ok n → n ≤ length bytes / size form.fields
     → all_read (items_from (fat_record_in form bytes) 0 n) ≡ records → fat_table_in form bytes ≡ records
 table_is form bytes n records header fits are = rw (header, le-leb n (length bytes / size form.fields) fits) are
 
--- a fault of what is there is told where `?` leaves
+-- a fault is the one that `?` returns
 pub told : {X Y : Type 0} (view : X → Y) (r : Result X Error) (e : Error) → IsErrAnd r (λ x. x ≡ e) → (there : Result Y Fault)
     → there ≡ Err (fault_of e) → Gives view r there
 told view (Ok x) e left there is = absurd left

@@ -1,4 +1,4 @@
--- Whether entries have more bytes than a number: those in front are taken from it.
+-- Whether entries have more bytes than a number: the lengths before are subtracted from it.
 use Rattle.std.proofs.Common.{◌≡◌, ℕ, ◌+◌, ◌-◌, ◌<◌, ◌≤◌, length, nat_lt, true, false, inl, inr, ◌∙◌, sym, ap, arith, List, drop, get_or}
 use Rattle.std.proofs.lemmas.Bool.{cases_lt, lt-ltb, le-ltb}
 use Rattle.std.proofs.lemmas.List.{at_drop_more, drop_all}

@@ -1,4 +1,4 @@
--- Two items that pass a test, one behind the other, by their places in the list.
+-- Two items that pass a test, one after the other, by their places in the list.
 use Rattle.std.proofs.Common.{◌≡◌, ◌↔◌, Bool, true, List, [], ◌∷◌, ◌++◌, inl, inr, refl, ap, subst, sym}
 use Rattle.std.specs.List.{list_any}
 use Rattle.std.proofs.lemmas.Bool.{or_cases, or_left, or_right}

@@ -9,8 +9,8 @@ use Rattle.mach_fat_writer.specs.Entries.{FatEntryView}
 abbrev pub are_alike : FatEntryView → FatEntryView → Bool
 are_alike e f = e.cputype == f.cputype && e.align == f.align
 
--- what entries stand by: those of arm64 (CPU_TYPE_ARM64) behind all others; then by alignment; then those of one cputype and alignment
--- where the first of them was given; then by cpusubtype
+-- the sort key of an entry: entries of arm64 (CPU_TYPE_ARM64) after all others; then the alignment; then, for entries of one
+-- cputype and alignment, the index of the first of them; then the cpusubtype
 abbrev pub FatRank : Type 0
 FatRank = Bool × ℕ × ℕ × ℕ
 
@@ -19,18 +19,18 @@ fat_rank given e =
     if e.cputype == 0x100_000c then (true, 0, 0, e.cpusubtype)
     else (false, e.align, position_or_len (λ f. are_alike f e) given, e.cpusubtype)
 
--- the first difference counts
+-- the first difference decides
 abbrev pub fat_rank_cmp : FatRank → FatRank → Ordering
 fat_rank_cmp x y =
     ordering_then (ordering_then (ordering_then (bool_cmp x.0 y.0) (nat_cmp x.1 y.1)) (nat_cmp x.2 y.2)) (nat_cmp x.3 y.3)
 
--- the same, where the index of the first entry of a cputype and an alignment was found before, if there is one among so many
+-- the key, given the index of the first entry of each cputype and alignment, if there is one among so many
 abbrev pub fat_rank_by : (ℕ × ℕ → Option ℕ) → ℕ → FatEntryView → FatRank
 fat_rank_by first count e =
     if e.cputype == 0x100_000c then (true, 0, 0, e.cpusubtype)
     else (false, e.align, unwrap_or (first (e.cputype, e.align)) count, e.cpusubtype)
 
--- the order of keys, and what a map of keys says of one
+-- the order of a map's keys
 abbrev pub alike_cmp : ℕ × ℕ → ℕ × ℕ → Ordering
 alike_cmp x y = ordering_then (nat_cmp x.0 y.0) (nat_cmp x.1 y.1)
 

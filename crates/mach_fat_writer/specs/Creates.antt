@@ -1,4 +1,4 @@
--- The fat file that is created of files.
+-- The fat file that is created from files.
 use Rattle.std.specs.Prelude.{◌≡◌, ◌⊎◌, ℕ, ◌+◌, List, [], ◌∷◌, ◌++◌, map, Result, Ok, Err}
 use Rattle.std.specs.Borrow.{Bor}
 use Rattle.std.specs.List.Sorted.{IsPermutation, IsSortedByKey, IsStableByKey}
@@ -18,65 +18,65 @@ use Rattle.mach_fat_writer.specs.declared.refusal.MakeRefusal.TheVariants.{OfFil
 abbrev pub texts_now : List (Bor (List ℕ)) → List (List ℕ)
 texts_now files = map (λ f. f.now) files
 
--- a file that is refused, by its index, and why
+-- a refused file: its index, and why
 pub record UnfitFile : Type 0 where
   pub file : ℕ
   pub why : Unfit
 
--- the entries of file i, and those of the files behind it
+-- the entries of file i before those of the later files
 abbrev pub entries_before : ℕ → Result (List FatEntryView) Unfit → Result (List FatEntryView) UnfitFile → Result (List FatEntryView) UnfitFile
 entries_before i (Ok es) (Ok rest) = Ok (es ++ rest)
 entries_before i (Ok es) (Err unfit) = Err unfit
 entries_before i (Err why) rest = Err (record { file = i; why = why })
 
--- the entries of files, numbered from i on, one file behind the other, or the first file that is refused
+-- the entries of files, numbered from i on, one file after the other; or the first file that is refused
 abbrev pub entries_of_files : ℕ → List (List ℕ) → Result (List FatEntryView) UnfitFile
 entries_of_files i [] = Ok []
 entries_of_files i (f ∷ fs) = entries_before i (file_entries f) (entries_of_files (i + 1) fs)
 
--- a refusal says which file is refused, and why, or it is want of memory
+-- a refusal says which file is refused and why, or that memory ran out
 abbrev pub RefusesFiles : {Y : Type 0} → FileRefusal → Result Y UnfitFile → Type 0
 RefusesFiles refusal there = RefusesBy (λ why. record { file = refusal.file; why = why }) refusal.why there
 
--- entries, and the same in the order of a fat file that is created
+-- entries, and the same entries in the order of a created fat file
 pub record IsInOrder (given ordered : List FatEntry) : Type 0 where
   pub permutation : IsPermutation given ordered
   pub sorted : IsSortedByKey (λ e. fat_rank (entry_views given) (fat_entry_view e)) fat_rank_cmp ordered
   pub stable : IsStableByKey (λ e. fat_rank (entry_views given) (fat_entry_view e)) fat_rank_cmp given ordered
 
--- the file of entries, in that order
+-- the file of the entries, in that order
 pub record IsFileInOrder (form : FatForm) (given : List FatEntry) (file : List ℕ) : Type 0 where
   pub ordered : List FatEntry
   pub in_order : IsInOrder given ordered
   pub is_file : fat_file_of form (entry_views ordered) ≡ Ok file
 
--- in that order there is no file of them, and the error says why
+-- in that order there is no file of the entries, and the error says why
 pub record HasNoFileInOrder (form : FatForm) (given : List FatEntry) (e : Error) : Type 0 where
   pub ordered : List FatEntry
   pub in_order : IsInOrder given ordered
   pub says : RefusesFat e (fat_file_of form (entry_views ordered))
 
--- why there is none, or want of memory
+-- why there is none, or that memory ran out
 abbrev pub RefusesInOrder : FatForm → List FatEntry → Error → Type 0
 RefusesInOrder form given e = Stands (λ f. ⊥) e ⊎ HasNoFileInOrder form given e
 
--- The fat file of some entries, which are there, in that order.
+-- The fat file of entries that could be read, in that order.
 pub record IsFileOf (form : FatForm) (there : Result (List FatEntryView) UnfitFile) (file : List ℕ) : Type 0 where
   pub given : List FatEntry
   pub are_entries : there ≡ Ok (entry_views given)
   pub is_file : IsFileInOrder form given file
 
--- they are there, and there is no fat file of them
+-- the entries could be read, but there is no fat file of them
 pub record RefusesEntries (form : FatForm) (there : Result (List FatEntryView) UnfitFile) (e : Error) : Type 0 where
   pub given : List FatEntry
   pub are_entries : there ≡ Ok (entry_views given)
   pub has_none : HasNoFileInOrder form given e
 
--- The fat file that is created of some files: that of all their entries.
+-- The fat file created from some files: that of all their entries.
 abbrev pub IsCreated : FatForm → List (List ℕ) → List ℕ → Type 0
 IsCreated form files file = IsFileOf form (entries_of_files 0 files) file
 
--- Why none is created: one of the files is refused, or there is none of all their entries; or want of memory.
+-- Why none is created: one of the files is refused, or there is no file of all their entries, or memory ran out.
 abbrev pub RefusesCreate : FatForm → List (List ℕ) → MakeRefusal → Type 0
 RefusesCreate form files (OfFile refusal) = RefusesFiles refusal (entries_of_files 0 files)
 RefusesCreate form files (OfAll e) = Stands (λ f. ⊥) e ⊎ RefusesEntries form (entries_of_files 0 files) e

@@ -1,4 +1,4 @@
--- The entries that are in a file.
+-- The entries of a file.
 use Rattle.std.specs.Prelude.{ℕ, ◌+◌, List, [], ◌∷◌, length, take, drop, nat_le, nat_lt, Option, Some, None, Result, Ok, Err}
 use Rattle.std.specs.Prelude.{if◌then◌else◌}
 use Rattle.mach_base.specs.Fault.{Fault}
@@ -9,20 +9,20 @@ use Rattle.mach_fat_writer.specs.FatTables.{form_in, fat_table_in}
 use Rattle.mach_fat_writer.specs.Unfit.{Unfit, unread, out_of_file, overlap}
 use Rattle.mach_fat_writer.specs.declared.entry_record.EntryRecord.{EntryRecord}
 
--- the bytes of an entry, where they lie in the file
+-- the bytes of an entry, if they lie in the file
 abbrev pub slice_of : List ℕ → EntryRecord → Option (List ℕ)
 slice_of bytes r = if nat_le (r.offset + r.size) (length bytes) then Some (take r.size (drop r.offset bytes)) else None
 
--- the entry of a record and of bytes
+-- the entry of a record and its bytes
 abbrev pub entry_with : EntryRecord → List ℕ → FatEntryView
 entry_with r bytes = record { cputype = r.cputype; cpusubtype = r.cpusubtype; align = r.align; bytes = bytes }
 
--- an entry before those behind it
+-- an entry before the later ones
 abbrev pub entry_ahead : FatEntryView → Result (List FatEntryView) Unfit → Result (List FatEntryView) Unfit
 entry_ahead e (Ok es) = Ok (e ∷ es)
 entry_ahead e (Err why) = Err why
 
--- entry i, if its bytes are there, and those behind it
+-- entry i, if its bytes are there, before the later ones
 abbrev pub entry_read_by : ℕ → EntryRecord → Option (List ℕ) → Result (List FatEntryView) Unfit → Result (List FatEntryView) Unfit
 entry_read_by i r (Some slice) rest = entry_ahead (entry_with r slice) rest
 entry_read_by i r None rest = Err (out_of_file i)
@@ -37,7 +37,7 @@ abbrev pub entries_len : List FatEntryView → ℕ
 entries_len [] = 0
 entries_len (e ∷ es) = length e.bytes + entries_len es
 
--- entries that have no more bytes than `most`
+-- the entries, if they have no more bytes than `most`
 abbrev pub of_bytes : ℕ → Result (List FatEntryView) Unfit → Result (List FatEntryView) Unfit
 of_bytes most (Ok es) = if nat_lt most (entries_len es) then Err overlap else Ok es
 of_bytes most (Err why) = Err why
@@ -46,7 +46,7 @@ abbrev pub entries_by_table : List ℕ → Result (List EntryRecord) Fault → R
 entries_by_table bytes (Ok records) = of_bytes (length bytes) (entries_by bytes 0 records)
 entries_by_table bytes (Err f) = Err (unread f)
 
--- The entries of a fat file, all of which are in it, and have no more bytes than it has.
+-- The entries of a fat file: all are in it, and they have no more bytes than it has.
 abbrev pub fat_entries_in : FatForm → List ℕ → Result (List FatEntryView) Unfit
 fat_entries_in form bytes = entries_by_table bytes (fat_table_in form bytes)
 
@@ -54,7 +54,7 @@ abbrev pub one_entry : Result FatEntryView Fault → Result (List FatEntryView) 
 one_entry (Ok e) = Ok (e ∷ [])
 one_entry (Err f) = Err (unread f)
 
--- What a file brings to one that is created: the entries of a fat file, or the one that it becomes.
+-- What a file contributes to one that is created: the entries of a fat file, or the one that it becomes.
 abbrev pub entries_by_form : Option FatForm → List ℕ → Result (List FatEntryView) Unfit
 entries_by_form (Some form) bytes = fat_entries_in form bytes
 entries_by_form None bytes = one_entry (created_entry bytes)

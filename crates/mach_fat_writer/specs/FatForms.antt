@@ -1,5 +1,5 @@
--- Fat files as they are written (`mach-o/fat.h`): a header, a record for each entry, and the entries' bytes, each at a place that its
--- alignment divides.
+-- Fat files as they are written (`mach-o/fat.h`): a header, a record for each entry, and the entries' bytes, each at a multiple
+-- of its alignment.
 use Rattle.std.specs.Prelude.{ℕ, ◌+◌, ◌-◌, ◌*◌, ◌%◌, ◌^◌, List, [], ◌∷◌, ◌++◌, length, replicate}
 use Rattle.mach_base.specs.Record.{Field, Value, number_is, size, spelling}
 use Rattle.mach_base.specs.declared.context.Endian.TheVariants.{Big}
@@ -7,7 +7,7 @@ use Rattle.mach_parts.specs.Fat.{fat_header_fields, fat_arch_fields}
 use Rattle.mach_fat_writer.specs.Entries.{FatEntryView}
 use Rattle.mach_parts.specs.FatRecords.{fat_arch_64_fields}
 
--- a form: its magic, the fields of a record, their values by the entry and its place, and the largest place and length that they hold
+-- a form: its magic, the fields of a record, their values for an entry and its offset, and the largest offset and length that they hold
 pub record FatForm : Type 0 where
   pub magic : ℕ
   pub fields : List Field
@@ -23,29 +23,29 @@ record_of_64 e place =
     number_is e.cputype ∷ number_is e.cpusubtype ∷ number_is place ∷ number_is (length e.bytes) ∷ number_is e.align
     ∷ number_is 0 ∷ []
 
--- places and lengths of 32 bits, and of 64
+-- offsets and lengths of 32 bits, and of 64
 abbrev pub fat_form_32 : FatForm
 fat_form_32 = record { magic = 0xcafe_babe; fields = fat_arch_fields; values = record_of_32; most = 2 ^ 32 - 1 }
 
 abbrev pub fat_form_64 : FatForm
 fat_form_64 = record { magic = 0xcafe_babf; fields = fat_arch_64_fields; values = record_of_64; most = 2 ^ 64 - 1 }
 
--- where the table ends: behind the header and n records
+-- where the table ends: after the header and n records
 abbrev pub table_end : FatForm → ℕ → ℕ
 table_end form n = 8 + size form.fields * n
 
--- how many zeros stand between a place and the next multiple of 2 to the power of align
+-- how many bytes of padding lie between a place and the next multiple of 2 to the power of align
 abbrev pub gap_behind : ℕ → ℕ → ℕ
 gap_behind from align = (2 ^ align - from % 2 ^ align) % 2 ^ align
 
--- the place of an entry behind those that end at `from`, and where it ends
+-- the offset of an entry after the bytes that end at `from`, and where it ends
 abbrev pub fat_place_behind : ℕ → FatEntryView → ℕ
 fat_place_behind from e = from + gap_behind from e.align
 
 abbrev pub end_behind : ℕ → FatEntryView → ℕ
 end_behind from e = fat_place_behind from e + length e.bytes
 
--- the places of entries, the first of which stands behind those that end at `from`, and where the last one ends
+-- the offsets of entries, the first of which follows the bytes that end at `from`, and where the last one ends
 abbrev pub fat_places : ℕ → List FatEntryView → List ℕ
 fat_places from [] = []
 fat_places from (e ∷ es) = fat_place_behind from e ∷ fat_places (end_behind from e) es
@@ -54,18 +54,18 @@ abbrev pub fat_end : ℕ → List FatEntryView → ℕ
 fat_end from [] = from
 fat_end from (e ∷ es) = fat_end (end_behind from e) es
 
--- the records of entries, one behind the other
+-- the records of entries, one after the other
 abbrev pub fat_records : FatForm → ℕ → List FatEntryView → List ℕ
 fat_records form from [] = []
 fat_records form from (e ∷ es) =
     spelling Big form.fields (form.values e (fat_place_behind from e)) ++ fat_records form (end_behind from e) es
 
--- the entries' bytes, each behind its zeros
+-- the entries' bytes, each after its padding
 abbrev pub fat_contents : ℕ → List FatEntryView → List ℕ
 fat_contents from [] = []
 fat_contents from (e ∷ es) = replicate (gap_behind from e.align) 0 ++ (e.bytes ++ fat_contents (end_behind from e) es)
 
--- the file: magic and count, the table, the entries; nothing is behind the last one
+-- the file: magic and count, the table, the entries; nothing follows the last one
 abbrev pub fat_front : FatForm → ℕ → List ℕ
 fat_front form n = spelling Big fat_header_fields (number_is form.magic ∷ number_is n ∷ [])
 

@@ -1,4 +1,4 @@
--- What the table of a written file says, read back.
+-- What the table of a written file holds, read back.
 use Rattle.std.specs.Prelude.{ℕ, ◌+◌, ◌*◌, ◌^◌, ◌<◌, List, [], ◌∷◌, map, drop, Result}
 use Rattle.mach_base.specs.Fault.{Fault}
 use Rattle.mach_base.specs.Items.{items_from, all_read}
@@ -18,16 +18,16 @@ HaveNumbers (e ∷ es) = (e.cputype < 2 ^ 32) × (e.cpusubtype < 2 ^ 32) × Have
 abbrev pub record_said : FatForm → List ℕ → ℕ → Result (List Value) Fault
 record_said form file i = record_at Big form.fields file (8 + size form.fields * i)
 
--- those of all records, as many as the header says
+-- the values of all records, as many as the header says
 abbrev pub records_said : FatForm → List ℕ → Result (List (List Value)) Fault
 records_said form file = all_read (items_from (record_said form file) 0 (number Big 4 (drop 4 file)))
 
--- the values of the records of entries, the first of which stands behind those that end at `from`
+-- the values of the records of entries, the first of which follows the bytes that end at `from`
 abbrev pub records_of : FatForm → ℕ → List FatEntryView → List (List Value)
 records_of form from [] = []
 records_of form from (e ∷ es) = form.values e (fat_place_behind from e) ∷ records_of form (end_behind from e) es
 
--- the entry that a record says, with the bytes that lie at its place
+-- the entry of a record, with the bytes at its offset
 abbrev pub entry_of_record : List ℕ → List Value → FatEntryView
 entry_of_record file record_values =
     record {
@@ -37,6 +37,6 @@ entry_of_record file record_values =
       bytes = part_of file (number_among record_values 2) (number_among record_values 3);
     }
 
--- the entries that some records say
+-- the entries of some records
 abbrev pub entries_of_records : List ℕ → List (List Value) → List FatEntryView
 entries_of_records file records = map (entry_of_record file) records

@@ -16,7 +16,7 @@ abbrev pub form_of : Form → FatForm
 form_of Bits32 = fat_form_32
 form_of Bits64 = fat_form_64
 
--- the form that a magic says
+-- the form of a magic
 abbrev pub form_by_magic : Result ℕ Fault → Option FatForm
 form_by_magic (Ok magic) = if magic == 0xcafe_babe then Some fat_form_32 else (if magic == 0xcafe_babf then Some fat_form_64 else None)
 form_by_magic (Err f) = None
@@ -25,7 +25,7 @@ form_by_magic (Err f) = None
 abbrev pub form_in : List ℕ → Option FatForm
 form_in bytes = form_by_magic (number_at Big 4 bytes 0)
 
--- what the values of a record say: they have one order in both forms
+-- the record of some values, which have the same order in both forms
 abbrev pub record_of_values : List Value → EntryRecord
 record_of_values vs =
     record {
@@ -36,16 +36,16 @@ record_of_values vs =
       align = number_among vs 4;
     }
 
--- the record of an index, or why it isn't there
+-- the record at an index, or why it isn't there
 abbrev pub fat_record_in : FatForm → List ℕ → ℕ → Result EntryRecord Fault
 fat_record_in form bytes i = record_said form bytes i >>= (λ vs. Ok (record_of_values vs))
 
--- so many records, where the bytes could hold that number of them; else the fault of the first that isn't there
+-- n records, if the bytes could hold them; else the fault of the first that isn't there
 abbrev pub fat_table_by : FatForm → List ℕ → ℕ → Result (List EntryRecord) Fault
 fat_table_by form bytes n =
     if nat_le n (length bytes / size form.fields) then all_read (items_from (fat_record_in form bytes) 0 n) else Err (too_short n (codes "arches"))
 
--- how many entries a fat file's header says that there are, which has 8 bytes
+-- the count of entries in a fat file's header, which has 8 bytes
 abbrev pub header_count_in : List ℕ → Result ℕ Fault
 header_count_in bytes = bounded 8 bytes 0 (number Big 4 (drop 4 bytes))
 

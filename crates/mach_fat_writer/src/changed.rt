@@ -1,4 +1,4 @@
-//! A fat file that is made of one: with another entry in the place of some, or without one.
+//! Fat files built from another one: with an entry replaced, or without an entry.
 
 ghost use Rattle.std.specs.Prelude.{◌≡◌, Ok, IfOk, IfErr};
 ghost use Rattle.std.specs.List.{list_any};
@@ -19,7 +19,7 @@ use crate::refusal::{EntryRefusal, FileRefusal, MakeRefusal};
 use mach_records::cputype::CPU_SUBTYPE_MASK;
 use std::alloc::Allocator;
 
-// The form of a fat file, which is the first of the files that are given.
+// Returns the form of a fat file, which is file 0 of those given.
 fn fat_form(bytes: &[u8]) -> Result<Form, FileRefusal>
     ensures form { IfOk result (λ form. fat_form_in bytes.now ≡ Ok (form_of form)) }
     ensures refused { IfErr result (λ refusal. RefusesFiles refusal (of_file 0 (fat_form_in bytes.now))) }
@@ -30,7 +30,7 @@ fn fat_form(bytes: &[u8]) -> Result<Form, FileRefusal>
     }
 }
 
-// The entry that a file becomes.
+// Returns the entry that a file becomes.
 fn entry_of(bytes: &[u8]) -> Result<FatEntry<'_>, EntryRefusal>
     ensures { AnswersAs fat_entry_view result (if_read (created_entry bytes.now)) }
 {
@@ -38,28 +38,28 @@ fn entry_of(bytes: &[u8]) -> Result<FatEntry<'_>, EntryRefusal>
     Ok(entry)
 }
 
-// The kind of an entry's cpu, without its capabilities.
+// Returns the kind of an entry's cpu, without its capabilities.
 fn kind_of(entry: &FatEntry<'_>) -> u32
     ensures { result ≡ kind_of_cpu entry.now.cpusubtype }
 {
     entry.cpusubtype & !CPU_SUBTYPE_MASK
 }
 
-// Whether two entries are for one cpu, whatever its capabilities are.
+// Whether two entries are for one cpu, whatever its capabilities.
 fn are_of_one_cpu(entry: &FatEntry<'_>, other: &FatEntry<'_>) -> bool
     ensures { result ≡ are_of_one_cpu (fat_entry_view entry.now) (fat_entry_view other.now) }
 {
     entry.cputype == other.cputype && kind_of(entry) == kind_of(other)
 }
 
-// Whether one of some entries is for the cpu of another.
+// Whether any of the entries is for the cpu of another one.
 fn has_cpu_of(entries: &[FatEntry<'_>], new: &FatEntry<'_>) -> bool
     ensures { result ≡ list_any (λ e. are_of_one_cpu (fat_entry_view e) (fat_entry_view new.now)) entries.now }
 {
     entries.iter().any(|entry| are_of_one_cpu(entry, new))
 }
 
-// What stands in the place of an entry: another one, where both are for one cpu.
+// Returns `new` if both are for one cpu, else the entry itself.
 fn in_place_of<'a>(entry: &FatEntry<'a>, new: &FatEntry<'a>) -> FatEntry<'a>
     ensures { fat_entry_view result ≡ replaced_entry (fat_entry_view new.now) (fat_entry_view entry.now) }
 {
@@ -70,7 +70,7 @@ fn in_place_of<'a>(entry: &FatEntry<'a>, new: &FatEntry<'a>) -> FatEntry<'a>
     }
 }
 
-// Entries with another one in the place of each that is for its cpu, of which there is one at least.
+// Returns the entries with `new` instead of each that is for its cpu. There must be at least one.
 fn replaced_among<'a, 'b, A: Allocator>(
     alloc: &'b A,
     entries: &[FatEntry<'a>],
@@ -88,7 +88,7 @@ fn replaced_among<'a, 'b, A: Allocator>(
     Ok(replaced)
 }
 
-// The entries of a fat file, which is file 0, with the one that file 1 becomes in the place of each for its cpu.
+// Returns the entries of a fat file (file 0), with the entry of file 1 instead of each for its cpu.
 fn replaced_in<'a, 'b, A: Allocator>(
     alloc: &'b A,
     form: Form,
@@ -112,9 +112,9 @@ fn replaced_in<'a, 'b, A: Allocator>(
     }
 }
 
-/// The fat file that another one becomes where a file takes the place of each entry for its cpu, whatever its capabilities are. It has the
-/// form of that one; its entries stand as in one that is created. The fat file, which is file 0, is refused first; then the other one; then that
-/// there is no such entry; then the entries together.
+/// Builds a fat file from another one: a file replaces each entry for its cpu, whatever its capabilities.
+/// The form stays; the entries have the order of a file that is created.
+/// Refusals come in this order: the fat file (file 0), the other file (file 1), no entry for its cpu, the entries together.
 pub fn replace<'b, A: Allocator>(
     alloc: &'b A,
     bytes: &[u8],
@@ -129,7 +129,7 @@ pub fn replace<'b, A: Allocator>(
     Ok(file)
 }
 
-// The entries of a fat file without that of an index.
+// Returns the entries of a fat file without the one at an index.
 fn others_in<'a, 'b, A: Allocator>(
     alloc: &'b A,
     form: Form,
@@ -146,8 +146,7 @@ fn others_in<'a, 'b, A: Allocator>(
     Ok(entries)
 }
 
-/// The fat file that another one becomes without the entry of an index. It has the form of that one, and the others stand in their
-/// order.
+/// Builds a fat file from another one, without the entry at an index. The form and the order of the other entries stay.
 pub fn remove<'b, A: Allocator>(
     alloc: &'b A,
     bytes: &[u8],

@@ -1,4 +1,4 @@
-//! The cpu that a file is for, as headers say it.
+//! The cpu of a file, from its headers.
 
 ghost use Rattle.std.specs.Prelude.{◌≡◌, ◌≤◌, length, IsTrue};
 ghost use Rattle.mach_base.specs.Answer.{Reads};
@@ -13,13 +13,13 @@ use mach_base::{Ctx, Error, Result, bytes_at};
 use mach_parts::magic::parse_magic_and_ctx;
 use mach_records::cputype::{CPU_TYPE_POWERPC, CPU_TYPE_X86, CPU_TYPE_X86_64};
 
-/// How many bytes of a header are read: those that the headers of 32 and 64 bits share.
+/// How many bytes of a header are read: the part that headers of 32 and 64 bits share.
 const HEADER_SIZE: usize = 28;
 
-/// A PowerPC whose addresses have 64 bits.
+/// A PowerPC with addresses of 64 bits.
 const CPU_TYPE_POWERPC64: u32 = 0x0100_0012;
 
-/// A cpu, and its kind with its capabilities.
+/// A cpu: its type, and its kind with its capabilities.
 #[derive(Clone, Copy)]
 pub(crate) struct Cpu {
     pub(crate) cputype: u32,
@@ -27,7 +27,7 @@ pub(crate) struct Cpu {
 }
 
 impl Cpu {
-    /// The cpu of an image's header.
+    /// Returns the cpu in an image's header.
     pub(crate) fn of_image(bytes: &[u8], ctx: Ctx) -> Result<Cpu>
         ensures { Reads cpu_view result (cpu_of_image ctx bytes.now) }
     {
@@ -38,7 +38,7 @@ impl Cpu {
         })
     }
 
-    // The cpu of a member of an archive, which is an image.
+    // Returns the cpu of an archive member, which must be an image.
     fn of_member(bytes: &[u8]) -> Result<Cpu>
         ensures { Reads cpu_view result (cpu_by_magic (magic_at bytes.now 0) bytes.now) }
     {
@@ -48,7 +48,7 @@ impl Cpu {
         }
     }
 
-    // The cpu of a member as it was read, or why it wasn't.
+    // Returns the cpu of a member that was read, or the error of reading it.
     fn of_item(item: Result<Member<'_>>) -> Result<Cpu>
         ensures { Reads cpu_view result (cpu_of_member (member_read item.entry)) }
     {
@@ -56,14 +56,14 @@ impl Cpu {
         Cpu::of_member(member.bytes)
     }
 
-    // Whether a cpu is this one, its kind and its capabilities too.
+    // Whether two cpus have the same type, kind and capabilities.
     fn is(self, other: Cpu) -> bool
         ensures { result ≡ is_same_cpu (cpu_view self) (cpu_view other) }
     {
         self.cputype == other.cputype && self.cpusubtype == other.cpusubtype
     }
 
-    // This cpu, where it is that of each of some members.
+    // Returns this cpu if each of the members has it.
     fn if_of_all(self, mut members: Members<'_>) -> Result<Cpu>
         ensures { Reads cpu_view result (if_cpu_of_all (cpu_view self) (members_left members.entry)) }
     {
@@ -79,7 +79,7 @@ impl Cpu {
         }
     }
 
-    // The cpu of all members, of which there is one at least.
+    // Returns the cpu of all members. There must be at least one.
     fn of_members(mut members: Members<'_>) -> Result<Cpu>
         ensures { Reads cpu_view result (cpu_of_members (members_left members.entry)) }
     {
@@ -89,7 +89,7 @@ impl Cpu {
         }
     }
 
-    /// The cpu of all members of an archive.
+    /// Returns the cpu of all members of an archive.
     pub(crate) fn of_archive(bytes: &[u8]) -> Result<Cpu>
         ensures { Reads cpu_view result (cpu_of_archive bytes.now) }
     {
@@ -97,7 +97,7 @@ impl Cpu {
         Cpu::of_members(archive.members())
     }
 
-    /// The power of two that an image of this cpu is aligned to.
+    /// Returns the power of two that an image of this cpu is aligned to.
     pub(crate) fn image_align(self) -> u32
         ensures { result ≡ align_of_image self.cputype }
     {
@@ -107,7 +107,7 @@ impl Cpu {
         }
     }
 
-    /// The power of two that an archive of images of this cpu is aligned to: by bit 24 (CPU_ARCH_ABI64).
+    /// Returns the power of two that an archive for this cpu is aligned to. Bit 24 (CPU_ARCH_ABI64) decides.
     pub(crate) fn archive_align(self) -> u32
         ensures { result ≡ align_of_archive self.cputype }
     {

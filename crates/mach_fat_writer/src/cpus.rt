@@ -1,4 +1,4 @@
-//! Whether two entries are for one cpu, by a sort of their cpus.
+//! Whether two entries are for one cpu: their cpus are sorted.
 
 ghost use Rattle.std.specs.Prelude.{◌≡◌, IfOk, None, map};
 ghost use Rattle.mach_fat_writer.specs.Entries.{are_of_one_cpu, any_two, any_again, cpu_number, entry_views, fat_entry_view};
@@ -7,14 +7,14 @@ use crate::entry::FatEntry;
 use mach_records::cputype::CPU_SUBTYPE_MASK;
 use std::alloc::{AllocError, Allocator};
 
-// A number that two entries share where they are for one cpu, and else don't.
+// Returns a number that two entries share exactly when they are for one cpu.
 fn cpu_number(entry: &FatEntry<'_>) -> u64
     ensures { result ≡ cpu_number (fat_entry_view entry.now) }
 {
     u64::from(entry.cputype) * (1 << 24) + u64::from(entry.cpusubtype & !CPU_SUBTYPE_MASK)
 }
 
-// The numbers of all cpus.
+// Returns the numbers of all cpus.
 fn cpu_numbers<A: Allocator>(alloc: A, entries: &[FatEntry<'_>]) -> Result<Vec<u64, A>, AllocError>
     ensures { IfOk result (λ numbers. numbers.items ≡ map cpu_number (entry_views entries.now)) }
 {
@@ -25,7 +25,7 @@ fn cpu_numbers<A: Allocator>(alloc: A, entries: &[FatEntry<'_>]) -> Result<Vec<u
     Ok(numbers)
 }
 
-// Whether any of some numbers is the one before it.
+// Whether any number equals the one before it.
 fn any_again(numbers: &[u64]) -> bool
     ensures { result ≡ any_again None numbers.now }
 {

@@ -1,4 +1,4 @@
-//! A fat file that is made of files.
+//! A fat file built from files.
 
 ghost use Rattle.std.specs.Prelude.{◌≡◌, ◌++◌, List, Ok, OnOk, IfOk, IfErr};
 ghost use Rattle.mach_fat_writer.specs.Entries.{FatEntryView, entry_views};
@@ -30,7 +30,7 @@ fn add_entries<'a, 'b, A: Allocator>(
     Ok(())
 }
 
-// The entries of some files, one file behind the other.
+// Returns the entries of some files, one file after the other.
 fn entries_of_files<'a, 'b, A: Allocator>(
     alloc: &'b A,
     files: &[&'a [u8]],
@@ -47,7 +47,7 @@ fn entries_of_files<'a, 'b, A: Allocator>(
     Ok(entries)
 }
 
-/// The fat file of entries, in the order of one that is created.
+/// Builds a fat file of entries, in the order of a file that is created.
 pub(crate) fn write_in_order<'b, A: Allocator>(
     alloc: &'b A,
     form: Form,
@@ -60,8 +60,8 @@ pub(crate) fn write_in_order<'b, A: Allocator>(
     form.write(alloc, entries)
 }
 
-/// The fat file that is made of files, in this order: of a fat file its entries are taken, in order, and any other becomes one. The
-/// first file that is refused refuses it; then the entries together.
+/// Builds a fat file from files, given in this order. A fat file contributes its entries in order; any other file becomes one
+/// entry. The first file that is refused refuses it; then the entries together.
 pub fn create<'b, A: Allocator>(
     alloc: &'b A,
     form: Form,

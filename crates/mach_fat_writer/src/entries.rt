@@ -1,4 +1,4 @@
-//! The entries that are in a file.
+//! The entries of a file.
 
 ghost use Rattle.std.specs.Prelude.{◌≡◌, nat_lt};
 ghost use Rattle.mach_fat_writer.specs.Entries.{entry_views, fat_entry_view};
@@ -12,7 +12,7 @@ use crate::form::Form;
 use crate::refusal::EntryRefusal;
 use std::alloc::Allocator;
 
-// The entries of some records, in order.
+// Returns the entries of some records, in order.
 fn entries_of<'a, A: Allocator>(
     alloc: A,
     bytes: &'a [u8],
@@ -30,7 +30,7 @@ fn entries_of<'a, A: Allocator>(
     Ok(entries)
 }
 
-// Whether entries have more bytes than these.
+// Whether the entries have more than `most` bytes together.
 fn is_larger(entries: &[FatEntry<'_>], most: usize) -> bool
     ensures { result ≡ nat_lt most (entries_len (entry_views entries.now)) }
 {
@@ -44,8 +44,8 @@ fn is_larger(entries: &[FatEntry<'_>], most: usize) -> bool
     false
 }
 
-/// The entries of a fat file of this form, in order, each with the alignment that its record says. The first that isn't in the file
-/// refuses them all; then that they have more bytes than the file.
+/// Returns the entries of a fat file of this form, in order, each with the alignment of its record. If an entry isn't in the
+/// file, the first such entry refuses them all. Else they are refused if they have more bytes than the file.
 pub fn fat_entries<'a, 'b, A: Allocator>(
     alloc: &'b A,
     form: Form,
@@ -61,7 +61,7 @@ pub fn fat_entries<'a, 'b, A: Allocator>(
     Ok(entries)
 }
 
-/// The entries that a file brings to one that is created: those of a fat file, whatever they are, or the one that it becomes.
+/// Returns the entries that a file contributes to one that is created: all those of a fat file, or the one that it becomes.
 pub fn file_entries<'a, 'b, A: Allocator>(
     alloc: &'b A,
     bytes: &'a [u8],

@@ -1,4 +1,4 @@
-//! The entries that a fat file is made of.
+//! The entries that a fat file is built from.
 
 ghost use Rattle.std.specs.Prelude.{◌≡◌};
 ghost use Rattle.mach_base.specs.Answer.{Reads};
@@ -10,22 +10,22 @@ use mach_base::{ByteCount, Error, Result};
 use mach_parts::magic::parse_magic_and_ctx;
 use std::fmt;
 
-/// An entry that a fat file is to have: an image or an archive for one cpu.
+/// An entry for a fat file to be written: an image or an archive for one cpu.
 #[derive(Clone, Copy)]
 pub struct FatEntry<'a> {
     /// The cpu, one of the `CPU_TYPE_` constants.
     pub cputype: u32,
     /// The kind of this cpu, and its capabilities in the top 8 bits.
     pub cpusubtype: u32,
-    /// Its place is a multiple of 2 to this power.
+    /// Its offset in the file is a multiple of 2 to this power.
     pub align: u32,
-    /// Its bytes, whatever they are.
+    /// Its bytes. Nothing is required of them.
     pub bytes: &'a [u8],
 }
 
 impl<'a> FatEntry<'a> {
-    /// The entry that a file becomes. An image's cpu is that of its header, of which 28 bytes are read, and no more; an archive's is that of all
-    /// its members, which are images. Another file is refused with `BadMagic` of its first four bytes.
+    /// Returns the entry that a file becomes. An image has the cpu of its header, of which only 28 bytes are read. An archive has
+    /// the cpu of all its members, which must be images. Any other file is `BadMagic` with its first four bytes.
     pub fn of(bytes: &'a [u8]) -> Result<FatEntry<'a>>
         ensures { Reads fat_entry_view result (created_entry bytes.now) }
     {
@@ -41,7 +41,7 @@ impl<'a> FatEntry<'a> {
         Err(Error::BadMagic(u64::from(magic)))
     }
 
-    // The entry of some bytes for a cpu.
+    // Returns an entry of some bytes for a cpu.
     fn of_cpu(cpu: Cpu, align: u32, bytes: &'a [u8]) -> FatEntry<'a>
         ensures { fat_entry_view result ≡ record { cputype = cpu.cputype; cpusubtype = cpu.cpusubtype; align = align; bytes = bytes.now } }
     {
@@ -55,7 +55,7 @@ impl<'a> FatEntry<'a> {
 }
 
 impl fmt::Debug for FatEntry<'_> {
-    /// Its cpu and its alignment; of the bytes only how many they are.
+    /// Prints the cpu, the alignment, and how many bytes the entry has.
     fn fmt<W: fmt::Write>(&self, f: &mut fmt::Formatter<W>) -> fmt::Result {
         f.debug_struct("FatEntry")
             .field("cputype", &self.cputype)

@@ -1,4 +1,4 @@
-//! A record of a fat file's table, of either form.
+//! A record of a fat file's table, in either form.
 
 ghost use Rattle.std.specs.Prelude.{◌≡◌, option_map};
 ghost use Rattle.mach_parts.specs.Fat.{fat_arch_values};
@@ -11,23 +11,23 @@ use crate::entry::FatEntry;
 use mach_parts::FatArch64;
 use mach_parts::fat::FatArch;
 
-/// What a record of a fat file's table says, whether its numbers have 32 bits or 64.
+/// The values of a record in a fat file's table, from numbers of 32 or 64 bits.
 #[derive(Clone, Copy, Debug)]
 pub struct EntryRecord {
     /// The cpu, one of the `CPU_TYPE_` constants.
     pub cputype: u32,
     /// The kind of this cpu, and its capabilities in the top 8 bits.
     pub cpusubtype: u32,
-    /// The entry's place in the file.
+    /// The entry's offset in the file.
     pub offset: u64,
     /// How many bytes it has.
     pub size: u64,
-    /// Its place is a multiple of 2 to this power.
+    /// Its offset is a multiple of 2 to this power.
     pub align: u32,
 }
 
 impl EntryRecord {
-    /// What a record of 32 bits says.
+    /// Converts a record of 32 bits.
     pub(crate) fn of_32(arch: FatArch) -> EntryRecord
         ensures { result ≡ record_of_values (fat_arch_values arch) }
     {
@@ -40,7 +40,7 @@ impl EntryRecord {
         }
     }
 
-    /// What a record of 64 bits says.
+    /// Converts a record of 64 bits.
     pub(crate) fn of_64(arch: FatArch64) -> EntryRecord
         ensures { result ≡ record_of_values (fat_arch_64_values arch) }
     {
@@ -53,7 +53,7 @@ impl EntryRecord {
         }
     }
 
-    /// The entry's bytes, where they lie in the file.
+    /// Returns the entry's bytes if they lie in the file.
     pub fn slice<'a>(&self, bytes: &'a [u8]) -> Option<&'a [u8]>
         ensures { option_map (λ slice. slice.now) result ≡ slice_of bytes.now self.now }
     {
@@ -61,7 +61,7 @@ impl EntryRecord {
         bytes.get(self.offset as usize..end as usize)
     }
 
-    /// The entry of these bytes.
+    /// Returns the entry of this record with the given bytes.
     pub(crate) fn entry<'a>(&self, bytes: &'a [u8]) -> FatEntry<'a>
         ensures { fat_entry_view result ≡ entry_with self.now bytes.now }
     {

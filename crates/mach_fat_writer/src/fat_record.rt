@@ -1,4 +1,4 @@
-//! The two forms of fat files, by the record that a table is made of.
+//! The two forms of fat files, by the records of their tables.
 
 ghost use Rattle.std.specs.Prelude.{◌≡◌, ◌≤◌, ◌+◌, ◌*◌, ◌<◌, ◌^◌, ℕ, length};
 ghost use Rattle.mach_fat_writer.specs.Entries.{fat_entry_view};
@@ -11,20 +11,20 @@ use mach_parts::{FAT_MAGIC_64, FatArch64};
 
 /// A record of a fat file's table.
 pub(crate) trait FatRecord: Record {
-    /// The magic of a file of such records.
+    /// The magic of a file with such records.
     const MAGIC: u32;
 
     ghost MAGIC: { ℕ };
 
-    /// The largest place, and the largest length, that it holds.
+    /// The largest offset, and the largest length, that the record can hold.
     const MOST: usize;
 
     ghost MOST: { ℕ };
 
-    // What a file of such records is.
+    // The form of a file with such records.
     ghost form: { FatForm };
 
-    /// The record of an entry at its place.
+    /// Returns the record of an entry at the given place.
     fn of(entry: &FatEntry<'_>, place: usize) -> Self
         requires place { place ≤ form.most }
         requires len { length entry.now.bytes.now ≤ form.most }

@@ -1,4 +1,4 @@
-//! The two forms of fat files, whose tables have numbers of 32 and of 64 bits.
+//! The two forms of fat files: their tables have numbers of 32 or of 64 bits.
 
 ghost use Rattle.std.specs.Prelude.{◌≡◌, ◌<◌, ◌^◌, Ok, MatchResult, option_map};
 ghost use Rattle.mach_base.specs.Answer.{Reads, Gives};
@@ -19,7 +19,7 @@ use mach_parts::magic::{parse_magic_and_ctx, peek};
 use mach_parts::{FAT_MAGIC_64, FatArch64, SIZEOF_FAT_ARCH_64};
 use std::alloc::Allocator;
 
-/// How many bits a place and a length have in a fat file's table.
+/// How many bits the offsets and lengths in a fat file's table have.
 #[derive(Clone, Copy, Debug, PartialEq)]
 pub enum Form {
     Bits32,
@@ -27,7 +27,7 @@ pub enum Form {
 }
 
 impl Form {
-    /// The form of a fat file, by its magic; none where the bytes are no fat file.
+    /// Returns the form of a fat file, by its magic; none if the bytes are no fat file.
     pub fn of(bytes: &[u8]) -> Option<Form>
         ensures { option_map form_of result ≡ form_in bytes.now }
     {
@@ -38,7 +38,7 @@ impl Form {
         }
     }
 
-    /// The form of a fat file; else it is one image, or `BadMagic` of the first four bytes.
+    /// Returns the form of a fat file. Other bytes are refused as one image, or as `BadMagic` with their first four bytes.
     pub fn of_fat(bytes: &[u8]) -> std::result::Result<Form, EntryRefusal>
         ensures { AnswersAs form_of result (fat_form_in bytes.now) }
     {
@@ -51,7 +51,7 @@ impl Form {
         }
     }
 
-    // How many bytes a record has.
+    // Returns how many bytes a record has.
     fn record_size(self) -> usize
         ensures { result ≡ size (form_of self).fields }
     {
@@ -61,7 +61,7 @@ impl Form {
         }
     }
 
-    // The record of an index.
+    // Returns the record at an index.
     fn record_at(self, bytes: &[u8], index: usize) -> Result<EntryRecord>
         requires { index < 2 ^ 32 }
         ensures { Reads (λ r. r) result (fat_record_in (form_of self) bytes.now index) }
@@ -73,8 +73,8 @@ impl Form {
         }
     }
 
-    /// The records of a fat file of this form, in order. More records than the bytes could hold are `BufferTooShort`; else the
-    /// first that isn't there refuses them all.
+    /// Returns the records of a fat file of this form, in order. A count of more records than the bytes could hold is
+    /// `BufferTooShort`. Else the error is that of the first record that isn't there.
     pub fn records<A: Allocator>(self, alloc: A, bytes: &[u8]) -> Result<Vec<EntryRecord, A>>
         ensures { Gives (λ records. records.items) result (fat_table_in (form_of self) bytes.now) }
     {
@@ -90,7 +90,7 @@ impl Form {
         Ok(records)
     }
 
-    /// The fat file of this form that some entries make, in their order.
+    /// Writes a fat file of this form with the given entries, in their order.
     pub fn write<A: Allocator>(self, alloc: A, entries: &[FatEntry<'_>]) -> Result<Vec<u8, A>>
         ensures { MatchResult result (λ file. fat_file_of (form_of self) (entry_views entries.now) ≡ Ok file.items)
             (λ e. RefusesFat e (fat_file_of (form_of self) (entry_views entries.now))) }

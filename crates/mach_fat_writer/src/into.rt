@@ -1,4 +1,4 @@
-//! Writing a fat file into bytes that are given: as it is made, with nothing copied twice.
+//! Writing a fat file into a given buffer: each byte is copied once.
 
 ghost use Rattle.std.specs.Prelude.{◌≡◌, ◌≤◌, ◌<◌, ◌+◌, ◌*◌, ◌++◌, ◌^◌, ℕ, List, length, take, drop, replicate, nat_le};
 ghost use Rattle.std.specs.Prelude.{MatchResult, OnErr, false, true, if◌then◌else◌};
@@ -19,7 +19,7 @@ use mach_parts::FatArch64;
 use mach_parts::fat::{FatArch, FatHeader};
 use std::alloc::Allocator;
 
-// Sets the bytes from a place on, and answers where they end.
+// Sets the bytes from a place on, and returns where they end.
 fn set(out: &mut [u8], at: usize, bytes: &[u8]) -> usize
     requires { at + length bytes.now ≤ length out.old }
     ensures end { result ≡ at + length bytes.now }
@@ -32,7 +32,7 @@ fn set(out: &mut [u8], at: usize, bytes: &[u8]) -> usize
     end
 }
 
-// Sets so many bytes from a place on to 0, and answers where they end.
+// Sets `count` bytes from a place on to 0, and returns where they end.
 fn set_zeros(out: &mut [u8], at: usize, count: usize) -> usize
     requires { at + count ≤ length out.old }
     ensures end { result ≡ at + count }
@@ -45,7 +45,7 @@ fn set_zeros(out: &mut [u8], at: usize, count: usize) -> usize
     end
 }
 
-// Sets the bytes from a place on to those of a record, and answers where they end.
+// Sets the bytes from a place on to those of a record, and returns where they end.
 fn set_record<R: Record>(out: &mut [u8], at: usize, held: R) -> usize
     requires small { R.SIZE ≤ 32 }
     requires room { at + R.SIZE ≤ length out.old }
@@ -59,7 +59,7 @@ fn set_record<R: Record>(out: &mut [u8], at: usize, held: R) -> usize
     set(out, at, &bytes[..R::SIZE])
 }
 
-// Sets the header of a file of so many entries, and answers where it ends.
+// Sets the header of a file of `count` entries, and returns where it ends.
 fn set_front<R: FatRecord>(out: &mut [u8], count: usize) -> usize
     requires count { count < 2 ^ 32 }
     requires room { 8 ≤ length out.old }
@@ -75,7 +75,7 @@ fn set_front<R: FatRecord>(out: &mut [u8], count: usize) -> usize
     set_record(out, 0, header)
 }
 
-// Sets the records of entries from a place on, the first of which stands behind those that end at `from`, and answers where they end.
+// Sets the records of entries from a place on, and returns where they end. The first entry follows the bytes that end at `from`.
 fn set_records<R: FatRecord>(
     out: &mut [u8],
     at: usize,
@@ -100,7 +100,7 @@ fn set_records<R: FatRecord>(
     at
 }
 
-// Sets the bytes of entries from a place on, each behind its zeros.
+// Sets the bytes of entries from a place on, each after its padding.
 fn set_contents<R: FatRecord>(out: &mut [u8], from: usize, entries: &[FatEntry<'_>]) -> usize
     requires aligned { list_any is_far_aligned (entry_views entries.now) ≡ false }
     requires within { all_can_lie R.form from (entry_views entries.now) ≡ true }
@@ -118,7 +118,7 @@ fn set_contents<R: FatRecord>(out: &mut [u8], from: usize, entries: &[FatEntry<'
     end
 }
 
-// Writes a fat file whose table and whose last entry end at two places.
+// Writes a fat file, given where its table and its last entry end.
 fn set_all<R: FatRecord>(out: &mut [u8], from: usize, entries: &[FatEntry<'_>])
     requires aligned { list_any is_far_aligned (entry_views entries.now) ≡ false }
     requires said { can_be_said R.form (entry_views entries.now) ≡ true }
@@ -131,7 +131,7 @@ fn set_all<R: FatRecord>(out: &mut [u8], from: usize, entries: &[FatEntry<'_>])
     let _ = set_contents::<R>(out, from, entries);
 }
 
-// Writes a fat file whose table and whose last entry end at two places, where it fits.
+// Writes a fat file if it fits, given where its table and its last entry end.
 fn set_where_it_fits<R: FatRecord>(
     out: &mut [u8],
     from: usize,
@@ -149,7 +149,7 @@ fn set_where_it_fits<R: FatRecord>(
     }
 }
 
-// Writes the fat file of some entries, in either form.
+// Writes a fat file of entries, in either form.
 fn write_by<R: FatRecord, A: Allocator>(
     alloc: A,
     entries: &[FatEntry<'_>],
@@ -164,8 +164,8 @@ fn write_by<R: FatRecord, A: Allocator>(
     Ok(end)
 }
 
-/// Writes the fat file of some entries into the front of these bytes, where it fits, and answers how many bytes it has. Nothing is written where it
-/// doesn't fit. It is refused as `write_fat` refuses it; memory is taken for the numbers of cpus alone.
+/// Writes a fat file of entries at the start of `out` if it fits, and returns how many bytes it has. If it doesn't fit, nothing
+/// is written. It is refused as by `write_fat`. It allocates memory only to compare the cpus.
 #[tactic(auto, using(crate::proofs::Long::answered_32))]
 pub fn write_fat_into<A: Allocator>(
     alloc: A,
@@ -179,7 +179,7 @@ pub fn write_fat_into<A: Allocator>(
     write_by::<FatArch, A>(alloc, entries, out)
 }
 
-/// Writes the fat file of 64 bits of some entries into the front of these bytes, as `write_fat_into` writes that of 32 bits.
+/// Writes a fat file of 64 bits at the start of `out`, as `write_fat_into` does for 32 bits.
 #[tactic(auto, using(crate::proofs::Long::answered_64))]
 pub fn write_fat64_into<A: Allocator>(
     alloc: A,

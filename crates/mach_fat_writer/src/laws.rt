@@ -1,4 +1,4 @@
-//! Laws of fat files that are written: what they say is what they were written of.
+//! Laws of written fat files: what they say is what they were written from.
 
 ghost use Rattle.std.specs.Prelude.{◌≡◌, ◌↔◌, ◌+◌, ◌%◌, ◌^◌, ◌<◌, ◌≤◌, ℕ, List, ◌∷◌, ◌++◌, Ok, length, true};
 ghost use Rattle.mach_base.specs.Number.{number};
@@ -9,8 +9,8 @@ ghost use Rattle.mach_fat_writer.specs.FatForms.{fat_form_32, fat_form_64, table
 ghost use Rattle.mach_fat_writer.specs.FatReads.{HaveNumbers, records_said, records_of, entries_of_records};
 ghost use Rattle.mach_fat_writer.specs.FatWrites.{fat_file_of};
 
-/// A file that was written begins with its magic, ends with its last entry, says exactly the records of its entries, in their order, and at
-/// their places lie the entries' bytes.
+/// A written file begins with its magic and ends with its last entry. Its table holds exactly the records of the entries, in
+/// their order, and the entries' bytes lie at the offsets of their records.
 pub fn entries_are_read_back()
     ensures of_32 { (es : List FatEntryView) (file : List ℕ) → HaveNumbers es → fat_file_of fat_form_32 es ≡ Ok file
         → (number Big 4 file ≡ 0xcafe_babe) × (length file ≡ fat_end (table_end fat_form_32 (length es)) es)
@@ -22,7 +22,7 @@ pub fn entries_are_read_back()
         × (entries_of_records file (records_of fat_form_64 (table_end fat_form_64 (length es)) es) ≡ es) }
 {}
 
-/// The file of the entries that a written file says is that file.
+/// Writing the entries that a written file holds gives that file again.
 pub fn entries_are_written_again()
     ensures of_32 { (es : List FatEntryView) (file : List ℕ) (records : List (List Value)) → HaveNumbers es → fat_file_of fat_form_32 es ≡ Ok file
         → records_said fat_form_32 file ≡ Ok records → fat_file_of fat_form_32 (entries_of_records file records) ≡ Ok file }
@@ -30,13 +30,13 @@ pub fn entries_are_written_again()
         → records_said fat_form_64 file ≡ Ok records → fat_file_of fat_form_64 (entries_of_records file records) ≡ Ok file }
 {}
 
-/// A place is the first multiple of 2 to the power of the alignment that is at or behind the end before.
+/// An entry's offset is the first multiple of 2 to the power of its alignment at or after the previous end.
 pub fn places_are_multiples()
     ensures { (from align : ℕ) → ((from + gap_behind from align) % 2 ^ align ≡ 0) × (from ≤ from + gap_behind from align)
         × (from + gap_behind from align < from + 2 ^ align) }
 {}
 
-/// No entry lies in the table, and of two the first ends where the second begins or before.
+/// No entry overlaps the table, and of two entries the first ends at or before the start of the second.
 #[tactic(auto, using(crate::proofs::Places::stands_behind, crate::proofs::Places::stand_apart))]
 pub fn entries_stand_apart()
     ensures table { (from : ℕ) (before : List FatEntryView) (e : FatEntryView) → from ≤ fat_place_behind (fat_end from before) e }
@@ -44,7 +44,7 @@ pub fn entries_stand_apart()
         → end_behind (fat_end from before) e ≤ fat_place_behind (fat_end from (before ++ e ∷ between)) f }
 {}
 
-/// Entries are refused for one cpu exactly where two of them stand, one behind the other, that are of one.
+/// Entries are refused for one cpu exactly when two of them, at different places in the list, are for one cpu.
 #[tactic(auto, using(crate::proofs::Twos::any_two_are_two))]
 pub fn two_of_one_cpu_stand()
     ensures { (es : List FatEntryView) → (any_two are_of_one_cpu es ≡ true) ↔ HasTwo are_of_one_cpu es }

@@ -1,8 +1,8 @@
-//! Makes fat files of 32 and of 64 bits (`mach-o/fat.h`), and takes them apart: it reads the records and the entries of a
-//! table, writes a file of entries, and replaces or removes an entry of a file. C gives entries as parts of one buffer.
+//! Builds fat files of 32 and 64 bits (`mach-o/fat.h`) and takes them apart: reads the records and entries of a table, writes a
+//! file of entries, and replaces or removes an entry. For C, entries are parts of one buffer.
 #![tactic(auto)]
 
-// Entries, and the file that is written of them.
+// Entries, and files written from them.
 mod cpu;
 mod cpus;
 mod entry;
@@ -12,7 +12,7 @@ mod order;
 mod put;
 mod write;
 
-// Files taken apart, and made of others.
+// Files taken apart, and files built from others.
 mod changed;
 mod created;
 mod entries;

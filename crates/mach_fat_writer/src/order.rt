@@ -13,13 +13,13 @@ use mach_records::cputype::CPU_TYPE_ARM64;
 use std::alloc::{AllocError, Allocator};
 use std::collections::BTreeMap;
 
-// What an entry stands by.
+// The sort key of an entry.
 type Rank = (bool, u32, usize, u32);
 
 // The index of the first entry of each cputype and alignment.
 type Firsts<A> = BTreeMap<(u32, u32), usize, A>;
 
-// The index of the first entry of each cputype and alignment among some.
+// Returns the index of the first entry of each cputype and alignment.
 fn firsts_of<A: Allocator + Clone>(
     alloc: A,
     entries: &[FatEntry<'_>],
@@ -36,7 +36,7 @@ fn firsts_of<A: Allocator + Clone>(
     Ok(firsts)
 }
 
-// What an entry stands by, where so many were given.
+// Returns the sort key of an entry; `count` is the number of entries.
 fn rank<A: Allocator>(firsts: &Firsts<A>, count: usize, entry: &FatEntry<'_>) -> Rank
     ensures { result ≡ fat_rank_by (tree.get alike_cmp firsts.now) count (fat_entry_view entry.now) }
 {
@@ -47,7 +47,7 @@ fn rank<A: Allocator>(firsts: &Firsts<A>, count: usize, entry: &FatEntry<'_>) ->
     (false, entry.align, first.unwrap_or(count), entry.cpusubtype)
 }
 
-// Sorts entries by what they stand by.
+// Sorts entries by their keys.
 fn sort_by_rank<A: Allocator, B: Allocator>(
     alloc: A,
     firsts: &Firsts<B>,
@@ -64,9 +64,9 @@ fn sort_by_rank<A: Allocator, B: Allocator>(
     Ok(())
 }
 
-/// Puts entries into the order of a fat file that is created of files: those of arm64 last, by cpusubtype; the others by
-/// alignment, where those of one cputype stand together by cpusubtype, at the place of the first of them. What is equal in all this
-/// stays in the order given.
+/// Sorts entries into the order of a fat file that is created from files. Entries of arm64 come last, by cpusubtype. The others
+/// are sorted by alignment; those of one cputype and alignment stay together, by cpusubtype, at the place of the first of them.
+/// Entries that are equal in all this keep their order.
 pub fn fat_order<A: Allocator>(alloc: A, entries: &mut [FatEntry<'_>]) -> Result<()>
     ensures permutation { IsPermutation entries.old entries.new }
     ensures sorted { OnOk result (IsSortedByKey (λ e. fat_rank (entry_views entries.old) (fat_entry_view e)) fat_rank_cmp entries.new) }

@@ -1,4 +1,4 @@
-//! A part of some bytes as an entry of a fat file.
+//! Parts of one buffer as entries of a fat file.
 
 ghost use Rattle.std.specs.Prelude.{◌≡◌, MatchResult, OnErr, Ok};
 ghost use Rattle.mach_base.specs.Answer.{Gives, Reads, Stands};
@@ -12,21 +12,21 @@ use crate::into::{write_fat_into, write_fat64_into};
 use mach_base::{Error, Result, ScrollError};
 use std::alloc::Allocator;
 
-/// An entry that a fat file is to have: so many of some bytes, from a place on.
+/// An entry for a fat file to be written: a number of bytes of a buffer, from a place on.
 #[derive(Clone, Copy)]
 #[repr(C)]
 pub struct FatPart {
     pub offset: usize,
     pub len: usize,
-    /// The cpu, and its kind with its capabilities.
+    /// The cpu type, and the kind of cpu with its capabilities.
     pub cputype: u32,
     pub cpusubtype: u32,
-    /// Its place in the file is a multiple of 2 to this power.
+    /// The entry's offset in the file is a multiple of 2 to this power.
     pub align: u32,
     pub reserved: u32,
 }
 
-// The entry of a part, where it lies in the bytes.
+// Returns the entry of a part, if it lies in the bytes.
 fn entry_of<'a>(bytes: &'a [u8], part: &FatPart) -> Result<FatEntry<'a>>
     ensures { Reads fat_entry_view result (part_entry bytes.now part.now) }
 {
@@ -48,7 +48,7 @@ fn entry_of<'a>(bytes: &'a [u8], part: &FatPart) -> Result<FatEntry<'a>>
     })
 }
 
-// The entries of parts, in order.
+// Returns the entries of parts, in order.
 fn entries_of<'a, A: Allocator>(
     alloc: A,
     bytes: &'a [u8],
@@ -64,7 +64,7 @@ fn entries_of<'a, A: Allocator>(
     Ok(entries)
 }
 
-// Writes the fat file of some entries, of 64 bits or of 32.
+// Writes a fat file of entries, of 64 bits or of 32.
 fn write_entries<A: Allocator>(
     alloc: A,
     is_64: bool,
@@ -82,8 +82,9 @@ fn write_entries<A: Allocator>(
     }
 }
 
-/// Writes the fat file of some parts of these bytes, in their order, into the front of `out`, where it fits, and answers how many bytes it has. Nothing is
-/// written where it doesn't fit. The first part that isn't in the bytes refuses them all; then it is refused as `write_fat` refuses it.
+/// Writes a fat file of parts of these bytes, in their order, at the start of `out` if it fits, and returns how many bytes it
+/// has. If it doesn't fit, nothing is written. The first part that isn't in the bytes refuses it; else it is refused as by
+/// `write_fat`.
 pub fn write_parts<A: Allocator>(
     alloc: A,
     bytes: &[u8],

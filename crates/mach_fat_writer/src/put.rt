@@ -1,4 +1,4 @@
-//! Writing the table and the entries behind it.
+//! Writing the table and the entries after it.
 
 ghost use Rattle.std.specs.Prelude.{◌≡◌, ◌≤◌, ◌<◌, ◌+◌, ◌++◌, ◌^◌, length, replicate, OnOk, false, true, MatchOption};
 ghost use Rattle.std.specs.List.{list_any};
@@ -14,7 +14,7 @@ use mach_base::{Endian, Record};
 use mach_parts::fat::FatHeader;
 use std::alloc::{AllocError, Allocator};
 
-/// How many zeros stand between a place and the next multiple of 2 to the power of `align`.
+/// Returns how many bytes of padding lie between a place and the next multiple of 2 to the power of `align`.
 pub(crate) fn gap(from: usize, align: u32) -> usize
     requires { align ≤ 15 }
     ensures value { result ≡ gap_behind from align }
@@ -24,7 +24,7 @@ pub(crate) fn gap(from: usize, align: u32) -> usize
     (unit - from % unit) % unit
 }
 
-// Where an entry ends that is placed behind those that end at `from`, where a record holds its place and its length.
+// Returns where an entry ends that follows the bytes up to `from`, if a record can hold its offset and its length.
 fn end_behind<R: FatRecord>(from: usize, entry: &FatEntry<'_>) -> Option<usize>
     requires { entry.now.align ≤ 15 }
     ensures { MatchOption result (can_lie R.form from (fat_entry_view entry.now) ≡ false)
@@ -37,7 +37,7 @@ fn end_behind<R: FatRecord>(from: usize, entry: &FatEntry<'_>) -> Option<usize>
     place.checked_add(entry.bytes.len())
 }
 
-/// Where the last of some entries ends, where records hold their places and lengths.
+/// Returns where the last of the entries ends, if records can hold their offsets and lengths.
 pub(crate) fn end_of<R: FatRecord>(from: usize, entries: &[FatEntry<'_>]) -> Option<usize>
     requires { list_any is_far_aligned (entry_views entries.now) ≡ false }
     ensures { MatchOption result (all_can_lie R.form from (entry_views entries.now) ≡ false)
@@ -50,7 +50,7 @@ pub(crate) fn end_of<R: FatRecord>(from: usize, entries: &[FatEntry<'_>]) -> Opt
     Some(end)
 }
 
-// Adds a record.
+// Appends a record.
 fn put<R: Record, A: Allocator>(out: &mut Vec<u8, A>, held: R) -> Result<(), AllocError>
     requires { R.SIZE ≤ 32 }
     ensures { OnOk result (out.new.items ≡ out.old.items ++ spelling Big R.fields (R.values held)) }
@@ -60,7 +60,7 @@ fn put<R: Record, A: Allocator>(out: &mut Vec<u8, A>, held: R) -> Result<(), All
     out.extend_from_slice(&bytes[..R::SIZE])
 }
 
-/// Adds the header of a file of so many entries.
+/// Appends the header of a file of `count` entries.
 pub(crate) fn put_front<R: FatRecord, A: Allocator>(
     out: &mut Vec<u8, A>,
     count: usize,
@@ -77,7 +77,7 @@ pub(crate) fn put_front<R: FatRecord, A: Allocator>(
     )
 }
 
-/// Adds the records of entries, the first of which stands behind those that end at `from`.
+/// Appends the records of entries. The first entry follows the bytes that end at `from`.
 pub(crate) fn put_records<R: FatRecord, A: Allocator>(
     out: &mut Vec<u8, A>,
     from: usize,
@@ -96,7 +96,7 @@ pub(crate) fn put_records<R: FatRecord, A: Allocator>(
     Ok(())
 }
 
-// Adds so many zeros.
+// Appends `count` zero bytes.
 fn put_zeros<A: Allocator>(out: &mut Vec<u8, A>, count: usize) -> Result<(), AllocError>
     requires { count < 2 ^ 15 }
     ensures { OnOk result (out.new.items ≡ out.old.items ++ replicate count 0) }
@@ -104,7 +104,7 @@ fn put_zeros<A: Allocator>(out: &mut Vec<u8, A>, count: usize) -> Result<(), All
     out.resize(out.len() + count, 0)
 }
 
-/// Adds the bytes of entries, each behind its zeros.
+/// Appends the bytes of entries, each after its padding.
 pub(crate) fn put_contents<R: FatRecord, A: Allocator>(
     out: &mut Vec<u8, A>,
     from: usize,

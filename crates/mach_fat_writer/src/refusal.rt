@@ -1,4 +1,4 @@
-//! Why a file's entries are refused, and why no fat file is made.
+//! Why the entries of a file are refused, and why no fat file is built.
 
 ghost use Rattle.std.specs.Prelude.{◌≡◌};
 ghost use Rattle.mach_fat_writer.specs.declared.refusal.EntryRefusal.TheVariants as refusals;
@@ -8,16 +8,16 @@ use std::alloc::{AllocError, AllocFailed};
 use std::fmt;
 use std::fmt::{Display, Formatter, Write};
 
-/// Why a file's entries are refused, or one that is asked for isn't there.
+/// Why the entries of a file are refused, or a requested one isn't there.
 #[derive(Debug, Drop)]
 pub enum EntryRefusal {
-    /// They can't be read, or memory was refused.
+    /// They can't be read, or memory ran out.
     Unread(Error),
     /// The file is one image.
     NotFat,
-    /// There is no entry of this index.
+    /// There is no entry at this index.
     NoEntry(usize),
-    /// The entry of this index is not in the file.
+    /// The entry at this index is not in the file.
     OutOfFile(usize),
     /// The entries have more bytes than the file.
     Overlap,
@@ -72,7 +72,7 @@ impl Display for EntryRefusal {
     }
 }
 
-/// A file that is refused.
+/// A refused file.
 #[derive(Debug, Drop)]
 pub struct FileRefusal {
     /// Its index among the files.
@@ -81,12 +81,12 @@ pub struct FileRefusal {
     pub why: EntryRefusal,
 }
 
-/// Why a fat file isn't made of some files.
+/// Why no fat file is built from some files.
 #[derive(Debug, Drop)]
 pub enum MakeRefusal {
     /// One of the files is refused.
     OfFile(FileRefusal),
-    /// The entries together are refused, or memory was.
+    /// The entries together are refused, or memory ran out.
     OfAll(Error),
 }
 

@@ -1,4 +1,4 @@
-//! The records of a fat file, and an entry that is asked for by its cpu or its index.
+//! The records of a fat file, and an entry selected by its cpu or its index.
 
 ghost use Rattle.mach_fat_writer.specs.Changes.{fat_records_in, first_for_cpu, indexed_entry_in, slice_or_out, thin_entry_in};
 ghost use Rattle.mach_fat_writer.specs.EntriesRead.{slice_of};
@@ -9,7 +9,7 @@ use crate::form::Form;
 use crate::refusal::EntryRefusal;
 use std::alloc::Allocator;
 
-/// The records of a fat file of either form, in order.
+/// Returns the records of a fat file of either form, in order.
 pub fn fat_records<A: Allocator>(
     alloc: A,
     bytes: &[u8],
@@ -21,7 +21,7 @@ pub fn fat_records<A: Allocator>(
     Ok(records)
 }
 
-// The bytes of the entry of a record and its index.
+// Returns the bytes of the entry of a record and its index, or a refusal if they aren't in the file.
 fn slice_or_out<'a>(
     bytes: &'a [u8],
     index: usize,
@@ -35,7 +35,7 @@ fn slice_or_out<'a>(
     }
 }
 
-// The bytes of the first entry of a cputype among records.
+// Returns the bytes of the first entry of a cputype among records.
 fn first_for_cpu<'a>(
     bytes: &'a [u8],
     cputype: u32,
@@ -51,7 +51,7 @@ fn first_for_cpu<'a>(
     Err(EntryRefusal::NoCpu(cputype))
 }
 
-/// The bytes of the first entry of a cputype in a fat file of either form.
+/// Returns the bytes of the first entry of a cputype in a fat file of either form.
 pub fn thin_entry<'a, A: Allocator>(
     alloc: A,
     bytes: &'a [u8],
@@ -63,7 +63,7 @@ pub fn thin_entry<'a, A: Allocator>(
     first_for_cpu(bytes, cputype, records.as_slice())
 }
 
-/// The bytes of the entry of an index in a fat file of either form, whose table is read whole.
+/// Returns the bytes of the entry at an index in a fat file of either form. The whole table is read.
 pub fn indexed_entry<'a, A: Allocator>(
     alloc: A,
     bytes: &'a [u8],

@@ -16,18 +16,19 @@ use mach_parts::FatArch64;
 use mach_parts::fat::FatArch;
 use std::alloc::Allocator;
 
-/// The power of two of the widest alignment.
+/// The largest alignment, as a power of two.
 const MOST_ALIGN: u32 = 15;
 
-// Whether an entry is aligned too widely.
+// Whether any entry's alignment is too large.
 fn any_far_aligned(entries: &[FatEntry<'_>]) -> bool
     ensures { result ≡ list_any (λ e. is_far_aligned (fat_entry_view e)) entries.now }
 {
     entries.iter().any(|entry| entry.align > MOST_ALIGN)
 }
 
-/// The fat file of some entries, in their order. It is `Malformed` where an entry's alignment is above 2^15; else where two
-/// are for one cpu, whatever their capabilities; else where a place or a length is 2^32 or more.
+/// Builds a fat file of the given entries, in their order. It is `Malformed` if an alignment is above 2^15, if two entries are
+/// for one cpu, whatever its capabilities, or if an offset or a length is 2^32 or more. The first of these that applies is the
+/// error.
 pub fn write_fat<A: Allocator>(alloc: A, entries: &[FatEntry<'_>]) -> Result<Vec<u8, A>>
     ensures { MatchResult result (λ file. fat_file_of fat_form_32 (entry_views entries.now) ≡ Ok file.items)
         (λ e. RefusesFat e (fat_file_of fat_form_32 (entry_views entries.now))) }
@@ -35,8 +36,8 @@ pub fn write_fat<A: Allocator>(alloc: A, entries: &[FatEntry<'_>]) -> Result<Vec
     write_by::<FatArch, A>(alloc, entries)
 }
 
-/// The fat file of 64 bits of some entries, in their order. It is refused as that of 32 bits is, but that places and lengths may
-/// have 64 bits, and the count 32.
+/// Builds a fat file of 64 bits of the given entries, in their order. It is refused as one of 32 bits, except that offsets and
+/// lengths may have 64 bits, and the count 32.
 pub fn write_fat64<A: Allocator>(alloc: A, entries: &[FatEntry<'_>]) -> Result<Vec<u8, A>>
     ensures { MatchResult result (λ file. fat_file_of fat_form_64 (entry_views entries.now) ≡ Ok file.items)
         (λ e. RefusesFat e (fat_file_of fat_form_64 (entry_views entries.now))) }
@@ -44,7 +45,7 @@ pub fn write_fat64<A: Allocator>(alloc: A, entries: &[FatEntry<'_>]) -> Result<V
     write_by::<FatArch64, A>(alloc, entries)
 }
 
-// The fat file of some entries, in either form.
+// Builds a fat file of entries, in either form.
 fn write_by<R: FatRecord, A: Allocator>(alloc: A, entries: &[FatEntry<'_>]) -> Result<Vec<u8, A>>
     ensures { MatchResult result (λ file. fat_file_of R.form (entry_views entries.now) ≡ Ok file.items)
         (λ e. RefusesFat e (fat_file_of R.form (entry_views entries.now))) }
@@ -53,7 +54,7 @@ fn write_by<R: FatRecord, A: Allocator>(alloc: A, entries: &[FatEntry<'_>]) -> R
     write_all::<R, A>(alloc, from, end, entries)
 }
 
-/// Where the table ends, and the file, of entries that make a fat file; or why they don't.
+/// Returns where the table and the file of some entries end, or why there is no such file.
 pub(crate) fn ends_of_said<R: FatRecord, A: Allocator>(
     alloc: A,
     entries: &[FatEntry<'_>],
@@ -77,7 +78,7 @@ pub(crate) fn ends_of_said<R: FatRecord, A: Allocator>(
     }
 }
 
-// Where the table ends, and the file, where records hold all places and lengths, and the header the count.
+// Returns where the table and the file end, if records can hold all offsets and lengths, and the header the count.
 fn ends_of<R: FatRecord>(entries: &[FatEntry<'_>]) -> Option<(usize, usize)>
     requires { list_any is_far_aligned (entry_views entries.now) ≡ false }
     ensures { MatchOption result (can_be_said R.form (entry_views entries.now) ≡ false)
@@ -91,7 +92,7 @@ fn ends_of<R: FatRecord>(entries: &[FatEntry<'_>]) -> Option<(usize, usize)>
     Some((from, end_of::<R>(from, entries)?))
 }
 
-// Writes a fat file whose table and whose last entry end at two places.
+// Writes a fat file, given where its table and its last entry end.
 fn write_all<R: FatRecord, A: Allocator>(
     alloc: A,
     from: usize,
