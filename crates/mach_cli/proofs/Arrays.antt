@@ -36,7 +36,7 @@ commas_more (x ∷ xs) y =
     ap (λ rest. x ++ rest) (flat_map-append behind_comma xs (y ∷ []) ∙ ap (λ last. flat_map behind_comma xs ++ last) (append-nil (behind_comma y)))
     ∙ sym (append_assoc x (flat_map behind_comma xs) (behind_comma y))
 
--- the same, written behind those that are there
+-- the same, written after those that are there
 pub element_written : (xs : List (List ℕ)) (y : List ℕ) (is_first : Bool) (old middle new : Option (List ℕ)) → Appends old middle (with_commas xs)
     → is_first ≡ has_none xs → Appends middle new (comma_before is_first ++ y) → Appends old new (with_commas (xs ++ y ∷ []))
 element_written xs y is_first old middle new before first written =
@@ -44,9 +44,9 @@ element_written xs y is_first old middle new before first written =
     (ap (λ (b : Bool). with_commas xs ++ (comma_before b ++ y)) first ∙ sym (commas_more xs y))
     (Appends-both old middle new (with_commas xs) (comma_before is_first ++ y) before written)
 
--- ---- a list that is gone over
+-- ---- a list that is visited
 
--- a row's text, as it was answered, is that of the row
+-- the text of a row that was read is that of the row
 read_answer : {R : Type 0} (text : R → List ℕ) (answer : Result R Error) → text_read (text_answer text answer) ≡ read_as text answer
 read_answer text (Ok row) = refl
 read_answer text (Err e) = refl
@@ -55,7 +55,7 @@ all-one : {R : Type 0} (text : R → List ℕ) (answer : Result R Error) → is_
 all-one text (Ok row) = refl
 all-one text (Err e) = refl
 
--- The rows begin with some whose objects were written, with `rest` behind them, and `left` more may be written.
+-- The objects of the first rows were written, `rest` follows them, and `left` more may be written.
 pub record Goes (limit : ℕ) (rows rest : List (Result (List ℕ) Fault)) (left : ℕ) (whole is_first : Bool) (old new : Option (List ℕ)) : Type 0 where
   pub answers : List (Result (List ℕ) Error)
   pub are : rows ≡ map text_read answers ++ rest
@@ -91,7 +91,7 @@ module _ (limit : ℕ) where
         first = some_more (map row_object goes.answers) (row_object told) ∙ ap has_none (sym objects);
       }
 
-  -- where the rows that were gone over are the first `limit` of all
+  -- the rows visited are the first `limit` of all
   told_of : (rows rest : List (Result (List ℕ) Fault)) (left : ℕ) (whole is_first : Bool) (old new : Option (List ℕ)) (t : Told)
       (goes : Goes limit rows rest left whole is_first old new) → take limit rows ≡ map text_read goes.answers → t.whole ≡ whole
       → t.left ≡ limit - length rows → t.more ≡ nat_lt limit (length rows) → WritesObjects limit rows old new t
@@ -114,7 +114,7 @@ module _ (limit : ℕ) where
       told_of rows rest left whole is_first old new t goes (take_all limit rows few ∙ all) is.1 (is.0 ∙ omega (arith, goes.count, many))
       (is.2 ∙ sym (le-ltb limit (length rows) few))
 
-  -- to the limit, with an item behind it
+  -- to the limit, with an item after it
   pub goes_cut : (rows all : List (Result (List ℕ) Fault)) (left : ℕ) (whole is_first : Bool) (old new : Option (List ℕ)) (t : Told)
       (item : Result (List ℕ) Fault) (rest : List (Result (List ℕ) Fault)) → Goes limit rows all left whole is_first old new → all ≡ item ∷ rest
       → left ≡ 0 → (t.left ≡ 0) × (t.whole ≡ whole) × (t.more ≡ true) → WritesObjects limit rows old new t
@@ -141,7 +141,7 @@ array_of left rows t old first second new front objects last = record {
       (Appends-both first second new (with_commas (map row_object objects.answers)) (codes "]") objects.written last);
 }
 
--- an array of all rows, where there are no more than the limit
+-- an array of all rows, if there are no more than the limit
 pub array_of_all : (limit : ℕ) (rows : List (Result (List ℕ) Fault)) (t : Told) (old new : Option (List ℕ)) → length rows ≤ limit
     → WritesArray limit rows old new t → WritesAllRows rows old new
 array_of_all limit rows t old new few a = record {
@@ -150,7 +150,7 @@ array_of_all limit rows t old new few a = record {
   written = a.written;
 }
 
--- a list of which nothing is told
+-- a list that isn't printed
 pub no_array : (left : ℕ) (t : Told) (old new : Option (List ℕ)) → Appends old new (codes "[]")
     → (t.left ≡ left) × (t.whole ≡ true) × (t.more ≡ false) → WritesArray left [] old new t
 no_array left t old new written is =
@@ -165,7 +165,7 @@ no_array left t old new written is =
       written = written;
     }
 
--- an array behind its name, and a comma behind it
+-- an array after its name, and a comma after it
 pub member_of : (name : List ℕ) (left : ℕ) (rows : List (Result (List ℕ) Fault)) (t : Told) (old first second new : Option (List ℕ))
     → Appends old first (codes "\"" ++ (name ++ codes "\":")) → WritesArray left rows first second t → Appends second new (codes ",")
     → WritesMember name left rows old new t
@@ -211,7 +211,7 @@ list_then left l ls one two t old middle new m others is =
       written = Appends-both old middle new (array_member l.name m.text) others.text m.written others.written;
     }
 
--- and what stands behind them
+-- and what follows them
 pub lists_written : (left : ℕ) (lists : List NamedRows) (t : Told) (whole : Bool) (rest : ℕ) (old middle new : Option (List ℕ))
     → WritesMembers left lists old middle t → whole ≡ (t.whole && not t.more) → rest ≡ t.left → Appends middle new (lists_end t.more)
     → WritesListMembers left lists whole rest old new

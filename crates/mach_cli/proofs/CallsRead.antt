@@ -1,4 +1,4 @@
--- Words that are gone over one after the other.
+-- Arguments that are read one after the other.
 use Rattle.std.proofs.Common.{◌≡◌, ◌+◌, ◌∙◌, ℕ, List, ◌∷◌, Bool, true, false, Option, Some, None, drop, refl, sym, ap, subst, length, get_or, string_bytes}
 use Rattle.std.specs.Prelude.{◌<◌, ⊤}
 use Rattle.std.proofs.lemmas.List.{drop_more}
@@ -16,13 +16,13 @@ use Rattle.mach_cli.specs.declared.call.Valued.TheVariants as valued
 use Rattle.mach_cli.specs.declared.word.Word.{Word}
 use Rattle.mach_cli.specs.declared.word.Word.TheVariants.{Text, Bytes}
 
--- what words are yet to make of a call, by where they are: behind an option, after `--`, or elsewhere
+-- what arguments still add to a call, by where they are: after an option, after `--`, or elsewhere
 abbrev pub GoesOn : Options → Option Valued → (is_plain : Bool) → (old : CallSaid) → List Word → (new : CallSaid) → Type 0
 GoesOn options (Some option) is_plain old words new = AsksFor options (Some option) old words new
 GoesOn options None true old words new = AddsWords options old words new
 GoesOn options None false old words new = AsksFor options None old words new
 
--- ---- a word makes one thing of a call
+-- ---- an argument extends a call in one way only
 
 row_or : ArchRow → Option ArchRow → ArchRow
 row_or row None = row
@@ -52,7 +52,7 @@ pub word-one : (option : Valued) (word : Word) (old x y : CallSaid) → TakesWor
 word-one option (Text text) old x y a b = takes-one option (string_bytes text) old x y a b
 word-one option (Bytes number bytes) old x y a b = absurd a
 
--- ---- and so do the words behind it
+-- ---- and so do the arguments after it
 
 IsThere : Option Valued → Type 0
 IsThere None = ⊥
@@ -62,7 +62,7 @@ some_none : (option : Valued) → Some option ≡ None → ⊥
 unfolding IsThere
 some_none option same = subst IsThere same cc
 
--- kinds that make no call
+-- kinds of arguments that lead to no call
 abbrev pub IsNoCall : Kind → Type 0
 IsNoCall kinds.Help = ⊤
 IsNoCall kinds.Version = ⊤
@@ -94,21 +94,21 @@ IsFalse : Bool → Type 0
 IsFalse false = ⊤
 IsFalse true = ⊥
 
--- behind `--` there is no option
+-- after `--` there is no option
 pub option_open : (options : Options) (text : List ℕ) (option : Valued) (is_plain : Bool) (before : Option Valued)
     → kind_at is_plain options text ≡ kinds.Valued option → is_plain ≡ true → before ≡ None
 unfolding IsFalse
 option_open options text option true before kind same = absurd (other-valued option kind)
 option_open options text option false before kind same = absurd (subst IsFalse same cc)
 
--- two say the same of each call
+-- two conditions hold for the same calls
 abbrev pub Same : (CallSaid → Type 0) → (CallSaid → Type 0) → Type 0
 Same P Q = ((new : CallSaid) → P new → Q new) × ((new : CallSaid) → Q new → P new)
 
 pub same_over : (P Q R : CallSaid → Type 0) → Same P Q → Same Q R → Same P R
 same_over P Q R one two = (λ new p. two.0 new (one.0 new p), λ new r. one.1 new (two.1 new r))
 
--- a word that makes something else of no call, if it makes one of it
+-- a step with only one result can be replaced by that result
 pub next_one : (Makes : CallSaid → Type 0) (next : CallSaid) → Makes next → ((x : CallSaid) → Makes x → x ≡ next) → (Then : CallSaid → CallSaid → Type 0)
     → Same (λ new. (x : CallSaid) × Makes x × Then x new) (Then next)
 next_one Makes next made only Then = (
@@ -144,7 +144,7 @@ module _ (options : Options) (word : Word) (words : List Word) (old : CallSaid) 
   option_step option true kind = absurd (other-valued option kind)
   option_step option false kind = rw kind (λ new a. a, λ new a. a)
 
-  -- nothing is made of a call
+  -- these arguments extend to no call
   pub asks_none : (is_plain : Bool) (kind : Kind) → kind_at is_plain options (word_text word) ≡ kind → IsNoCall kind
       → (new : CallSaid) → GoesOn options None is_plain old (word ∷ words) new → ⊥
   asks_none true kind is none new asks = subst IsNoCall (sym is) none
@@ -156,7 +156,7 @@ module _ (options : Options) (word : Word) (words : List Word) (old : CallSaid) 
   asks_none false (kinds.Valued option) is none new asks = none
   asks_none false kinds.Other is none new asks = none
 
-  -- what an option takes, and what is added
+  -- an argument is taken as a value, or added
   pub valued_made : (option : Valued) (is_plain : Bool) (new : CallSaid) → GoesOn options (Some option) is_plain old (word ∷ words) new
       → (x : CallSaid) × TakesWord option word old x
   valued_made option is_plain new asks = (asks.0, asks.1)
@@ -166,13 +166,13 @@ module _ (options : Options) (word : Word) (words : List Word) (old : CallSaid) 
   other_made true kind new asks = (asks.0, asks.1)
   other_made false kind new asks = let all = rw kind at asks in (all.0, all.1)
 
--- words of which one isn't taken
+-- if one argument isn't taken, the arguments extend to no call
 pub untaken_all : (Makes All : CallSaid → Type 0) (e : Untaken) → ((new : CallSaid) → All new → (x : CallSaid) × Makes x) → AreUntaken Makes e
     → AreUntaken All e
 untaken_all Makes All (Misuse misuse) made none = λ new all. let one = made new all in none one.0 one.1
 untaken_all Makes All Memory made none = cc
 
--- ---- the words that are left
+-- ---- the arguments that are left
 
 pub words_more : (words : List Word) (i : ℕ) (word : Word) → i < length words → word ≡ get_or words i word → drop i words ≡ word ∷ drop (i + 1) words
 words_more words i word low is = drop_more words i word low ∙ ap (λ (w : Word). w ∷ drop (i + 1) words) (sym is)
@@ -181,7 +181,7 @@ pub not_plain : (is_plain : Bool) (before : Option Valued) (option : Valued) →
 not_plain false before option plain some = refl
 not_plain true before option plain some = absurd (some_none option (sym some ∙ plain refl))
 
--- what a word is, by the text that was asked for
+-- the kind of an argument, by the text that was read
 pub kind_of-word : (is_plain : Bool) (options : Options) (word : Word) (text : List ℕ) (seen kind : Kind) → text ≡ word_text word
     → seen ≡ kind_at is_plain options text → seen ≡ kind → kind_at is_plain options (word_text word) ≡ kind
 kind_of-word is_plain options word text seen kind is read same = ap (λ (some : List ℕ). kind_at is_plain options some) (sym is) ∙ sym read ∙ same

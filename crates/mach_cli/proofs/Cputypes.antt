@@ -1,4 +1,4 @@
--- The number of a cpu in a word.
+-- The cpu number in an argument.
 use Rattle.std.proofs.Common.{◌≡◌, ◌≤◌, ◌∙◌, ◌^◌, ℕ, List, ◌∷◌, Result, Ok, Err, false, drop, length, sym, ap, subst, arith}
 use Rattle.std.proofs.Math.Nat.{pow-le-pow_right}
 use Rattle.std.proofs.lemmas.Int.Digits.{digits_value-lt}

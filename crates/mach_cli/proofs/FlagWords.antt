@@ -1,4 +1,4 @@
--- The words of a number's bits, one after the other.
+-- The names of a number's bits, one after the other.
 use Rattle.std.proofs.Common.{◌≡◌, ◌++◌, ◌∷◌, ◌∙◌, ◌+◌, ◌<◌, ℕ, List, Bool, cond, length, map, drop, get_or, true, false, sym, ap}
 use Rattle.std.proofs.lemmas.List.{append_assoc, at_drop_more}
 use Rattle.std.specs.Prelude.{◌==◌, bit_and, bit_xor}
@@ -14,13 +14,13 @@ module _ (first : Bool) (x : Named) (words : List Named) (rest : ℕ) where
   pub word_absent : (bit_and rest x.number == 0) ≡ true → flag_words_text first (x ∷ words) rest ≡ flag_words_text first words rest
   word_absent none = ap (λ (b : Bool). cond b (flag_words_text first words rest) there) none
 
-  -- a bit that is
+  -- a bit that is set
   pub word_there : (bit_and rest x.number == 0) ≡ false
       → flag_words_text first (x ∷ words) rest ≡ (before_text first ++ x.name) ++ flag_words_text false words (bit_xor rest x.number)
   word_there some = ap (λ (b : Bool). cond b (flag_words_text first words rest) there) some
       ∙ sym (append_assoc (before_text first) x.name (flag_words_text false words (bit_xor rest x.number)))
 
--- behind one more word
+-- one more name was written
 pub words_more : (all text one : List ℕ) (first next : Bool) (rest left : ℕ) (words : List FlagWord) (i : ℕ) (d : FlagWord) → i < length words
     → all ≡ text ++ flag_words_text first (map flag_named (drop i words)) rest
     → ((behind : List Named) → flag_words_text first (flag_named (get_or words i d) ∷ behind) rest ≡ one ++ flag_words_text next behind left)

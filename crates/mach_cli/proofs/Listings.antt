@@ -17,7 +17,7 @@ use Rattle.mach_cli.specs.Lines.{WritesLines}
 use Rattle.mach_cli.specs.Listings.{text_read, text_answer, told_line, cut_line, past_line, CountsRows, WritesFirstLines, WritesRows}
 use Rattle.mach_cli.specs.declared.listing.Told.{Told}
 
--- a row's text, as it was answered, is that of the row
+-- the text of a row that was read is that of the row
 pub read_answer : {R : Type 0} (text : R → List ℕ) (answer : Result R Error) → text_read (text_answer text answer) ≡ read_as text answer
 read_answer text (Ok row) = refl
 read_answer text (Err e) = refl
@@ -26,7 +26,7 @@ all-one : {R : Type 0} (text : R → List ℕ) (answer : Result R Error) → is_
 all-one text (Ok row) = refl
 all-one text (Err e) = refl
 
--- The rows begin with some whose lines were written, with `rest` behind them, and `left` lines more may be written.
+-- The lines of the first rows were written, `rest` follows them, and `left` more lines may be written.
 pub record Goes (word : List ℕ) (limit : ℕ) (rows rest : List (Result (List ℕ) Fault)) (left : ℕ) (whole : Bool) (old new : Option (List ℕ)) : Type 0 where
   pub front : List (Result (List ℕ) Fault)
   pub are : rows ≡ front ++ rest
@@ -55,7 +55,7 @@ module _ (word : List ℕ) (limit : ℕ) where
             ∙ sym (list_all-append is_ok goes.front (item ∷ []));
       }
 
-  -- where the rows that were gone over are the first `limit` of all
+  -- the rows visited are the first `limit` of all
   told_of : (rows rest : List (Result (List ℕ) Fault)) (left : ℕ) (whole : Bool) (old new : Option (List ℕ)) (t : Told)
       (goes : Goes word limit rows rest left whole old new) → take limit rows ≡ goes.front → t.whole ≡ whole → t.left ≡ limit - length rows
       → t.more ≡ nat_lt limit (length rows) → WritesRows word limit rows old new t
@@ -77,7 +77,7 @@ module _ (word : List ℕ) (limit : ℕ) where
       told_of rows rest left whole old new t goes (take_all limit rows few ∙ all) is.1 (is.0 ∙ omega (arith, goes.count, many))
       (is.2 ∙ sym (le-ltb limit (length rows) few))
 
-  -- to the limit, with an item behind it
+  -- to the limit, with an item after it
   pub goes_cut : (rows all : List (Result (List ℕ) Fault)) (left : ℕ) (whole : Bool) (old new : Option (List ℕ)) (t : Told) (item : Result (List ℕ) Fault)
       (rest : List (Result (List ℕ) Fault)) → Goes word limit rows all left whole old new → all ≡ item ∷ rest → left ≡ 0
       → (t.left ≡ 0) × (t.whole ≡ whole) × (t.more ≡ true) → WritesRows word limit rows old new t
@@ -112,7 +112,7 @@ rows_and_ends word limit left rows name past t old first second new told cut mor
 
 -- ---- a list whose rows are counted
 
--- The rows begin with some that were gone over, with `rest` behind them, and `left` more may be.
+-- The first rows were visited, `rest` follows them, and `left` more may be visited.
 pub record Passes (limit : ℕ) (rows rest : List (Result (List ℕ) Fault)) (left : ℕ) (whole : Bool) : Type 0 where
   pub front : List (Result (List ℕ) Fault)
   pub are : rows ≡ front ++ rest
@@ -148,7 +148,7 @@ module _ (limit : ℕ) where
         more = is.2 ∙ sym (le-ltb limit (length rows) few);
       }
 
-  -- to the limit, with an item behind it
+  -- to the limit, with an item after it
   pub passes_cut : (rows all : List (Result (List ℕ) Fault)) (left : ℕ) (whole : Bool) (t : Told) (item : Result (List ℕ) Fault)
       (rest : List (Result (List ℕ) Fault)) → Passes limit rows all left whole → all ≡ item ∷ rest → left ≡ 0
       → (t.left ≡ 0) × (t.whole ≡ whole) × (t.more ≡ true) → CountsRows limit rows t

@@ -1,11 +1,11 @@
--- Whether none of some parts is asked for, part by part.
+-- Whether none of some parts is selected, part by part.
 use Rattle.std.proofs.Common.{◌≡◌, ◌∷◌, [], List, Bool, true, false, not, ◌||◌, refl, ap}
 use Rattle.std.specs.List.{list_any}
 use Rattle.goblin_mach.specs.Items.{ItemView}
 use Rattle.mach_cli.specs.declared.cpu.Cpu.{Cpu}
 use Rattle.mach_cli.specs.Asked.{are_missed, is_part_for}
 
--- of those that are left, behind others of which none was, if there were some
+-- the same for the parts left, after others of which none was selected, if there were some
 abbrev pub missed_from : Cpu → (is_any : Bool) → List ItemView → Bool
 missed_from cpu is_any [] = is_any
 missed_from cpu is_any (x ∷ xs) = not (list_any (λ y. is_part_for cpu y.place) (x ∷ xs))

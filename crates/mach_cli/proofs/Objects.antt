@@ -21,7 +21,7 @@ use Rattle.mach_cli.specs.Documents.{object_front, document_end, document_of, Is
 use Rattle.mach_cli.specs.Documents.{AreEntryObjects, of_asked, of_other, WritesEntries}
 use Rattle.mach_cli.specs.JsonArrays.{comma_before}
 
--- behind a text nothing more
+-- an empty text after another one
 pub Appends-nothing : (first second third : Option (List ℕ)) (xs : List ℕ) → Appends first second xs → Appends second third [] → Appends first third xs
 Appends-nothing first second third xs one two =
     subst (λ (text : List ℕ). Appends first third text) (append-nil xs) (Appends-both first second third xs [] one two)
@@ -42,7 +42,7 @@ pub archive_held : (A : Type 0) (there : Result FatEntry Fault) (bytes : Bor (Li
 archive_held A there bytes (archive slice) is opened = (slice, is)
 archive_held A there bytes (image slice) is opened = absurd opened
 
--- an image is asked for, or not, by its header
+-- an image is selected, or not, by its header
 pub taken_of : {A : Type 0} (cpu : Cpu) (bytes : List ℕ) (m : MachO A) (taken : Bool) → IsImage bytes 0 m
     → is_of_cpu cpu m.header.cputype m.header.cpusubtype ≡ taken → IsTaken cpu bytes taken
 taken_of cpu bytes m taken opened is = record {
@@ -92,7 +92,7 @@ module _ (names : List ℕ) (members : ImageLines) where
         subst (λ (some : List FatArch). AreEntryObjects cpu names members limit file some (one_behind front last)) (sym (take_more archs i d below))
         (of_asked (take i archs) arch front last before asked at_end)
 
-    -- or one that isn't asked for
+    -- or one that isn't selected
     pub other_more : (archs : List FatArch) (i : ℕ) (d : FatArch) (front : EntryObjects) → i < length archs
         → AreEntryObjects cpu names members limit file (take i archs) front → is_asked cpu (get_or archs i d) ≡ false
         → AreEntryObjects cpu names members limit file (take (i + 1) archs) front

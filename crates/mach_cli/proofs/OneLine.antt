@@ -19,7 +19,7 @@ use Rattle.mach_cli.specs.Escapes.{hidden_len, written, IsOneLine, IsPrinted}
 use Rattle.mach_cli.specs.declared.escaped.Style.TheVariants.{Name}
 use Rattle.mach_cli.proofs.Written.{written-escaped, written-kept, written-nil, zero_or_more}
 
--- ---- what holds of each byte of a number
+-- ---- what holds for each byte of a number
 
 module _ (P : ℕ → Type 0) where
   All-repeat : (n : ℕ) (xs : List ℕ) → All P xs → All P (repeat n xs)
@@ -30,7 +30,7 @@ module _ (P : ℕ → Type 0) where
   All-if true xs ys h k = h
   All-if false xs ys h k = k
 
-  -- of a number with its spaces, sign, prefix and zeros
+  -- for a number with its spaces, sign, prefix and zeros
   pub All-padded : (align flags width precision : ℕ) (negative : Bool) (prefix numeral : List ℕ) → P 32 → P 43 → P 45 → P 48
       → All P prefix → All P numeral → All P (padded_integral (format_spec 32 align flags width precision) negative prefix numeral)
   unfolding padded_integral
@@ -50,7 +50,7 @@ module _ (P : ℕ → Type 0) where
       All-append P (before_digits s negative prefix (length numeral)) (numeral ++ fill_text s behind) whole
       (All-append P numeral (fill_text s behind) all (All-repeat behind (encode 32) fill))
 
-  -- of the digits of a number
+  -- for the digits of a number
   onto : (k base : ℕ) (upper : Bool) (n : ℕ) (acc : List ℕ) → ((d : ℕ) → d < base → P (digit_glyph upper d)) → 0 < base
       → All P acc → All P (digits_onto k base upper n acc)
   onto zero base upper n acc glyph some all = all
@@ -201,7 +201,7 @@ pub ruleset no_feeds = (no_feed-append, no_feed-if, no_feed_numbers, no_feed-esc
 pub line-end : (xs : List ℕ) → has_no_feed xs ≡ true → IsOneLine (xs ++ codes "\n")
 line-end xs h = record { line = xs; whole = refl; one = h }
 
--- what stands before its end
+-- the part before its end
 pub line-more : (xs ys : List ℕ) → has_no_feed xs ≡ true → IsOneLine ys → IsOneLine (xs ++ ys)
 line-more xs ys h one = record {
   line = xs ++ one.line;

@@ -12,7 +12,7 @@ use Rattle.goblin_mach.specs.ItemsLeft.{input_items_left}
 use Rattle.goblin_mach.specs.declared.images.Images.{Images}
 use Rattle.mach_cli.specs.PartsOf.{entry_of_member, itself, parts_by_magic, parts_in, parts_of_archive, parts_of_narrow, parts_of_wide, told_items}
 
--- all of them, where not only what is of archives is told
+-- all of them, if not only those of archives are shown
 pub told_all : (last : Option ℕ) (xs : List ItemView) → told_items false last xs ≡ xs
 told_all last [] = refl
 told_all last (x ∷ xs) = ap (λ rest. x ∷ rest) (told_all (entry_of_member x.place.entry x.content) xs)

@@ -1,4 +1,4 @@
--- Bytes that are shown as they are.
+-- Bytes that a terminal gets unchanged.
 use Rattle.std.proofs.Common.{◌≡◌, ◌∙◌, ◌⊎◌, ◌≤◌, ◌<◌, ◌+◌, ℕ, List, [], ◌∷◌, ◌++◌, inl, inr, true, false, get_or, leb, length, take, refl}
 use Rattle.std.proofs.Common.{sym, ap, subst, arith}
 use Rattle.std.proofs.lemmas.Bool.Decides.{leb_tells}
@@ -7,7 +7,7 @@ use Rattle.std.proofs.lemmas.List.{take_more}
 use Rattle.mach_cli.specs.TerminalShown.{is_control, shown_byte, shown_text}
 
 module _ (xs : List ℕ) where
-  -- each of the fronts up to that length is shown as it is
+  -- each of the first bytes up to that length is unchanged
   abbrev pub ArePlain : ℕ → Type 0
   ArePlain i = (n : ℕ) → n ≤ i → shown_text (take n xs) ≡ take n xs
 

@@ -1,4 +1,4 @@
--- A reader of escapes gives a name again.
+-- Reading the escapes of a name gives the name again.
 use Rattle.std.proofs.Common.{◌≡◌, ◌∙◌, ℕ, zero, suc, ◌+◌, ◌*◌, ◌/◌, ◌%◌, ◌<◌, ◌≤◌, ◌==◌, cond, true, false, List, [], ◌∷◌, ◌++◌, codes}
 use Rattle.std.proofs.Common.{length, take, drop, ⊎_elim, refl, sym, ap, arith, append-nil, append_assoc, drop-drop, length-drop, take-append-drop}
 use Rattle.std.proofs.lemmas.Bool.{ne_eqb}
@@ -45,7 +45,7 @@ parted s rest n = sym (append_assoc (take n s) (drop n s) (unescaped rest)) ∙ 
 slash_is : (b : ℕ) → b == 0x5c ≡ true → b ≡ 0x5c
 slash_is b is = grind (arith, nat_tests)
 
--- what is read of the character that isn't written as it is
+-- what is read of the first character, which is escaped
 read-first : (s rest : List ℕ) → AreBytes s → 0 < escape_len Name s → unescaped (escape_of Name s ++ rest) ≡ take (escape_len Name s) s ++ unescaped rest
 unfolding escape_len
 read-first [] rest small some = let none = escape_within Name [] in absurd (omega (arith, none, some))

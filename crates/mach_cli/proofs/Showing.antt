@@ -24,17 +24,17 @@ use Rattle.mach_cli.specs.Shown.{ImageLines, Shown, both, ShowsEntry, an_image, 
 use Rattle.mach_cli.specs.declared.failure.Failure.{Failure}
 use Rattle.mach_cli.specs.declared.failure.Failure.TheVariants as failures
 
--- what is weaker holds where memory was refused, too
+-- a weaker condition also holds if memory ran out
 pub IfMemory-weaker : (P Q : Type 0) → (P → Q) → (f : Failure) → IfMemory P f → IfMemory Q f
 IfMemory-weaker P Q to failures.Memory p = to p
 IfMemory-weaker P Q to (failures.Unwritten e) p = tt
 
--- behind a text nothing more
+-- an empty text after another one
 pub Appends-nothing : (first second third : Option (List ℕ)) (xs : List ℕ) → Appends first second xs → Appends second third [] → Appends first third xs
 Appends-nothing first second third xs one two =
     subst (λ (text : List ℕ). Appends first third text) (append-nil xs) (Appends-both first second third xs [] one two)
 
--- an error that tells of a fault that stands
+-- an error that reports a fault that is there
 pub told_of : (P : Fault → Type 0) (e : Error) → IsTold e → Stands P e → Tells P e
 told_of P (errors.Malformed m) told h = h
 told_of P (errors.BadMagic n) told h = h
@@ -82,7 +82,7 @@ one_more cpu names lines limit file archs i left d front last below before is on
     subst (λ (some : List FatArch). ShowsEntries cpu names lines limit file some (both front last)) (sym (take_more archs i d below))
     (more (take i archs) arch front last before at_end)
 
--- an image is asked for, or not, by its header
+-- an image is selected, or not, by its header
 pub taken_of : {A : Type 0} (cpu : Cpu) (bytes : List ℕ) (m : MachO A) (taken : Bool) → IsImage bytes 0 m
     → is_of_cpu cpu m.header.cputype m.header.cpusubtype ≡ taken → IsTaken cpu bytes taken
 taken_of cpu bytes m taken opened is = record {

@@ -1,4 +1,4 @@
--- No hidden character is in the text of a name.
+-- The text of a name has no hidden character.
 use Rattle.std.proofs.Common.{◌≡◌, ◌∙◌, ℕ, zero, suc, ◌-◌, ◌^◌, ◌<◌, ◌≤◌, ◌==◌, ◌&&◌, ◌||◌, nat_lt, cond, true, false}
 use Rattle.std.proofs.Common.{List, [], ◌∷◌, ◌++◌, All, length, take, drop, ⊎_elim, refl, sym, ap, append_assoc, arith, length-drop}
 use Rattle.std.proofs.lemmas.Bool.Decides.{nat_tests}
@@ -96,7 +96,7 @@ front_of (b ∷ s) = ⊎_elim (λ kept. same b s refl (written-kept Name b s kep
     (λ some. escape (ap (λ t. byte_in t 0) (written-escaped Name (b ∷ s) some) ∙ first_begins b s (written Name (drop (escape_len Name (b ∷ s)) (b ∷ s))) some))
     (zero_or_more (escape_len Name (b ∷ s)))
 
--- what hides a first byte, from it and the two behind it
+-- how many bytes are hidden, from a first byte and the two after it
 abbrev by_three : (b c d : ℕ) → ℕ
 by_three b c d =
     cond (nat_lt b 0x20 || b == 0x7f) 1 (cond (b == 0xc2 && is_in_range 0x80 0x9f c) 2 (cond (b == 0xe2 && is_mark c d) 3 0))

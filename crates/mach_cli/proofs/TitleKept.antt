@@ -1,4 +1,4 @@
--- A title that is written before what comes behind it.
+-- A title that is written before the next bytes.
 use Rattle.std.proofs.Common.{◌≡◌, ◌+◌, ◌++◌, ◌∙◌, ℕ, List, Option, Some, None, sym, ap, take, drop}
 use Rattle.std.proofs.lemmas.List.{append_assoc, drop-drop, take-append-drop}
 use Rattle.std.specs.Io.KnownBytes.{append_known, Appends, Keeps}
@@ -17,7 +17,7 @@ title_step (Some a) None title more rest is written = absurd written
 title_step (Some a) (Some b) title more rest is written =
     ap (λ bytes. bytes ++ rest) written ∙ append_assoc a more rest ∙ ap (λ all. a ++ all) (sym is)
 
--- what isn't written of a title, at n more of its bytes
+-- the rest of a title, after n more of its bytes
 pub title_cut : (title : List ℕ) (written n : ℕ) → drop written title ≡ take n (drop written title) ++ drop (written + n) title
 title_cut title written n =
     sym (take-append-drop n (drop written title)) ∙ ap (λ rest. take n (drop written title) ++ rest) (drop-drop n written title)

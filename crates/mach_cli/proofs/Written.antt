@@ -20,7 +20,7 @@ use Rattle.mach_cli.specs.declared.escaped.Style.TheVariants.{Json, Name}
 
 -- ---- the first character
 
--- the first character of s is one of n bytes that isn't written as it is
+-- the first character of s has n bytes and is escaped
 pub data Kind (s : List ℕ) (n : ℕ) : Type 0 where
   one : n ≡ 1 → byte_in s 0 < 128 → (byte_in s 0 ≡ 0x20 → ⊥) → Kind s n
   two : n ≡ 2 → byte_in s 0 ≡ 0xc2 → 0x80 ≤ byte_in s 1 → byte_in s 1 ≤ 0x9f → Kind s n
@@ -42,7 +42,7 @@ quoted_is Json b h = grind (arith, nat_tests)
 mark_is : (c d : ℕ) → is_mark c d ≡ true → (0x80 ≤ c) × (c ≤ 0x81) × (0x80 ≤ d) × (d ≤ 0xbf)
 mark_is c d h = grind (arith, nat_tests)
 
--- where a byte is no space, there is one
+-- a byte that isn't a space is there
 there : (s : List ℕ) (i : ℕ) → (byte_in s i ≡ 0x20 → ⊥) → i < length s
 there s i other = ⊎_elim (λ past. absurd (other (get_or_past s i 0x20 past.1))) (λ h. h.1) (leb_tells (length s) i)
 
@@ -118,7 +118,7 @@ first_byte s i within n (three is first from to low up) high =
     let same = get_or_default s i 0x20 0 within in
     grind (arith, at, same, first)
 
--- the byte at i begins a character, or is one
+-- the byte at i begins an escaped character, or is one
 pub escape_here : (style : Style) (s : List ℕ) (i : ℕ) → i < length s → 0 < escape_len style (drop i s) → IsCharBoundary s i
 escape_here style s i within some = (omega arith, λ _ high. first_byte s i within _ (escape_kind style (drop i s) some) high)
 
@@ -147,7 +147,7 @@ three_encoded y z from to low up =
 front : (s : List ℕ) (i : ℕ) → i < length s → drop i s ≡ byte_in s i ∷ drop (i + 1) s
 front s i within = drop_more s i 0x20 within
 
--- what begins a text that isn't written as it is, is a character
+-- the start of a text that is escaped is a character
 char_first : (s : List ℕ) (n : ℕ) → Kind s n → (c : ℕ) × (s ≡ encode c ++ drop n s) × (len_utf8 c ≡ n)
 char_first s n (one is low other) =
     let some = there s 0 other in
@@ -165,7 +165,7 @@ char_first s n (three is first from to low up) =
       known.1 ∙ sym is,
     )
 
--- and behind it the next one begins
+-- and after it the next one begins
 pub escape_behind : (style : Style) (s : List ℕ) (i : ℕ) → i < length s → IsUtf8 s → 0 < escape_len style (drop i s)
     → IsCharBoundary s (i + escape_len style (drop i s))
 escape_behind style s i within text some =
@@ -202,7 +202,7 @@ written-escaped style (b ∷ s) some =
 
 -- ---- the loop
 
--- Behind the first `at` bytes `done` is written. What is left is the run from start on, and the text for what follows it.
+-- `done` is written for the first `at` bytes. What is left is the run from start on, and the text for what follows it.
 abbrev pub IsSoFar : Style → List ℕ → (start at : ℕ) → (done : List ℕ) → Type 0
 IsSoFar style s start at done =
     (start ≤ at → done ++ (take (at - start) (drop start s) ++ written style (drop at s)) ≡ written style s)
@@ -221,7 +221,7 @@ so_far-passed style s done start at before so_far = (
   λ _. so_far.1 (omega (arith, before)),
 )
 
--- a byte that stands for itself joins the run
+-- an unescaped byte joins the run
 pub so_far-kept : (style : Style) (s done : List ℕ) (start at : ℕ) → start ≤ at → at < length s → escape_len style (drop at s) ≡ 0
     → IsSoFar style s start at done → IsSoFar style s start (at + 1) done
 so_far-kept style s done start at low within none so_far =
@@ -234,7 +234,7 @@ so_far-kept style s done start at low within none so_far =
     let text = ap (written style) front ∙ written-kept style x (drop (at + 1) s) (ap (escape_len style) (sym front) ∙ none) in
     (λ _. rw (next, more, is) (simp append_assoc (rw text at (so_far.0 low))), λ high. absurd (omega (arith, low, high)))
 
--- a character that isn't written as it is ends the run
+-- an escaped character ends the run
 pub so_far-escaped : (style : Style) (s done : List ℕ) (start at : ℕ) → start ≤ at → at < length s → 0 < escape_len style (drop at s)
     → IsSoFar style s start at done
     → IsSoFar style s (at + escape_len style (drop at s)) (at + 1) (done ++ (take (at - start) (drop start s) ++ escape_of style (drop at s)))
@@ -257,13 +257,13 @@ so_far-end style s done start at within end so_far =
 pub from_on : (bytes s : List ℕ) (i : ℕ) → bytes ≡ s → take (length bytes - i) (drop i bytes) ≡ drop i s
 from_on bytes s i same = take_all _ _ (omega (arith, length-drop i bytes)) ∙ ap (drop i) same
 
--- ---- bytes that may be no text
+-- ---- bytes that may not be text
 
 within_text : (k : ℕ) (bs : List ℕ) → utf8_valid_len bs ≡ length bs → escaped_bytes_within k bs ≡ escaped_text bs
 within_text zero bs whole = refl
 within_text (suc k) bs whole = rw (eq-eqb _ _ whole) refl
 
--- what comes of the first run of text, and of the bytes behind it
+-- the output for the first run of text, and for the bytes after it
 abbrev first_chunk : List ℕ → List ℕ → List ℕ
 first_chunk bs rest = let n = utf8_valid_len bs in
     escaped_text (take n bs) ++ (flat_map escape_text (take (utf8_invalid_len (drop n bs)) (drop n bs)) ++ rest)
@@ -306,7 +306,7 @@ last_chunk k bs valid invalid rest parts valid_len no_invalid no_rest =
     within_text (suc k) bs (omega (arith, long, valid_len)) ∙ ap escaped_text whole
     ∙ sym ((λ i. escaped_text valid ++ (flat_map escape_text (none i) ++ within-nil k rest no_rest i)) ∙ append-nil (escaped_text valid))
 
--- what comes of the first chunk, and what is left
+-- the output for the first chunk, and for the rest
 pub chunk_text : (k : ℕ) (bs valid invalid rest : List ℕ) → bs ≡ valid ++ (invalid ++ rest) → length valid ≡ utf8_valid_len bs
     → length invalid ≡ utf8_invalid_len (drop (utf8_valid_len bs) bs) → (length invalid ≡ 0 → length rest ≡ 0)
     → escaped_bytes_within (suc k) bs ≡ escaped_text valid ++ (flat_map escape_text invalid ++ escaped_bytes_within k rest)
@@ -314,7 +314,7 @@ chunk_text k bs valid invalid rest parts valid_len invalid_len last =
     ⊎_elim (λ none. last_chunk k bs valid invalid rest parts valid_len none (last none))
     (λ some. faulty_chunk k bs valid invalid rest parts valid_len invalid_len some) (zero_or_more (length invalid))
 
--- Behind some chunks `done` is written. What is left comes of at most k places.
+-- `done` is written for some chunks; the rest follows, cut at `places` places at most.
 pub record IsCutSoFar (bs rest done : List ℕ) : Type 0 where
   pub places : ℕ
   pub enough : length rest ≤ places

@@ -1,4 +1,4 @@
--- How many items of a list are gone over.
+-- How many items of a list are visited.
 use Rattle.std.specs.Prelude.{ℕ, List, length, min}
 
 -- no more than a limit, and no more than the file has bytes

@@ -1,4 +1,4 @@
--- What the words of a call ask for.
+-- What the arguments of a call request.
 use Rattle.std.specs.Prelude.{◌≡◌, ◌==◌, ◌||◌, ◌&&◌, ◌<◌, ◌≤◌, ◌^◌, ℕ, List, [], ◌∷◌, ◌++◌, codes, map, length, Bool, true, false, bytes_eq, if◌then◌else◌}
 use Rattle.std.specs.Prelude.{⊤, Option, Some, None, get_or, string_bytes}
 use Rattle.std.specs.Str.Parse.{IsNumeral, digits_value, without_leading_plus}
@@ -21,12 +21,12 @@ use Rattle.mach_cli.specs.declared.word.NoText.{NoText}
 use Rattle.mach_cli.specs.declared.word.Word.{Word}
 use Rattle.mach_cli.specs.declared.word.Word.TheVariants.{Text, Bytes}
 
--- a word that is no text: its number and its bytes
+-- an argument that isn't text: its number and its bytes
 pub record ByteWord : Type 0 where
   pub number : ℕ
   pub bytes : List ℕ
 
--- of which cpu images are: of any, of a number, or of a name
+-- the cpu whose images are selected: any, that of a number, or that of a name
 pub data CpuSaid : Type 0 where
   any_cpu : CpuSaid
   of_number : (number : ℕ) → CpuSaid
@@ -37,8 +37,8 @@ cpu_said cpus.Any = any_cpu
 cpu_said (cpus.Number number) = of_number number
 cpu_said (cpus.Arch arch) = of_arch (arch_row_of arch)
 
--- what words ask for: the number behind `--limit`, of which cpu images are, the other words, the lists behind `--names`, whether names in these end
--- with NUL, and the words that are no text
+-- what arguments request: the number after `--limit`, the selected cpu, the other arguments, the lists after `--names`, whether
+-- names in these end with NUL, and the arguments that aren't text
 pub record CallSaid : Type 0 where
   pub limit : Option ℕ
   pub cpu : CpuSaid
@@ -60,20 +60,20 @@ call_view c = record {
   no_texts = map byte_word_of c.others.no_texts.items;
 }
 
--- before the first word
+-- before the first argument
 abbrev pub nothing_said : CallSaid
 nothing_said = record { limit = None; cpu = any_cpu; words = []; lists = []; ends_with_nul = false; no_texts = [] }
 
--- The word is a number of digits, before which a plus may be, that 64 bits hold.
+-- The argument is a number of digits, perhaps after a plus, that fits 64 bits.
 abbrev pub IsLimit : List ℕ → ℕ → Type 0
 IsLimit word number = IsNumeral 10 (without_leading_plus word) × (digits_value 10 (without_leading_plus word) < 2 ^ 64)
     × (number ≡ digits_value 10 (without_leading_plus word))
 
--- The word is the number of a cpu: `0x`, and 1 to 8 hexadecimal digits.
+-- The argument is the number of a cpu: `0x`, and 1 to 8 hexadecimal digits.
 abbrev pub IsCputype : List ℕ → ℕ → Type 0
 IsCputype word number = (digits : List ℕ) × (word ≡ codes "0x" ++ digits) × IsNumeral 16 digits × (length digits ≤ 8) × (number ≡ digits_value 16 digits)
 
--- What an option and the word behind it make of a call: the number of lines, the cpu of a name or a number, or a list more.
+-- What an option and its value add to a call: the number of lines, the cpu of a name or a number, or one more list.
 abbrev pub TakesValue : Valued → List ℕ → (old new : CallSaid) → Type 0
 TakesValue valued.Limit word old new = (number : ℕ) × IsLimit word number × (new ≡ record old { limit = Some number })
 TakesValue valued.Arch word old new =
@@ -81,7 +81,7 @@ TakesValue valued.Arch word old new =
 TakesValue valued.Cputype word old new = (number : ℕ) × IsCputype word number × (new ≡ record old { cpu = of_number number })
 TakesValue valued.Names word old new = new ≡ record old { lists = old.lists ++ word ∷ [] }
 
--- what a word is that is behind no option, and before `--`
+-- the kind of an argument that is no option's value and comes before `--`
 abbrev pub word_kind : Options → List ℕ → Kind
 word_kind options word =
     if bytes_eq word (codes "--") then kinds.Plain
@@ -96,27 +96,27 @@ word_kind options word =
     else if get_or word 0 0 == 0x2d then kinds.Unknown
     else kinds.Other
 
--- the same at any place behind no option: after `--` it is no option
+-- the kind of an argument that is no option's value; after `--` it is no option
 abbrev pub kind_at : (is_plain : Bool) → Options → List ℕ → Kind
 kind_at is_plain options word = if is_plain then kinds.Other else word_kind options word
 
--- The word behind an option is text.
+-- The value of an option is text.
 abbrev pub TakesWord : Valued → Word → (old new : CallSaid) → Type 0
 TakesWord option (Text text) old new = TakesValue option (string_bytes text) old new
 TakesWord option (Bytes number bytes) old new = ⊥
 
--- A word that is no option is added; one that is no text, if it may be one of several files.
+-- An argument that is no option is added; if it isn't text, only where it may be one of several files.
 abbrev pub AddsWord : Options → Word → (old new : CallSaid) → Type 0
 AddsWord options (Text text) old new = new ≡ record old { words = old.words ++ string_bytes text ∷ [] }
 AddsWord options (Bytes number bytes) old new = (options.has_files ≡ true)
     × (new ≡ record old { no_texts = old.no_texts ++ record { number = number; bytes = bytes.items } ∷ [] })
 
--- Words of which none is an option are added in order.
+-- Arguments are added in order; none is an option.
 abbrev pub AddsWords : Options → (old : CallSaid) → List Word → (new : CallSaid) → Type 0
 AddsWords options old [] new = new ≡ old
 AddsWords options old (word ∷ words) new = (next : CallSaid) × AddsWord options word old next × AddsWords options next words new
 
--- what holds of a word by its kind
+-- what holds for an argument, by its kind
 abbrev pub ByKind : Kind → (plain nul : Type 0) → (value : Valued → Type 0) → (other : Type 0) → Type 0
 ByKind kinds.Plain plain nul value other = plain
 ByKind kinds.Help plain nul value other = ⊥
@@ -126,8 +126,8 @@ ByKind (kinds.Valued option) plain nul value other = value option
 ByKind kinds.Other plain nul value other = other
 ByKind kinds.Unknown plain nul value other = ⊥
 
--- Words make this call of what the words before them said, of which the last may be an option: an option takes the word behind it, `--` makes all words
--- behind it other words, and so is each word that is no option.
+-- Arguments extend the call `old` to `new`. The last argument before them may be an option that lacks its value. An option takes
+-- the argument after it; all arguments after `--` are others, and so is each argument that is no option.
 abbrev pub AsksFor : Options → (option : Option Valued) → (old : CallSaid) → List Word → (new : CallSaid) → Type 0
 AsksFor options None old [] new = new ≡ old
 AsksFor options (Some option) old [] new = ⊥
@@ -138,14 +138,14 @@ AsksFor options None old (word ∷ words) new =
     (λ option. AsksFor options (Some option) old words new)
     ((next : CallSaid) × AddsWord options word old next × AsksFor options None next words new)
 
--- The request is that for which words ask, behind what a call has: this call; or they ask for no call.
+-- The request is what the arguments add to a call: this call; or they request no call.
 abbrev pub IsRequest : {A : Type 0} → Options → (old : CallSaid) → List Word → Request A → Type 0
 IsRequest options old words (requests.Call call) = AsksFor options None old words (call_view call)
 IsRequest options old words requests.Help = (new : CallSaid) → AsksFor options None old words new → ⊥
 IsRequest options old words requests.Version = (new : CallSaid) → AsksFor options None old words new → ⊥
 IsRequest options old words (requests.Nothing misuse) = (new : CallSaid) → AsksFor options None old words new → ⊥
 
--- The words are at fault: nothing new is made of the call.
+-- The arguments are at fault: they extend to no call.
 abbrev pub AreUntaken : (CallSaid → Type 0) → Untaken → Type 0
 AreUntaken made (Misuse misuse) = (new : CallSaid) → made new → ⊥
 AreUntaken made Memory = ⊤

@@ -1,4 +1,4 @@
--- What a program complains of, of its call and not of a file's bytes, in a line that its name begins.
+-- What a program complains about, except faults in a file's bytes, in a line that begins with its name.
 use Rattle.std.specs.Prelude.{◌==◌, ℕ, List, [], ◌++◌, codes, length, if◌then◌else◌, Option, Some, None}
 use Rattle.std.specs.Borrow.{Bor}
 use Rattle.mach_cli.specs.Escapes.{escaped_text}
@@ -7,7 +7,7 @@ use Rattle.mach_cli.specs.declared.complaint.Complaint.{Complaint}
 use Rattle.mach_cli.specs.declared.complaint.Trouble.{Trouble}
 use Rattle.mach_cli.specs.declared.complaint.Trouble.TheVariants.{Memory, Unwritten, Misused}
 
--- the word that was meant, where there is one
+-- the word that was probably meant, if there is one
 abbrev pub meant_words : Option (Bor (List ℕ)) → List ℕ
 meant_words (Some word) = codes "; did you mean '" ++ (word.now ++ codes "'?")
 meant_words None = []

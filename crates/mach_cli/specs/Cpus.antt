@@ -1,4 +1,4 @@
--- The images that are asked for by their cpu (`mach/machine.h`).
+-- The images that are selected by their cpu (`mach/machine.h`).
 use Rattle.std.specs.Prelude.{◌≡◌, ◌==◌, ◌&&◌, not, ℕ, List, [], ◌∷◌, ◌++◌, codes, Bool, true, false, Option, Some, None, bytes_eq, if◌then◌else◌}
 use Rattle.std.specs.Fmt.{digits}
 use Rattle.std.specs.List.{list_any}
@@ -11,7 +11,7 @@ use Rattle.mach_cli.specs.declared.cpu.Arch as named
 use Rattle.mach_cli.specs.declared.cpu.Cpu.{Cpu}
 use Rattle.mach_cli.specs.declared.cpu.Cpu.TheVariants.{Any, Number, Arch}
 
--- a name, as LLVM has it (`MachOObjectFile::getArchTriple`), and the numbers of the cpu and of its kind (CPU_TYPE_, CPU_SUBTYPE_)
+-- a name in LLVM's tools (`MachOObjectFile::getArchTriple`), and the numbers of the cpu and of its kind (CPU_TYPE_, CPU_SUBTYPE_)
 pub record ArchRow : Type 0 where
   pub name : List ℕ
   pub cputype : ℕ
@@ -47,23 +47,23 @@ arch_named (row ∷ rows) name = if bytes_eq name row.name then Some row else ar
 abbrev pub arch_row_of : named.Arch → ArchRow
 arch_row_of a = record { name = a.name.now; cputype = a.cputype; cpusubtype = a.cpusubtype }
 
--- Whether an image for a cpu of these numbers is asked for: all are, or those of a number, or those of a name, whatever their capabilities are.
+-- Whether an image for a cpu of these numbers is selected: all are, or those of a number, or those of a name, whatever their capabilities.
 abbrev pub is_of_cpu : Cpu → (cputype cpusubtype : ℕ) → Bool
 is_of_cpu Any cputype cpusubtype = true
 is_of_cpu (Number number) cputype cpusubtype = cputype == number
 is_of_cpu (Arch a) cputype cpusubtype = (cputype == a.cputype) && (kind_of_cpu cpusubtype == a.cpusubtype)
 
--- whether the entry of a record of a fat file is
+-- whether the entry of a record of a fat file is selected
 abbrev pub is_asked : Cpu → FatArch → Bool
 is_asked cpu arch = is_of_cpu cpu arch.cputype arch.cpusubtype
 
--- a cpu is asked for, and none of these records is for it
+-- a cpu is selected, and none of these records is for it
 abbrev pub misses : Cpu → List FatArch → Bool
 misses Any archs = false
 misses (Number number) archs = not (list_any (is_asked (Number number)) archs)
 misses (Arch a) archs = not (list_any (is_asked (Arch a)) archs)
 
--- Whether the image at the front of the bytes is asked for, by its header.
+-- Whether the image at the start of the bytes is selected, by its header.
 abbrev pub IsTaken : Cpu → List ℕ → Bool → Type 0
 IsTaken cpu bytes taken =
     OfImage bytes 0 (λ ctx cs. (h : Header) × IsHeader ctx bytes 0 h × (is_of_cpu cpu h.cputype h.cpusubtype ≡ taken))

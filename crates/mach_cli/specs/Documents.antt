@@ -1,4 +1,4 @@
--- The object that is written of a file, on a line, and what is said beside it on the error output.
+-- The object that is written for a file, on a line, and the complaints on the error output.
 use Rattle.std.specs.Prelude.{◌≡◌, ◌&&◌, ℕ, List, [], ◌∷◌, ◌++◌, codes, length, Bool, true, false, Option, Result, Ok}
 use Rattle.std.specs.Fmt.{decimal}
 use Rattle.std.specs.Io.KnownBytes.{Appends}
@@ -21,13 +21,13 @@ use Rattle.mach_cli.specs.JsonText.{json_string}
 use Rattle.mach_cli.specs.declared.json.refusal.Refusal.{Refusal}
 use Rattle.mach_cli.specs.declared.json.refusal.Refusal.TheVariants as refusals
 
--- the front of the object of an image: of an entry of a fat file its number
+-- the start of the object of an image: for an entry of a fat file its number
 abbrev pub object_front : Heading → List ℕ
 object_front headings.None = codes "{"
 object_front (headings.Arch i) = codes "{\"entry\":" ++ (decimal i ++ codes ",")
 
--- The text is the object of the image at the front of the bytes, with the members that a program says of it, of whose rows no more than `left` may
--- be told; or with the member that says that memory is refused for these.
+-- The text is the object of the image at the start of the bytes. It has the members that a program prints, with no more than
+-- `left` rows; or the member that says that memory ran out for these.
 pub data IsImageObject (names : List ℕ) (members : ImageLines) (left : ℕ) (heading : Heading) (bytes : List ℕ) : Shown → Type 0 where
   of_members : (text : List ℕ) (whole : Bool) (rest : ℕ) → members left bytes text whole rest
       → IsImageObject names members left heading bytes (record { text = object_front heading ++ (text ++ codes "}"); said = []; whole = whole; left = rest })
@@ -38,7 +38,8 @@ pub data IsImageObject (names : List ℕ) (members : ImageLines) (left : ℕ) (h
     left = left;
   })
 
--- The text is the object of entry i: that of an image, that it is an archive, or why it is refused: a fault that stands in it, or want of memory.
+-- The text is the object of entry i: that of an image, that it is an archive, or why it is refused: a fault that it has, or that
+-- memory ran out.
 pub data IsEntryObject (names : List ℕ) (members : ImageLines) (left i : ℕ) : Result FatEntry Fault → Shown → Type 0 where
   of_image : (slice : List ℕ) (shown : Shown) → IsImageObject names members left (headings.Arch i) slice shown
       → IsEntryObject names members left i (Ok (image slice)) shown
@@ -55,7 +56,8 @@ pub data IsEntryObject (names : List ℕ) (members : ImageLines) (left i : ℕ) 
     left = left;
   })
 
--- the objects of some entries, what is said of them, whether none is refused and each is whole, and how many rows more may be told behind them
+-- the objects of some entries, the complaints about them, whether none is refused and each is whole, and how many more rows may
+-- be printed after them
 pub record EntryObjects : Type 0 where
   pub objects : List (List ℕ)
   pub said : List ℕ
@@ -73,7 +75,7 @@ one_behind front last = record {
   left = last.left;
 }
 
--- There is exactly one object for each entry of these first records whose cpu is asked for, in order: of an entry's rows no more may be told than
+-- There is exactly one object for each of these first records whose cpu is selected, in order. An entry has no more rows than
 -- those before it left of the limit.
 pub data AreEntryObjects (cpu : Cpu) (names : List ℕ) (members : ImageLines) (limit : ℕ) (file : FatFile) : List FatArch → EntryObjects → Type 0 where
   of_none : AreEntryObjects cpu names members limit file [] (no_objects limit)
@@ -83,7 +85,7 @@ pub data AreEntryObjects (cpu : Cpu) (names : List ℕ) (members : ImageLines) (
   of_other : (archs : List FatArch) (arch : FatArch) (front : EntryObjects) → AreEntryObjects cpu names members limit file archs front
       → is_asked cpu arch ≡ false → AreEntryObjects cpu names members limit file (archs ++ arch ∷ []) front
 
--- what stands behind the objects of the images of a file, which is of a kind and has a name
+-- what follows the objects of the images of a file, which has a kind and a name
 abbrev pub document_end : (kind name : List ℕ) → List ℕ
 document_end kind name = codes "],\"kind\":\"" ++ (kind ++ (codes "\",\"name\":" ++ (json_string name ++ codes "}\n")))
 
@@ -98,8 +100,8 @@ refusal_object name words = codes "{\"error\":\"" ++ (words ++ (codes "\",\"imag
 abbrev pub refused_for : (names name words : List ℕ) (left : ℕ) → Shown
 refused_for names name words left = record { text = refusal_object name words; said = complaint names words; whole = false; left = left }
 
--- The text is the object of a file: of one image, if it is for a cpu that is asked for, or of a fat file with the objects of its entries that are
--- asked for; or why nothing is shown of it. The limit is that of all its images together.
+-- The text is the object of a file: of one image, if its cpu is selected, or of a fat file with the objects of its selected
+-- entries; or why nothing of it is shown. The limit is that of all its images together.
 pub data IsDocument (cpu : Cpu) (names name : List ℕ) (members : ImageLines) (limit : ℕ) (bytes : List ℕ) : Shown → Type 0 where
   of_one_image : (shown : Shown) → IsTaken cpu bytes true → IsImageObject names members limit headings.None bytes shown
       → IsDocument cpu names name members limit bytes (record {
@@ -122,12 +124,12 @@ pub data IsDocument (cpu : Cpu) (names name : List ℕ) (members : ImageLines) (
   of_refused_file : (e : Error) → Stands (ViewFault bytes) e
       → IsDocument cpu names name members limit bytes (refused_for names name (refused_words bytes e) limit)
 
--- These objects were written on the two outputs, a comma between two, with what is said.
+-- These objects were written with commas between them, and the complaints about them on the error output.
 pub record WritesEntries (shown : EntryObjects) (out_old out_new err_old err_new : Option (List ℕ)) : Type 0 where
   pub text : Appends out_old out_new (with_commas shown.objects)
   pub said : Appends err_old err_new shown.said
 
--- the words by which nothing is shown of a file
+-- the text of a refusal of a file
 abbrev pub told_refusal : Refusal → List ℕ
 told_refusal (refusals.Kind kind) = foreign_words kind
 told_refusal (refusals.Fault words) = words_of (described words)

@@ -1,4 +1,4 @@
--- Texts of a file, as they are printed. Other bytes stand for each character that may end a line, or change what a terminal shows.
+-- Texts of a file, as they are printed. Each character that may end a line, or change what a terminal shows, is replaced by other bytes.
 use Rattle.std.specs.Prelude.{◌≡◌, ◌==◌, ◌||◌, ◌&&◌, ◌+◌, ◌-◌, ◌*◌, ◌%◌, ◌^◌, ◌<◌, ◌≤◌, ℕ, zero, suc, List, [], ◌∷◌, ◌++◌, codes, Bool, true, false}
 use Rattle.std.specs.Prelude.{not, nat_lt, if◌then◌else◌, length, get_or, take, drop, flat_map, All}
 use Rattle.std.specs.List.{list_all}
@@ -9,9 +9,9 @@ use Rattle.std.specs.Str.Lossy.{after_first_chunk, utf8_invalid_len, utf8_valid_
 use Rattle.mach_cli.specs.declared.escaped.Style.{Style}
 use Rattle.mach_cli.specs.declared.escaped.Style.TheVariants.{Json, Name}
 
--- ---- characters that are not printed as they are
+-- ---- characters that are escaped
 
--- the second and the third byte, behind 0xe2, of U+200E, U+200F and U+2028 to U+202E, and of U+2066 to U+2069
+-- the second and the third byte, after 0xe2, of U+200E, U+200F and U+2028 to U+202E, and of U+2066 to U+2069
 abbrev pub is_mark : ℕ → ℕ → Bool
 is_mark c d = c == 0x80 && (is_in_range 0x8e 0x8f d || is_in_range 0xa8 0xae d) || c == 0x81 && is_in_range 0xa6 0xa9 d
 
@@ -19,8 +19,10 @@ is_mark c d = c == 0x80 && (is_in_range 0x8e 0x8f d || is_in_range 0xa8 0xae d) 
 abbrev pub byte_in : List ℕ → ℕ → ℕ
 byte_in text i = get_or text i 0x20
 
--- How many bytes the first character has, if it is hidden, and else 0. Of one byte: a byte below 0x20, and 0x7f. Of two: U+0080 to U+009F.
--- Of three: the controls of direction (U+200E, U+200F, U+202A to U+202E, U+2066 to U+2069), and what ends lines and paragraphs (U+2028, U+2029).
+-- How many bytes the first character has, if it is hidden, else 0.
+-- One byte: a byte below 0x20, and 0x7f. Two bytes: U+0080 to U+009F.
+-- Three bytes: the direction controls (U+200E, U+200F, U+202A to U+202E, U+2066 to U+2069), and the ends of lines and paragraphs
+-- (U+2028, U+2029).
 unfoldable pub hidden_len : List ℕ → ℕ
 hidden_len text =
     if nat_lt (byte_in text 0) 0x20 || byte_in text 0 == 0x7f then 1
@@ -33,40 +35,40 @@ hidden_char text =
     if hidden_len text == 1 then byte_in text 0
     else (if hidden_len text == 2 then byte_in text 1 else 0x2000 + byte_in text 1 % 0x40 * 0x40 + byte_in text 2 % 0x40)
 
--- ---- what stands for them
+-- ---- their escapes
 
 -- a byte in two hexadecimal digits
 abbrev pub byte_text : ℕ → List ℕ
 byte_text n = padded_integral (format_spec 32 0 4 2 (2 ^ 64 - 1)) false [] (digits 16 false n)
 
--- the same behind a backslash and an x
+-- the same after a backslash and an x
 abbrev pub escape_text : ℕ → List ℕ
 escape_text n = codes "\\x" ++ byte_text n
 
--- a number in four hexadecimal digits, behind a backslash and a u
+-- a number in four hexadecimal digits, after a backslash and a u
 abbrev pub json_escape : ℕ → List ℕ
 json_escape n = codes "\\u" ++ padded_integral (format_spec 32 0 4 4 (2 ^ 64 - 1)) false [] (digits 16 false n)
 
--- a character that stands for itself behind a backslash: the backslash, and in JSON the quotation mark
+-- a character that is escaped by a backslash before it: the backslash, and in JSON the quotation mark
 abbrev pub is_quoted : Style → ℕ → Bool
 is_quoted Name b = b == 0x5c
 is_quoted Json b = b == 0x5c || b == 0x22
 
--- how many of the first bytes are one character that isn't written as it is, and 0 where the first is
+-- how many of the first bytes are one character that is escaped; 0 if the first one isn't
 unfoldable pub escape_len : Style → List ℕ → ℕ
 escape_len style text = if is_quoted style (byte_in text 0) then 1 else hidden_len text
 
--- what stands for a hidden character at the front of a text: an escape for each of its bytes, and in JSON one for its number
+-- the escape of a hidden character at the start of a text: one escape for each of its bytes, in JSON one for its number
 abbrev pub hidden_text : Style → List ℕ → List ℕ
 hidden_text Name text = flat_map escape_text (take (hidden_len text) text)
 hidden_text Json text = json_escape (hidden_char text)
 
--- what stands for the character at the front of a text, which isn't written as it is
+-- the escape of the character at the start of a text
 abbrev pub escape_of : Style → List ℕ → List ℕ
 escape_of style text =
     if is_quoted style (byte_in text 0) then 0x5c ∷ byte_in text 0 ∷ [] else hidden_text style text
 
--- a text, whose first n bytes are passed over
+-- a text without its first n bytes, as it is written
 abbrev pub written_past : Style → ℕ → List ℕ → List ℕ
 written_past style n [] = []
 written_past style zero (b ∷ rest) =
@@ -74,15 +76,15 @@ written_past style zero (b ∷ rest) =
     else escape_of style (b ∷ rest) ++ written_past style (escape_len style (b ∷ rest) - 1) rest
 written_past style (suc n) (b ∷ rest) = written_past style n rest
 
--- a text as it is written: for each character that isn't what stands for it, and all else as it is
+-- a text as it is written: escapes for the characters that have one, and everything else unchanged
 unfoldable pub written : Style → List ℕ → List ℕ
 written style text = written_past style 0 text
 
--- A name on one line. A backslash is `\\`, each byte of a hidden character is `\xNN`, and all else is as it is.
+-- A name on one line. A backslash is `\\`, each byte of a hidden character is `\xNN`, and everything else is unchanged.
 abbrev pub escaped_text : List ℕ → List ℕ
 escaped_text name = written Name name
 
--- the same of bytes that may be no UTF-8, cut at k places at most: each byte that begins no character is `\xNN`
+-- the same for bytes that may not be UTF-8, cut at k places at most: each byte that begins no character is `\xNN`
 abbrev pub escaped_bytes_within : ℕ → List ℕ → List ℕ
 escaped_bytes_within zero bytes = escaped_text bytes
 escaped_bytes_within (suc k) bytes = let n = utf8_valid_len bytes in
@@ -97,16 +99,16 @@ escaped_bytes bytes = escaped_bytes_within (length bytes) bytes
 
 -- what was read last
 pub data Escape : Type 0 where
-  -- no escape is begun
+  -- no escape has begun
   None : Escape
   -- a backslash
   Slash : Escape
   -- a backslash and an x
   Hex : Escape
-  -- and a digit of this value
+  -- a backslash, an x and a digit of this value
   Digit : ℕ → Escape
 
--- what bytes say behind that
+-- the bytes that are read after that
 abbrev pub unescaped_after : Escape → List ℕ → List ℕ
 unescaped_after e [] = []
 unescaped_after None (b ∷ rest) = if b == 0x5c then unescaped_after Slash rest else b ∷ unescaped_after None rest
@@ -114,7 +116,7 @@ unescaped_after Slash (b ∷ rest) = if b == 0x78 then unescaped_after Hex rest 
 unescaped_after Hex (b ∷ rest) = unescaped_after (Digit (digit_value b)) rest
 unescaped_after (Digit d) (b ∷ rest) = (16 * d + digit_value b) ∷ unescaped_after None rest
 
--- the name that is printed so
+-- the name that is printed as a text
 abbrev pub unescaped : List ℕ → List ℕ
 unescaped text = unescaped_after None text
 

@@ -2,7 +2,7 @@
 use Rattle.mach_cli.specs.declared.failure.Failure.{Failure}
 use Rattle.mach_cli.specs.declared.failure.Failure.TheVariants.{Memory, Unwritten}
 
--- P holds where memory was refused
+-- P holds if memory ran out
 abbrev pub IfMemory : Type 0 → Failure → Type 0
 IfMemory P Memory = P
 IfMemory P (Unwritten e) = Unit {0}

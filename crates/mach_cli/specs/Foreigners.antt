@@ -1,4 +1,4 @@
--- What a file is that is none of Mach-O's, by its first bytes, as `file` judges them.
+-- Files that aren't Mach-O: their kind, by their first bytes, as `file` judges them.
 use Rattle.std.specs.Prelude.{◌==◌, ◌&&◌, ◌++◌, ◌∷◌, ℕ, List, [], Bool, false, codes, length, nat_eq, nat_lt, Option, Some, None, Result, Ok, Err}
 use Rattle.std.specs.Prelude.{if◌then◌else◌}
 use Rattle.std.specs.List.{starts_with}
@@ -11,7 +11,7 @@ use Rattle.mach_base.specs.Words.{words_of}
 use Rattle.mach_cli.specs.declared.foreign.Foreign.{Foreign}
 use Rattle.mach_cli.specs.declared.foreign.Foreign.TheVariants.{Empty, Elf, JavaClass, Pe, Archive, Bitcode}
 
--- the bytes with which a kind of file begins
+-- the first bytes of a kind of file
 pub record Front : Type 0 where
   pub front : List ℕ
   pub kind : Foreign
@@ -26,12 +26,12 @@ fronts =
     ∷ record { front = 0xde ∷ 0xc0 ∷ 0x17 ∷ 0x0b ∷ []; kind = Bitcode }
     ∷ []
 
--- the kind of the first of these with which the bytes begin
+-- the kind of the first of these that the bytes begin with
 abbrev pub kind_with : List Front → List ℕ → Option Foreign
 kind_with [] bytes = None
 kind_with (f ∷ fs) bytes = if starts_with nat_eq bytes f.front then Some f.kind else kind_with fs bytes
 
--- A class of Java has the magic of a fat file and behind it its version, from 45 on: more than a fat file has entries.
+-- A Java class has the magic of a fat file and then its version, from 45 on: more than a fat file has entries.
 abbrev pub is_class_by : (magic count : Result ℕ Fault) → Bool
 is_class_by (Ok magic) (Ok count) = (magic == 0xcafe_babe) && nat_lt 30 count
 is_class_by (Ok magic) (Err f) = false
@@ -40,7 +40,7 @@ is_class_by (Err f) count = false
 abbrev pub is_java_class : List ℕ → Bool
 is_java_class bytes = is_class_by (number_at Big 4 bytes 0) (number_at Big 4 bytes 4)
 
--- the kind of a file that is none of Mach-O's, where its first bytes show it
+-- the kind of a file that isn't Mach-O, if its first bytes show it
 abbrev pub foreign_kind : List ℕ → Option Foreign
 foreign_kind bytes =
     if length bytes == 0 then Some Empty
@@ -55,7 +55,7 @@ foreign_words Pe = codes "not Mach-O: a PE or DOS program"
 foreign_words Archive = codes "not Mach-O: an archive"
 foreign_words Bitcode = codes "not Mach-O: LLVM bitcode"
 
--- the kind of a file that is refused for an error; want of memory is told of any file
+-- the kind of a file that is refused for an error; if memory ran out, any file has none
 abbrev pub refused_kind : List ℕ → Error → Option Foreign
 refused_kind bytes (errors.Malformed msg) = foreign_kind bytes
 refused_kind bytes (errors.BadMagic magic) = foreign_kind bytes
@@ -67,6 +67,6 @@ abbrev pub words_by : Option Foreign → Error → List ℕ
 words_by (Some kind) e = foreign_words kind
 words_by None e = words_of e
 
--- The words by which a file is refused: what it is, where it is none of Mach-O's; else those of the error.
+-- The reason why a file is refused: its kind, if it isn't Mach-O; else the text of the error.
 abbrev pub refused_words : List ℕ → Error → List ℕ
 refused_words bytes e = words_by (refused_kind bytes e) e

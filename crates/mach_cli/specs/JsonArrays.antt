@@ -1,4 +1,4 @@
--- Arrays of the rows of lists, an object a row (RFC 8259, 5).
+-- Arrays of the rows of lists, one object for each row (RFC 8259, 5).
 use Rattle.std.specs.Prelude.{◌≡◌, ◌==◌, ◌-◌, ◌&&◌, ◌||◌, ℕ, List, [], ◌∷◌, ◌++◌, codes, map, take, length, nat_lt, Bool, Option, Result, Ok, Err}
 use Rattle.std.specs.Prelude.{not, if◌then◌else◌}
 use Rattle.std.specs.Io.KnownBytes.{Appends}
@@ -20,15 +20,16 @@ abbrev pub with_commas : List (List ℕ) → List ℕ
 with_commas [] = []
 with_commas (x ∷ xs) = x ++ flat_map behind_comma xs
 
--- what stands before the next element
+-- the separator before the next element
 abbrev pub comma_before : (is_first : Bool) → List ℕ
 comma_before is_first = if is_first then [] else codes ","
 
--- The member that says why something isn't there, and the end of its object. The words are made of fixed texts and numbers, and stand as they are.
+-- The member that says why something isn't there, and the end of its object. The reason is made of fixed texts and numbers, and
+-- needs no escapes.
 abbrev pub error_end : List ℕ → List ℕ
 error_end words = codes "\"error\":\"" ++ (words ++ codes "\"}")
 
--- the object of a row as it was answered: its text, or why there is none
+-- the object of a row that was read: its text, or why it couldn't be read
 abbrev pub row_object : Result (List ℕ) Error → List ℕ
 row_object (Ok text) = text
 row_object (Err e) = codes "{" ++ error_end (words_of e)
@@ -39,7 +40,7 @@ pub record IsArrayOf (rows : List (Result (List ℕ) Fault)) (text : List ℕ) :
   pub are_rows : map text_read answers ≡ rows
   pub is_text : text ≡ codes "[" ++ (with_commas (map row_object answers) ++ codes "]")
 
--- An array of the first rows was written, no more than `left`, and this is what is known then.
+-- An array of the first rows was written, no more than `left`; `t` is the state after it.
 pub record WritesArray (left : ℕ) (rows : List (Result (List ℕ) Fault)) (old new : Option (List ℕ)) (t : Told) : Type 0 where
   pub text : List ℕ
   pub array : IsArrayOf (take left rows) text
@@ -52,7 +53,7 @@ pub record WritesAllRows (rows : List (Result (List ℕ) Fault)) (old new : Opti
   pub array : IsArrayOf rows text
   pub written : Appends old new text
 
--- The objects of the first rows were written, no more than `left`, and this is what is known then.
+-- The objects of the first rows were written, no more than `left`; `t` is the state after them.
 pub record WritesObjects (left : ℕ) (rows : List (Result (List ℕ) Fault)) (old new : Option (List ℕ)) (t : Told) : Type 0 where
   pub answers : List (Result (List ℕ) Error)
   pub are_rows : map text_read answers ≡ take left rows
@@ -66,19 +67,20 @@ pub record NamedRows : Type 0 where
   pub name : List ℕ
   pub rows : List (Result (List ℕ) Fault)
 
--- an array as a member, with others behind it
+-- an array as a member, with a comma after it
 abbrev pub array_member : List ℕ → List ℕ → List ℕ
 array_member name array = codes "\"" ++ (name ++ (codes "\":" ++ (array ++ codes ",")))
 
--- An array was written as a member of this name, with others behind it.
+-- An array was written as a member of this name, with a comma after it.
 pub record WritesMember (name : List ℕ) (left : ℕ) (rows : List (Result (List ℕ) Fault)) (old new : Option (List ℕ)) (t : Told) : Type 0 where
   pub text : List ℕ
   pub array : IsArrayOf (take left rows) text
   pub counts : CountsRows left rows t
   pub written : Appends old new (array_member name text)
 
--- The text is a member for each of these lists, in order: of all their rows in order the first ones, no more than `left`. It is whole where none
--- of these is missing; and there are more rows than that, or not. Each row told is one less that is left.
+-- The text has a member for each of these lists, in order. Of all their rows, in order, it has the first ones, no more than
+-- `left`. It is whole if all of these could be read. The relation also gives whether there are more rows; each printed row counts
+-- against `left`.
 pub data AreArrayMembers : (left : ℕ) → List NamedRows → (text : List ℕ) → (whole more : Bool) → (rest : ℕ) → Type 0 where
   last_member : (left : ℕ) (l : NamedRows) (array : List ℕ) → IsArrayOf (take left l.rows) array
       → AreArrayMembers left (l ∷ []) (array_member l.name array) (list_all is_ok (take left l.rows)) (nat_lt left (length l.rows)) (left - length l.rows)
@@ -87,22 +89,22 @@ pub data AreArrayMembers : (left : ℕ) → List NamedRows → (text : List ℕ)
       → AreArrayMembers left (l ∷ ls) (array_member l.name array ++ text) (list_all is_ok (take left l.rows) && whole)
       (nat_lt left (length l.rows) || more) rest
 
--- Such members were written, and this is what is known then.
+-- Such members were written; `t` is the state after them.
 pub record WritesMembers (left : ℕ) (lists : List NamedRows) (old new : Option (List ℕ)) (t : Told) : Type 0 where
   pub text : List ℕ
   pub members : AreArrayMembers left lists text t.whole t.more t.left
   pub written : Appends old new text
 
--- what stands behind the members of the lists of an image: whether there are more rows than the limit
+-- what follows the members of an image's lists: whether there are more rows than the limit
 abbrev pub lists_end : (more : Bool) → List ℕ
 lists_end more = codes "\"kind\":\"image\",\"limit_met\":" ++ json_bool more
 
--- the same of lists that claim so many items more past the end of the bytes
+-- the same for lists that claim so many more items past the end of the bytes
 abbrev pub lists_end_past : (more : Bool) → (past : ℕ) → List ℕ
 lists_end_past more past = lists_end more ++ (codes ",\"past_the_end\":" ++ decimal past)
 
--- The text is the members of an image of which these lists are told, of all their rows in order the first ones, no more than `left`. It is whole
--- where there are no more, and none of these is missing.
+-- The text is the members of an image with these lists. Of all their rows, in order, it has the first ones, no more than `left`.
+-- It is whole if there are no more rows, and all could be read.
 pub record AreListMembers (left : ℕ) (lists : List NamedRows) (text : List ℕ) (whole : Bool) (rest : ℕ) : Type 0 where
   pub front : List ℕ
   pub readable : Bool
@@ -111,13 +113,13 @@ pub record AreListMembers (left : ℕ) (lists : List NamedRows) (text : List ℕ
   pub is_text : text ≡ front ++ lists_end more
   pub is_whole : whole ≡ (readable && not more)
 
--- What was written is such members.
+-- Such members were written.
 pub record WritesListMembers (left : ℕ) (lists : List NamedRows) (whole : Bool) (rest : ℕ) (old new : Option (List ℕ)) : Type 0 where
   pub text : List ℕ
   pub members : AreListMembers left lists text whole rest
   pub written : Appends old new text
 
--- The same of lists that claim so many items more past the end of the bytes: it is whole where there are none.
+-- The same for lists that claim so many more items past the end of the bytes: it is whole only if there are none.
 pub record AreBegunMembers (left : ℕ) (lists : List NamedRows) (past : ℕ) (text : List ℕ) (whole : Bool) (rest : ℕ) : Type 0 where
   pub front : List ℕ
   pub readable : Bool

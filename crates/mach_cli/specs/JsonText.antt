@@ -3,8 +3,9 @@ use Rattle.std.specs.Prelude.{List, ℕ, ◌++◌, codes, Bool, if◌then◌else
 use Rattle.mach_cli.specs.Escapes.{written}
 use Rattle.mach_cli.specs.declared.escaped.Style.TheVariants.{Json}
 
--- What stands between the quotation marks of a text, which is UTF-8. A quotation mark and a backslash have a backslash before them. A character that a name
--- hides (a control character, a control of direction, an end of a line) is `\u` and its number in four hexadecimal digits. All else is as it is.
+-- The inside of a string, between its quotation marks, for a text that is UTF-8. A quotation mark and a backslash have a
+-- backslash before them. A character that a name hides (a control character, a direction control, a line end) is `\u` and its
+-- number in four hexadecimal digits. Everything else is unchanged.
 abbrev pub json_inner : List ℕ → List ℕ
 json_inner text = written Json text
 

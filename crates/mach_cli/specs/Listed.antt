@@ -6,6 +6,6 @@ use Rattle.std.specs.List.{slice_split}
 abbrev pub name_end : (ends_with_nul : Bool) → ℕ
 name_end ends_with_nul = if ends_with_nul then 0 else 10
 
--- the names of a list: what stands before, between and behind the bytes that end them
+-- the names of a list: what comes before, between and after the bytes that end them
 abbrev pub listed_names : (end : ℕ) → List ℕ → List (List ℕ)
 listed_names end bytes = slice_split (λ byte. byte == end) bytes

@@ -1,4 +1,4 @@
--- The lines of a list of rows, as many as a limit leaves, and that there are more.
+-- The lines of a list of rows, as many as a limit leaves, and the line that says that there are more.
 use Rattle.std.specs.Prelude.{◌≡◌, ◌==◌, ◌&&◌, ◌-◌, ℕ, List, [], ◌++◌, codes, take, length, nat_lt, Bool, false, not, Option, Result, Ok, Err, if◌then◌else◌}
 use Rattle.std.specs.Fmt.{digits, decimal}
 use Rattle.std.specs.Io.KnownBytes.{Appends}
@@ -16,36 +16,37 @@ use Rattle.mach_cli.specs.declared.listing.Told.{Told}
 abbrev pub hex_text : ℕ → List ℕ
 hex_text n = codes "0x" ++ digits 16 false n
 
--- the text of an item, or why there is none
+-- the text of an item, or why it can't be read
 abbrev pub told_by : {X : Type 0} → (X → List ℕ) → Result X Fault → Result (List ℕ) Fault
 told_by text item = item >>= (λ x. Ok (text x))
 
--- a row's text, as it was answered
+-- the text of a row that was read
 abbrev pub text_read : Result (List ℕ) Error → Result (List ℕ) Fault
 text_read answer = read_as (λ text. text) answer
 
--- what is told of a row, whose text is this
+-- the text of what was read as a row
 abbrev pub text_answer : {R : Type 0} → (R → List ℕ) → Result R Error → Result (List ℕ) Error
 text_answer text (Ok row) = Ok (text row)
 text_answer text (Err e) = Err e
 
--- the line of a row: its text, or behind a word why there is none
+-- the line of a row: its text, or after a word the reason why it can't be read
 abbrev pub told_line : List ℕ → Result (List ℕ) Error → List ℕ
 told_line word (Ok text) = text ++ codes "\n"
 told_line word (Err e) = word ++ (codes ": " ++ (words_of e ++ codes "\n"))
 
--- the line behind the last one that is told, where there are more
+-- the line after the last printed row, if there are more
 abbrev pub cut_line : ℕ → (more : Bool) → List ℕ
 cut_line limit more = if more then codes "limit: " ++ (decimal limit ++ codes " of them are told, and there are more\n") else []
 
--- the line that says how many items of this name a list claims more, whose records begin past the end of the bytes, if there are some
+-- the line that says how many more items of this name a list claims, with records that begin past the end of the bytes, if there are some
 abbrev pub past_line : (name : List ℕ) → (past : ℕ) → List ℕ
 past_line name past = if past == 0 then [] else decimal past ++ (codes " more " ++ (name ++ codes " past the end\n"))
 
--- The text is the lines of the first of these rows, as many as are left of the limit, in order; one that is missing is an error that reports its
--- fault. After them is, exactly where there are more rows than that, a line that says so; and then, exactly where `past` items of a name are claimed
--- more past the end of the bytes, a line that says that. It is whole where there are no more rows, none is missing, and none is past the end. Each row
--- told is one less that is left.
+-- The text has the lines of the first rows, as many as are left of the limit, in order. A row that can't be read is an error that
+-- reports its fault.
+-- If, and only if, there are more rows, a line then says so. If, and only if, `past` more items of a name are claimed past the
+-- end of the bytes, a line then says that.
+-- The outcome is whole if there are no more rows, all could be read, and none is past the end. Each printed row counts against `left`.
 pub record AreFirstLines (word : List ℕ) (limit left : ℕ) (rows : List (Result (List ℕ) Fault)) (name : List ℕ) (past : ℕ) (text : List ℕ)
     (whole : Bool) (rest : ℕ) : Type 0 where
   pub lines : List ℕ
@@ -54,20 +55,20 @@ pub record AreFirstLines (word : List ℕ) (limit left : ℕ) (rows : List (Resu
   pub is_whole : whole ≡ ((list_all is_ok (take left rows) && not (nat_lt left (length rows))) && (past == 0))
   pub is_rest : rest ≡ left - length rows
 
--- The first rows were gone over, no more than `left`, and this is what is known then.
+-- The first rows were visited, no more than `left`; `t` is the state after them.
 pub record CountsRows (left : ℕ) (rows : List (Result (List ℕ) Fault)) (t : Told) : Type 0 where
   pub whole : t.whole ≡ list_all is_ok (take left rows)
   pub rest : t.left ≡ left - length rows
   pub more : t.more ≡ nat_lt left (length rows)
 
--- The lines of the first rows were written, no more than `left`, and this is what is known then.
+-- The lines of the first rows were written, no more than `left`; `t` is the state after them.
 pub record WritesRows (word : List ℕ) (left : ℕ) (rows : List (Result (List ℕ) Fault)) (old new : Option (List ℕ)) (t : Told) : Type 0 where
   pub lines : WritesLines text_read (told_line word) (take left rows) old new
   pub whole : t.whole ≡ list_all is_ok (take left rows)
   pub rest : t.left ≡ left - length rows
   pub more : t.more ≡ nat_lt left (length rows)
 
--- What was written is such lines, and after them where there are more.
+-- Such lines were written, and the lines after them that say that there are more.
 pub record WritesFirstLines (word : List ℕ) (limit left : ℕ) (rows : List (Result (List ℕ) Fault)) (name : List ℕ) (past : ℕ) (whole : Bool) (rest : ℕ)
     (old new : Option (List ℕ)) : Type 0 where
   pub text : List ℕ

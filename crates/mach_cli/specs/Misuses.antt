@@ -1,4 +1,4 @@
--- What is wrong with the words of a call, in words.
+-- The texts of what is wrong with the arguments of a call.
 use Rattle.std.specs.Prelude.{ℕ, List, ◌++◌, codes}
 use Rattle.mach_cli.specs.CallWords.{no_text_words}
 use Rattle.mach_cli.specs.Escapes.{escaped_text}

@@ -1,4 +1,4 @@
--- What the complaints of a file begin with.
+-- The prefix of a file's complaints.
 use Rattle.std.specs.Prelude.{ℕ, List, ◌++◌, codes}
 use Rattle.mach_cli.specs.Escapes.{escaped_text}
 

@@ -1,4 +1,4 @@
--- What was opened of a file, to be shown as JSON.
+-- What a file opened as, to be shown as JSON.
 use Rattle.std.specs.Prelude.{ℕ, List}
 use Rattle.goblin_mach.specs.OpenImage.{IsImage}
 use Rattle.goblin_mach.specs.FatFile.{file_held}

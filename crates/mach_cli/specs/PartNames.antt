@@ -1,4 +1,4 @@
--- What a part of a file is called.
+-- The name of a part of a file.
 use Rattle.std.specs.Prelude.{ℕ, List, [], ◌++◌, codes, Option, Some, None, Result, Ok, Err}
 use Rattle.std.specs.Fmt.{decimal}
 use Rattle.mach_base.specs.Fault.{Fault}
@@ -6,12 +6,12 @@ use Rattle.mach_archive.specs.MemberNames.{member_name}
 use Rattle.mach_archive.specs.Members.{MemberView}
 use Rattle.goblin_mach.specs.Items.{ContentView, archive_member, no_member, whole_file}
 
--- the entry of a fat file in which it stands
+-- the entry of a fat file that holds it
 abbrev pub entry_label : Option ℕ → List ℕ
 entry_label (Some i) = codes ": arch " ++ decimal i
 entry_label None = []
 
--- a member by its name, or by the place of its header
+-- the name of a member, or the offset of its header
 abbrev pub name_or_place : Result (List ℕ) Fault → ℕ → List ℕ
 name_or_place (Ok name) place = name
 name_or_place (Err f) place = codes "at " ++ decimal place

@@ -1,4 +1,4 @@
--- What is shown of a file: itself, or what is within it.
+-- What is shown of a file: the file itself, or its parts.
 use Rattle.std.specs.Prelude.{◌==◌, ℕ, List, [], ◌∷◌, ◌++◌, Bool, true, false, not, ◌||◌, Option, Some, None, Result, Ok, Err, if◌then◌else◌}
 use Rattle.std.specs.Borrow.{Bor}
 use Rattle.mach_base.specs.Fault.{Fault}
@@ -18,7 +18,7 @@ use Rattle.mach_cli.specs.declared.parts.Parts.{Parts}
 abbrev pub itself : List ℕ → ItemView
 itself bytes = item_at alone (Ok (whole_file bytes))
 
--- the entry whose archive an item's member is of, if it is one
+-- the entry that holds the archive of a member, if the item is one
 abbrev pub entry_of_member : Option ℕ → Result ContentView Fault → Option ℕ
 entry_of_member entry (Ok (whole_file bytes)) = None
 entry_of_member entry (Ok (archive_member m)) = entry
@@ -30,7 +30,7 @@ is_same_entry (Some m) (Some n) = m == n
 is_same_entry (Some m) None = false
 is_same_entry None entry = false
 
--- whether an item is a member, or the fault that ends the archive whose member was the last
+-- whether an item is a member, or the fault that ends the archive of the last member
 abbrev pub is_of_archive : (last entry : Option ℕ) → Result ContentView Fault → Bool
 is_of_archive last entry (Ok (whole_file bytes)) = false
 is_of_archive last entry (Ok (archive_member m)) = true
@@ -41,7 +41,7 @@ abbrev pub if_told : Bool → ItemView → List ItemView → List ItemView
 if_told true x xs = x ∷ xs
 if_told false x xs = xs
 
--- of some items all, or those of archives
+-- all items, or only those of archives
 abbrev pub told_items : (only : Bool) → (last : Option ℕ) → List ItemView → List ItemView
 told_items only last [] = []
 told_items only last (x ∷ xs) =
@@ -52,12 +52,12 @@ abbrev pub parts_of_archive : Result ArchiveView Fault → List ℕ → List Ite
 parts_of_archive (Ok a) bytes = items_in bytes
 parts_of_archive (Err f) bytes = itself bytes ∷ []
 
--- a fat file of 64 bits as its entries, and archives among them as their members
+-- a fat file of 64 bits is shown as its entries, and archives among them as their members
 abbrev pub parts_of_wide : Result FatFile Fault → List ℕ → List ItemView
 parts_of_wide (Ok file) bytes = items_in bytes
 parts_of_wide (Err f) bytes = itself bytes ∷ []
 
--- one of 32 bits as itself, with the members of the archives among its entries behind it
+-- a fat file of 32 bits is shown as itself, and after it the members of the archives among its entries
 abbrev pub parts_of_narrow : Result FatFile Fault → List ℕ → List ItemView
 parts_of_narrow (Ok file) bytes = itself bytes ∷ told_items true None (items_in bytes)
 parts_of_narrow (Err f) bytes = itself bytes ∷ []
@@ -74,14 +74,14 @@ abbrev pub parts_in : List ℕ → List ItemView
 parts_in bytes =
     if begins_any_archive bytes then parts_of_archive (archive_in bytes) bytes else parts_by_magic (number_at Big 4 bytes 0) bytes
 
--- it is what the bytes are, and no image
+-- the bytes are this container, and no image
 abbrev pub IsContainer : {A : Type 0} → List ℕ → Input A → Type 0
 IsContainer {A} bytes (inputs.Archive a) = IsInput {A = A} bytes (inputs.Archive a)
 IsContainer {A} bytes (inputs.Fat64 m) = IsInput {A = A} bytes (inputs.Fat64 m)
 IsContainer {A} bytes (inputs.Fat m) = IsInput {A = A} bytes (inputs.Fat m)
 IsContainer {A} bytes (inputs.Image m) = ⊥
 
--- ---- what is left
+-- ---- the parts left
 
 abbrev pub itself_left : Option (Bor (List ℕ)) → List ItemView
 itself_left (Some bytes) = itself bytes.now ∷ []

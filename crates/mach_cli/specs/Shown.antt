@@ -1,4 +1,4 @@
--- What a program shows of a file: the lines on its output, and on its error output why a file or an entry is refused.
+-- What a program shows of a file: the lines on its output, and the reasons for refusals on its error output.
 use Rattle.std.specs.Prelude.{◌≡◌, ℕ, ◌<◌, List, [], ◌∷◌, ◌++◌, codes, length, take, Bool, true, false, ◌&&◌, Option, Result, Ok}
 use Rattle.std.specs.Fmt.{decimal}
 use Rattle.std.specs.Io.KnownBytes.{Appends}
@@ -16,17 +16,17 @@ use Rattle.mach_cli.specs.declared.cpu.Cpu.{Cpu}
 use Rattle.mach_cli.specs.Foreigners.{refused_words}
 use Rattle.mach_cli.specs.Headings.{arch_line}
 
--- What a program's lines of an image are, of which no more than `left` may be told: a relation of that number, the bytes at whose front the
--- image opens, the text, whether that is whole, and how many more may be told behind it.
+-- Which lines a program prints for an image, with no more than `left` of them: a relation of that number, the bytes at whose
+-- start the image opens, the text, whether that is whole, and how many more lines may be printed after it.
 abbrev pub ImageLines : Type 1
 ImageLines = (left : ℕ) → (bytes text : List ℕ) → (whole : Bool) → (rest : ℕ) → Type 0
 
--- those of a program that has no limit
+-- the lines of a program that has no limit
 abbrev pub without_limit : (List ℕ → List ℕ → Bool → Type 0) → ImageLines
 without_limit lines = λ left bytes text whole rest. lines bytes text whole
 
--- what is shown: the text on the output, what is said on the error output, whether nothing was refused and each image is whole, and how many
--- lines more may be told of the images behind it
+-- what is shown: the text on the output, the complaints on the error output, whether nothing was refused and each image is whole,
+-- and how many more lines may be printed for later images
 pub record Shown : Type 0 where
   pub text : List ℕ
   pub said : List ℕ
@@ -46,7 +46,8 @@ both first second = record {
   left = second.left;
 }
 
--- the line on the error output that says why a file is refused, or no more is shown of it; `names` are those of the program and of the file
+-- the line on the error output that says why a file is refused, or why no more of it is shown; `names` are those of the program
+-- and of the file
 abbrev pub complaint : List ℕ → List ℕ → List ℕ
 complaint names words = names ++ (codes ": " ++ (words ++ codes "\n"))
 
@@ -60,8 +61,8 @@ pub record IsFatTable (bytes : List ℕ) (file : FatFile) (archs : List FatArch)
   pub is_file : fat_file_in bytes ≡ Ok file
   pub table : arches_in file ≡ Ok archs
 
--- What is shown of entry i, under its line: the lines of an image, that it is an archive, or a fault that stands in it. Of its lines no more
--- than `left` may be told.
+-- What is shown of entry i, under its heading: the lines of an image, that it is an archive, or a fault that it has. It has no
+-- more than `left` lines.
 pub data ShowsEntry (names : List ℕ) (lines : ImageLines) (left i : ℕ) : Result FatEntry Fault → Shown → Type 0 where
   an_image : (slice text : List ℕ) (whole : Bool) (rest : ℕ) → lines left slice text whole rest
       → ShowsEntry names lines left i (Ok (image slice)) (record { text = arch_line i ++ text; said = []; whole = whole; left = rest })
@@ -75,20 +76,20 @@ pub data ShowsEntry (names : List ℕ) (lines : ImageLines) (left i : ℕ) : Res
         left = left;
       })
 
--- What is shown of entry i by its record: that of the entry, where its cpu is asked for, else nothing.
+-- What is shown of entry i by its record: the entry, if its cpu is selected, else nothing.
 pub data ShowsAsked (cpu : Cpu) (names : List ℕ) (lines : ImageLines) (left i : ℕ) (arch : FatArch) (entry : Result FatEntry Fault) : Shown → Type 0 where
   asked : (shown : Shown) → is_asked cpu arch ≡ true → ShowsEntry names lines left i entry shown → ShowsAsked cpu names lines left i arch entry shown
   other_cpu : is_asked cpu arch ≡ false → ShowsAsked cpu names lines left i arch entry (nothing left)
 
--- What is shown of the entries of the first records, in order: of each entry's lines no more may be told than those before it left of the limit.
+-- What is shown of the entries of the first records, in order. An entry has no more lines than those before it left of the limit.
 pub data ShowsEntries (cpu : Cpu) (names : List ℕ) (lines : ImageLines) (limit : ℕ) (file : FatFile) : List FatArch → Shown → Type 0 where
   none : ShowsEntries cpu names lines limit file [] (nothing limit)
   more : (archs : List FatArch) (arch : FatArch) (front last : Shown) → ShowsEntries cpu names lines limit file archs front
       → ShowsAsked cpu names lines front.left (length archs) arch (entry_at file (length archs)) last
       → ShowsEntries cpu names lines limit file (archs ++ arch ∷ []) (both front last)
 
--- What is shown of a fat file of these records: all its entries that are asked for, or those before one for which memory is refused; or that none
--- is there.
+-- What is shown of a fat file with these records: all its selected entries, or those before one for which memory ran out; or that
+-- none is selected.
 pub data ShowsFat (cpu : Cpu) (names : List ℕ) (lines : ImageLines) (limit : ℕ) (file : FatFile) (archs : List FatArch) : Shown → Type 0 where
   all_entries : (shown : Shown) → misses cpu archs ≡ false → ShowsEntries cpu names lines limit file archs shown
       → ShowsFat cpu names lines limit file archs shown
@@ -102,8 +103,8 @@ pub data ShowsFat (cpu : Cpu) (names : List ℕ) (lines : ImageLines) (limit : �
   no_entry : misses cpu archs ≡ true
       → ShowsFat cpu names lines limit file archs (record { text = []; said = complaint names (no_entry_words cpu); whole = false; left = limit })
 
--- What is shown of a file: one image, if it is for a cpu that is asked for, a fat file, or why it is refused: a fault that stands in it, or want of
--- memory. The limit is that of all its images together.
+-- What is shown of a file: one image, if its cpu is selected, a fat file, or why it is refused: a fault that it has, or that
+-- memory ran out. The limit is that of all its images together.
 pub data ShowsFile (cpu : Cpu) (names : List ℕ) (lines : ImageLines) (limit : ℕ) (bytes : List ℕ) : Shown → Type 0 where
   one_image : (text : List ℕ) (whole : Bool) (rest : ℕ) → IsTaken cpu bytes true → lines limit bytes text whole rest
       → ShowsFile cpu names lines limit bytes (record { text = text; said = []; whole = whole; left = rest })

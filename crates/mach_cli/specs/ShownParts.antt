@@ -7,7 +7,7 @@ use Rattle.mach_cli.specs.PartNames.{part_name}
 use Rattle.mach_cli.specs.declared.parts.shown.ShownPart.{ShownPart}
 use Rattle.mach_cli.specs.declared.parts.shown.ShownPart.TheVariants.{Itself, Nothing, Within}
 
--- nothing; the file itself; or bytes under a name of their own
+-- nothing; the file itself; or bytes with their own name
 pub data PartShown : Type 0 where
   shows_nothing : PartShown
   shows_file : (bytes : List ℕ) → PartShown
@@ -18,7 +18,7 @@ part_seen Nothing = shows_nothing
 part_seen (Itself bytes) = shows_file bytes.now
 part_seen (Within name bytes) = shows_within (string_bytes name) bytes.now
 
--- an entry or a member stands under a name of its own, and of an archive with no member nothing is shown
+-- an entry or a member has its own name; an archive without members shows nothing
 abbrev pub shown_of : (file : List ℕ) → Option ℕ → ContentView → PartShown
 shown_of file None (whole_file bytes) = shows_file bytes
 shown_of file (Some entry) (whole_file bytes) = shows_within (part_name file (Some entry) (whole_file bytes)) bytes

@@ -1,4 +1,4 @@
--- How a pointer is signed, and what a rebase corrects, as members of an object.
+-- How a pointer is signed, and what a rebase adjusts, as members of an object.
 use Rattle.std.specs.Prelude.{ℕ, List, ◌++◌, codes, Bool, true, false, Option, Some, None}
 use Rattle.std.specs.Fmt.{decimal}
 use Rattle.mach_parts.specs.PointerSigning.{Auth}
@@ -6,7 +6,7 @@ use Rattle.mach_dyld.specs.declared.rebases.RebaseKind.{RebaseKind}
 use Rattle.mach_dyld.specs.declared.rebases.RebaseKind.TheVariants.{Pointer, TextAbsolute32, TextRelative32}
 use Rattle.mach_cli.specs.JsonText.{json_bool}
 
--- how a pointer is signed; a key and a diversity of 0, and no address mixed in, where it isn't
+-- how a pointer is signed; if it isn't, the key and the diversity are 0, and no address is mixed in
 abbrev pub has_auth : Option Auth → Bool
 has_auth None = false
 has_auth (Some a) = true
@@ -23,19 +23,19 @@ abbrev pub diverse_by : Option Auth → Bool
 diverse_by None = false
 diverse_by (Some a) = a.is_address_diverse
 
--- what is mixed in
+-- its diversity, and whether the address is mixed in
 abbrev pub diversity_members : Option Auth → List ℕ
 diversity_members auth = codes "\"diversity\":" ++ (decimal (diversity_by auth) ++ (codes ",\"is_address_diverse\":" ++ json_bool (diverse_by auth)))
 
--- whether it is signed, and by which key
+-- whether it is signed, and with which key
 abbrev pub signing_members : Option Auth → List ℕ
 signing_members auth = codes "\"is_signed\":" ++ (json_bool (has_auth auth) ++ (codes ",\"key\":" ++ decimal (key_by auth)))
 
--- what is mixed in, whether it is signed, and by which key
+-- its diversity, whether it is signed, and with which key
 abbrev pub auth_members : Option Auth → List ℕ
 auth_members auth = diversity_members auth ++ (codes "," ++ signing_members auth)
 
--- what a rebase corrects
+-- what a rebase adjusts
 abbrev pub rebase_type : RebaseKind → List ℕ
 rebase_type Pointer = codes "pointer"
 rebase_type TextAbsolute32 = codes "absolute32"

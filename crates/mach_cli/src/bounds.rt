@@ -1,9 +1,9 @@
-//! How many items of a list are gone over.
+//! How many items of a list are visited.
 
 ghost use Rattle.std.specs.Prelude.{◌≡◌};
 ghost use Rattle.mach_cli.specs.Bounds.{most_items};
 
-/// How many items of a list of a file are gone over at most: no more than a limit, and no more than the file has bytes.
+/// Returns how many items of a list in a file are visited at most: no more than the limit, and no more than the file has bytes.
 pub fn most_items(limit: usize, bytes: &[u8]) -> usize
     ensures { result ≡ most_items limit bytes.now }
 {

@@ -1,4 +1,4 @@
-//! The words of a call.
+//! The arguments of a call.
 
 ghost use Rattle.std.specs.Prelude.{◌≡◌, ℕ, None, IfErr, IfNone, IfOk, IfSome, OnOk};
 ghost use Rattle.mach_cli.specs.Calls.{call_view, nothing_said, kind_at, word_kind, AddsWord, AreUntaken, AsksFor, IsCputype, IsRequest, TakesValue, TakesWord};
@@ -9,44 +9,44 @@ use crate::named::Others;
 use crate::word::{NoText, Word};
 use std::alloc::{AllocError, Allocator};
 
-/// The words of a call behind the program's name and the options.
+/// The arguments of a call, after the program's name and the options.
 #[derive(Drop)]
 pub struct Call<'a, A: Allocator> {
-    /// The number behind `--limit`, where it is given.
+    /// The number after `--limit`, if it is given.
     pub limit: Option<usize>,
-    /// The cpu behind `--arch` or `--cputype`; any, where neither is given.
+    /// The cpu after `--arch` or `--cputype`; any, if neither is given.
     pub cpu: Cpu,
-    /// All other words that are text, in order.
+    /// All other arguments that are text, in order.
     pub words: Vec<&'a str, A>,
-    /// The files that are named otherwise.
+    /// The files that are named in other ways.
     pub others: Others<'a, A>,
 }
 
-/// What the words of a call ask for.
+/// What the arguments of a call request.
 #[derive(Drop)]
 pub enum Request<'a, A: Allocator> {
-    /// How the program is called.
+    /// `--help`: print the usage.
     Help,
-    /// Its version.
+    /// `--version`: print the version.
     Version,
-    /// What it is for.
+    /// A run of the program, with its arguments.
     Call(Call<'a, A>),
-    /// Nothing.
+    /// Nothing, because of this misuse.
     Nothing(Misuse<'a>),
 }
 
-/// Which options a program has.
+/// The options that a program has.
 #[derive(Clone, Copy)]
 pub struct Options {
     /// `--limit`.
     pub has_limit: bool,
     /// `--arch` and `--cputype`.
     pub has_cpu: bool,
-    /// `--names` and `-0`, as it takes several files.
+    /// `--names` and `-0`, for programs that take several files.
     pub has_files: bool,
 }
 
-// An option that has a word behind it.
+// An option with a value.
 #[derive(Clone, Copy)]
 enum Valued {
     Limit,
@@ -55,38 +55,38 @@ enum Valued {
     Names,
 }
 
-// What a word is that stands behind no option, and before `--`.
+// The kind of an argument that is no option's value and comes before `--`.
 #[derive(Clone, Copy)]
 enum Kind {
-    // `--`: the words behind it are no options.
+    // `--`: no argument after it is an option.
     Plain,
     Help,
     Version,
     // `-0`: names in lists end with NUL.
     Nul,
-    // An option that has a word behind it.
+    // An option with a value.
     Valued(Valued),
     // No option.
     Other,
-    // An option that the program hasn't.
+    // An option that the program doesn't have.
     Unknown,
 }
 
-// Why words ask for nothing, or aren't read.
+// Why arguments request nothing, or aren't read.
 #[derive(Clone, Copy)]
 enum Untaken<'a> {
-    // What is wrong with one of them.
+    // One of them is wrong.
     Misuse(Misuse<'a>),
-    // Memory is refused.
+    // Memory ran out.
     Memory,
 }
 
-/// Whether an option that programs share has a word behind it.
+/// Whether an option that programs share has a value.
 pub fn takes_word(option: &str) -> bool {
     matches!(option, "--limit" | "--arch" | "--cputype" | "--names")
 }
 
-// What a word is that stands behind no option, and before `--`.
+// Returns the kind of an argument that is no option's value and comes before `--`.
 fn kind_of(word: &str, options: Options) -> Kind
     ensures { result ≡ word_kind options word.now }
 {
@@ -105,7 +105,7 @@ fn kind_of(word: &str, options: Options) -> Kind
     }
 }
 
-// What a word is that stands behind no option: after `--` no option.
+// Returns the kind of an argument that is no option's value. After `--` it is no option.
 fn kind_at(is_plain: bool, word: &str, options: Options) -> Kind
     ensures { result ≡ kind_at is_plain options word.now }
 {
@@ -117,7 +117,7 @@ fn kind_at(is_plain: bool, word: &str, options: Options) -> Kind
 }
 
 impl Valued {
-    // What is missing where nothing stands behind it.
+    // Returns what is missing if no value follows.
     fn missing(self) -> &'static str {
         match self {
             Valued::Limit => "number behind --limit",
@@ -128,7 +128,7 @@ impl Valued {
     }
 }
 
-/// The number of a cpu in a word: `0x`, and 1 to 8 hexadecimal digits.
+/// Returns the cpu number in an argument: `0x`, and 1 to 8 hexadecimal digits.
 pub fn cputype_in(word: &str) -> Option<u32>
     ensures value { IfSome result (λ number. IsCputype word.now number) }
     ensures none { IfNone result ((number : ℕ) → IsCputype word.now number → ⊥) }
@@ -141,7 +141,7 @@ pub fn cputype_in(word: &str) -> Option<u32>
 }
 
 impl<'a, A: Allocator> Call<'a, A> {
-    // Takes the word behind an option; that behind `--names` is a list.
+    // Takes the value of an option; a value of `--names` is a list.
     fn take(&mut self, option: Valued, word: &'a str) -> Result<(), Untaken<'a>>
         ensures taken { OnOk result (TakesValue option word.now (call_view self.old) (call_view self.new)) }
         ensures untaken { IfErr result (AreUntaken (TakesValue option word.now (call_view self.old))) }
@@ -168,7 +168,7 @@ impl<'a, A: Allocator> Call<'a, A> {
         Ok(())
     }
 
-    // Takes the word behind an option, which is to be text.
+    // Takes the value of an option, which must be text.
     fn take_word(&mut self, option: Valued, word: &'a Word) -> Result<(), Untaken<'a>>
         ensures taken { OnOk result (TakesWord option word.now (call_view self.old) (call_view self.new)) }
         ensures untaken { IfErr result (AreUntaken (TakesWord option word.now (call_view self.old))) }
@@ -181,7 +181,7 @@ impl<'a, A: Allocator> Call<'a, A> {
         }
     }
 
-    // Takes a word that is no option and stands behind none: one that is no text, if files may be among them.
+    // Takes an argument that is neither an option nor a value. One that isn't text is taken if it may be a file.
     fn add(&mut self, word: &'a Word, options: Options) -> Result<(), Untaken<'a>>
         ensures added { OnOk result (AddsWord options word.now (call_view self.old) (call_view self.new)) }
         ensures untaken { IfErr result (AreUntaken (AddsWord options word.now (call_view self.old))) }
@@ -200,7 +200,7 @@ impl<'a, A: Allocator> Call<'a, A> {
     }
 }
 
-// That the word of a number is no text.
+// Returns the report that the argument of this number isn't text.
 fn no_text(number: usize, bytes: &[u8]) -> NoText<'_>
     ensures { (result.number ≡ number) × (result.bytes.now ≡ bytes.now) }
 {
@@ -211,8 +211,7 @@ fn no_text(number: usize, bytes: &[u8]) -> NoText<'_>
     }
 }
 
-/// What the words behind the program's name ask for. An option may stand anywhere before `--`; behind that there are other words alone. `-`
-/// is no option.
+/// Parses the arguments after the program's name. An option may be anywhere before `--`; after it nothing is an option. `-` is no option.
 pub fn understand<'a, A: Allocator + Clone>(
     alloc: &A,
     options: Options,
@@ -237,7 +236,7 @@ pub fn understand<'a, A: Allocator + Clone>(
     }
 }
 
-// What words ask for, behind what a call has.
+// Parses arguments into a call that has some already.
 fn read<'a, A: Allocator>(
     mut call: Call<'a, A>,
     options: Options,

@@ -1,4 +1,4 @@
-//! What a program complains of, of its call and not of a file's bytes.
+//! What a program complains about, except faults in a file's bytes.
 
 use crate::escaped::Escaped;
 use crate::misuse::Misuse;
@@ -8,15 +8,15 @@ use std::fmt::{Display, Formatter, Write};
 /// What is wrong.
 #[derive(Clone, Copy)]
 pub enum Trouble<'a> {
-    /// Memory is refused.
+    /// Memory ran out.
     Memory,
-    /// A write to the file of this name failed; to standard output, where it is empty.
+    /// A write to the file of this name failed; an empty name is standard output.
     Unwritten(&'a str),
-    /// The words of the call ask for nothing; and the word that was meant.
+    /// The arguments request nothing; with the word that was probably meant.
     Misused(Misuse<'a>, Option<&'static str>),
 }
 
-/// A line in which the program of this name says what is wrong.
+/// A line in which the program of this name reports what is wrong.
 #[derive(Clone, Copy)]
 pub struct Complaint<'a> {
     pub program: &'a str,

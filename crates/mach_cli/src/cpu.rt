@@ -1,4 +1,4 @@
-//! The images that are asked for by their cpu (`mach/machine.h`).
+//! The images that are selected by their cpu (`mach/machine.h`).
 
 ghost use Rattle.std.specs.Prelude.{◌≡◌, Some, option_map};
 ghost use Rattle.std.specs.List.{list_any};
@@ -14,18 +14,18 @@ use std::fmt::{Display, Formatter, Write};
 
 const CPU_TYPE_POWERPC64: u32 = CPU_TYPE_POWERPC | CPU_ARCH_ABI64;
 
-/// A cpu of one kind, by its name.
+/// A cpu of one kind, with its name.
 #[derive(Clone, Copy)]
 pub struct Arch {
-    /// The name that LLVM's tools have for it.
+    /// Its name in LLVM's tools.
     pub name: &'static str,
-    /// Its number.
+    /// Its `CPU_TYPE_` number.
     pub cputype: u32,
-    /// The number of its kind, without capabilities.
+    /// Its `CPU_SUBTYPE_` number, without capabilities.
     pub cpusubtype: u32,
 }
 
-/// Which images of a file are asked for.
+/// Which images of a file are selected.
 #[derive(Clone, Copy)]
 pub enum Cpu {
     /// All.
@@ -37,7 +37,7 @@ pub enum Cpu {
 }
 
 impl Cpu {
-    /// Whether an image for a cpu of these numbers is asked for.
+    /// Whether an image for a cpu of these numbers is selected.
     pub fn takes(&self, cputype: u32, cpusubtype: u32) -> bool
         ensures { result ≡ is_of_cpu self.now cputype cpusubtype }
     {
@@ -50,14 +50,14 @@ impl Cpu {
         }
     }
 
-    /// Whether the entry of a record is asked for.
+    /// Whether the entry of a record is selected.
     pub fn takes_entry(&self, arch: &FatArch) -> bool
         ensures { result ≡ is_asked self.now arch.now }
     {
         self.takes(arch.cputype, arch.cpusubtype)
     }
 
-    // Whether one of these records is asked for.
+    // Whether any of these records is selected.
     fn has_entry(&self, archs: &[FatArch]) -> bool
         ensures { result ≡ list_any (is_asked self.now) archs.now }
     {
@@ -69,7 +69,7 @@ impl Cpu {
         false
     }
 
-    /// Whether a cpu is asked for, and none of these records is for it.
+    /// Whether a cpu is selected, and none of these records is for it.
     pub fn misses(&self, archs: &[FatArch]) -> bool
         ensures { result ≡ misses self.now archs.now }
     {
@@ -98,7 +98,7 @@ impl Display for Cpu {
     }
 }
 
-// The cpu of this name and these numbers.
+// Returns the cpu of this name and these numbers.
 fn row(name: &'static str, cputype: u32, cpusubtype: u32) -> Option<Arch>
     ensures { option_map arch_row_of result ≡ Some (record { name = name.now; cputype = cputype; cpusubtype = cpusubtype }) }
 {
@@ -110,7 +110,7 @@ fn row(name: &'static str, cputype: u32, cpusubtype: u32) -> Option<Arch>
 }
 
 impl Arch {
-    /// The cpu of a name.
+    /// Returns the cpu of a name.
     pub fn named(name: &str) -> Option<Arch>
         ensures { option_map arch_row_of result ≡ arch_named arch_rows name.now }
     {

@@ -12,8 +12,8 @@ use std::fmt::{Display, Formatter};
 use std::io::Write;
 use std::{fmt, io};
 
-/// A text of a file, such as a name, on one line. A backslash is `\\`. Each byte of a control character (below U+0020, U+007F to U+009F), of a
-/// control of direction and of U+2028 and U+2029 is `\xNN`. All else is as it is.
+/// A text of a file, such as a name, on one line. A backslash is `\\`. Each byte of a control character (below U+0020, U+007F to
+/// U+009F), of a direction control and of U+2028 and U+2029 is `\xNN`. Everything else is unchanged.
 #[derive(Clone, Copy)]
 pub struct Escaped<'a>(pub &'a str);
 
@@ -25,7 +25,7 @@ impl Display for Escaped<'_> {
     }
 }
 
-/// The same of bytes that may be no text: each byte that is no part of a character of UTF-8 is `\xNN`, too.
+/// The same for bytes that may not be text: each byte that is no part of a UTF-8 character is `\xNN`, too.
 #[derive(Clone, Copy)]
 pub struct EscapedBytes<'a>(pub &'a [u8]);
 
@@ -42,11 +42,11 @@ impl Display for EscapedBytes<'_> {
 pub(crate) enum Style {
     // A name on one line.
     Name,
-    // What is between the quotation marks of a string of JSON.
+    // The inside of a JSON string, between its quotation marks.
     Json,
 }
 
-// Writes a text; the bytes that stand for themselves in whole runs.
+// Writes a text. Runs of unescaped bytes are written whole.
 pub(crate) fn write_escaped<W: fmt::Write>(
     f: &mut Formatter<W>,
     style: Style,
@@ -70,7 +70,7 @@ pub(crate) fn write_escaped<W: fmt::Write>(
     f.write_str(&text[start..])
 }
 
-// A byte, and a space past the end.
+// Returns a byte, or a space past the end.
 fn byte_in(bytes: &[u8], at: usize) -> u8
     ensures { result ≡ byte_in bytes.now at }
 {
@@ -80,7 +80,7 @@ fn byte_in(bytes: &[u8], at: usize) -> u8
     }
 }
 
-// How many of the first bytes are one character that isn't written as it is.
+// Returns how many of the first bytes are one character that is escaped.
 #[tactic(auto, unfolding(crate::specs::Escapes::escape_len))]
 fn escape_len(style: Style, bytes: &[u8]) -> usize
     ensures { result ≡ escape_len style bytes.now }
@@ -92,7 +92,7 @@ fn escape_len(style: Style, bytes: &[u8]) -> usize
     }
 }
 
-// Whether a character stands for itself behind a backslash.
+// Whether a byte is escaped by a backslash before it.
 fn is_quoted(style: Style, byte: u8) -> bool
     ensures { result ≡ is_quoted style byte }
 {
@@ -102,7 +102,7 @@ fn is_quoted(style: Style, byte: u8) -> bool
     }
 }
 
-// How many bytes the first character has, if it is hidden.
+// Returns how many bytes the first character has, if it is hidden.
 #[tactic(auto, unfolding(crate::specs::Escapes::hidden_len))]
 fn hidden_len(bytes: &[u8]) -> usize
     ensures { result ≡ hidden_len bytes.now }
@@ -119,14 +119,14 @@ fn hidden_len(bytes: &[u8]) -> usize
     }
 }
 
-// Whether a byte behind 0xc2 makes it a control character.
+// Whether a byte after 0xc2 makes a control character.
 fn is_c1(second: u8) -> bool
     ensures { result ≡ is_in_range 0x80 0x9f second }
 {
     0x80 <= second && second <= 0x9f
 }
 
-// Whether two bytes behind 0xe2 make it a control of direction, or an end of a line.
+// Whether two bytes after 0xe2 make a direction control, or a line end.
 fn is_mark(second: u8, third: u8) -> bool
     ensures { result ≡ is_mark second third }
 {
@@ -137,7 +137,7 @@ fn is_mark(second: u8, third: u8) -> bool
     }
 }
 
-// Writes what stands for the first character, which isn't written as it is.
+// Writes the escape of the first character.
 fn write_escape<W: fmt::Write>(f: &mut Formatter<W>, style: Style, bytes: &[u8]) -> fmt::Result
     requires { 0 < escape_len style bytes.now }
     ensures { WritesOnOk W.write_str_gives f.old result (escape_of style bytes.now) f.new }
@@ -156,7 +156,7 @@ fn write_escape<W: fmt::Write>(f: &mut Formatter<W>, style: Style, bytes: &[u8])
     }
 }
 
-// The number of the first character, which is hidden.
+// Returns the number of the first character, which is hidden.
 fn hidden_char(bytes: &[u8]) -> u32
     ensures { result ≡ hidden_char bytes.now }
 {
@@ -178,7 +178,7 @@ fn write_bytes<W: fmt::Write>(f: &mut Formatter<W>, bytes: &[u8]) -> fmt::Result
     Ok(())
 }
 
-// Writes bytes that may be no text.
+// Writes bytes that may not be text.
 fn write_chunks<W: fmt::Write>(f: &mut Formatter<W>, bytes: &[u8]) -> fmt::Result
     ensures { WritesOnOk W.write_str_gives f.old result (escaped_bytes bytes.now) f.new }
 {
@@ -189,7 +189,7 @@ fn write_chunks<W: fmt::Write>(f: &mut Formatter<W>, bytes: &[u8]) -> fmt::Resul
     Ok(())
 }
 
-/// Prints a name on one line, as `Escaped` has it.
+/// Prints a name on one line, as `Escaped` writes it.
 pub fn print_escaped<O: Write>(name: &str, out: &mut O) -> io::Result<()>
     ensures { OnOk result (Appends (O.contents out.old) (O.contents out.new) (escaped_text name.now)) }
 {

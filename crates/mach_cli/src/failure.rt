@@ -9,7 +9,7 @@ use std::io;
 /// Why an image is not shown.
 #[derive(Drop)]
 pub enum Failure {
-    /// Memory was refused, and nothing is written.
+    /// Memory ran out, and nothing is written.
     Memory,
     /// A write failed.
     Unwritten(io::Error),

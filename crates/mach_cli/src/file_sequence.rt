@@ -1,4 +1,4 @@
-//! The files of a call, one behind the other.
+//! The files of a call, one after the other.
 
 ghost use Rattle.std.specs.Prelude.{◌≡◌, ◌≤◌, max, nat_lt, IsOk, OnOk, Err};
 ghost use Rattle.mach_cli.specs.Rounds.{Begins, IsSameCall};
@@ -8,19 +8,19 @@ use crate::titled::{Titled, put_title, title_of};
 use std::alloc::Allocator;
 use std::io::{BufWriter, Write};
 
-/// The files of a call, one behind the other.
+/// The files of a call, one after the other.
 #[derive(Clone, Copy)]
 pub struct Round {
-    /// What is called.
+    /// The program that is called.
     pub program: Program,
-    /// Whether each file stands under its name.
+    /// Whether each file is printed under its name.
     pub is_titled: bool,
     /// The worst status so far.
     pub worst: u8,
 }
 
 impl Round {
-    /// Before the first of this number of files.
+    /// Starts before the first of `files` files.
     pub fn new(program: Program, files: usize) -> Round
         ensures program { result.program ≡ program }
         ensures is_titled { result.is_titled ≡ nat_lt 1 files }
@@ -33,8 +33,8 @@ impl Round {
         }
     }
 
-    /// The bytes of the next file, whose name is written before what is shown of it where there are several; none where they can't be had,
-    /// which is told.
+    /// Returns the bytes of the next file. If there are several files, its name is written before its output. If the bytes can't
+    /// be read that is reported, and the answer is none.
     pub fn begin<W: Write + Drop, B: Allocator>(
         &mut self,
         rt: &HostRuntime,
@@ -60,7 +60,7 @@ impl Round {
         Some(bytes)
     }
 
-    /// Takes the status of a file. Behind a failed write there is no other: the error is the exit status.
+    /// Takes the status of a file. After a failed write there is no next file: the error is the exit status.
     pub fn end(&mut self, status: u8) -> Result<(), u8>
         ensures same { IsSameCall self.old self.new }
         ensures on { status ≤ 1 → IsOk result }

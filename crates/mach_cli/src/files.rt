@@ -1,4 +1,4 @@
-//! The files of a call, each shown as its parts.
+//! The files of a call: each is shown part by part.
 
 ghost use Rattle.std.specs.Prelude.{◌≡◌, ◌≤◌, IfErr, IfOk, OnOk};
 ghost use Rattle.mach_cli.specs.Statuses.{IsStatus, IsUnwritten};
@@ -24,7 +24,7 @@ use std::str;
 pub trait ShowsFile<W> {
     ghost use Rattle.mach_cli.specs.Statuses.{IsStatus};
 
-    /// Shows a file of a name, and answers the exit status.
+    /// Shows a file of a name, and returns the exit status.
     fn show(&self, rt: &HostRuntime, name: &str, bytes: &[u8], out: &mut W) -> u8
         ensures { IsStatus result };
 }
@@ -32,17 +32,17 @@ pub trait ShowsFile<W> {
 /// How the files of a call are shown.
 #[derive(Clone, Copy)]
 pub struct Files {
-    /// What is called.
+    /// The program that is called.
     pub program: Program,
-    /// Of which cpu images are asked for.
+    /// The cpu whose images are selected.
     pub cpu: Cpu,
-    /// Whether what is shown may stand under its name: that of a file where there are several, that of a part always.
+    /// Whether output may have titles: a file's name if there are several, a part's name always.
     pub has_titles: bool,
-    /// Whether each part of a file is shown, and not the file as it is.
+    /// Whether each part of a file is shown, instead of the file itself.
     pub has_parts: bool,
 }
 
-// How far a call has come.
+// The state of a call: how far it has come.
 #[derive(Clone, Copy)]
 struct Going {
     round: Round,
@@ -52,8 +52,8 @@ struct Going {
 }
 
 impl Files {
-    /// Shows files in order, and then those that are named otherwise, and answers the worst status; that of a failed write as an error, as nothing is
-    /// shown after it.
+    /// Shows files in order, then those named in other ways, and returns the worst status. The status of a failed write is an
+    /// error, since nothing is shown after it.
     pub fn show<S: ShowsFile<BufWriter<Titled<W>, B>>, W: Write + Drop, B: Allocator>(
         &self,
         rt: &HostRuntime,
@@ -66,7 +66,7 @@ impl Files {
         ensures unwritten { IfErr result (λ status. IsUnwritten status) }
     {
         let mut going = Going {
-            // (what is shown of a file has a title of its own)
+            // (the output of a file has a title of its own)
             round: Round::new(self.program, 1),
             progress: Progress::new(rt, rt.stderr().is_terminal()),
             are_several: others.are_several(files.len()),
@@ -83,7 +83,7 @@ impl Files {
         Ok(going.round.worst)
     }
 
-    // Shows the files that a list names, and keeps the worst status. An empty name is none.
+    // Shows the files of a list, and keeps the worst status. Empty names are skipped.
     fn show_listed<S: ShowsFile<BufWriter<Titled<W>, B>>, W: Write + Drop, B: Allocator>(
         &self,
         rt: &HostRuntime,
@@ -117,7 +117,7 @@ impl Files {
         Ok(())
     }
 
-    // Shows a file, and keeps the worst status. Where many take long, it is said on a terminal that this one is begun.
+    // Shows a file, and keeps the worst status. If a call of many files takes long, a terminal shows which file begins.
     fn show_file<S: ShowsFile<BufWriter<Titled<W>, B>>, W: Write + Drop, B: Allocator>(
         &self,
         rt: &HostRuntime,
@@ -145,7 +145,7 @@ impl Files {
         }
     }
 
-    // Shows the parts of a file that are asked for, and keeps the worst status.
+    // Shows the selected parts of a file, and keeps the worst status.
     fn show_parts<S: ShowsFile<BufWriter<Titled<W>, B>>, W: Write + Drop, B: Allocator>(
         &self,
         rt: &HostRuntime,
@@ -170,7 +170,7 @@ impl Files {
         Ok(())
     }
 
-    // Shows a part of a file, and answers the status.
+    // Shows a part of a file, and returns the status.
     fn show_part<S: ShowsFile<BufWriter<Titled<W>, B>>, W: Write + Drop, B: Allocator>(
         &self,
         rt: &HostRuntime,
@@ -195,7 +195,7 @@ impl Files {
         }
     }
 
-    // Shows a file or a part of this name, and answers the status.
+    // Shows a file or a part of this name, and returns the status.
     fn show_named<S: ShowsFile<BufWriter<Titled<W>, B>>, W: Write + Drop, B: Allocator>(
         &self,
         rt: &HostRuntime,
@@ -214,7 +214,7 @@ impl Files {
         shows.show(rt, name, bytes, out)
     }
 
-    // The status where none of a file's parts is asked for, which is told.
+    // Reports that no part of a file is selected, and returns the status.
     fn miss(&self, rt: &HostRuntime, file: &str) -> u8
         ensures { result ≡ 1 }
     {
@@ -223,7 +223,7 @@ impl Files {
         1
     }
 
-    // The status where a part is refused, which is told.
+    // Reports that a part is refused, and returns the status.
     fn refuse(&self, rt: &HostRuntime, file: &str, entry: Option<usize>, error: &Error) -> u8
         ensures { result ≡ 1 }
     {
@@ -235,7 +235,7 @@ impl Files {
         1
     }
 
-    // The status where a name in a list is no text, which is told.
+    // Reports that a name in a list isn't text, and returns the status.
     fn refuse_name(&self, rt: &HostRuntime, list: &str, index: usize, bytes: &[u8]) -> u8
         ensures { result ≡ 2 }
     {
@@ -249,7 +249,7 @@ impl Files {
         2
     }
 
-    // The status where a word is no text, which is told.
+    // Reports that an argument isn't text, and returns the status.
     fn refuse_word(&self, rt: &HostRuntime, word: NoText<'_>) -> u8
         ensures { result ≡ 2 }
     {
@@ -258,7 +258,7 @@ impl Files {
         2
     }
 
-    // What the complaints of a file begin with.
+    // Returns the prefix of a file's complaints.
     fn names<'a>(&'a self, file: &'a str) -> Names<'a>
         ensures { (result.program.now ≡ self.now.program.name.now) × (result.file.now ≡ file.now) }
     {

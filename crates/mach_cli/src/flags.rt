@@ -1,4 +1,4 @@
-//! Bits that have words.
+//! Bits that have names.
 
 ghost use Rattle.std.specs.Prelude.{◌≡◌, ◌==◌, bit_and, map, true, IfOk, OnOk};
 ghost use Rattle.std.specs.Io.KnownBytes.{Appends};
@@ -8,11 +8,11 @@ ghost use Rattle.mach_cli.specs.Flags as defined;
 use std::io;
 use std::io::Write;
 
-/// A bit, and its word.
+/// A bit, and its name.
 #[derive(Clone, Copy)]
 pub struct FlagWord(pub u64, pub &'static str);
 
-// The flags of a code directory.
+// Returns the flags of a code directory.
 fn code_flags() -> [FlagWord; 10]
     ensures { map flag_named result ≡ defined.code_flags }
 {
@@ -30,7 +30,7 @@ fn code_flags() -> [FlagWord; 10]
     ]
 }
 
-// The flags of an executable segment.
+// Returns the flags of an executable segment.
 fn segment_flags() -> [FlagWord; 7]
     ensures { map flag_named result ≡ defined.segment_flags }
 {
@@ -59,7 +59,7 @@ pub fn print_segment_flags<O: Write>(flags: u64, out: &mut O) -> io::Result<()>
     print_flags(flags, &segment_flags(), out)
 }
 
-// Prints a number, and in parentheses the words of its bits, in order, and what has none as one number.
+// Prints a number, and in parentheses the names of its bits, in order, and the bits without a name as one number.
 fn print_flags<O: Write>(flags: u64, words: &[FlagWord], out: &mut O) -> io::Result<()>
     ensures { OnOk result (Appends (O.contents out.old) (O.contents out.new) (worded_flags_text (map flag_named words.now) flags)) }
 {
@@ -78,14 +78,14 @@ fn print_end<O: Write>(flags: u64, out: &mut O) -> io::Result<()>
     write!(out, ")")
 }
 
-// What is left of a number whose words are printed one after the other, and whether the next is the first.
+// What is left of a number whose names are printed one after the other, and whether the next name is the first.
 #[derive(Clone, Copy, Drop)]
 struct FlagsLeft {
     is_first: bool,
     rest: u64,
 }
 
-// Prints what stands before a word.
+// Prints the separator before a name.
 fn print_before<O: Write>(is_first: bool, out: &mut O) -> io::Result<()>
     ensures { OnOk result (Appends (O.contents out.old) (O.contents out.new) (before_text is_first)) }
 {
@@ -96,14 +96,14 @@ fn print_before<O: Write>(is_first: bool, out: &mut O) -> io::Result<()>
     }
 }
 
-// Whether a number hasn't a bit.
+// Whether a number doesn't have a bit.
 fn is_clear(number: u64, bit: u64) -> bool
     ensures { result ≡ (bit_and number bit == 0) }
 {
     number & bit == 0
 }
 
-// Prints the word of a bit, if it is set, and answers what is left.
+// Prints the name of a bit, if it is set, and returns what is left.
 fn print_word<O: Write>(left: FlagsLeft, flag: &FlagWord, out: &mut O) -> io::Result<FlagsLeft>
     ensures { IfOk result (λ next. WritesWord (flag_named flag.now) left.is_first left.rest next.is_first next.rest
         (O.contents out.old) (O.contents out.new)) }
@@ -120,7 +120,7 @@ fn print_word<O: Write>(left: FlagsLeft, flag: &FlagWord, out: &mut O) -> io::Re
     })
 }
 
-// Prints the words of the bits that are set, and what has none, behind a parenthesis.
+// Prints the names of the bits that are set, and the bits without a name, after a parenthesis.
 fn print_words<O: Write>(flags: u64, words: &[FlagWord], out: &mut O) -> io::Result<()>
     ensures { OnOk result (Appends (O.contents out.old) (O.contents out.new) (flag_words_text true (map flag_named words.now) flags)) }
 {
@@ -134,7 +134,7 @@ fn print_words<O: Write>(flags: u64, words: &[FlagWord], out: &mut O) -> io::Res
     print_others(left.is_first, left.rest, out)
 }
 
-// Prints what has no word, if anything is left.
+// Prints the bits without a name, if any are left.
 fn print_others<O: Write>(is_first: bool, rest: u64, out: &mut O) -> io::Result<()>
     ensures { OnOk result (Appends (O.contents out.old) (O.contents out.new) (other_flags_text is_first rest)) }
 {

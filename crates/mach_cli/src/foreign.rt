@@ -1,4 +1,4 @@
-//! What a file is that is none of Mach-O's, by its first bytes.
+//! Files that aren't Mach-O: their kind, by their first bytes.
 
 ghost use Rattle.std.specs.Prelude.{◌≡◌};
 ghost use Rattle.mach_cli.specs.Foreigners.{foreign_kind, is_java_class, refused_kind};
@@ -8,24 +8,24 @@ use goblin_mach::{Error, peek};
 use std::fmt;
 use std::fmt::{Display, Formatter, Write};
 
-/// A kind of file that is none of Mach-O's.
+/// A kind of file that isn't Mach-O.
 #[derive(Clone, Copy)]
 pub enum Foreign {
     /// No bytes.
     Empty,
-    /// A program or a library of Linux and of others.
+    /// A program or a library of Linux and other systems (ELF).
     Elf,
-    /// A class of Java, whose magic is that of fat files.
+    /// A Java class, whose magic is that of fat files.
     JavaClass,
     /// A program of Windows or DOS.
     Pe,
-    /// What `ar` writes, as a static library is.
+    /// An archive that `ar` writes, as a static library is.
     Archive,
-    /// Bitcode of LLVM, bare or in its wrapper.
+    /// LLVM bitcode, bare or in its wrapper.
     Bitcode,
 }
 
-/// The kind of a file that is none of Mach-O's, where its first bytes show it.
+/// Returns the kind of a file that isn't Mach-O, if its first bytes show it.
 pub fn foreign_kind(bytes: &[u8]) -> Option<Foreign>
     ensures { result ≡ foreign_kind bytes.now }
 {
@@ -46,7 +46,7 @@ pub fn foreign_kind(bytes: &[u8]) -> Option<Foreign>
     }
 }
 
-// Whether a file of the magic of fat files is a class of Java: behind it stands a version, from 45 on, in the place of a count.
+// Whether a file with the magic of fat files is a Java class: a version, from 45 on, is in the place of the count.
 fn is_java_class(bytes: &[u8]) -> bool
     ensures { result ≡ is_java_class bytes.now }
 {
@@ -56,7 +56,7 @@ fn is_java_class(bytes: &[u8]) -> bool
     }
 }
 
-/// The kind of a file that is refused for this error, where it is none of Mach-O's. Want of memory is told of any file.
+/// Returns the kind of a file that is refused for this error, if it isn't Mach-O. If memory ran out, any file has none.
 pub fn refused_kind(bytes: &[u8], error: &Error) -> Option<Foreign>
     ensures { result ≡ refused_kind bytes.now error.now }
 {

@@ -1,14 +1,14 @@
-//! The line under which an image stands.
+//! The line above the output of an image.
 
 use std::fmt;
 use std::fmt::{Display, Formatter, Write};
 
-/// The line under which an image stands.
+/// The line above the output of an image.
 #[derive(Clone, Copy)]
 pub enum Heading {
-    /// None, where it is the whole file.
+    /// None, if the image is the whole file.
     None,
-    /// That of the entry of this number in a fat file.
+    /// The line of the entry at this index of a fat file.
     Arch(usize),
 }
 

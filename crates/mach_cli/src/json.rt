@@ -1,4 +1,4 @@
-//! What is shown of a file, as JSON (RFC 8259).
+//! The output for a file as JSON (RFC 8259).
 
 pub(crate) mod array;
 pub(crate) mod document;

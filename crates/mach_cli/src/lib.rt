@@ -1,9 +1,9 @@
-//! What the programs share: the arguments of a call, help and version, the exit status, and the complaint about a file that
-//! is refused; and the loop that shows a Mach-O file, each entry of a fat file and each member of an archive, as lines or as
-//! JSON (RFC 8259). Beside it what a terminal gets.
+//! What the programs share: the arguments of a call, help and version, exit statuses, and the complaint about a refused file; the
+//! loop that shows a Mach-O file, each entry of a fat file and each member of an archive, as lines or as JSON (RFC 8259); and
+//! output for terminals.
 #![tactic(auto)]
 
-// The arguments of a call, and what a program says of itself.
+// The arguments of a call, and what a program says about itself.
 mod bounds;
 mod call;
 mod complaint;
@@ -16,7 +16,7 @@ pub mod output;
 mod program;
 mod word;
 
-// What is shown of a file, of an image, and of each entry.
+// The output for a file, for an image, and for each entry.
 mod file_sequence;
 mod heading;
 mod listing;
@@ -33,7 +33,7 @@ mod parts;
 // The same as JSON.
 pub mod json;
 
-// What is shown of a signature: names on one line, bytes as digits, flags in words.
+// Output for a signature: names on one line, bytes as digits, flags by their names.
 mod directory_name;
 mod escaped;
 mod flags;

@@ -1,4 +1,4 @@
-//! Lists whose rows are printed a line each, up to a limit.
+//! Lists whose rows are printed one line each, up to a limit.
 
 ghost use Rattle.std.specs.Prelude.{◌≡◌, IfOk, OnOk};
 ghost use Rattle.std.specs.Io.KnownBytes.{Appends};
@@ -10,7 +10,7 @@ use goblin_mach::describe;
 use std::io;
 use std::io::Write;
 
-/// A list whose rows are told one after the other.
+/// A list of rows, read one after the other.
 pub trait Listing {
     type Row: Drop;
 
@@ -19,25 +19,25 @@ pub trait Listing {
     ghost use Rattle.mach_base.specs.Fault.{Fault};
     ghost use Rattle.mach_base.specs.Items.{read_as};
 
-    // The text of a row; and the texts of the rows that are left, each or why there is none.
+    // The text of a row; and the texts of the rows that are left, or why one can't be read.
     ghost text: { Self.Row → List ℕ };
 
     ghost left: { Self → List (Result (List ℕ) Fault) };
 
-    // How many items more the whole list claims, whose records begin past the end of the bytes; and what its items are called.
+    // How many more items the whole list claims, with records that begin past the end of the bytes; and what its items are called.
     ghost past: { Self → ℕ } = { λ _. 0 };
 
     ghost past_name: { Self → List ℕ } = { λ _. [] };
 
-    /// The next row, or why it can't be told.
+    /// Returns the next row, or why it can't be read.
     fn next_row(&mut self) -> Option<goblin_mach::Result<Self::Row>>
         ensures { MatchOption result (left self.old ≡ []) (λ row. left self.old ≡ read_as text row ∷ left self.new) };
 
-    /// How many items more the whole list claims, whose records begin past the end of the bytes.
+    /// Returns how many more items the whole list claims, with records that begin past the end of the bytes.
     fn past(&self) -> usize
         ensures { result ≡ past self.now };
 
-    /// What its items are called, of which there are more past the end.
+    /// Returns the plural name of its items, for the line about those past the end.
     fn past_name(&self) -> &'static str
         ensures { result.now ≡ past_name self.now };
 
@@ -46,20 +46,22 @@ pub trait Listing {
         ensures { OnOk result (Appends (O.contents out.old) (O.contents out.new) (text row.now)) };
 }
 
-/// How far a list was gone over that ends at a limit.
+/// The state after the rows of a list up to a limit.
 #[derive(Clone, Copy, Drop)]
 pub struct Told {
-    /// How many lines more there may be.
+    /// How many more lines may be printed.
     pub left: usize,
-    /// Whether all that was gone over can be read.
+    /// Whether all rows up to there could be read.
     pub whole: bool,
-    /// Whether the list has more than that.
+    /// Whether the list has more rows.
     pub more: bool,
 }
 
-/// Prints exactly a line for each row of a list, in order; where one can't be told, its line says why, behind a word. It prints the first
-/// `left` of them, and where there are more, a line that says that `limit` are told; then, where the list claims more items past the end of the
-/// bytes, a line that says how many. Answers whether all were printed and can be read, and none is past the end, and how many lines are left.
+/// Prints exactly one line for each row of a list, in order, up to `left` rows. For a row that can't be read the line is `word`
+/// and the reason.
+/// If there are more rows, a line says that `limit` rows are printed. If the list claims more items past the end of the bytes, a
+/// line says how many.
+/// The outcome is whole if all rows were printed and could be read and none is past the end. It also says how many lines are left.
 pub fn print_listing<L: Listing, O: Write>(
     list: &mut L,
     word: &str,
@@ -80,7 +82,7 @@ pub fn print_listing<L: Listing, O: Write>(
     })
 }
 
-/// Prints how many items of this name a list claims more, whose records begin past the end of the bytes, where there are some.
+/// Prints how many more items of this name a list claims, with records that begin past the end of the bytes, if there are some.
 pub fn print_past<O: Write>(name: &str, past: usize, out: &mut O) -> io::Result<()>
     ensures { OnOk result (Appends (O.contents out.old) (O.contents out.new) (past_line name.now past)) }
 {
@@ -90,7 +92,7 @@ pub fn print_past<O: Write>(name: &str, past: usize, out: &mut O) -> io::Result<
     Ok(())
 }
 
-/// Prints that there are more than the limit, where that is so.
+/// Prints that there are more rows than the limit, if so.
 pub fn print_cut<O: Write>(limit: usize, more: bool, out: &mut O) -> io::Result<()>
     ensures { OnOk result (Appends (O.contents out.old) (O.contents out.new) (cut_line limit more)) }
 {
@@ -129,7 +131,7 @@ pub fn print_rows<L: Listing, O: Write>(
     })
 }
 
-/// Goes over the first rows of a list, up to a limit, and prints nothing.
+/// Visits the first rows of a list, up to a limit, and prints nothing.
 pub fn count_rows<L: Listing>(list: &mut L, limit: usize) -> Told
     ensures { CountsRows limit (L.left list.old) result }
 {
@@ -153,7 +155,7 @@ pub fn count_rows<L: Listing>(list: &mut L, limit: usize) -> Told
     }
 }
 
-// Prints the line of a row, and answers whether there is one.
+// Prints the line of a row, and returns whether it could be read.
 fn print_row<L: Listing, O: Write>(
     answer: &goblin_mach::Result<L::Row>,
     word: &str,

@@ -1,4 +1,4 @@
-//! What is wrong with the words of a call.
+//! What is wrong with the arguments of a call.
 
 use crate::escaped::Escaped;
 use crate::word::NoText;
@@ -7,20 +7,20 @@ use std::fmt;
 use std::fmt::{Display, Formatter, Write};
 use strsim::osa_distance;
 
-/// What is wrong with the words of a call.
+/// What is wrong with the arguments of a call.
 #[derive(Clone, Copy)]
 pub enum Misuse<'a> {
-    /// An option that the program hasn't.
+    /// An option that the program doesn't have.
     UnknownOption(&'a str),
-    /// A word in the place of what the program is to do.
+    /// An unknown word instead of a command.
     UnknownWord(&'a str),
-    /// What is to be a number is none.
+    /// What should be a number isn't one.
     NoNumber(&'a str),
-    /// What is to be a cpu is none that is known.
+    /// What should be a cpu isn't a known one.
     NoCpu(&'a str),
-    /// A word is missing, which stands for this.
+    /// An argument is missing: this one.
     Missing(&'static str),
-    /// A word is no text.
+    /// An argument isn't text.
     NoText(NoText<'a>),
 }
 
@@ -43,7 +43,7 @@ impl Display for Misuse<'_> {
 }
 
 impl<'a> Misuse<'a> {
-    // The word that isn't known, if it is one.
+    // Returns the unknown word, if that is the misuse.
     fn word(&self) -> Option<&'a str> {
         match self {
             Misuse::UnknownOption(word) | Misuse::UnknownWord(word) => Some(word),
@@ -51,7 +51,7 @@ impl<'a> Misuse<'a> {
         }
     }
 
-    /// The word that was meant, if one of those that are known is like it.
+    /// Returns the known word that was probably meant, if one is similar.
     pub fn meant<A: Allocator + Clone>(
         &self,
         alloc: A,
@@ -64,7 +64,7 @@ impl<'a> Misuse<'a> {
     }
 }
 
-// Of some words the one from which the fewest edits lead to a word, if these are no more than two; the first, where several are.
+// Returns the known word that takes the fewest edits to reach from a word, if these are no more than two; the first of several.
 fn closest<A: Allocator + Clone>(
     alloc: A,
     word: &str,

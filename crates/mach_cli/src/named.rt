@@ -1,4 +1,4 @@
-//! The files that a call names otherwise than by a word that is text.
+//! The files that a call names other than by an argument that is text.
 
 ghost use Rattle.std.specs.Prelude.{◌≡◌, ◌<◌, ◌∷◌, [], length, IfOk, IfSome, IfNone};
 ghost use Rattle.mach_base.specs.Text.{texts};
@@ -8,14 +8,14 @@ use crate::word::NoText;
 use memchr::memchr;
 use std::alloc::{AllocError, Allocator};
 
-/// The files that a call names otherwise than by a word that is text.
+/// The files that a call names other than by an argument that is text.
 #[derive(Drop)]
 pub struct Others<'a, A: Allocator> {
-    /// The files behind `--names`, in order: lists of names.
+    /// The files after `--names`, in order: lists of names.
     pub lists: Vec<&'a str, A>,
-    /// Whether a name in such a list ends with NUL, in place of a line end.
+    /// Whether a name in such a list ends with NUL, instead of a line end.
     pub ends_with_nul: bool,
-    /// The words that are no text, in order.
+    /// The arguments that aren't text, in order.
     pub no_texts: Vec<NoText<'a>, A>,
 }
 
@@ -25,12 +25,12 @@ impl<A: Allocator> Others<'_, A> {
         self.lists.is_empty() && self.no_texts.is_empty()
     }
 
-    /// Whether these, and so many files that words name, may be several.
+    /// Whether these files and `words` others may be several.
     pub fn are_several(&self, words: usize) -> bool {
         !self.lists.is_empty() || words.saturating_add(self.no_texts.len()) > 1
     }
 
-    /// The byte that ends a name in a list.
+    /// Returns the byte that ends a name in a list.
     pub fn name_end(&self) -> u8
         ensures { result ≡ name_end self.now.ends_with_nul }
     {
@@ -38,7 +38,7 @@ impl<A: Allocator> Others<'_, A> {
     }
 }
 
-// The first name of a list, which ends at this byte, and what stands behind it.
+// Returns the first name of a list, which ends at this byte, and what follows it.
 fn first_name(end: u8, list: &[u8]) -> Option<(&[u8], &[u8])>
     ensures first { IfSome result (λ x. listed_names end list.now ≡ x.0.now ∷ listed_names end x.1.now) }
     ensures less { IfSome result (λ x. length x.1.now < length list.now) }
@@ -50,7 +50,7 @@ fn first_name(end: u8, list: &[u8]) -> Option<(&[u8], &[u8])>
     }
 }
 
-/// The names of a list, in order, without the byte that ends each. What stands behind the last such byte is one too.
+/// Returns the names of a list, in order, without the byte that ends each. What follows the last such byte is one too.
 pub fn names_of<A: Allocator>(alloc: A, end: u8, list: &[u8]) -> Result<Vec<&[u8], A>, AllocError>
     ensures { IfOk result (λ names. texts names.items ≡ listed_names end list.now) }
 {

@@ -1,15 +1,15 @@
-//! What the complaints of a file begin with.
+//! The prefix of a file's complaints.
 
 use crate::escaped::Escaped;
 use std::fmt;
 use std::fmt::{Display, Formatter, Write};
 
-/// The names with which the complaints of a file begin.
+/// The names with which a file's complaints begin.
 #[derive(Clone, Copy)]
 pub struct Names<'a> {
-    /// The program's.
+    /// The program's name.
     pub program: &'a str,
-    /// The file's.
+    /// The file's name.
     pub file: &'a str,
 }
 

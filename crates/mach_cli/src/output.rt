@@ -1,4 +1,4 @@
-//! What a program says of itself, and the status of a failed write.
+//! What a program says about itself, and the status of a failed write.
 
 ghost use Rattle.std.specs.Prelude.{◌≡◌, ◌≢◌, ◌≤◌, OnOk};
 ghost use Rattle.std.specs.Io.KnownBytes.{Appends};
@@ -9,10 +9,10 @@ use crate::complaint::{Complaint, Trouble};
 use std::io;
 use std::io::{ErrorKind, Write};
 
-// The status where the reader of a pipe has closed it: what a shell tells of a program that this ends.
+// The status if the reader of a pipe has closed it. It is what a shell reports for a program that SIGPIPE ends.
 const CLOSED: u8 = 141;
 
-/// Prints a text, and answers the exit status: 0, or that of a failed write of a program of this name.
+/// Prints a text, and returns the exit status: 0, or that of a failed write of the program of this name.
 pub fn say<O: Write, E: Write>(name: &str, text: &str, out: &mut O, err: &mut E) -> u8
     ensures status { result ≢ 0 → IsUnwritten result }
     ensures said { result ≡ 0 → Appends (O.contents out.old) (O.contents out.new) text.now }
@@ -23,7 +23,7 @@ pub fn say<O: Write, E: Write>(name: &str, text: &str, out: &mut O, err: &mut E)
     }
 }
 
-// Writes a text, and all that was gathered.
+// Writes a text, and flushes the buffer.
 fn put<O: Write>(text: &str, out: &mut O) -> io::Result<()>
     ensures { OnOk result (Appends (O.contents out.old) (O.contents out.new) text.now) }
 {
@@ -31,8 +31,8 @@ fn put<O: Write>(text: &str, out: &mut O) -> io::Result<()>
     out.flush()
 }
 
-/// The status of a write that failed for this error. Where the reader of a pipe has closed it, that is told by the status alone; of any
-/// other failure `err` tells, if it can, with the name of the file, if it has one.
+/// Returns the status of a write that failed with this error. If the reader of a pipe has closed it, nothing is reported. Any
+/// other failure is reported on `err`, if possible, with the name of the file, if it has one.
 pub fn failed<E: Write>(name: &str, file: &str, error: io::Error, err: &mut E) -> u8
     ensures closed { error_kind error ≡ ErrorKind.BrokenPipe → result ≡ 141 }
     ensures other { error_kind error ≢ ErrorKind.BrokenPipe → result ≡ 2 }
@@ -45,7 +45,7 @@ pub fn failed<E: Write>(name: &str, file: &str, error: io::Error, err: &mut E) -
     }
 }
 
-// The status of a failed write, of which `err` tells if it can, with the name of the file, if it has one.
+// Reports a failed write on `err`, if possible, with the name of the file, if it has one; and returns the status.
 fn unwritten<E: Write>(name: &str, file: &str, err: &mut E) -> u8
     ensures { result ≡ 2 }
 {

@@ -1,4 +1,4 @@
-//! What is shown of a file: itself, or what is within it.
+//! What is shown of a file: the file itself, or its parts.
 
 ghost use Rattle.std.specs.Prelude.{◌≡◌, ◌∷◌, ◌||◌, [], not, MatchOption};
 ghost use Rattle.goblin_mach.specs.Items.{content_view};
@@ -17,20 +17,25 @@ use goblin_mach::{
 use mach_archive::Archive;
 use std::alloc::Global;
 
-/// What is shown of a file, one part after the other: the members of an archive; the entries of a fat file of 64 bits, and of an archive among them
-/// its members; a fat file of 32 bits itself, and behind it the members of the archives among its entries; any other file itself. It takes no memory.
+/// The parts of a file that are shown, one after the other:
+/// - an archive: its members;
+/// - a fat file of 64 bits: its entries, and the members of an archive among them;
+/// - a fat file of 32 bits: the file itself, then the members of the archives among its entries;
+/// - any other file: the file itself.
+///
+/// It allocates nothing.
 #[derive(Clone, Copy)]
 pub struct Parts<'a> {
-    // The file itself, where it is shown so and comes yet.
+    // The file itself, if it is shown and still to come.
     itself: Option<&'a [u8]>,
-    // What is within it, of which only what is of archives may be told.
+    // The images in it, or only the items of archives among them.
     images: Option<Images<'a>>,
     only_of_archives: bool,
-    // The entry whose archive the last item was a member of.
+    // The entry that holds the archive of the last member.
     last: Option<usize>,
 }
 
-// Whether an entry is that of the last member.
+// Whether an entry holds the archive of the last member.
 fn is_same_entry(last: Option<usize>, entry: Option<usize>) -> bool
     ensures { result ≡ is_same_entry last entry }
 {
@@ -40,7 +45,7 @@ fn is_same_entry(last: Option<usize>, entry: Option<usize>) -> bool
     }
 }
 
-// Whether an item is a member, or the fault that ends the archive whose member was the last.
+// Whether an item is a member, or the fault that ends the archive of the last member.
 fn is_of_archive(last: Option<usize>, item: &InputItem<'_>) -> bool
     ensures { let x = input_item_read item.now in result ≡ is_of_archive last x.place.entry x.content }
 {
@@ -51,7 +56,7 @@ fn is_of_archive(last: Option<usize>, item: &InputItem<'_>) -> bool
     }
 }
 
-// The entry whose archive an item is a member of, if it is one.
+// Returns the entry that holds the archive of a member, if the item is one.
 fn entry_of_member(item: &InputItem<'_>) -> Option<usize>
     ensures { let x = input_item_read item.now in result ≡ entry_of_member x.place.entry x.content }
 {
@@ -62,7 +67,7 @@ fn entry_of_member(item: &InputItem<'_>) -> Option<usize>
 }
 
 impl<'a> Parts<'a> {
-    // The next item within the file that is told.
+    // Returns the next part within the file.
     fn next_within(&mut self) -> Option<InputItem<'a>>
         ensures given { MatchOption result ((within_left self.old.only_of_archives self.old.last self.old.images ≡ [])
             × (within_left self.new.only_of_archives self.new.last self.new.images ≡ []))
@@ -112,7 +117,7 @@ impl<'a> Iterator for Parts<'a> {
     }
 }
 
-// What holds images and isn't one, where the bytes are that.
+// Returns the container that the bytes are, if they are one: a file that holds images and is none.
 fn container(alloc: Global, bytes: &[u8]) -> Option<Input<'_>>
     ensures { MatchOption result (parts_in bytes.now ≡ itself bytes.now ∷ []) (IsContainer bytes.now) }
 {
@@ -135,7 +140,7 @@ fn container(alloc: Global, bytes: &[u8]) -> Option<Input<'_>>
     }
 }
 
-// The parts of a file that holds images.
+// Returns the parts of a container.
 #[tactic(auto, using(crate::proofs::PartsHeld::told_all, crate::proofs::PartsHeld::of_archive, crate::proofs::PartsHeld::of_wide, crate::proofs::PartsHeld::of_narrow))]
 fn parts_within<'a>(bytes: &'a [u8], input: &Input<'a>) -> Parts<'a>
     requires { IsContainer bytes.now input.now }
@@ -157,7 +162,7 @@ fn parts_within<'a>(bytes: &'a [u8], input: &Input<'a>) -> Parts<'a>
     }
 }
 
-/// The parts of a file.
+/// Returns the parts of a file.
 pub fn parts_of(alloc: Global, bytes: &[u8]) -> Parts<'_>
     ensures { parts_left result ≡ parts_in bytes.now }
 {

@@ -1,4 +1,4 @@
-//! A program's call: its words and its files.
+//! A program's call: its arguments and its files.
 
 ghost use Rattle.std.specs.Prelude.{◌≡◌, IfErr};
 ghost use Rattle.mach_cli.specs.Rounds.{IsUnreadStatus};
@@ -14,12 +14,12 @@ use std::alloc::{AllocError, Global};
 use std::io::{ErrorKind, Read};
 use std::{fs, io};
 
-/// What a program says of itself.
+/// What a program says about itself.
 #[derive(Clone, Copy)]
 pub struct Program {
-    /// Its name, with which its complaints begin.
+    /// Its name, the prefix of its complaints.
     pub name: &'static str,
-    /// How it is called, which `--help` prints.
+    /// Its usage, which `--help` prints.
     pub usage: &'static str,
     /// What `--version` prints.
     pub version: &'static str,
@@ -27,14 +27,15 @@ pub struct Program {
     pub has_limit: bool,
     /// Whether it has `--arch` and `--cputype`.
     pub has_cpu: bool,
-    /// Whether it takes several files: it has `--names` and `-0`, and a word that is no text doesn't keep it from the others.
+    /// Whether it takes several files. Then it has `--names` and `-0`, and an argument that isn't text doesn't stop the others.
     pub has_files: bool,
-    /// The words that it knows: its options, and what it is to do.
+    /// The words that it knows: its options and its commands.
     pub known: &'static [&'static str],
 }
 
 impl Program {
-    /// The words of a call, of which the first is the program's name. Where they can't be had, that is told, and the error is the exit status.
+    /// Returns the arguments of a call; the first is the program's name. If memory runs out that is reported, and the error is
+    /// the exit status.
     pub fn words(&self, rt: &HostRuntime) -> Result<Vec<Word>, u8>
         ensures { IfErr result (λ status. status ≡ 1) }
     {
@@ -44,8 +45,7 @@ impl Program {
         }
     }
 
-    /// What the words of a call are for. Where they ask for `--help` or `--version`, or for nothing that is understood, that is told, and the
-    /// error is the exit status.
+    /// Parses the arguments of a call. `--help`, `--version` and misuse are answered here, and the error is the exit status.
     pub fn call<'a>(&self, rt: &HostRuntime, words: &'a [Word]) -> Result<Call<'a, Global>, u8>
         ensures { IfErr result IsStatus }
     {
@@ -64,15 +64,15 @@ impl Program {
         }
     }
 
-    // Prints a text, and answers the exit status.
+    // Prints a text, and returns the exit status.
     fn say(&self, rt: &HostRuntime, text: &str) -> u8
         ensures { IsStatus result }
     {
         say(self.name, text, &mut io::writer(rt), &mut rt.stderr())
     }
 
-    /// The bytes of a file; those of standard input, where its name is `-`. Where they can't be had, it is told why, and the error is the
-    /// exit status.
+    /// Returns the bytes of a file, or of standard input for the name `-`. If they can't be read the reason is reported, and the
+    /// error is the exit status.
     pub fn read(&self, rt: &HostRuntime, file: &str) -> Result<Vec<u8>, u8>
         ensures { IfErr result IsUnreadStatus }
     {
@@ -92,7 +92,7 @@ impl Program {
         }
     }
 
-    /// The status where memory is refused for a file, which is told.
+    /// Reports that memory ran out for a file, and returns the status.
     pub fn no_memory_for(&self, rt: &HostRuntime, file: &str) -> u8
         ensures { result ≡ 1 }
     {
@@ -104,7 +104,7 @@ impl Program {
         1
     }
 
-    /// The status of words that ask for nothing, with what is wrong and how the program is called.
+    /// Reports a misuse and the usage, and returns the status.
     pub fn bad_usage(&self, rt: &HostRuntime, misuse: Misuse<'_>) -> u8
         ensures { result ≡ 2 }
     {
@@ -114,7 +114,7 @@ impl Program {
         2
     }
 
-    /// The status where memory is refused, which is told.
+    /// Reports that memory ran out, and returns the status.
     pub fn out_of_memory(&self, rt: &impl Eprint) -> u8
         ensures { result ≡ 1 }
     {
@@ -122,7 +122,7 @@ impl Program {
         1
     }
 
-    // Says what is wrong, if it can.
+    // Reports what is wrong, if possible.
     fn complain(&self, rt: &impl Eprint, trouble: Trouble<'_>) {
         let _ = rt.eprintln(Complaint {
             program: self.name,
@@ -131,7 +131,7 @@ impl Program {
     }
 }
 
-// The bytes of a file, or of standard input.
+// Returns the bytes of a file, or of standard input.
 fn bytes_of(rt: &HostRuntime, file: &str) -> io::Result<Vec<u8>> {
     if file != "-" {
         return fs::read(rt, file);

@@ -1,4 +1,4 @@
-//! How far a call over many files has come.
+//! The progress of a call over many files.
 
 ghost use Rattle.std.specs.Prelude.{◌≡◌, ◌≤◌, ◌+◌, ◌-◌, ◌*◌, ◌^◌, ◌++◌, codes, None, Some, IfSome, false, true, min};
 ghost use Rattle.std.specs.Duration.{as_nanos};
@@ -11,10 +11,10 @@ use std::fmt::{Display, Formatter};
 use std::io::Write;
 use std::time::{Clock, Duration};
 
-// So many seconds nothing is told.
+// For so many seconds nothing is reported.
 const QUIET: u64 = 2;
 
-// That a file of many is begun.
+// The report that a file of many begins.
 #[derive(Clone, Copy)]
 struct Step<'a> {
     program: &'a str,
@@ -31,18 +31,18 @@ impl Display for Step<'_> {
     }
 }
 
-/// How far a call over many files has come. It is told on a terminal alone, before a file that is begun two seconds or more after the call
-/// began, or after it was told.
+/// The progress of a call over many files. It is reported only on a terminal: when a file begins two seconds or more after the
+/// call began or after the last report.
 #[derive(Clone, Copy)]
 pub struct Progress {
-    /// When it is told next, by the clock; never, where that is None.
+    /// The time of the next report, by the clock; None if there is never one.
     pub due: Option<Duration>,
-    /// How many files are begun.
+    /// How many files have begun.
     pub begun: usize,
 }
 
 impl Progress {
-    /// Of a call that begins now. Where the error output is no terminal, or the clock can't be read, nothing is ever told.
+    /// Starts with a call that begins now. If the error output is no terminal, or the clock can't be read, nothing is ever reported.
     pub fn new<C: Clock>(clock: &C, is_terminal: bool) -> Progress
         ensures never { is_terminal ≡ false → result.due ≡ None }
         ensures begun { result.begun ≡ 0 }
@@ -54,7 +54,7 @@ impl Progress {
         Progress { due, begun: 0 }
     }
 
-    /// Counts a file of this name that is begun, and tells of it, if that is due. It answers whether that was written.
+    /// Counts a file of this name that begins, and reports it if that is due. It returns whether the report was written.
     pub fn begin<C: Clock, E: Write>(
         &mut self,
         clock: &C,
@@ -65,7 +65,7 @@ impl Progress {
         ensures never { self.old.due ≡ None → (self.new.due ≡ None) × (E.contents err.new ≡ E.contents err.old) }
         ensures counted { self.new.begun ≡ min (self.old.begun + 1) (2 ^ 64 - 1) }
         ensures told { result ≡ true → Appends (E.contents err.old) (E.contents err.new) (step_text program.now self.new.begun file.now ++ codes "\n") }
-        // It is told again two seconds later, or not before.
+        // The next report comes two seconds later at the earliest.
         ensures later { result ≡ true → IfSome self.old.due (λ old. IfSome self.new.due (λ new. as_nanos old + 2 * 10 ^ 9 ≤ as_nanos new)) }
     {
         self.begun = self.begun.saturating_add(1);

@@ -1,4 +1,4 @@
-//! What a program writes of a file, and its exit status.
+//! Writes a file's output, and returns the exit status.
 
 ghost use Rattle.std.specs.Prelude.{◌≡◌, ◌≤◌, [], IfOk, OnOk};
 ghost use Rattle.std.specs.Io.Buffered.{writer_buffer, writer_contents};
@@ -13,9 +13,12 @@ use std::alloc::Allocator;
 use std::io;
 use std::io::{BufWriter, Write};
 
-/// Shows the images of a file that are asked for, with the limit left for the first one, and answers the exit status: 0 where nothing was refused and each
-/// image is whole; 1 where the file or an entry of a fat one was refused, or memory, and then `err` has a line that says why,
-/// or where an image is not whole; 2 or 141 where a write fails (`failed`). But for that nothing is left in the buffer.
+/// Shows the selected images of a file; `limit` is the number of lines for all of them together. It returns the exit status:
+/// - 0 if nothing was refused and each image is whole;
+/// - 1 if the file, an entry of a fat file or memory was refused, which `err` explains in a line, or if an image is not whole;
+/// - 2 or 141 if a write fails (`failed`).
+///
+/// Except after a failed write the buffer is flushed.
 pub fn run<S: Shows, A: Allocator + Clone, W: Write + Drop, B: Allocator, E: Write>(
     shows: &S,
     cpu: Cpu,
@@ -37,7 +40,7 @@ pub fn run<S: Shows, A: Allocator + Clone, W: Write + Drop, B: Allocator, E: Wri
     }
 }
 
-// Shows the images of a file that are asked for, and writes all that was gathered.
+// Shows the selected images of a file, and flushes the buffer.
 fn show_all<S: Shows, A: Allocator + Clone, W: Write + Drop, B: Allocator, E: Write>(
     shows: &S,
     cpu: Cpu,
@@ -56,7 +59,7 @@ fn show_all<S: Shows, A: Allocator + Clone, W: Write + Drop, B: Allocator, E: Wr
     Ok(whole)
 }
 
-// The status of what was written, by whether it is whole.
+// Returns the status of a complete output, by whether it is whole.
 fn status(whole: bool) -> u8
     ensures { result ≡ status_by whole }
 {

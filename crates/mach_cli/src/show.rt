@@ -1,4 +1,4 @@
-//! What is written of a file, on the output and on the error output.
+//! What is written for a file, on the output and on the error output.
 
 ghost use Rattle.std.specs.Prelude.{◌≡◌, ◌++◌, ℕ, List, codes, false, IfOk, IfErr, OnOk};
 ghost use Rattle.std.specs.Io.KnownBytes.{Appends};
@@ -26,16 +26,16 @@ use std::alloc::{AllocError, Allocator};
 use std::io;
 use std::io::Write;
 
-// What was opened of a file.
+// What a file opened as.
 #[derive(Drop)]
 enum Subject<'a, A: Allocator> {
-    // Its one image.
+    // One image.
     Image(MachO<'a, A>),
     // A fat file, with its table.
     Fat(MultiArch<'a, A>, Vec<FatArch, A>),
 }
 
-/// Shows the images of a file that are asked for, and answers whether nothing was refused and each of them is whole.
+/// Shows the selected images of a file, and returns whether nothing was refused and each of them is whole.
 pub fn show<S: Shows, A: Allocator + Clone, O: Write, E: Write>(
     shows: &S,
     cpu: Cpu,
@@ -66,7 +66,7 @@ pub fn show<S: Shows, A: Allocator + Clone, O: Write, E: Write>(
     }
 }
 
-// Opens a file, a fat one with its table.
+// Opens a file; a fat one with its table.
 fn open<'a, A: Allocator + Clone>(alloc: &A, bytes: &'a [u8]) -> Result<Subject<'a, A>>
     ensures held { IfOk result (IsSubject bytes.now) }
     ensures refused { IfErr result (Stands (ViewFault bytes.now)) }
@@ -81,7 +81,7 @@ fn open<'a, A: Allocator + Clone>(alloc: &A, bytes: &'a [u8]) -> Result<Subject<
     }
 }
 
-// Shows the one image of a file, if it is asked for.
+// Shows the one image of a file, if it is selected.
 fn show_image<S: Shows, A: Allocator + Clone, O: Write, E: Write>(
     shows: &S,
     cpu: Cpu,
@@ -105,7 +105,7 @@ fn show_image<S: Shows, A: Allocator + Clone, O: Write, E: Write>(
     }
 }
 
-// Shows the entries of a fat file that are asked for, if it has one.
+// Shows the selected entries of a fat file, if it has any.
 fn show_fat<S: Shows, A: Allocator + Clone, O: Write, E: Write>(
     shows: &S,
     cpu: Cpu,
@@ -126,7 +126,7 @@ fn show_fat<S: Shows, A: Allocator + Clone, O: Write, E: Write>(
     show_entries(shows, cpu, limit, alloc, container, records, out, err)
 }
 
-// Shows the entries of a fat file that are asked for, up to one for which memory is refused, and answers whether all of them are whole.
+// Shows the selected entries of a fat file, until memory runs out for one, and returns whether all of them are whole.
 fn show_entries<S: Shows, A: Allocator + Clone, O: Write, E: Write>(
     shows: &S,
     cpu: Cpu,
@@ -156,7 +156,7 @@ fn show_entries<S: Shows, A: Allocator + Clone, O: Write, E: Write>(
     Ok(whole)
 }
 
-// Shows the entry of a record, if it is asked for, and answers whether it is whole, and how many lines are left.
+// Shows the entry of a record, if it is selected, and returns whether it is whole, and how many lines are left.
 fn show_asked<S: Shows, A: Allocator + Clone, O: Write, E: Write>(
     shows: &S,
     cpu: Cpu,
@@ -180,7 +180,7 @@ fn show_asked<S: Shows, A: Allocator + Clone, O: Write, E: Write>(
     show_entry(shows, left, alloc, container, index, out, err)
 }
 
-// Shows an entry under its line, and answers whether it is whole, and how many lines are left.
+// Shows an entry under its heading, and returns whether it is whole, and how many lines are left.
 fn show_entry<S: Shows, A: Allocator + Clone, O: Write, E: Write>(
     shows: &S,
     left: usize,
@@ -211,7 +211,7 @@ fn show_entry<S: Shows, A: Allocator + Clone, O: Write, E: Write>(
     }
 }
 
-// An error that tells of a fault; want of memory is answered as such.
+// Returns an error that reports a fault; a refusal of memory becomes an `AllocError`.
 fn told(error: Error) -> std::result::Result<Error, AllocError>
     ensures { IfOk result (λ e. (e ≡ error) × IsTold e) }
 {
@@ -221,7 +221,7 @@ fn told(error: Error) -> std::result::Result<Error, AllocError>
     }
 }
 
-// Says why an entry is refused, under its line and on the error output.
+// Reports why an entry is refused, under its heading and on the error output.
 fn refuse_entry<S: Shows, O: Write, E: Write>(
     shows: &S,
     index: usize,
@@ -239,7 +239,7 @@ fn refuse_entry<S: Shows, O: Write, E: Write>(
     writeln!(err, "{names}: arch {index}: {words}")
 }
 
-// Says why a file is refused: what it is, where it is none of Mach-O's. So it is not whole.
+// Reports why a file is refused: its kind, if it isn't Mach-O. So it is not whole.
 fn refuse_file<S: Shows, E: Write>(
     shows: &S,
     bytes: &[u8],
@@ -257,7 +257,7 @@ fn refuse_file<S: Shows, E: Write>(
     Ok(false)
 }
 
-// Says why no more is shown of a file; so it is not whole.
+// Reports why no more of a file is shown; so it is not whole.
 fn refuse<S: Shows, E: Write>(shows: &S, error: &Error, err: &mut E) -> io::Result<bool>
     ensures { IfOk result (λ whole. (whole ≡ false)
         × Appends (E.contents err.old) (E.contents err.new) (complaint (S.names shows.now) (words_of error.now))) }
@@ -267,7 +267,7 @@ fn refuse<S: Shows, E: Write>(shows: &S, error: &Error, err: &mut E) -> io::Resu
     Ok(false)
 }
 
-// Says that the one image of a file is not asked for; so it is not whole.
+// Reports that the one image of a file is not selected; so it is not whole.
 fn refuse_other<S: Shows, E: Write>(shows: &S, cpu: Cpu, err: &mut E) -> io::Result<bool>
     ensures { IfOk result (λ whole. (whole ≡ false)
         × Appends (E.contents err.old) (E.contents err.new) (complaint (S.names shows.now) (other_words cpu))) }
@@ -277,7 +277,7 @@ fn refuse_other<S: Shows, E: Write>(shows: &S, cpu: Cpu, err: &mut E) -> io::Res
     Ok(false)
 }
 
-// Says that no entry of a fat file is asked for; so it is not whole.
+// Reports that no entry of a fat file is selected; so it is not whole.
 fn refuse_all<S: Shows, E: Write>(shows: &S, cpu: Cpu, err: &mut E) -> io::Result<bool>
     ensures { IfOk result (λ whole. (whole ≡ false)
         × Appends (E.contents err.old) (E.contents err.new) (complaint (S.names shows.now) (no_entry_words cpu))) }

@@ -1,4 +1,4 @@
-//! What a program says of an image.
+//! What a program prints for an image.
 
 use crate::failure::Failure;
 use crate::heading::Heading;
@@ -7,16 +7,16 @@ use goblin_mach::MachO;
 use std::alloc::Allocator;
 use std::io::Write;
 
-/// What came of an image that was shown.
+/// The outcome of showing an image.
 #[derive(Clone, Copy, Drop)]
 pub struct Outcome {
-    /// Whether it is whole.
+    /// Whether everything was printed and could be read.
     pub whole: bool,
-    /// How many lines more may be told of the images behind it.
+    /// How many more lines may be printed for later images.
     pub left: usize,
 }
 
-/// A program's call: what it is to show of an image.
+/// A program's call: what it shows of an image.
 pub trait Shows {
     ghost use Rattle.std.specs.Prelude.{◌≡◌, ◌++◌, [], ℕ, List, IfOk, IfErr};
     ghost use Rattle.std.specs.Io.KnownBytes.{Appends};
@@ -26,17 +26,17 @@ pub trait Shows {
     ghost use Rattle.mach_cli.specs.Failures.{IfMemory};
     ghost use Rattle.mach_cli.specs.Shown.{ImageLines};
 
-    // What complaints of the file begin with, and which text is that of an image of which a number of lines may be told.
+    // The prefix of a file's complaints; and which texts an image may have, given how many lines may be printed.
     ghost names: { Self → List ℕ };
 
     ghost lines: { Self → ImageLines };
 
-    /// The names of the program and of the file, with which complaints begin.
+    /// Returns the names of the program and of the file, with which complaints begin.
     fn names(&self) -> Names<'_>
         ensures { names_text result.program.now result.file.now ≡ names self.now };
 
-    /// Shows an image under its heading, of its lines no more than `left`, and answers whether it is whole, and how many are left.
-    /// What memory it takes is taken before the heading.
+    /// Shows an image under its heading, with at most `left` lines, and returns whether it is whole, and how many lines are left.
+    /// It allocates all its memory before it writes the heading.
     fn show<A: Allocator + Clone, O: Write>(
         &self,
         alloc: &A,

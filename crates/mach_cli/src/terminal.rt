@@ -1,4 +1,4 @@
-//! A writer whose bytes may be shown on a terminal.
+//! A writer whose bytes may go to a terminal.
 
 ghost use Rattle.std.specs.Prelude.{◌≡◌, ◌≤◌, ◌<◌, ℕ, false, get_or, length, take, true, IfOk, OnOk};
 ghost use Rattle.std.specs.Io.{WritesAtMost};
@@ -9,18 +9,18 @@ ghost use Rattle.mach_cli.specs.TerminalShown.{contents_of, is_control, shown_te
 use std::io;
 use std::io::Write;
 
-/// A writer that hands on what it is given. Where that goes to a terminal no control character does but a line feed: for each other one stands
-/// `\xNN`, since the bytes of a name may change what a terminal shows.
+/// A writer that passes bytes on. On a terminal every control character except a line feed becomes `\xNN`, because bytes of a
+/// name may change what a terminal shows.
 #[derive(Drop)]
 pub enum ForTerminal<W> {
-    /// What it is given is handed on as it is.
+    /// Passes bytes on unchanged.
     Plain(W),
     /// It goes to a terminal.
     Shown(W),
 }
 
 impl<W> ForTerminal<W> {
-    /// A writer over another, which leads to a terminal or doesn't.
+    /// Wraps a writer, which is a terminal or not.
     pub fn new(inner: W, is_terminal: bool) -> Self
         ensures { result ≡ writer_for is_terminal inner }
     {
@@ -61,7 +61,7 @@ fn is_control(byte: u8) -> bool
     byte < 0x20 && byte != b'\n' || byte == 0x7f
 }
 
-// How many of the first bytes stand as they are.
+// Returns how many of the first bytes are passed on unchanged.
 fn plain_len(bytes: &[u8]) -> usize
     ensures bound { result ≤ length bytes.now }
     ensures plain { (n : ℕ) → n ≤ result → shown_text (take n bytes.now) ≡ take n bytes.now }
@@ -76,11 +76,11 @@ fn plain_len(bytes: &[u8]) -> usize
     bytes.len()
 }
 
-// Writes the first bytes as a terminal may have them, and answers how many bytes these are.
+// Writes the first bytes in a form that is safe for a terminal, and returns how many bytes these are.
 fn write_shown<W: Write>(bytes: &[u8], out: &mut W) -> io::Result<usize>
     ensures bound { WritesAtMost result bytes.now }
     ensures shown { IfOk result (λ n. Appends (W.contents out.old) (W.contents out.new) (shown_text (take n bytes.now))) }
-    // A first byte that a terminal may not have is taken, and no other.
+    // If the first byte isn't safe for a terminal, that byte alone is taken.
     ensures escape { 0 < length bytes.now → is_control (get_or bytes.now 0 0) ≡ true → IfOk result (λ n. n ≡ 1) }
 {
     let end = plain_len(bytes);
@@ -91,7 +91,7 @@ fn write_shown<W: Write>(bytes: &[u8], out: &mut W) -> io::Result<usize>
     out.write(&bytes[..end])
 }
 
-// Writes what is shown of a byte that a terminal may not have.
+// Writes the escape of a byte that isn't safe for a terminal.
 fn write_escape<W: Write>(byte: u8, out: &mut W) -> io::Result<()>
     ensures { OnOk result (Appends (W.contents out.old) (W.contents out.new) (escape_text byte)) }
 {

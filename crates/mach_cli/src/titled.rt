@@ -1,4 +1,4 @@
-//! A writer that writes a title before what it is given next.
+//! A writer that writes a title before the next bytes.
 
 ghost use Rattle.std.specs.Prelude.{◌≡◌, ◌≤◌, ◌++◌, [], ℕ, length, take, IfOk, OnOk};
 ghost use Rattle.std.specs.Io.{WritesAtMost};
@@ -12,10 +12,10 @@ use std::alloc::{AllocError, Allocator, Global};
 use std::io;
 use std::io::{BufWriter, ErrorKind, Write};
 
-/// A writer over another one, which writes a title before the first byte that comes behind it. Where none comes the title isn't written.
+/// A writer over another one. It writes a title before the first byte that follows. If none follows, the title isn't written.
 #[derive(Drop)]
 pub struct Titled<W> {
-    // The other writer.
+    // The writer below.
     inner: W,
     // The title, and how many of its bytes are written.
     title: Vec<u8>,
@@ -23,7 +23,7 @@ pub struct Titled<W> {
 }
 
 impl<W> Titled<W> {
-    /// A writer with no title.
+    /// Returns a writer without a title.
     pub fn new(alloc: Global, inner: W) -> Titled<W>
         ensures inner { titled_inner result ≡ inner }
         ensures title { pending_title result ≡ [] }
@@ -35,7 +35,7 @@ impl<W> Titled<W> {
         }
     }
 
-    // Takes a title in place of the one that isn't written.
+    // Sets a title, instead of one that isn't written yet.
     fn set(&mut self, title: Vec<u8>)
         ensures inner { titled_inner self.new ≡ titled_inner self.old }
         ensures title { pending_title self.new ≡ title.items }
@@ -46,7 +46,7 @@ impl<W> Titled<W> {
 }
 
 impl<W: Write> Titled<W> {
-    // Writes what isn't written of the title.
+    // Writes the rest of the title.
     fn begin(&mut self) -> io::Result<()>
         ensures kept { Keeps (titled_contents W.contents self.old) (titled_contents W.contents self.new) }
         ensures written { OnOk result (pending_title self.new ≡ []) }
@@ -86,7 +86,7 @@ impl<W: Write> Write for Titled<W> {
     }
 }
 
-// The title of a file or a part of this name, if it may have one.
+// Returns the title of a file or a part of this name, if it may have one.
 pub(crate) fn title_of(alloc: Global, is_titled: bool, name: &str) -> Result<Vec<u8>, AllocError>
     ensures { IfOk result (λ title. title.items ≡ title_text is_titled name.now) }
 {
@@ -98,7 +98,7 @@ pub(crate) fn title_of(alloc: Global, is_titled: bool, name: &str) -> Result<Vec
     Ok(title.into_bytes())
 }
 
-/// Puts a title before what is written next, in place of the one before it, if that isn't written.
+/// Sets the title of what is written next. It replaces the previous title if that isn't written yet.
 pub fn put_title<W: Write + Drop, B: Allocator>(out: &mut BufWriter<Titled<W>, B>, title: Vec<u8>)
     ensures { IsUnder title.items out.old out.new }
 {

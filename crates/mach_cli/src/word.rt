@@ -1,4 +1,4 @@
-//! The words of a call, as the system gives them: bytes, which need not be text.
+//! The arguments of a call as the system gives them: bytes that may not be text.
 
 ghost use Rattle.std.specs.Prelude.{◌≡◌};
 ghost use Rattle.mach_cli.specs.CallWords.{word_text, ReadsAs};
@@ -9,17 +9,17 @@ use std::env::{Env, FillError};
 use std::fmt;
 use std::fmt::{Display, Formatter, Write};
 
-/// A word of a call.
+/// An argument of a call.
 #[derive(Drop)]
 pub enum Word {
-    /// A text.
+    /// Text.
     Text(String),
-    /// Bytes that are no UTF-8, and the number of the word; that of the first one behind the program's name is 1.
+    /// Bytes that aren't UTF-8, and the number of the argument. The first one after the program's name is number 1.
     Bytes(usize, Vec<u8>),
 }
 
 impl Word {
-    /// The text; none, where the word is no text.
+    /// Returns the text; empty if the argument isn't text.
     pub fn as_str(&self) -> &str
         ensures { result.now ≡ word_text self.now }
     {
@@ -30,12 +30,12 @@ impl Word {
     }
 }
 
-/// That the word of a call, or a name in a list, of this number is no text.
+/// The report that an argument of a call, or a name in a list, isn't text.
 #[derive(Clone, Copy)]
 pub struct NoText<'a> {
-    /// What it is: a word or a name.
+    /// What it is: an argument or a name.
     pub what: &'static str,
-    /// The number: 1 is that of the first one.
+    /// Its number, counted from 1.
     pub number: usize,
     /// Its bytes.
     pub bytes: &'a [u8],
@@ -56,7 +56,7 @@ impl Display for NoText<'_> {
     }
 }
 
-/// The words of a call, of which the first is the program's name.
+/// Returns the arguments of a call; the first is the program's name.
 pub fn call_words(rt: &HostRuntime) -> Result<Vec<Word>, AllocError> {
     let mut words = Vec::new(rt.alloc());
     for number in 0..usize::MAX {
@@ -68,7 +68,7 @@ pub fn call_words(rt: &HostRuntime) -> Result<Vec<Word>, AllocError> {
     Ok(words)
 }
 
-// The word of a number that these bytes are.
+// Returns the argument of this number with these bytes.
 fn word_of(number: usize, bytes: Vec<u8>) -> Word
     ensures { ReadsAs number bytes.items result }
 {
@@ -78,7 +78,7 @@ fn word_of(number: usize, bytes: Vec<u8>) -> Word
     }
 }
 
-// The bytes of the word of a number, if there is one. The buffer is doubled until they fit.
+// Returns the bytes of the argument of this number, if there is one. The buffer is doubled until they fit.
 fn argument(rt: &HostRuntime, number: usize) -> Result<Option<Vec<u8>>, AllocError> {
     let mut capacity = 256usize;
     for _ in 0..usize::BITS {

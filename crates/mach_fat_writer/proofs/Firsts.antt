@@ -96,7 +96,7 @@ added_or None true n none = refl
 added_or (Some i) false n none = refl
 added_or (Some i) true n none = absurd (let wrong = none refl in cc)
 
--- two entries with the same key
+-- an entry that passes the test of a key has that key
 same_key : (e : FatEntryView) (key : ℕ × ℕ) → is_keyed key e ≡ true → (e.cputype, e.align) ≡ key
 same_key e key both =
     let parts = and_parts (e.cputype == key.0) (e.align == key.1) both in

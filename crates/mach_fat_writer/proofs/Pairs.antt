@@ -11,7 +11,7 @@ use Rattle.std.proofs.Math.Nat.{mod-lt}
 use Rattle.mach_parts.specs.Cpu.{kind_of_cpu}
 use Rattle.mach_fat_writer.specs.Entries.{FatEntryView, are_of_one_cpu, any_two, any_again, cpu_number}
 
--- how often a number occurs: one place of the list
+-- 1 if two numbers are equal, else 0: summed, it counts how often a number occurs
 abbrev one_at : ℕ → ℕ → ℕ
 one_at k n = cond (k == n) 1 0
 
@@ -116,7 +116,7 @@ again_first (n ∷ ns) up = again_behind n ns up
 pub sort_tells : (ms ns : List ℕ) → IsPermutation ms ns → IsNonDecreasingBy (λ n. n) ns → any_again None ns ≡ any_two (λ m n. m == n) ms
 sort_tells ms ns moved up = again_first ns up ∙ any_same-moved ms ns moved
 
--- two cpus have the same number exactly when they are equal
+-- equal numbers come from equal cpus
 one_number : (a b k l : ℕ) → k < 2 ^ 24 → l < 2 ^ 24 → a * 2 ^ 24 + k ≡ b * 2 ^ 24 + l → (a ≡ b) × (k ≡ l)
 one_number a b k l low lower e = (omega (arith, low, lower, e), omega (arith, low, lower, e))
 

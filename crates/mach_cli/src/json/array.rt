@@ -1,4 +1,4 @@
-//! Arrays of the rows of lists.
+//! JSON arrays of the rows of lists.
 
 ghost use Rattle.std.specs.Prelude.{◌≡◌, ◌==◌, ◌++◌, ◌&&◌, ◌||◌, [], not, IfOk};
 ghost use Rattle.std.specs.Io.KnownBytes.{Appends};
@@ -12,7 +12,7 @@ use goblin_mach::describe;
 use std::io;
 use std::io::Write;
 
-/// Writes an array as a member of this name, with others behind it: exactly an object for each of the first rows of a list, up to a limit.
+/// Writes an array as a member of this name, with a comma after it: exactly an object for each of the first rows of a list, up to a limit.
 pub fn print_member<L: Listing, O: Write>(
     name: &str,
     list: &mut L,
@@ -27,7 +27,7 @@ pub fn print_member<L: Listing, O: Write>(
     Ok(told)
 }
 
-/// Writes an empty array as a member of this name, with others behind it: that of a list of which nothing is told.
+/// Writes an empty array as a member of this name, with a comma after it: the array of a list that isn't printed.
 pub fn print_empty<O: Write>(name: &str, limit: usize, out: &mut O) -> io::Result<Told>
     ensures { IfOk result (WritesMember name.now limit [] (O.contents out.old) (O.contents out.new)) }
 {
@@ -41,7 +41,7 @@ pub fn print_empty<O: Write>(name: &str, limit: usize, out: &mut O) -> io::Resul
     })
 }
 
-/// Writes what stands behind the members of an image's lists, and answers what came of them.
+/// Writes what follows the members of an image's lists, and returns their outcome.
 pub fn print_end<O: Write>(told: Told, out: &mut O) -> io::Result<Outcome>
     ensures { IfOk result (λ outcome. (outcome.whole ≡ (told.whole && not told.more)) × (outcome.left ≡ told.left)
         × Appends (O.contents out.old) (O.contents out.new) (lists_end told.more)) }
@@ -54,8 +54,8 @@ pub fn print_end<O: Write>(told: Told, out: &mut O) -> io::Result<Outcome>
     })
 }
 
-/// Writes what stands behind the members of an image's lists, with how many items more they claim past the end of the bytes, and answers what came
-/// of them.
+/// Writes what follows the members of an image's lists, with how many more items they claim past the end of the bytes, and
+/// returns their outcome.
 pub fn print_end_past<O: Write>(told: Told, past: usize, out: &mut O) -> io::Result<Outcome>
     ensures { IfOk result (λ outcome. (outcome.whole ≡ ((told.whole && not told.more) && (past == 0))) × (outcome.left ≡ told.left)
         × Appends (O.contents out.old) (O.contents out.new) (lists_end_past told.more past)) }
@@ -68,7 +68,8 @@ pub fn print_end_past<O: Write>(told: Told, past: usize, out: &mut O) -> io::Res
     })
 }
 
-/// Writes an array: exactly an object for each of the first rows of a list, up to a limit, in order; where one can't be told, its object says why.
+/// Writes an array: exactly an object for each of the first rows of a list, up to a limit, in order. For a row that can't be read
+/// the object gives the reason.
 pub fn print_array<L: Listing, O: Write>(
     list: &mut L,
     limit: usize,
@@ -108,7 +109,7 @@ fn print_objects<L: Listing, O: Write>(list: &mut L, limit: usize, out: &mut O) 
     })
 }
 
-// Writes the object of a row, behind a comma if it isn't the first, and answers whether it is there.
+// Writes the object of a row, after a comma unless it is the first, and returns whether the row could be read.
 fn print_object<L: Listing, O: Write>(
     answer: &goblin_mach::Result<L::Row>,
     is_first: bool,
@@ -132,14 +133,14 @@ fn print_object<L: Listing, O: Write>(
     }
 }
 
-/// What stands before the next element.
+/// Returns the separator before the next element.
 pub fn comma_before(is_first: bool) -> &'static str
     ensures { result.now ≡ comma_before is_first }
 {
     if is_first { "" } else { "," }
 }
 
-/// What was told of a list, and of another behind it with what the first left.
+/// Returns the state after two lists, given the state after each; the second started with what the first left.
 pub fn then(first: Told, next: Told) -> Told
     ensures { (result.left ≡ next.left) × (result.whole ≡ (first.whole && next.whole)) × (result.more ≡ (first.more || next.more)) }
 {

@@ -1,4 +1,4 @@
-//! The object of a file.
+//! The JSON object of a file.
 
 ghost use Rattle.std.specs.Prelude.{◌≡◌, ℕ, List, false, IfOk, IfErr, OnOk};
 ghost use Rattle.std.specs.Io.KnownBytes.{Appends};
@@ -27,16 +27,16 @@ use std::alloc::Allocator;
 use std::io;
 use std::io::Write;
 
-// What was opened of a file.
+// What a file opened as.
 #[derive(Drop)]
 enum Subject<'a, A: Allocator> {
-    // Its one image.
+    // One image.
     Image(MachO<'a, A>),
     // A fat file, with its table.
     Fat(MultiArch<'a, A>, Vec<FatArch, A>),
 }
 
-/// Writes the object of a file of this name, and answers whether nothing was refused and each image is whole.
+/// Writes the object of a file of this name, and returns whether nothing was refused and each image is whole.
 pub fn show<S: Shows, A: Allocator + Clone, O: Write, E: Write>(
     shows: &S,
     name: &str,
@@ -71,7 +71,7 @@ pub fn show<S: Shows, A: Allocator + Clone, O: Write, E: Write>(
     }
 }
 
-// Opens a file, a fat one with its table.
+// Opens a file; a fat one with its table.
 fn open<'a, A: Allocator + Clone>(alloc: &A, bytes: &'a [u8]) -> Result<Subject<'a, A>>
     ensures held { IfOk result (IsOpenSubject bytes.now) }
     ensures refused { IfErr result (Stands (ViewFault bytes.now)) }
@@ -86,7 +86,7 @@ fn open<'a, A: Allocator + Clone>(alloc: &A, bytes: &'a [u8]) -> Result<Subject<
     }
 }
 
-// Writes the object of a file that is one image, if it is asked for.
+// Writes the object of a file that is one image, if it is selected.
 fn show_one<S: Shows, A: Allocator + Clone, O: Write, E: Write>(
     shows: &S,
     name: &str,
@@ -110,7 +110,7 @@ fn show_one<S: Shows, A: Allocator + Clone, O: Write, E: Write>(
     Ok(outcome.whole)
 }
 
-// Writes the object of a fat file, if one of its entries is asked for.
+// Writes the object of a fat file, if one of its entries is selected.
 fn show_fat<S: Shows, A: Allocator + Clone, O: Write, E: Write>(
     shows: &S,
     name: &str,
@@ -136,7 +136,7 @@ fn show_fat<S: Shows, A: Allocator + Clone, O: Write, E: Write>(
     Ok(whole)
 }
 
-// Ends the object of a file of a kind and a name.
+// Ends the object of a file with its kind and its name.
 fn end<O: Write>(kind: &str, name: &str, out: &mut O) -> io::Result<()>
     ensures { OnOk result (Appends (O.contents out.old) (O.contents out.new) (document_end kind.now name.now)) }
 {
@@ -144,7 +144,7 @@ fn end<O: Write>(kind: &str, name: &str, out: &mut O) -> io::Result<()>
     writeln!(out, "],\"kind\":\"{kind}\",\"name\":{name}}}")
 }
 
-// Writes the objects of the entries that are asked for, and answers whether none is refused and each is whole.
+// Writes the objects of the selected entries, and returns whether none is refused and each is whole.
 fn show_entries<S: Shows, A: Allocator + Clone, O: Write, E: Write>(
     shows: &S,
     cpu: Cpu,
@@ -176,7 +176,7 @@ fn show_entries<S: Shows, A: Allocator + Clone, O: Write, E: Write>(
     Ok(whole)
 }
 
-// Writes the object of an entry, and answers whether it is whole, and how many rows are left.
+// Writes the object of an entry, and returns whether it is whole, and how many rows are left.
 fn show_entry<S: Shows, A: Allocator + Clone, O: Write, E: Write>(
     shows: &S,
     left: usize,
@@ -206,7 +206,7 @@ fn show_entry<S: Shows, A: Allocator + Clone, O: Write, E: Write>(
     }
 }
 
-// Writes the object of an image, and answers whether it is whole, and how many rows are left.
+// Writes the object of an image, and returns whether it is whole, and how many rows are left.
 fn show_image<S: Shows, A: Allocator + Clone, O: Write, E: Write>(
     shows: &S,
     left: usize,

@@ -1,4 +1,4 @@
-//! Why nothing is shown of a file.
+//! The reason why nothing is shown of a file, as JSON.
 
 ghost use Rattle.std.specs.Prelude.{◌≡◌, ◌++◌, codes, false, IfOk, OnOk};
 ghost use Rattle.std.specs.Io.KnownBytes.{Appends};
@@ -23,13 +23,13 @@ use std::{fmt, io};
 /// Why nothing is shown of a file.
 #[derive(Clone, Copy)]
 pub enum Refusal<'a> {
-    /// It is none of Mach-O's.
+    /// It isn't Mach-O.
     Kind(Foreign),
     /// It doesn't open.
     Fault(Description<'a>),
     /// Its image is for another cpu.
     OtherImage(Cpu),
-    /// None of its entries is for the cpu that is asked for.
+    /// None of its entries is for the selected cpu.
     NoEntry(Cpu),
 }
 
@@ -48,7 +48,7 @@ impl Display for Refusal<'_> {
     }
 }
 
-/// Why a file is refused for this error: for what it is, where it is none of Mach-O's.
+/// Returns why a file is refused for this error: its kind, if it isn't Mach-O, else the fault.
 pub fn refusal_of<'a>(bytes: &[u8], error: &'a Error) -> Refusal<'a>
     ensures { told_refusal result ≡ refused_words bytes.now error.now }
 {
@@ -58,7 +58,7 @@ pub fn refusal_of<'a>(bytes: &[u8], error: &'a Error) -> Refusal<'a>
     }
 }
 
-/// The front of the object of an image.
+/// The start of an image's object.
 #[derive(Clone, Copy)]
 pub struct ObjectFront(pub Heading);
 
@@ -75,7 +75,7 @@ impl Display for ObjectFront {
     }
 }
 
-/// Writes the object of a file of this name of which nothing is shown, and says why; so it is not whole.
+/// Writes the object of a file of this name of which nothing is shown, and reports why; so it is not whole.
 pub fn refuse<S: Shows, O: Write, E: Write>(
     shows: &S,
     name: &str,
@@ -96,7 +96,7 @@ pub fn refuse<S: Shows, O: Write, E: Write>(
     Ok(false)
 }
 
-/// Writes in the place of the members of an image that memory is refused for them, and says so.
+/// Writes that memory ran out, instead of the members of an image, and reports it.
 pub fn refuse_members<S: Shows, O: Write, E: Write>(
     shows: &S,
     out: &mut O,
@@ -110,7 +110,7 @@ pub fn refuse_members<S: Shows, O: Write, E: Write>(
     writeln!(err, "{names}: out of memory")
 }
 
-/// Writes the object of an entry of a fat file that is refused, and says why.
+/// Writes the object of a refused entry of a fat file, and reports why.
 pub fn refuse_entry<S: Shows, O: Write, E: Write>(
     shows: &S,
     index: usize,

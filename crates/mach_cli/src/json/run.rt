@@ -1,4 +1,4 @@
-//! What a program writes of a file as JSON, and its exit status.
+//! Writes a file's output as JSON, and returns the exit status.
 
 ghost use Rattle.std.specs.Prelude.{◌≡◌, ◌≤◌, [], IfOk, OnOk};
 ghost use Rattle.std.specs.Io.Buffered.{writer_buffer, writer_contents};
@@ -14,10 +14,14 @@ use std::alloc::Allocator;
 use std::io;
 use std::io::{BufWriter, Write};
 
-/// Writes the object of a file of this name on a line, with the members of its images that are asked for, the limit left for the first one, and answers
-/// the exit status: 0 where nothing was refused and each image is whole; 1 where the file, an entry of a fat one, or memory was refused, and then
-/// the object has a member `error` and `err` a line that says why, or where an image is not whole; 2 or 141 where a write fails (`failed`). But for that
-/// nothing is left in the buffer.
+/// Writes the object of a file of this name on a line, with the members of its selected images; `limit` is the number of rows for
+/// all of them together. It returns the exit status:
+/// - 0 if nothing was refused and each image is whole;
+/// - 1 if the file, an entry of a fat file or memory was refused, or if an image is not whole; for a refusal the object has a
+///   member `error`, and `err` has a line with the reason;
+/// - 2 or 141 if a write fails (`failed`).
+///
+/// Except after a failed write the buffer is flushed.
 pub fn run<S: Shows, A: Allocator + Clone, W: Write + Drop, B: Allocator, E: Write>(
     shows: &S,
     name: &str,
@@ -40,7 +44,7 @@ pub fn run<S: Shows, A: Allocator + Clone, W: Write + Drop, B: Allocator, E: Wri
     }
 }
 
-// Writes the object of a file, and all that was gathered.
+// Writes the object of a file, and flushes the buffer.
 fn show_all<S: Shows, A: Allocator + Clone, W: Write + Drop, B: Allocator, E: Write>(
     shows: &S,
     name: &str,
@@ -61,7 +65,7 @@ fn show_all<S: Shows, A: Allocator + Clone, W: Write + Drop, B: Allocator, E: Wr
     Ok(whole)
 }
 
-// The status of what was written, by whether it is whole.
+// Returns the status of a complete output, by whether it is whole.
 fn status(whole: bool) -> u8
     ensures { result ≡ status_by whole }
 {

@@ -1,4 +1,4 @@
-//! How a pointer is signed, and what a rebase corrects, as members of an object.
+//! How a pointer is signed, and what a rebase adjusts, as members of an object.
 
 ghost use Rattle.std.specs.Prelude.{◌≡◌, Some};
 ghost use Rattle.mach_parts.specs.PointerSigning.{auth_seen};
@@ -19,7 +19,7 @@ pub fn has_auth(auth: Option<PointerAuth>) -> bool
     }
 }
 
-/// The key of a signed pointer, 0 where it isn't signed.
+/// Returns the key of a signed pointer, 0 if it isn't signed.
 pub fn key_by(auth: Option<PointerAuth>) -> u8
     ensures { result ≡ key_by (auth_seen auth) }
 {
@@ -29,7 +29,7 @@ pub fn key_by(auth: Option<PointerAuth>) -> u8
     }
 }
 
-// What is mixed into a signed pointer.
+// Returns the diversity of a signed pointer, 0 if it isn't signed.
 fn diversity_by(auth: Option<PointerAuth>) -> u16
     ensures { result ≡ diversity_by (auth_seen auth) }
 {
@@ -39,7 +39,7 @@ fn diversity_by(auth: Option<PointerAuth>) -> u16
     }
 }
 
-// Whether a signed pointer's own address is mixed in, too.
+// Whether the address of a signed pointer is mixed in, too.
 fn diverse_by(auth: Option<PointerAuth>) -> bool
     ensures { result ≡ diverse_by (auth_seen auth) }
 {
@@ -49,7 +49,7 @@ fn diverse_by(auth: Option<PointerAuth>) -> bool
     }
 }
 
-/// What is mixed into a pointer: 0, and not its own address, where it isn't signed.
+/// The diversity of a pointer, and whether its address is mixed in: 0 and false if it isn't signed.
 #[derive(Clone, Copy)]
 pub struct DiversityMembers(pub Option<PointerAuth>);
 
@@ -66,7 +66,7 @@ impl Display for DiversityMembers {
     }
 }
 
-// Whether a pointer is signed, and by which key.
+// Whether a pointer is signed, and with which key.
 #[derive(Clone, Copy)]
 struct SigningMembers(Option<PointerAuth>);
 
@@ -80,7 +80,7 @@ impl Display for SigningMembers {
     }
 }
 
-/// How a pointer is signed, and what is mixed in.
+/// How a pointer is signed, and its diversity.
 #[derive(Clone, Copy)]
 pub struct AuthMembers(pub Option<PointerAuth>);
 
@@ -94,7 +94,7 @@ impl Display for AuthMembers {
     }
 }
 
-/// What a rebase corrects.
+/// Returns what a rebase adjusts.
 pub fn rebase_type(kind: RebaseKind) -> &'static str
     ensures { result.now ≡ rebase_type kind }
 {

@@ -1,4 +1,4 @@
-//! Texts as strings of JSON.
+//! Texts as JSON strings.
 
 ghost use Rattle.std.specs.Prelude.{Some};
 ghost use Rattle.mach_cli.specs.JsonText.{json_inner, json_string};
@@ -20,7 +20,7 @@ impl Display for JsonString<'_> {
     }
 }
 
-// What stands between the quotation marks.
+// The inside of a string, between its quotation marks.
 #[derive(Clone, Copy)]
 struct Inner<'a>(&'a str);
 

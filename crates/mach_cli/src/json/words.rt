@@ -1,11 +1,11 @@
-//! The word of a call that asks for JSON.
+//! The argument that requests JSON.
 
 use crate::call::takes_word;
 use crate::word::Word;
 use std::alloc::{AllocError, Allocator};
 
-/// Whether a word `--json` is among the words of a call, and all other words, in order. The first word is the program's name; a word behind `--`, or
-/// behind an option that has one behind it, asks for nothing.
+/// Returns whether `--json` is among the arguments of a call, and all other arguments, in order. The first argument is the
+/// program's name. After `--`, and as an option's value, `--json` requests nothing.
 pub fn take_json<A: Allocator>(
     alloc: A,
     words: Vec<Word>,

@@ -1,4 +1,4 @@
-//! What a part of a file is called.
+//! The name of a part of a file.
 
 ghost use Rattle.std.specs.Prelude.{Some};
 ghost use Rattle.goblin_mach.specs.Items.{content_view};
@@ -9,7 +9,7 @@ use mach_archive::Member;
 use std::fmt;
 use std::fmt::{Display, Formatter, Write};
 
-// The entry of a fat file in which a part stands, if it stands in one.
+// The entry of a fat file that holds a part, if there is one.
 #[derive(Clone, Copy)]
 struct EntryText(Option<usize>);
 
@@ -24,7 +24,7 @@ impl Display for EntryText {
     }
 }
 
-// A member's name, or where its header stands.
+// A member's name, or the offset of its header.
 #[derive(Clone, Copy)]
 struct MemberName<'a>(Member<'a>);
 
@@ -59,7 +59,7 @@ impl Display for WithinText<'_> {
     }
 }
 
-/// What a part of a file of this name is called: by the number of its entry in a fat file, and by its name in an archive.
+/// The name of a part of a file of this name: with the index of its entry in a fat file, and its name in an archive.
 #[derive(Clone, Copy)]
 pub struct PartName<'f, 'a> {
     pub file: &'f str,

@@ -1,4 +1,4 @@
-//! Which parts of a file are asked for.
+//! Which parts of a file are selected.
 
 ghost use Rattle.std.specs.Prelude.{◌≡◌};
 ghost use Rattle.mach_cli.specs.Asked.{are_missed, is_part_for};
@@ -9,7 +9,7 @@ use crate::parts::parts_of;
 use goblin_mach::Place;
 use std::alloc::Global;
 
-/// Whether a part is asked for by the cpu of its entry; where it has none its image says.
+/// Whether a part is selected by the cpu of its entry. If it has no entry, its image decides.
 pub fn is_for(cpu: Cpu, place: &Place) -> bool
     ensures { result ≡ is_part_for cpu place.now }
 {
@@ -19,7 +19,7 @@ pub fn is_for(cpu: Cpu, place: &Place) -> bool
     }
 }
 
-/// Whether a file has parts, and none of them is asked for.
+/// Whether a file has parts, and none of them is selected.
 pub fn is_missed(alloc: Global, cpu: Cpu, bytes: &[u8]) -> bool
     ensures { result ≡ are_missed cpu (parts_in bytes.now) }
 {

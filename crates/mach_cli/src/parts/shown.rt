@@ -15,7 +15,7 @@ use std::alloc::{AllocError, Global};
 /// What is shown of a part.
 #[derive(Drop)]
 pub enum ShownPart<'a> {
-    /// Nothing, of an archive that has no member.
+    /// Nothing: an archive without members.
     Nothing,
     /// The file itself, by its bytes.
     Itself(&'a [u8]),
@@ -23,7 +23,7 @@ pub enum ShownPart<'a> {
     Within(String, &'a [u8]),
 }
 
-// What a part that isn't the file itself is called.
+// Returns the name of a part that isn't the file itself.
 fn name_of(
     alloc: Global,
     file: &str,
@@ -40,7 +40,8 @@ fn name_of(
     format!(in alloc; "{name}")
 }
 
-/// What is shown of a part of a file of this name: itself, or what is within it under a name of its own; or why it can't be read, or want of memory.
+/// Returns what is shown of a part of a file of this name: the file itself, or a part with its own name. The error says why the
+/// part can't be read, or that memory ran out.
 pub fn shown_part<'a>(alloc: Global, file: &str, part: InputItem<'a>) -> Result<ShownPart<'a>>
     ensures { let x = input_item_read part.entry in Gives part_seen result (shown_in file.now x.place.entry x.content) }
 {
