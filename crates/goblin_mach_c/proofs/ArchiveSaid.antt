@@ -1,4 +1,4 @@
--- Rows of archives say what is given with the place of its name.
+-- Rows of archives are those of the items with the places of their names.
 use Rattle.std.proofs.Common.{◌≡◌, ℕ, List, ◌∷◌, Some, Result, Ok, Err, subst}
 use Rattle.mach_base.specs.Fault.{Fault, fault_of}
 use Rattle.mach_base.specs.Items.{read_as}

@@ -1,4 +1,4 @@
--- At the start of both parts of a cursor the bindings behind it are all those of the image.
+-- If both parts of a cursor are at the start, the bindings after it are all those of the image.
 use Rattle.std.proofs.Common.{◌≡◌, ◌++◌, ◌∙◌, [], ◌∷◌, ℕ, List, Option, Some, None, Result, Ok, Err, refl, sym, ap, subst}
 use Rattle.mach_base.specs.Fault.{Fault}
 use Rattle.mach_chained.specs.Fixups.{Fixup}

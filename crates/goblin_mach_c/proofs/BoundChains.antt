@@ -1,4 +1,4 @@
--- The bindings of chains, and the bytes in which their names stand.
+-- The bindings of chains, and the bytes that hold their names.
 use Rattle.std.proofs.Common.{◌≡◌, ◌∙◌, [], ◌∷◌, ℕ, List, Option, Some, None, Result, Ok, Err, map, refl, sym, ap}
 use Rattle.mach_base.specs.Answer.{◌>>=◌}
 use Rattle.mach_base.specs.Fault.{Fault, fault_of}
@@ -22,7 +22,7 @@ use Rattle.goblin_mach_c.specs.ImportsBehind.{Binds}
 use Rattle.goblin_mach_c.specs.declared.fixups.FixupRows.{FixupRows}
 use Rattle.goblin_mach_c.specs.declared.fixups.FixupRows.TheVariants as rows
 
--- ---- the front of the chains keeps their data
+-- ---- the header of the chains keeps their data
 
 by_count : (le : Endian) (payload : List ℕ) (header : ChainedFixupsHeader) (format : ImportFormat) (count : Result ℕ Fault) (c : Fixups)
     → (count >>= λ n. Ok (record { payload = payload; header = header; format = format; segment_count = n; le = le })) ≡ Ok c

@@ -1,4 +1,4 @@
--- Where the names of bindings stand.
+-- Where the names of bindings are.
 use Rattle.std.proofs.Common.{◌≡◌, ◌<◌, ◌≤◌, ◌+◌, ◌-◌, ◌∙◌, ◌∷◌, [], inl, inr, ℕ, zero, suc, List, Result, Ok, Err, Some, length, take, drop, cond, IfOk}
 use Rattle.std.proofs.Common.{nat_le, refl, sym, ap, subst, arith}
 use Rattle.std.specs.Prelude.{ℤ, ◌+ℤ◌, false}
@@ -22,7 +22,7 @@ use Rattle.mach_dyld.specs.declared.imports.cursor.PlacedBinding.{PlacedBinding}
 use Rattle.goblin_mach_c.specs.BindingRows.{NameStandsAt}
 use Rattle.goblin_mach_c.specs.BindingsBehind.{HasPlacedName}
 
--- the front of a list, by its own length
+-- the first elements of a list, taken by their own count
 front_again : (n : ℕ) (xs : List ℕ) → take (length (take n xs)) xs ≡ take n xs
 front_again zero xs = refl
 front_again (suc n) [] = refl
@@ -40,7 +40,7 @@ run_there bytes s inside =
     let long = length-drop s bytes in
     record { within = omega (arith, inside, short, long); there = front_again n (drop s bytes) }
 
--- a text that is read at a place stands there
+-- a text that is read at a place is there
 pub text_stands : (bytes : List ℕ) (s : ℕ) (text : List ℕ) → text_at bytes s ≡ Ok text → NameStandsAt bytes s text
 unfolding text_at
 text_stands bytes s text e =
@@ -70,7 +70,7 @@ part_lies size bytes from part e =
       ]
     ]
 
--- what stands in a part of the bytes stands in the bytes
+-- what is in a part of the bytes is in the bytes
 pub part_stands : (size : ℕ) (bytes : List ℕ) (from : ℕ) (part : List ℕ) (s : ℕ) (text : List ℕ) → slice_at size bytes from ≡ Ok part → NameStandsAt part s text
     → NameStandsAt bytes (from + s) text
 part_stands size bytes from part s text e there =
@@ -93,7 +93,7 @@ part_stands size bytes from part s text e there =
           ∙ there.there;
     }
 
--- a binding that is made of these has the import's name
+-- a binding that is built from these has the import's name
 by_addend : (i : FixupImport) (provider : Provider) (offset address : ℕ) (addend : Result ℤ Fault) (b : Binding)
     → (addend >>= λ a. Ok (record {
       name = i.name;

@@ -1,4 +1,4 @@
--- What lists are read from, by what is told of an image.
+-- What lists are read from, by the facts about an image.
 use Rattle.std.proofs.Common.{Option, Result}
 use Rattle.mach_base.specs.Context.{pointer_size}
 use Rattle.mach_base.specs.Fault.{Fault}

@@ -66,13 +66,13 @@ pub rest_of : {R : Type 0} (rows left old out : List R) (k : ℕ) → Partly row
 rest_of rows left old out k p =
     sym (drop-append_seam p.done left) ∙ ap (λ n. drop n (p.done ++ left)) p.many ∙ ap (drop k) (sym p.are)
 
--- where nothing is left from a number on, nothing is from a later one on
+-- if nothing is left from a number on, nothing is left from a later one on
 pub drop_past : {R : Type 0} (rows : List R) (k n : ℕ) → drop k rows ≡ [] → k ≤ n → drop n rows ≡ []
 drop_past rows k n none less =
     let long = sym (length-drop k rows) ∙ ap length none in
     drop_of_length-le rows (omega (arith, long, less))
 
--- what is left behind the first that is left
+-- what is left after the first that is left
 pub drop_next : {R : Type 0} (rows : List R) (k : ℕ) (row : R) (rest : List R) → drop k rows ≡ row ∷ rest → drop (k + 1) rows ≡ rest
 drop_next [] zero row rest e = absurd (cc)
 drop_next [] (suc k) row rest e = absurd (cc)
@@ -84,7 +84,7 @@ drop_next (x ∷ rows) (suc k) row rest e =
 pub no_items : {A : Type 0} (item : ℕ → A) (first count : ℕ) → count ≡ 0 → items_from item first count ≡ []
 no_items item first count none = ap (items_from item first) none
 
--- those behind the first ones, by their numbers
+-- those after the first ones, by their numbers
 behind_first : {A : Type 0} (item : ℕ → A) (from count k : ℕ) → drop k (items_from item from count) ≡ items_from item (from + k) (count - k)
 behind_first item from count zero =
     let same : from + 0 ≡ from = omega arith in

@@ -1,4 +1,4 @@
--- What is found of a name in an image that is held, as facts on the bytes.
+-- The export of a name from an opened image, as facts about the bytes.
 use Rattle.std.proofs.Common.{◌≡◌, ℕ, List}
 use Rattle.std.specs.declared.alloc.Global.{Global}
 use Rattle.mach_base.proofs.Faults.{Stands-in}
@@ -15,7 +15,7 @@ use Rattle.goblin_mach.specs.declared.macho.MachO.{MachO}
 use Rattle.goblin_mach_c.specs.Codes.{code_of_fault}
 use Rattle.goblin_mach_c.specs.ExportRows.{HasFaultOnWay, HasNameFault, IsOnWayIn}
 
--- an error that reports two faults reports what is both
+-- an error that reports two faults reports what is both of them
 both : (P Q : Fault → Type 0) (e : Error) → Stands P e → Stands Q e → Stands (λ f. P f × Q f) e
 both P Q (errors.Malformed m) p q = (p, q)
 both P Q (errors.BadMagic n) p q = (p, q)
@@ -33,7 +33,7 @@ name_fault bytes o m name e opened refused on_way =
     (Stands-in (IsOnWayIn (trie_or_empty (trie_held m)) (texts m.libs.items) name) (HasFaultOnWay bytes o name) e
     (λ f h. (facts_are bytes o m opened (λ there. IsOnWayIn (trie_or_empty there.trie) there.libs name f)).1 h) on_way)
 
--- want of memory alone has its code
+-- only an error for memory that ran out has its code
 pub memory_code : (e : Error) (code : ℕ) → code ≡ code_of_fault (fault_of e) → Stands (λ f. ⊥) e → code ≡ 5
 memory_code (errors.Malformed m) code is none = absurd none
 memory_code (errors.BadMagic n) code is none = absurd none

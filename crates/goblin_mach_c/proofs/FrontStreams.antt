@@ -1,4 +1,4 @@
--- The stream of weak binds is the front of the bytes, and a name that stands in it stands in them.
+-- The stream of weak binds is a prefix of the bytes, and a name in it is in them.
 use Rattle.std.proofs.Common.{◌≡◌, ◌≤◌, ◌+◌, ◌-◌, ◌∙◌, ◌⊎◌, [], ◌∷◌, ℕ, zero, suc, List, Option, Some, None, Ok, length, take, drop, refl, sym, ap}
 use Rattle.std.proofs.Common.{subst, arith, inl, inr}
 use Rattle.std.specs.Prelude.{option_map}
@@ -18,7 +18,7 @@ use Rattle.goblin_mach_c.specs.BindingRows.{NameStandsAt}
 use Rattle.goblin_mach_c.specs.WeakRows.{weak_name}
 use Rattle.goblin_mach_c.proofs.BoundNames.{text_stands}
 
--- ---- the front of a list
+-- ---- a prefix of a list
 
 pub front_within : (n : ℕ) (xs : List ℕ) → length (take n xs) ≤ n
 front_within zero xs = omega arith
@@ -46,7 +46,7 @@ front_stands n bytes place name there =
           ∙ there.there;
     }
 
--- that of a weak bind
+-- the name of a weak bind
 named : (w : declared.WeakBind) → name_of_weak w ≡ weak_name (weak_bind_view w)
 named (variants.Strong name) = refl
 named (variants.Bind binding) = refl

@@ -1,4 +1,4 @@
--- The binds of an image stand in the bytes that it was opened in.
+-- The binds of an image lie in the bytes that it was opened in.
 use Rattle.std.proofs.Common.{◌≡◌, ◌∙◌, [], ◌∷◌, ℕ, List, Option, Some, None, Ok, sym, ap}
 use Rattle.std.specs.Prelude.{option_map}
 use Rattle.std.specs.declared.alloc.Global.{Global}

@@ -1,4 +1,4 @@
--- Rows of items that go by their number.
+-- Rows for items by their index.
 use Rattle.std.proofs.Common.{◌≡◌, ◌+◌, ◌∷◌, ℕ, zero, suc, map, refl, ap}
 use Rattle.mach_base.specs.Items.{items_from}
 

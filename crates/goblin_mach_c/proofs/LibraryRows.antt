@@ -1,4 +1,4 @@
--- The row of a library, by what was read of its command.
+-- The row of a library, by what was read from its command.
 use Rattle.std.proofs.Common.{◌≡◌, ℕ, List, Option, Some, None, Result, Ok, length, option_map, refl, ap, sym, ◌∙◌}
 use Rattle.mach_base.specs.Answer.{◌>>=◌}
 use Rattle.mach_base.specs.Fault.{Fault}
@@ -28,7 +28,7 @@ row d place len number used =
       reserved = 0;
     }
 
--- the same where its name stands where it does, and its numbers are those of the kind
+-- the same row, with the name where it is and the numbers of the kind
 same_row : (c : Command) (d : Dylib) (a : LibraryKind → LibraryAttributes) (k : LibraryKind) (r : Result (List ℕ) Fault) (name : List ℕ)
     (place number used : ℕ) → place ≡ name_place c → r ≡ Ok name → number ≡ library_kind_number k → used ≡ attributes_number (a k)
     → Some (row d place (length name) number used) ≡ shown (library_row c) (option_map (λ kind. r >>= λ text. Ok (named_library kind (a kind) d text)) (Some k))
@@ -50,7 +50,7 @@ one_row c d a (Some k) bytes name kind found place number used same stands at re
     ∙ same_row c d a k (text_at bytes (name_place c)) name place number used there (ap (text_at bytes) (sym there) ∙ read)
     (is ∙ ap library_kind_number kinds) (uses ∙ ap (λ (x : LibraryKind). attributes_number (a x)) kinds)
 
--- of a command that brings in a library of this kind, whose name is a text, it is the row
+-- for a command that loads a library of this kind, with a name that is text, it is the row
 pub row_there : (le : Endian) (bytes : List ℕ) (c : Command) (kind : LibraryKind) (found : Dylib) (name : List ℕ) (place number used : ℕ)
     → ◌≡◌ {A = Option (LibraryKind × Dylib)} (Some (kind, found)) (option_map (λ k. (k, dylib_of_values c.values)) (library_kind c.kind))
     → place ≡ place_after c.offset found.name

@@ -45,7 +45,7 @@ module _ (bytes : List ℕ) (IsLibrary : ℕ → List ℕ → Type 0) (IsNode : 
   listed_length before (x ∷ es) [] are = absurd are
   listed_length before (x ∷ es) (r ∷ rows) are = ap suc (listed_length (before ++ x ∷ []) es rows are.1)
 
--- what is said of other bytes, other libraries and other nodes
+-- what holds for other bytes, other libraries and other nodes
 module _ (bytes bytes' : List ℕ) (IsLibrary IsLibrary' : ℕ → List ℕ → Type 0) (IsNode IsNode' : List Entry → Entry → ℕ → Type 0)
     (text : (place : ℕ) (text : List ℕ) → text_at bytes place ≡ Ok text → text_at bytes' place ≡ Ok text)
     (number_place : (node : ℕ) (found : ℕ × ℕ) → place_at bytes node ≡ Ok found → place_at bytes' node ≡ Ok found)
@@ -87,7 +87,7 @@ module _ (bytes bytes' : List ℕ) (IsLibrary IsLibrary' : ℕ → List ℕ → 
     names = w.names;
   }
 
--- The walk went on from one cursor to another, and gave exports, of which k rows and `used` bytes of names are written.
+-- The walk went on from one cursor to another and returned exports, of which k rows and `used` bytes of names are written.
 pub record SoFar (t : TrieRange) (libs : List (List ℕ)) (c c' : TrieCursor) (name name' : List ℕ) (stack stack' : List Open)
     (old new : List gm_listed_export) (text text' : List ℕ) (k used : ℕ) : Type 0 where
   pub given : List Entry
@@ -102,7 +102,7 @@ none_so_far {t} {libs} {c} {name} {stack} = record {
   walked = λ found h. subst (HasGivenTo t libs c name stack) (sym (append-nil found)) h;
 }
 
--- what a text holds behind what was put into it
+-- what a buffer holds after something was appended to it
 put_behind : (done old text after : List ℕ) (used : ℕ) → used ≡ length done → after ≡ done ++ drop used old
     → take used after ++ text ++ drop (used + length text) after ≡ (done ++ text) ++ drop (used + length text) old
 put_behind done old text after used is e =
@@ -159,7 +159,7 @@ one_more {t} {libs} {c} {c'} {d} {name} {name'} {m} {stack} {stack'} {q} {old} {
       walked = λ found h. subst (HasGivenTo t libs d m q) (append_assoc found so.given (e ∷ [])) (gives (found ++ so.given) (so.walked found h));
     }
 
--- ---- where a re-export is brought from
+-- ---- where a re-export comes from
 
 text_is : (text : List ℕ) (name : Option (List ℕ)) → name ≡ Nodes.name_of text → text ≡ text_or_empty name
 text_is [] name e = rw e refl

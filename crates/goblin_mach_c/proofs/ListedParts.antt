@@ -38,7 +38,7 @@ tool_fails le bytes p f less is = first_tool le bytes p (Err f) less is
 
 -- ---- options
 
--- so many options of a command from a place on
+-- `count` options of a command from a place on
 abbrev pub options_at : ℕ → List ℕ → (place count : ℕ) → List (Result (ℕ × ℕ × List ℕ) Fault)
 options_at command cut place count = map (with_command command) (placed_options (record { bytes = cut; place = place; count = count }))
 

@@ -1,4 +1,4 @@
--- From an image that is held to its numbers as facts on the bytes.
+-- From an opened image to its numbers as facts about the bytes.
 use Rattle.std.proofs.Common.{◌≡◌, ◌+◌, ◌-◌, ◌∙◌, inl, inr, ℕ, List, Bool, true, false, Option, length, Ok, refl, sym, ap}
 use Rattle.std.proofs.Common.{subst, arith}
 use Rattle.std.specs.Prelude.{◌↔◌, ◌==◌, IsTrue, if◌then◌else◌}
@@ -26,7 +26,7 @@ use Rattle.goblin_mach_c.specs.Opened.{AreTableNumbers, HoldsNumbers, IsOpened, 
 use Rattle.goblin_mach_c.specs.Seen.{ctx_seen}
 use Rattle.goblin_mach_c.specs.declared.images.gm_image.{gm_image}
 
--- an error that reports a fault, or want of memory, has its code
+-- an error that reports a fault, or memory that ran out, has its code
 pub refusal_of : (IsFault : Fault → Type 0) (e : Error) (code : ℕ) → code ≡ code_of_fault (fault_of e) → Stands IsFault e → IsRefusalCode IsFault code
 refusal_of IsFault (errors.Malformed msg) code is stands = record { fault = fault_of (errors.Malformed msg); is_code = is; stands = inr stands }
 refusal_of IsFault (errors.BadMagic magic) code is stands = record { fault = fault_of (errors.BadMagic magic); is_code = is; stands = inr stands }
@@ -35,7 +35,7 @@ refusal_of IsFault (errors.BufferTooShort count what) code is stands =
     record { fault = fault_of (errors.BufferTooShort count what); is_code = is; stands = inr stands }
 refusal_of IsFault (errors.Memory e) code is stands = record { fault = fault_of (errors.Memory e); is_code = is; stands = inl refl }
 
--- the width and the byte order are told by their flags
+-- the flags give the width and the byte order
 width_is : (b : Bool) (w : Container) → IsTrue b ↔ (w ≡ width.Big) → width_of b ≡ w
 width_is true w is = sym (is.0 refl)
 width_is false width.Little is = refl
@@ -63,7 +63,7 @@ not_lossy : (b : Bool) → flag b ≡ 0 → b ≡ false
 not_lossy true e = absurd (omega (arith, e))
 not_lossy false e = refl
 
--- an image that is held, with its numbers, is an image that was opened
+-- an image that was opened, with its numbers, is as `gm_open` says
 pub opened_of : (bytes : List ℕ) (o : ℕ) (m : MachO Global) (lossy : Bool) (c : gm_image) → IsLossyImage bytes o m
     → (lossy ≡ false → IsImage bytes o m) → HoldsNumbers m o lossy c → IsOpened bytes o c
 opened_of bytes o m lossy c loose strict n =

@@ -1,4 +1,4 @@
--- What the calls answer of an image that was opened is what the bytes say of it.
+-- What the calls return for an opened image is what the bytes say.
 use Rattle.std.proofs.Common.{◌≡◌, ◌≤◌, ◌+◌, ◌/◌, ◌∙◌, ◌∷◌, [], ℕ, zero, suc, List, Option, Some, None, Result, Ok, Err, inl, inr, cond, nat_le}
 use Rattle.std.proofs.Common.{length, map}
 use Rattle.std.proofs.Common.{refl, sym, ap, subst, arith}
@@ -31,7 +31,7 @@ use Rattle.goblin_mach_c.proofs.Filled.{no_items}
 use Rattle.goblin_mach_c.specs.PartRows.{rows_of, segment_row, segment_row_by, segment_rows, shown, with_rows}
 use Rattle.goblin_mach_c.specs.declared.images.gm_image.{gm_image}
 
--- commands that stand one behind the other are those that are read one behind the other
+-- a chain of commands is the list that is read one after the other
 pub chain_is : (le : Endian) (bytes : List ℕ) (s : ℕ) (cs : List Command) → AllThere le bytes cs → BeginsAt s cs → IsLinked cs
     → readable_commands_from le bytes s (length cs) ≡ cs
 unfolding readable_commands_from
@@ -56,7 +56,7 @@ rows_shown show reading [] = refl
 rows_shown show reading (c ∷ cs) =
     shown_keep show (reading c) (rows_of (λ d. shown show (reading d)) cs) (read_of reading cs) (rows_shown show reading cs)
 
--- the commands of an image that was opened are those that its numbers say
+-- the commands of an opened image are those of its numbers
 pub commands_are : (bytes : List ℕ) (o : ℕ) (ctx : Ctx) (cs : List Command) (c : gm_image) → LossyOpensAs bytes o ctx cs → AreNumbers bytes o ctx cs c
     → commands_seen bytes c ≡ cs
 commands_are bytes o ctx cs c opens n =
@@ -95,7 +95,7 @@ segments_of_opened bytes o c opened =
 abbrev table_of_command : Ctx → List ℕ → SymtabCommand → SymbolTable
 table_of_command ctx bytes c = record { bytes = bytes; start = c.symoff; nsyms = c.nsyms; strtab = c.stroff; ctx = ctx }
 
--- it stands in the bytes, in the image's context
+-- it lies in the bytes, in the image's context
 abbrev StandsThere : Ctx → List ℕ → SymbolTable → Type 0
 StandsThere ctx bytes t = (t.bytes ≡ bytes) × (t.ctx ≡ ctx)
 
@@ -151,7 +151,7 @@ symbols_are : (bytes : List ℕ) (c : gm_image) (ctx : Ctx) (found : Option Symb
 symbols_are bytes c ctx None same there n = no_items (symbol_at (table_seen bytes c)) 0 c.symbols n.1
 symbols_are bytes c ctx (Some t) same there n = ap symbols_of (table_is bytes c ctx t same (there t refl) n)
 
--- rows that say their symbols, number by number
+-- rows of their symbols, index by index
 say_all : (t : SymbolTable) (first count : ℕ) → AllSay (SaysSymbol t.strtab) (items_from (symbol_at t) first count) (items_from (symbol_row t) first count)
 say_all t first zero = tt
 say_all t first (suc count) = (row_says t first, say_all t (first + 1) count)

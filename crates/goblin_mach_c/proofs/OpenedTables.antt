@@ -1,4 +1,4 @@
--- The tables of an image that was opened are what the bytes say of them.
+-- The tables of an opened image are what the bytes say.
 use Rattle.std.proofs.Common.{◌≡◌, ◌∙◌, ℕ, List, Result, map, refl, ap}
 use Rattle.mach_base.specs.Fault.{Fault}
 use Rattle.mach_records.specs.declared.linkedit.DataInCodeEntry.{DataInCodeEntry}

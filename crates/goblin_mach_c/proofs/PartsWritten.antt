@@ -1,4 +1,4 @@
--- What is written for C of a fat file of parts, by whether there is room for it.
+-- What is written for C from a fat file of parts, by whether it fits.
 use Rattle.std.proofs.Common.{◌≡◌, ◌≤◌, ◌<◌, ◌++◌, ℕ, List, length, drop, nat_le, true, false, refl, sym, ap, subst, ◌∙◌, arith}
 use Rattle.std.proofs.lemmas.Bool.{le-leb, lt-leb}
 use Rattle.mach_fat_writer.specs.FatForms.{FatForm}

@@ -29,7 +29,7 @@ use Rattle.goblin_mach_c.specs.declared.fixups.FixupRows.{FixupRows}
 use Rattle.goblin_mach_c.specs.declared.fixups.FixupRows.TheVariants as variant
 use Rattle.goblin_mach_c.proofs.BoundChains.{same_chains}
 
--- ---- without their places they are the bindings
+-- ---- without their places these are the bindings
 
 of_one : (items : List (Result Binding Fault)) (places : List ℕ) → map unplaced (upto_fault (placed items places)) ≡ upto_fault items
 of_one [] places = refl
@@ -65,13 +65,13 @@ first_sited (Ok p) before after sites sites' items own =
     ∙ ap (λ (l : List Site). placed (Ok (binding_view p.binding) ∷ after) (places_of l)) own.1
 first_sited (Err e) before after sites sites' items own = ([], ap (λ (l : List (Result Binding Fault)). placed l (places_of sites)) items)
 
--- others come behind
+-- the others come after it
 pub first_of_both : (item : Result PlacedBinding Error) (before after others : List (Result (Binding × ℕ) Fault)) → PlacedFirst before (Some item) after
     → PlacedFirst (before ++ others) (Some item) (after ++ others)
 first_of_both (Ok p) before after others first = ap (λ (l : List (Result (Binding × ℕ) Fault)). l ++ others) first
 first_of_both (Err e) before after others first = (first.0 ++ others, ap (λ (l : List (Result (Binding × ℕ) Fault)). l ++ others) first.1)
 
--- ---- of the chains
+-- ---- those of the chains
 
 -- a fixup that is no bind has no place
 pub no_place : (x : FixupInput) (libs : List (List ℕ)) (f : Fixup) (kind : KindOfFixup) (at : ℕ) (chained : Fixups) (others : List ℕ)
@@ -95,7 +95,7 @@ same_places chained x (variant.Unread (Some e)) at over =
 same_places chained x (variant.Chains it) at over =
     sym (ap (λ (r : Result (Option Fixups) Fault). places_by at r (fixup_rows_left (variant.Chains it))) over.0)
 
--- ---- what is left to the rows comes behind a cursor
+-- ---- what is left for the rows comes after a cursor
 
 pub whole : (x : BindingSource) (c : gm_binding_cursor) (opcodes : Option OpcodeBindingIterator) (rows : FixupRows) (segments : List Segment) (base : ℕ)
     (libs : List (List ℕ)) (at : ℕ)
@@ -129,7 +129,7 @@ whole x c opcodes rows segments base libs at over libs_are segments_are base_is 
       };
     }
 
--- also where nothing is left of the opcodes
+-- also if nothing is left of the opcodes
 pub over_chains : (x : BindingSource) (it : BindingRows) → AreBindingRowsOver x it → AreBindingRowsOver x (record it { opcodes = None })
 over_chains x it over = record {
   opcodes = tt;

@@ -1,4 +1,4 @@
--- Rows that say items, written one after the other.
+-- Rows for items, written one after the other.
 use Rattle.std.proofs.Common.{◌≡◌, ◌<◌, ◌≤◌, ◌+◌, ◌∙◌, ◌++◌, ◌∷◌, [], ◌⊎◌, inl, inr, ℕ, List, length, take, drop, set, map, refl, sym, ap, subst, arith}
 use Rattle.std.specs.Prelude.{min}
 use Rattle.std.proofs.lemmas.List.{append_assoc, length-append, length-map, take-map}
@@ -8,7 +8,7 @@ use Rattle.goblin_mach_c.specs.Fill.{Fills}
 use Rattle.goblin_mach_c.specs.Say.{AllSay, FillsBy}
 use Rattle.goblin_mach_c.proofs.Filled.{set_behind}
 
--- The first k of these items are said, and the others are left.
+-- The first k of these items have their rows, and the others are left.
 pub record SaidPartly {I R : Type 0} (Says : I → R → Type 0) (items left : List I) (old out : List R) (k : ℕ) : Type 0 where
   pub done : List I
   pub rows : List R
@@ -26,7 +26,7 @@ as_many Says (i ∷ items) [] say = absurd say
 as_many Says [] (r ∷ rows) say = absurd say
 as_many Says (i ∷ items) (r ∷ rows) say = let same = as_many Says items rows say.1 in omega (arith, same)
 
--- one more row says one more item
+-- one more row for one more item
 say_more : {I R : Type 0} (Says : I → R → Type 0) (items : List I) (rows : List R) (i : I) (r : R) → AllSay Says items rows → Says i r
     → AllSay Says (items ++ i ∷ []) (rows ++ r ∷ [])
 say_more Says [] [] i r say one = (one, tt)
@@ -52,7 +52,7 @@ first_are : {I R : Type 0} (Says : I → R → Type 0) (items left : List I) (ol
     → p.done ≡ take k items
 first_are Says items left old out k p = sym (take-append_seam p.done left) ∙ ap (λ n. take n (p.done ++ left)) p.many ∙ ap (take k) (sym p.are)
 
--- where nothing is left, or the array is full, all that fit are said
+-- if nothing is left, or the array is full, all that fit have their rows
 pub all_said : {I R : Type 0} (Says : I → R → Type 0) (items left : List I) (old out : List R) (k : ℕ) → SaidPartly Says items left old out k → k ≤ length old
     → (left ≡ []) ⊎ (k ≡ length old) → FillsBy Says items old out k
 all_said Says items left old out k p less end =

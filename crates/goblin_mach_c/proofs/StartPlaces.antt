@@ -1,4 +1,4 @@
--- The functions behind a cursor, by what is left of the numbers.
+-- The functions after a cursor, by what is left of the numbers.
 use Rattle.std.proofs.Common.{◌≡◌, ◌∙◌, ◌+◌, ℕ, List, [], take, Some, None, Result, sym, subst, arith}
 use Rattle.mach_base.specs.Fault.{Fault}
 use Rattle.mach_load.specs.FunctionStarts.{AreStartsBehind, starts_behind}
@@ -8,7 +8,7 @@ use Rattle.goblin_mach_c.specs.Stage.{Stage, start, under_way, over}
 use Rattle.goblin_mach_c.specs.StartsBehind.{AreStartsAtStage}
 use Rattle.goblin_mach_c.specs.declared.starts.gm_start_cursor.{gm_start_cursor}
 
--- none where no command places any, at whatever stage
+-- none at any stage if no command places any
 pub none_at_stage : (s : Stage) (c : gm_start_cursor) (bytes : List ℕ) (base : ℕ) (items : List (Result ℕ Fault)) → items ≡ []
     → AreStartsAtStage s c bytes None base items
 none_at_stage start c bytes base items e = e

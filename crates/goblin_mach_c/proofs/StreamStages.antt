@@ -1,4 +1,4 @@
--- What comes at a stage of the streams of an image that is held, by the range that its commands bring.
+-- The items at a stage of an opened image's streams, by the range that its commands place.
 use Rattle.std.proofs.Common.{◌≡◌, ◌∙◌, [], ℕ, List, Option, Some, None, Result, refl, ap}
 use Rattle.std.specs.declared.alloc.Global.{Global}
 use Rattle.mach_base.specs.Context.{pointer_size}

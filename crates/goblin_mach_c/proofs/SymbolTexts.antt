@@ -13,7 +13,7 @@ use Rattle.mach_parts.specs.declared.symbols.nlist.Nlist.{Nlist}
 use Rattle.goblin_mach_c.specs.SymbolRows.{SaysSymbol, named_row, read_row, symbol_row}
 use Rattle.goblin_mach_c.specs.declared.symbols.gm_symbol.{gm_symbol}
 
--- a text that is read at a place lies in the bytes, and is all up to a zero
+-- a text that is read at a place lies in the bytes, and ends at the first zero
 record IsRun (bytes : List ℕ) (s : ℕ) (text : List ℕ) : Type 0 where
   pub inside : s < length bytes
   pub is_run : run_at bytes s ≡ text
@@ -51,7 +51,7 @@ abbrev pub named_at : Nlist → ℕ → ℕ → gm_symbol
 named_at s len place =
     record { value = s.n_value; name = place; name_len = len; section = s.n_sect; code = 0; desc = s.n_desc; n_type = s.n_type }
 
--- the row of a symbol says it
+-- the row of a symbol has its record and its name
 pub row_says : (t : SymbolTable) (k : ℕ) → SaysSymbol t.strtab (symbol_at t k) (symbol_row t k)
 unfolding symbol_at
 row_says t k = says_record t (nlist_at t.ctx t.bytes (symbol_place t k))

@@ -85,7 +85,7 @@ module _ (bytes : List ℕ) where
   text_in None there place text e = absurd (no_text place text e)
   text_in (Some t) there place text e = rw (sym there) e
 
-  -- so is what a node says of a re-export
+  -- so is what a node says about a re-export
   pub place_there : (cs : List Command) (node : ℕ) (found : ℕ × ℕ) → place_at (trie_or_empty (trie_in bytes cs)).bytes node ≡ Ok found
       → place_at bytes node ≡ Ok found
   place_there cs node found e = place_in (trie_in bytes cs) (last_there cs None tt) node found e

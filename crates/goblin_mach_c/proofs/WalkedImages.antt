@@ -1,4 +1,4 @@
--- Walks of an image's exports, by its bytes and as the image is held.
+-- Walks over an image's exports, from its bytes and from the opened image.
 use Rattle.std.proofs.Common.{◌≡◌, ◌++◌, [], ℕ, List, Option, Ok, inl, inr, refl, sym, ap, subst, arith}
 use Rattle.std.proofs.lemmas.List.{append-nil}
 use Rattle.std.specs.declared.alloc.Global.{Global}
@@ -23,7 +23,7 @@ use Rattle.goblin_mach_c.specs.declared.exports.gm_export_batch.{gm_export_batch
 use Rattle.goblin_mach_c.specs.declared.exports.gm_export_walk.{gm_export_walk}
 use Rattle.goblin_mach_c.specs.declared.exports.gm_listed_export.{gm_listed_export}
 
--- ---- a call that gives nothing
+-- ---- a call that returns nothing
 
 pub none_written : (bytes : List ℕ) (o : ℕ) (w : gm_export_walk) (name : List ℕ) (stack : List Open) (b : gm_export_batch) (out : List gm_listed_export)
     (text : List ℕ) → b ≡ no_batch
@@ -46,7 +46,7 @@ zeros bytes o w name stack opens start code = record {
   holds = record { start = λ _. refl; begun = λ wrong _. absurd (wrong start); refused = λ wrong. absurd (wrong code) };
 }
 
--- ---- an image that is held
+-- ---- an opened image
 
 module _ (bytes : List ℕ) (o : ℕ) (m : MachO Global) (p : IsLossyImage bytes o m) where
   -- the trie that it holds
@@ -80,7 +80,7 @@ module _ (bytes : List ℕ) (o : ℕ) (m : MachO Global) (p : IsLossyImage bytes
       (λ before e node. (facts_are bytes o m p (λ f. IsNodeOf (trie_or_empty f.trie) f.libs (HasWalkedTrie (trie_or_empty f.trie) f.libs w name stack)
       before e node)).1)
 
-  -- the name that comes next
+  -- the next name
   pub next_name_there : (w : gm_export_walk) (n : ℕ) → IsNextName trie w.cursor n → HasNextName bytes o w n
   next_name_there w n = (facts_are bytes o m p (λ f. IsNextName (trie_or_empty f.trie) w.cursor n)).1
 

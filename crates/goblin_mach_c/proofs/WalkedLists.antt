@@ -1,4 +1,4 @@
--- What a walk of an image's exports has given begins the image's list.
+-- What a walk over an image's exports has returned is a prefix of the image's list.
 use Rattle.std.proofs.Common.{◌≡◌, ◌++◌, [], ℕ, zero, suc, List, Option, Some, None, refl, sym, ap, subst, ◌∙◌, arith}
 use Rattle.mach_dyld.specs.Lists.{ListBegins, Lists, nothing}
 use Rattle.mach_dyld.specs.Trie.{Entry}
@@ -13,11 +13,11 @@ use Rattle.goblin_mach.proofs.ImageFacts.{one_image}
 use Rattle.goblin_mach_c.specs.ExportWalk.{HasWalked, HasWalkedTrie}
 use Rattle.goblin_mach_c.specs.declared.exports.gm_export_walk.{gm_export_walk}
 
--- what a list has behind its beginning
+-- what a list has after a prefix
 abbrev Begins : List Entry → List Entry → Type 0
 Begins found list = (rest : List Entry) × (list ≡ found ++ rest)
 
--- the list of the trie, also where there is none
+-- the list of the trie, also if there is none
 listed : (t : Option TrieRange) (libs : List (List ℕ)) (list : List Entry) → ListsImageExports t libs list
     → Lists (trie_there (trie_or_empty t) libs) (trie_or_empty t).from [] list
 listed None libs list l = subst (λ (es : List Entry). Lists (trie_there (trie_or_empty None) libs) 0 [] es) (sym l) (nothing (omega arith))

@@ -1,4 +1,4 @@
--- Walks of an export trie, batch by batch.
+-- Walks over an export trie, batch by batch.
 use Rattle.std.proofs.Common.{◌-◌, ◌^◌, ◌<◌, Err, length, ◌≡◌, ◌≢◌, ◌++◌, ◌⊎◌, [], ℕ, List, Bool, true, false, Option, Some, None, sym, subst, ◌∙◌, arith}
 use Rattle.std.specs.Prelude.{◌==◌, nat_lt, if◌then◌else◌}
 use Rattle.mach_base.specs.Fault.{fault_of, malformed}
@@ -16,7 +16,7 @@ use Rattle.goblin_mach_c.specs.declared.exports.Ending.TheVariants.{End, Refused
 use Rattle.goblin_mach_c.specs.declared.exports.gm_export_walk.{gm_export_walk}
 use Rattle.goblin_mach_c.specs.declared.exports.gm_listed_export.{gm_listed_export}
 
--- a cursor that has given nothing begins a walk
+-- a cursor that has returned nothing begins a walk
 pub walk_begins : {t : TrieRange} {libs : List (List ℕ)} {w : gm_export_walk} {c : TrieCursor} {name : List ℕ} {stack : List Open} {found : List Entry}
     → w.is_begun ≡ 0 → HasGivenTo t libs c name stack [] → HasWalkedTrie t libs w name stack found
     → HasWalkedTrie t libs (record { cursor = c; is_begun = 1; code = w.code }) name stack found
@@ -34,7 +34,7 @@ not_one false true e = omega (arith, e)
 not_one false false e = omega (arith, e)
 
 module _ (t : TrieRange) (libs : List (List ℕ)) (c : TrieCursor) (name : List ℕ) (stack : List Open) (all : List Entry) where
-  -- where it wasn't refused, the walk goes on
+  -- if the walk wasn't refused, it goes on
   stands_at : (e : Option Ending) (rows room longest : ℕ) → end_number rows room longest e < 5 → StopsAt t libs all e c name stack
       → HasGivenTo t libs c name stack all
   stands_at None rows room longest less s = s

@@ -15,12 +15,12 @@ use Rattle.goblin_mach_c.specs.Codes.{code_of_fault}
 use Rattle.goblin_mach_c.specs.declared.archive.gm_archive_member.{gm_archive_member}
 use Rattle.goblin_mach_c.specs.declared.archive.gm_archive_symbol.{gm_archive_symbol}
 
--- where a name stands, how many bytes it has, and its code
+-- the offset of a name, its length, and its code
 abbrev pub name_numbers : ToldName → ℕ × ℕ × ℕ
 name_numbers (Ok (place, len)) = (place, len, 0)
 name_numbers (Err f) = (0, 0, code_of_fault f)
 
--- the number of a field, or the one that says that it has none (`goblin_mach.h`, GM_NO_NUMBER)
+-- the number of a field, or the one for a field that is no number (`goblin_mach.h`, GM_NO_NUMBER)
 abbrev pub number_or_none : Option ℕ → ℕ
 number_or_none n = unwrap_or n (2 ^ 64 - 1)
 
@@ -57,7 +57,7 @@ no_member code =
       code = code;
     }
 
--- a row says a member, with the place where its name stands; or why there is none
+-- a row is that of a member, with the offset of its name; or says why there is none
 abbrev pub SaysMember : List ℕ → Result MemberView Fault → gm_archive_member → Type 0
 SaysMember bytes (Ok m) row = (told : ToldName) × TellsText bytes (member_name_bytes m) told × (row ≡ member_row (m, told))
 SaysMember bytes (Err f) row = row ≡ no_member (code_of_fault f)
@@ -79,9 +79,9 @@ abbrev pub SaysArchiveSymbol : List ℕ → Result IndexSymbol Fault → gm_arch
 SaysArchiveSymbol bytes (Ok s) row = (told : ToldName) × TellsText bytes (Ok s.name) told × (row ≡ archive_symbol_row (s, told))
 SaysArchiveSymbol bytes (Err f) row = row ≡ no_archive_symbol (code_of_fault f)
 
--- ---- what is asked of an archive
+-- ---- which archive the bytes are, and a member that is looked up
 
--- the number of a form (`goblin_mach.h`, GM_ARCHIVE_NONE and those behind it)
+-- the number of a form (`goblin_mach.h`, GM_ARCHIVE_NONE and the following ones)
 abbrev pub form_number : ArchiveForm → ℕ
 form_number NoArchive = 0
 form_number Gnu = 1
@@ -93,13 +93,13 @@ pub record IsFormNumber (bytes : List ℕ) (number : ℕ) : Type 0 where
   pub is : archive_form bytes ≡ Ok form
   pub numbered : number ≡ form_number form
 
--- the code of the fault by which something isn't there
+-- the code of the fault because of which something isn't there
 pub record IsCodeOf {A : Type 0} (there : Result A Fault) (code : ℕ) : Type 0 where
   pub fault : Fault
   pub is : there ≡ Err fault
   pub coded : code ≡ code_of_fault fault
 
--- a member that was sought; where there is none, one of zeros
+-- a member that was looked up; if there is none, a row of zeros
 abbrev pub found_row : Option (MemberView × ToldName) → gm_archive_member
 found_row (Some placed) = member_row placed
 found_row None = no_member 0

@@ -15,7 +15,7 @@ provider_number main_executable = 2
 provider_number flat = 3
 provider_number weak_lookup = 4
 
--- the ordinal of a library, and 0 of the others
+-- the ordinal of a library, 0 for other providers
 abbrev pub ordinal_number : Provider → ℕ
 ordinal_number (of_library ordinal name) = ordinal
 ordinal_number itself = 0
@@ -23,7 +23,7 @@ ordinal_number main_executable = 0
 ordinal_number flat = 0
 ordinal_number weak_lookup = 0
 
--- a binding whose name stands at a place
+-- a binding with the place of its name
 abbrev pub binding_row : ℕ → Binding → gm_binding
 binding_row place b =
     record {
@@ -39,7 +39,7 @@ binding_row place b =
       code = 0;
     }
 
--- why the bindings can't be read further
+-- why no further bindings can be read
 abbrev pub no_binding : Fault → gm_binding
 no_binding f =
     record {
@@ -55,17 +55,17 @@ no_binding f =
       code = code_of_fault f;
     }
 
--- the bytes of a name stand at a place
+-- the bytes of a name are at a place
 pub record NameStandsAt (bytes : List ℕ) (place : ℕ) (name : List ℕ) : Type 0 where
   pub within : place + length name ≤ length bytes
   pub there : take (length name) (drop place bytes) ≡ name
 
--- The row has the numbers of the binding and the place of its name, and the name stands there.
+-- The row has the numbers of the binding and the place of its name, and the name is there.
 pub record SaysBinding (bytes : List ℕ) (b : Binding) (place : ℕ) (row : gm_binding) : Type 0 where
   pub numbers : row ≡ binding_row (told_at b.name place) b
   pub name : NameStandsAt bytes row.name b.name
 
--- a row says a binding with the place of its name, or the fault that ends them
+-- a row is that of a binding with the place of its name, or of the fault that ends them
 abbrev pub IsBindingRow : List ℕ → Result (Binding × ℕ) Fault → gm_binding → Type 0
 IsBindingRow bytes (Ok b) row = SaysBinding bytes b.0 b.1 row
 IsBindingRow bytes (Err f) row = row ≡ no_binding f

@@ -1,4 +1,4 @@
--- How far the bindings of an image were given, and those that come behind.
+-- The position in the bindings of an image, and the bindings after it.
 use Rattle.std.specs.Prelude.{◌≡◌, ◌<◌, ◌^◌, ◌⊎◌, ◌++◌, ℕ, List, [], ◌∷◌, Option, Some, None, Result, Ok, Err, map, length, drop}
 use Rattle.mach_base.specs.Fault.{Fault, fault_of}
 use Rattle.mach_base.specs.Number.{slice_at}
@@ -45,26 +45,26 @@ use Rattle.goblin_mach_c.specs.declared.fixups.ChainWalk.{ChainWalk}
 use Rattle.goblin_mach_c.specs.declared.fixups.FixupRows.{FixupRows}
 use Rattle.goblin_mach_c.specs.declared.fixups.FixupRows.TheVariants as rows
 
--- the bindings behind a place of the opcodes; none where there are no binds
+-- the bindings after a place of the opcodes; none if there are no binds
 abbrev pub opcodes_behind : BindCursor → Option BindRanges → Binds → List (Result Binding Fault)
 opcodes_behind c None x = []
 opcodes_behind c (Some b) x = opcode_bindings_behind (input_in b x.pointer x.libs x.segments) b.lazy c
 
--- these bindings of the opcodes come at a stage: at the start all of them
+-- the bindings of the opcodes at a stage: at the start all of them
 abbrev pub AreBindingsAtStage : Stage → BindCursor → Binds → List (Result Binding Fault) → Type 0
 AreBindingsAtStage start c x items = AreOpcodeBindings x.ranges x.pointer x.libs x.segments items
 AreBindingsAtStage under_way c x items = items ≡ opcodes_behind c x.ranges x
 AreBindingsAtStage over c x items = items ≡ []
 
--- the bindings of some fixups; where the front of the chains can't be read its fault, as long as that was not told
+-- the bindings of some fixups; if the header of the chains can't be read, its fault, until it is reported
 abbrev pub bindings_by : Result (Option Fixups) Fault → Binds → List (Result Fixup Fault) → List (Result Binding Fault)
 bindings_by (Err f) x [] = []
 bindings_by (Err f) x (i ∷ fixups) = Err f ∷ []
 bindings_by (Ok None) x fixups = []
 bindings_by (Ok (Some chained)) x fixups = bindings_of (input_over chained x.segments) x.libs fixups
 
--- These bindings come behind a cursor, of these binds and these chains: those of the opcodes and then those of the fixups
--- behind its two parts, up to the first fault.
+-- The bindings after a cursor, for these binds and these chains: those of the opcodes and then those of the fixups, each after
+-- its part of the cursor, up to the first fault.
 pub record AreBindingsBehind (c : gm_binding_cursor) (x : Binds) (chained : Result (Option Fixups) Fault) (items : List (Result Binding Fault)) : Type 0 where
   pub by_opcodes : List (Result Binding Fault)
   pub fixups : List (Result Fixup Fault)
@@ -72,14 +72,14 @@ pub record AreBindingsBehind (c : gm_binding_cursor) (x : Binds) (chained : Resu
   pub chains : AreFixupsBehind c.chains chained x.segments fixups
   pub are : items ≡ upto_fault (by_opcodes ++ bindings_by chained x fixups)
 
--- what bindings are read from: the bytes, the binds, the chains, and where the data of these begin
+-- what bindings are read from: the bytes, the binds, the chains, and the offset of the chains' data
 pub record BindingSource : Type 0 where
   pub bytes : List ℕ
   pub binds : Binds
   pub chained : Result (Option Fixups) Fault
   pub chains_at : ℕ
 
--- that of an image that is held
+-- the source of an opened image
 abbrev pub source_of : MachO Global → BindingSource
 source_of m = record {
   bytes = bytes_held m;
@@ -88,7 +88,7 @@ source_of m = record {
   chains_at = data_place (chained_place_in (commands_held m));
 }
 
--- that of the commands of some bytes
+-- the source of the commands of some bytes
 abbrev pub source_there : Ctx → List ℕ → List Command → BindingSource
 source_there ctx bytes cs = record {
   bytes = bytes;
@@ -102,8 +102,8 @@ abbrev pub unplaced : Result (Binding × ℕ) Fault → Result Binding Fault
 unplaced (Ok b) = Ok b.0
 unplaced (Err f) = Err f
 
--- These bindings come behind a cursor, each with the place of its own name: those of the opcodes with their sites, and then those of the
--- fixups behind its two parts with the places of their binds, up to the first fault.
+-- The bindings after a cursor, each with the place of its own name: those of the opcodes with their sites, then those of the
+-- fixups with the places of their binds, each after its part of the cursor, up to the first fault.
 pub record ArePlacedBehind (c : gm_binding_cursor) (x : BindingSource) (items : List (Result (Binding × ℕ) Fault)) : Type 0 where
   pub by_opcodes : List (Result Binding Fault)
   pub sites : List Site
@@ -115,8 +115,7 @@ pub record ArePlacedBehind (c : gm_binding_cursor) (x : BindingSource) (items : 
       ≡ upto_fault (placed by_opcodes (places_of sites) ++ placed (bindings_by x.chained x.binds fixups) (places_by x.chains_at x.chained fixups))
   pub bindings : AreBindingsBehind c x.binds x.chained (map unplaced items)
 
--- The rows of the bindings behind a cursor were written, as many as there are and fit, and behind the new cursor come the
--- others.
+-- The rows of the bindings after a cursor were written, as many as there are and fit, and the others come after the new cursor.
 pub record AreBindingsWritten (x : BindingSource) (before after : gm_binding_cursor) (old new : List gm_binding) (n : ℕ) : Type 0 where
   pub items : List (Result (Binding × ℕ) Fault)
   pub behind : ArePlacedBehind before x items
@@ -127,7 +126,7 @@ pub record AreBindingsWritten (x : BindingSource) (before after : gm_binding_cur
 abbrev pub OfBindings : List ℕ → ℕ → (Binds → Result (Option Fixups) Fault → Type 0) → Type 0
 OfBindings bytes o Holds = OfImage bytes o (λ ctx cs. Holds (binds_there ctx bytes cs) (chained_in ctx bytes cs))
 
--- these bindings of the image at o come behind a cursor
+-- the bindings of the image at o after a cursor
 abbrev pub HasBindingsBehind : List ℕ → ℕ → gm_binding_cursor → List (Result Binding Fault) → Type 0
 HasBindingsBehind bytes o c items = OfBindings bytes o (λ x chained. AreBindingsBehind c x chained items)
 
@@ -135,13 +134,13 @@ HasBindingsBehind bytes o c items = OfBindings bytes o (λ x chained. AreBinding
 abbrev pub WritesBindings : List ℕ → ℕ → (before after : gm_binding_cursor) → (old new : List gm_binding) → ℕ → Type 0
 WritesBindings bytes o before after old new n = OfImage bytes o (λ ctx cs. AreBindingsWritten (source_there ctx bytes cs) before after old new n)
 
--- ---- what is left to the rows
+-- ---- what is left for the rows
 
 abbrev pub opcode_rows_left : Option OpcodeBindingIterator → List (Result Binding Fault)
 opcode_rows_left None = []
 opcode_rows_left (Some it) = opcodes.opcode_bindings_left it
 
--- those of a walk along the chains, over these segments and libraries
+-- those of a walk along the chains, for these segments and libraries
 abbrev pub bound_left : ChainWalk → List Segment → ℕ → List (List ℕ) → List (Result Binding Fault)
 bound_left it segments base libs = bindings_of (fixup_input_in it.chained segments base) libs (walk.fixups_left it.fixups)
 
@@ -152,14 +151,14 @@ chains_by (rows.Chains it) segments base libs = bound_left it segments base libs
 abbrev pub chains_left : BindingRows → List (Result Binding Fault)
 chains_left it = chains_by it.fixups it.segments.now it.base (texts it.libs.now)
 
--- all of them, whether or not a fault stands among them
+-- all of them, whether or not there is a fault among them
 abbrev pub all_binding_rows_left : BindingRows → List (Result Binding Fault)
 all_binding_rows_left it = opcode_rows_left it.opcodes ++ chains_left it
 
 abbrev pub binding_rows_left : BindingRows → List (Result Binding Fault)
 binding_rows_left it = upto_fault (all_binding_rows_left it)
 
--- the same with places: of the opcodes the sites that are left, of the chains the places of the binds that are left
+-- the same with places: the sites left of the opcodes, the places of the binds left of the chains
 abbrev pub opcode_sites_left : Option OpcodeBindingIterator → List Site
 opcode_sites_left None = []
 opcode_sites_left (Some it) = binding_sites_left it
@@ -189,11 +188,11 @@ AreOverOpcodes x (Some it) =
     (b : BindRanges) × (x.binds.ranges ≡ Some b) × (b.bytes ≡ x.bytes)
     × IsOverBindings (input_in b x.binds.pointer x.binds.libs x.binds.segments) b.lazy it
 
--- the data of the chains begin at a place of the bytes
+-- the data of the chains are at a place of the bytes
 abbrev pub StandAt : BindingSource → ℕ → Type 0
 StandAt x place = (chained : Fixups) → x.chained ≡ Ok (Some chained) → (size : ℕ) × (slice_at size x.bytes place ≡ Ok chained.payload)
 
--- the rows are read from this
+-- the rows are read from this source
 pub record AreBindingRowsOver (x : BindingSource) (it : BindingRows) : Type 0 where
   pub opcodes : AreOverOpcodes x it.opcodes
   pub fixups : AreFixupRowsOver (record { chained = x.chained; segments = x.binds.segments }) it.fixups
@@ -204,24 +203,24 @@ pub record AreBindingRowsOver (x : BindingSource) (it : BindingRows) : Type 0 wh
   pub chains_at : it.chains_at ≡ x.chains_at
   pub short : length x.bytes < 2 ^ 64
 
--- what comes first, and what is left behind it; behind an error nothing matters
+-- the first of them, and what is left after it; after an error nothing matters
 abbrev pub ComesFirst : List (Result Binding Fault) → Option (Result PlacedBinding Error) → List (Result Binding Fault) → Type 0
 ComesFirst before None after = (before ≡ []) × (after ≡ [])
 ComesFirst before (Some (Ok p)) after = before ≡ Ok (binding_view p.binding) ∷ after
 ComesFirst before (Some (Err e)) after = (rest : List (Result Binding Fault)) × (before ≡ Err (fault_of e) ∷ rest)
 
--- the same with places: the binding comes first with its own
+-- the same with places: the first binding has its own
 abbrev pub PlacedFirst : List (Result (Binding × ℕ) Fault) → Option (Result PlacedBinding Error) → List (Result (Binding × ℕ) Fault) → Type 0
 PlacedFirst before None after = (before ≡ []) × (after ≡ [])
 PlacedFirst before (Some (Ok p)) after = before ≡ Ok (binding_view p.binding, p.name_place) ∷ after
 PlacedFirst before (Some (Err e)) after = (rest : List (Result (Binding × ℕ) Fault)) × (before ≡ Err (fault_of e) ∷ rest)
 
--- a binding's place comes first among these, and behind it come those
+-- the place of a binding is the first of these, and the others are left
 abbrev pub PlaceFirst : List ℕ → Option (Result PlacedBinding Error) → List ℕ → Type 0
 PlaceFirst before None after = Unit {0}
 PlaceFirst before (Some (Ok p)) after = before ≡ p.name_place ∷ after
 PlaceFirst before (Some (Err e)) after = Unit {0}
 
--- the name of a binding stands at its place, unless it has no bytes
+-- the name of a binding is at its place, unless it is empty
 abbrev pub HasPlacedName : List ℕ → PlacedBinding → Type 0
 HasPlacedName bytes p = (p.binding.name.now ≡ []) ⊎ NameStandsAt bytes p.name_place p.binding.name.now

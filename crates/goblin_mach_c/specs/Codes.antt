@@ -1,4 +1,4 @@
--- The code by which C is told of a fault (`goblin_mach.h`, GM_MALFORMED and those behind it).
+-- The code of a fault for C (`goblin_mach.h`, GM_MALFORMED and the following ones).
 use Rattle.std.specs.Prelude.{◌≡◌, ◌⊎◌, ℕ, ◌-◌, ◌≤◌, List, [], ◌++◌, length, min, replicate, take}
 use Rattle.mach_base.specs.declared.error.Error.{Error}
 use Rattle.mach_base.specs.declared.error.Error.TheVariants as errors
@@ -13,21 +13,21 @@ code_of_fault (bad_input size) = 3
 code_of_fault (too_short count what) = 4
 code_of_fault no_memory = 5
 
--- a call that answers this code was refused for a fault that stands, or for want of memory
+-- a call with this code was refused for a fault that is there, or because memory ran out
 pub record IsRefusalCode (IsFault : Fault → Type 0) (code : ℕ) : Type 0 where
   pub fault : Fault
   pub is_code : code ≡ code_of_fault fault
   pub stands : (fault ≡ no_memory) ⊎ IsFault fault
 
--- words as a text of 124 bytes: the first of them, 123 at most, and zeros
+-- a text of 124 bytes: the first bytes of the words, 123 at most, and zeros
 abbrev pub error_text : List ℕ → List ℕ
 error_text words = take (min (length words) 123) words ++ replicate (124 - min (length words) 123) 0
 
--- The text is these words, or empty where there was no room for them.
+-- The text is these words, or empty because they didn't fit.
 abbrev pub HasErrorWords : List ℕ → List ℕ → Type 0
 HasErrorWords words text = (text ≡ error_text words) ⊎ (text ≡ error_text [])
 
--- A rule is broken, whose words have room in a text behind `malformed: `.
+-- The error is a broken rule whose words fit into a text after `malformed: `.
 abbrev pub HasShortRule : Error → Type 0
 HasShortRule (errors.Malformed rule) = length rule.now ≤ 112
 HasShortRule (errors.BadMagic magic) = ⊥

@@ -8,18 +8,18 @@ use Rattle.goblin_mach_c.specs.declared.commands.Commands.{Commands}
 use Rattle.goblin_mach_c.specs.declared.commands.gm_command.{gm_command}
 use Rattle.goblin_mach_c.specs.declared.images.gm_image.{gm_image}
 
--- a command with those behind it, or nothing where it can't be read
+-- a command and those after it, or nothing if it can't be read
 abbrev pub with_those_behind : Result Command Fault → (Command → List Command) → List Command
 with_those_behind (Ok c) behind = c ∷ behind c
 with_those_behind (Err f) behind = []
 
--- the commands from a place on, one behind the other: as many as the count says, or those before the first that can't be read
+-- the commands from a place on, one after the other: as many as the count says, or those before the first that can't be read
 unfoldable pub readable_commands_from : Endian → List ℕ → ℕ → ℕ → List Command
 readable_commands_from le bytes place zero = []
 readable_commands_from le bytes place (suc count) =
     with_those_behind (command_at le bytes place) (λ c. readable_commands_from le bytes (place + cmdsize_of c) count)
 
--- the commands that an image is said to have: no more than could lie in the bytes, since each has 8 of them or more
+-- the commands by the numbers of an image: no more than could lie in the bytes, since each has at least 8 of them
 abbrev pub commands_seen : List ℕ → gm_image → List Command
 commands_seen bytes image = readable_commands_from (ctx_seen image).le bytes image.first_command (min image.commands (length bytes / 8))
 

@@ -1,4 +1,4 @@
--- What an image exports a name as, as C sees it.
+-- The export of a name from an image, as C sees it.
 use Rattle.std.specs.Prelude.{◌≡◌, ◌⊎◌, ◌++◌, ℕ, List, [], length, take, drop, min, Option, Some, None, Bool}
 use Rattle.std.specs.Str.{IsUtf8}
 use Rattle.mach_base.specs.Fault.{Fault, malformed}
@@ -10,7 +10,7 @@ use Rattle.goblin_mach.specs.Subjects.{libs_in, trie_in, trie_or_empty}
 use Rattle.goblin_mach_c.specs.Opened.{FaultIn}
 use Rattle.goblin_mach_c.specs.declared.find.gm_export.{gm_export}
 
--- the library of a re-export, by its name
+-- the name of a re-export's library
 abbrev pub library_text : Option Info → List ℕ
 library_text (Some (reexport lib name flags)) = lib
 library_text _ = []
@@ -34,32 +34,32 @@ export_row (Some (reexport lib name flags)) =
 export_row (Some (stub at resolver flags)) =
     record { address = at.number; resolver = resolver.number; flags = flags; library_len = 0; target_len = 0; kind = 3; reserved = 0 }
 
--- a text was written into the front of an array, as much of it as fits, and the rest of the array is as it was
+-- a text was written to the start of an array, as much of it as fits, and the rest of the array is unchanged
 abbrev pub IsPut : List ℕ → List ℕ → List ℕ → Type 0
 IsPut text old new = let n = min (length text) (length old) in new ≡ take n text ++ drop n old
 
--- What the image at o exports a name as. It stands by the paths of the trie, whatever that is; and where the trie has a list, it is
--- what the first export of that name in the list stands for, or none where no export has the name.
+-- The export of a name from the image at o. It is that of the trie's paths, whatever the trie is; and if the exports are a list,
+-- it is the first one of that name, or none if no export has the name.
 pub record IsFound (bytes : List ℕ) (o : ℕ) (name : List ℕ) (found : Option Info) : Type 0 where
   pub by_paths : HasExportOf bytes o name found
   pub first : (list : List Entry) → HasExports bytes o list → IsFirstOf name list found
 
--- a fault that the way of a name meets in a trie
+-- a fault on the path of a name in a trie
 abbrev pub IsOnWayIn : TrieRange → List (List ℕ) → List ℕ → Fault → Type 0
 IsOnWayIn t libs name f = FaultOnWay (trie_there t libs) t.from name f
 
--- the same in the trie of the image at o
+-- the same for the trie of the image at o
 abbrev pub HasFaultOnWay : List ℕ → ℕ → List ℕ → Fault → Type 0
 HasFaultOnWay bytes o name f = OfImage bytes o (λ ctx cs. IsOnWayIn (trie_or_empty (trie_in bytes cs)) (libs_in bytes cs) name f)
 
--- a fault of its trie that the name's way meets: one for which the trie has no list
+-- a fault of its trie on the path of the name; with it the exports are no list
 abbrev pub HasNameFault : List ℕ → ℕ → List ℕ → Fault → Type 0
 HasNameFault bytes o name f = HasExportsFault bytes o f × HasFaultOnWay bytes o name f
 
--- a fault for which a name can't be sought
+-- a fault because of which a name can't be looked up
 abbrev pub FindFault : Bool → List ℕ → ℕ → List ℕ → Fault → Type 0
 FindFault lossy bytes o name f = (FaultIn lossy bytes o f ⊎ HasNameFault bytes o name f) ⊎ ((f ≡ malformed) × ¬ IsUtf8 name)
 
--- a fault for which its exports can't be gone over
+-- a fault because of which the exports can't be visited
 abbrev pub WalkFault : Bool → List ℕ → ℕ → Fault → Type 0
 WalkFault lossy bytes o f = FaultIn lossy bytes o f ⊎ HasExportsFault bytes o f

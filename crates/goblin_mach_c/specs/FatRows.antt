@@ -14,7 +14,7 @@ abbrev pub fat_row : Result FatArch Fault → gm_fat_entry
 fat_row (Ok a) = record { cputype = a.cputype; cpusubtype = a.cpusubtype; offset = a.offset; size = a.size; align = a.align; code = 0 }
 fat_row (Err f) = record { cputype = 0; cpusubtype = 0; offset = 0; size = 0; align = 0; code = code_of_fault f }
 
--- how many entries a file has whose front can be read
+-- the count of entries in a file whose header can be read
 abbrev pub entry_count_in : Result FatFile Fault → ℕ
 entry_count_in (Ok file) = file.narches
 entry_count_in (Err f) = 0
@@ -23,15 +23,15 @@ abbrev pub count_behind : Result ℕ Fault → List ℕ → ℕ
 count_behind (Ok magic) bytes = if magic == 0xcafe_babe then entry_count_in (fat_file_in bytes) else 0
 count_behind (Err f) bytes = 0
 
--- how many entries some bytes have: none where they don't begin with the magic of a fat file, or its header is short
+-- how many entries some bytes have: none if they don't begin with the magic of a fat file, or its header is short
 abbrev pub fat_count : List ℕ → ℕ
 fat_count bytes = count_behind (number_at Big 4 bytes 0) bytes
 
--- how many records of 20 bytes lie whole in some bytes, behind a header of 8
+-- how many records of 20 bytes lie whole in some bytes, after a header of 8
 abbrev pub whole_fat_records : List ℕ → ℕ
 whole_fat_records bytes = (length bytes - 8) / 20
 
--- how many of them are told: all that the header says where they lie in the bytes; else those that lie whole in them, and one more
+-- how many of them are reported: all of the header's count if they lie in the bytes; else those that lie whole in them, and one more
 abbrev pub told_count : List ℕ → ℕ
 told_count bytes = if nat_lt (whole_fat_records bytes) (fat_count bytes) then whole_fat_records bytes + 1 else fat_count bytes
 

@@ -1,4 +1,4 @@
--- How far the fixups of an image were given, and those that come behind.
+-- The position in the fixups of an image, and the fixups after it.
 use Rattle.std.specs.Prelude.{◌≡◌, ℕ, List, [], Option, Some, None, Result, Ok, Err, map, drop}
 use Rattle.mach_base.specs.Fault.{Fault, fault_of}
 use Rattle.mach_parts.specs.Segment.{SegmentView}
@@ -20,24 +20,23 @@ use Rattle.goblin_mach_c.specs.declared.fixups.gm_fixup_cursor.{gm_fixup_cursor}
 use Rattle.goblin_mach_c.specs.declared.fixups.FixupRows.{FixupRows}
 use Rattle.goblin_mach_c.specs.declared.fixups.FixupRows.TheVariants as rows
 
--- those behind a place of the chains, where their front can be read
+-- those after a place of the chains, if their header can be read
 abbrev pub chains_behind : FixupCursor → Result (Option Fixups) Fault → List SegmentView → List (Result Fixup Fault)
 chains_behind c (Err f) segments = []
 chains_behind c (Ok None) segments = []
 chains_behind c (Ok (Some fixups)) segments = fixups_behind (input_over fixups segments) c
 
--- these fixups come at a stage, of these chains over these segments: at the start all of them
+-- the fixups at a stage, of these chains over these segments: at the start all of them
 abbrev pub AreFixupsAtStage : Stage → FixupCursor → Result (Option Fixups) Fault → List SegmentView → List (Result Fixup Fault) → Type 0
 AreFixupsAtStage start c chained segments items = AreImageFixups chained segments items
 AreFixupsAtStage under_way c chained segments items = items ≡ chains_behind c chained segments
 AreFixupsAtStage over c chained segments items = items ≡ []
 
--- these come behind a cursor
+-- those after a cursor
 abbrev pub AreFixupsBehind : gm_fixup_cursor → Result (Option Fixups) Fault → List SegmentView → List (Result Fixup Fault) → Type 0
 AreFixupsBehind c chained segments items = AreFixupsAtStage (stage_of c.stage) c.chains chained segments items
 
--- The rows of the fixups behind a cursor were written, as many as there are and fit, and behind the new cursor come the
--- others.
+-- The rows of the fixups after a cursor were written, as many as there are and fit, and the others come after the new cursor.
 pub record AreFixupsWritten (chained : Result (Option Fixups) Fault) (segments : List SegmentView) (before after : gm_fixup_cursor) (old new : List gm_fixup)
     (n : ℕ) : Type 0 where
   pub items : List (Result Fixup Fault)
@@ -49,7 +48,7 @@ pub record AreFixupsWritten (chained : Result (Option Fixups) Fault) (segments :
 abbrev pub OfChains : List ℕ → ℕ → (Result (Option Fixups) Fault → List SegmentView → Type 0) → Type 0
 OfChains bytes o Holds = OfImage bytes o (λ ctx cs. Holds (chained_in ctx bytes cs) (lossy_segments_in ctx bytes cs))
 
--- these fixups of the image at o come behind a cursor
+-- the fixups of the image at o after a cursor
 abbrev pub HasFixupsBehind : List ℕ → ℕ → gm_fixup_cursor → List (Result Fixup Fault) → Type 0
 HasFixupsBehind bytes o c items = OfChains bytes o (λ chained segments. AreFixupsBehind c chained segments items)
 
@@ -57,18 +56,18 @@ HasFixupsBehind bytes o c items = OfChains bytes o (λ chained segments. AreFixu
 abbrev pub WritesFixups : List ℕ → ℕ → (before after : gm_fixup_cursor) → (old new : List gm_fixup) → ℕ → Type 0
 WritesFixups bytes o before after old new n = OfChains bytes o (λ chained segments. AreFixupsWritten chained segments before after old new n)
 
--- ---- what is left to the rows
+-- ---- what is left for the rows
 
 abbrev pub fixup_rows_left : FixupRows → List (Result Fixup Fault)
 fixup_rows_left (rows.Unread why) = told_first why
 fixup_rows_left (rows.Chains it) = walk.fixups_left it.fixups
 
--- chains, and the segments that they go over
+-- chains, and the segments that they run through
 pub record FixupSource : Type 0 where
   pub chained : Result (Option Fixups) Fault
   pub segments : List SegmentView
 
--- the rows are read from these
+-- the rows are read from this source
 abbrev pub AreFixupRowsOver : FixupSource → FixupRows → Type 0
 AreFixupRowsOver x (rows.Unread None) = Unit {0}
 AreFixupRowsOver x (rows.Unread (Some e)) = x.chained ≡ Err (fault_of e)

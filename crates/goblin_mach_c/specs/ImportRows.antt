@@ -9,11 +9,11 @@ use Rattle.goblin_mach_c.specs.Opened.{flag}
 use Rattle.goblin_mach_c.specs.Sited.{told_at}
 use Rattle.goblin_mach_c.specs.declared.imports.gm_import.{gm_import}
 
--- a name is the text at a place; one of no bytes is said to stand at 0
+-- a name is the text at a place; an empty one is reported at 0
 abbrev pub IsNameAt : List ℕ → ℕ → List ℕ → Type 0
 IsNameAt bytes place name = ((name ≡ []) × (place ≡ 0)) ⊎ (text_at bytes place ≡ Ok name)
 
--- an import whose name stands at a place, and whose library has an ordinal
+-- an import with the place of its name and the ordinal of its library
 abbrev pub import_row : (place library : ℕ) → Import → gm_import
 import_row place library i =
     record {
@@ -30,7 +30,7 @@ import_row place library i =
       code = 0;
     }
 
--- why the imports can't be read further
+-- why no further imports can be read
 abbrev pub no_import : Fault → gm_import
 no_import f =
     record {
@@ -47,14 +47,14 @@ no_import f =
       code = code_of_fault f;
     }
 
--- The row has the numbers of the import, the place where its name was set last before its bind, and the number of a library that was
--- set last. The name stands there, and that library has this ordinal.
+-- The row has the numbers of the import, the place where its name was last set before its bind, and the number of a library that
+-- was last set. The name is there, and that library has this ordinal.
 pub record SaysImport (bytes : List ℕ) (libs : List (List ℕ)) (i : Import) (s : Site) (row : gm_import) : Type 0 where
   pub numbers : row ≡ import_row (told_at i.name s.name_place) s.library i
   pub name : IsNameAt bytes row.name i.name
   pub library : slice_get libs row.library ≡ Some i.dylib
 
--- a row says an import with its site, or the fault that ends them
+-- a row is that of an import with its site, or of the fault that ends them
 abbrev pub IsImportRow : List ℕ → List (List ℕ) → Result (Import × Site) Fault → gm_import → Type 0
 IsImportRow bytes libs (Ok i) row = SaysImport bytes libs i.0 i.1 row
 IsImportRow bytes libs (Err f) row = row ≡ no_import f

@@ -1,4 +1,4 @@
--- How far the imports of an image were given, and those that come behind.
+-- The position in the imports of an image, and the imports after it.
 use Rattle.std.specs.Prelude.{◌≡◌, ℕ, List, [], Option, Some, None, Result, drop}
 use Rattle.mach_base.specs.Context.{pointer_size}
 use Rattle.mach_base.specs.Fault.{Fault}
@@ -26,14 +26,14 @@ use Rattle.goblin_mach_c.specs.declared.imports.gm_import.{gm_import}
 use Rattle.goblin_mach_c.specs.declared.imports.ImportRows.{ImportRows}
 use Rattle.goblin_mach_c.specs.declared.imports.ImportRows.TheVariants as rows
 
--- Binds with what they are resolved over: how many bytes a pointer has, the libraries by their ordinals, and the segments.
+-- Binds, and what they are resolved with: the size of a pointer in bytes, the libraries by their ordinals, and the segments.
 pub record Binds : Type 0 where
   pub ranges : Option BindRanges
   pub pointer : ℕ
   pub libs : List (List ℕ)
   pub segments : List SegmentView
 
--- those of an image that is held
+-- those of an opened image
 abbrev pub binds_of_image : MachO Global → Binds
 binds_of_image m = record { ranges = binds_held m; pointer = pointer_size (ctx_held m).container; libs = texts m.libs.items; segments = segments_held m }
 
@@ -42,22 +42,22 @@ abbrev pub binds_there : Ctx → List ℕ → List Command → Binds
 binds_there ctx bytes cs =
     record { ranges = binds_in bytes cs; pointer = pointer_size ctx.container; libs = libs_in bytes cs; segments = lossy_segments_in ctx bytes cs }
 
--- the imports behind a place of the streams; none where there are no binds
+-- the imports after a place of the streams; none if there are no binds
 abbrev pub streams_behind : BindCursor → Option BindRanges → Binds → List (Result Import Fault)
 streams_behind c None x = []
 streams_behind c (Some b) x = imports_behind (input_in b x.pointer x.libs x.segments) b.lazy c
 
--- these imports come at a stage: at the start all of them
+-- the imports at a stage: at the start all of them
 abbrev pub AreImportsAtStage : Stage → BindCursor → Binds → List (Result Import Fault) → Type 0
 AreImportsAtStage start c x items = AreImageBindItems x.ranges x.pointer x.libs x.segments items
 AreImportsAtStage under_way c x items = items ≡ streams_behind c x.ranges x
 AreImportsAtStage over c x items = items ≡ []
 
--- these come behind a cursor
+-- those after a cursor
 abbrev pub AreImportsBehind : gm_bind_cursor → Binds → List (Result Import Fault) → Type 0
 AreImportsBehind c x items = AreImportsAtStage (stage_of c.stage) c.binds x items
 
--- the sites of the imports behind a place of the streams
+-- the sites of the imports after a place of the streams
 abbrev pub stream_sites_behind : BindCursor → Option BindRanges → Binds → List Site
 stream_sites_behind c None x = []
 stream_sites_behind c (Some b) x = import_sites_behind (input_in b x.pointer x.libs x.segments) b.lazy c
@@ -67,7 +67,7 @@ abbrev pub AreAllImportSites : Option BindRanges → Binds → List Site → Typ
 AreAllImportSites None x sites = sites ≡ []
 AreAllImportSites (Some b) x sites = AreImportSites (input_in b x.pointer x.libs x.segments) b.non_lazy b.lazy sites
 
--- those that come at a stage
+-- those at a stage
 abbrev pub AreImportSitesAtStage : Stage → BindCursor → Binds → List Site → Type 0
 AreImportSitesAtStage start c x sites = AreAllImportSites x.ranges x sites
 AreImportSitesAtStage under_way c x sites = sites ≡ stream_sites_behind c x.ranges x
@@ -76,7 +76,7 @@ AreImportSitesAtStage over c x sites = sites ≡ []
 abbrev pub AreSitesBehind : gm_bind_cursor → Binds → List Site → Type 0
 AreSitesBehind c x sites = AreImportSitesAtStage (stage_of c.stage) c.binds x sites
 
--- these imports come behind a cursor, each with its site
+-- the imports after a cursor, each with its site
 pub record AreSitedBehind (c : gm_bind_cursor) (x : Binds) (items : List (Result (Import × Site) Fault)) : Type 0 where
   pub imports : List (Result Import Fault)
   pub sites : List Site
@@ -84,8 +84,7 @@ pub record AreSitedBehind (c : gm_bind_cursor) (x : Binds) (items : List (Result
   pub sites_behind : AreSitesBehind c x sites
   pub are : items ≡ sited imports sites
 
--- The rows of the imports behind a cursor were written, as many as there are and fit, and behind the new cursor come the
--- others.
+-- The rows of the imports after a cursor were written, as many as there are and fit, and the others come after the new cursor.
 pub record AreImportsWritten (bytes : List ℕ) (x : Binds) (before after : gm_bind_cursor) (old new : List gm_import) (n : ℕ) : Type 0 where
   pub items : List (Result (Import × Site) Fault)
   pub behind : AreSitedBehind before x items
@@ -96,7 +95,7 @@ pub record AreImportsWritten (bytes : List ℕ) (x : Binds) (before after : gm_b
 abbrev pub OfBinds : List ℕ → ℕ → (Binds → Type 0) → Type 0
 OfBinds bytes o Holds = OfImage bytes o (λ ctx cs. Holds (binds_there ctx bytes cs))
 
--- these imports of the image at o come behind a cursor
+-- the imports of the image at o after a cursor
 abbrev pub HasImportsBehind : List ℕ → ℕ → gm_bind_cursor → List (Result Import Fault) → Type 0
 HasImportsBehind bytes o c items = OfBinds bytes o (λ x. AreImportsBehind c x items)
 
@@ -104,7 +103,7 @@ HasImportsBehind bytes o c items = OfBinds bytes o (λ x. AreImportsBehind c x i
 abbrev pub WritesImports : List ℕ → ℕ → (before after : gm_bind_cursor) → (old new : List gm_import) → ℕ → Type 0
 WritesImports bytes o before after old new n = OfBinds bytes o (λ x. AreImportsWritten bytes x before after old new n)
 
--- ---- what is left to the rows
+-- ---- what is left for the rows
 
 abbrev pub imports_in_rows : ImportRows → List (Result Import Fault)
 imports_in_rows rows.Nothing = []
@@ -117,7 +116,7 @@ sites_in_rows (rows.Binds it) = import_sites_left it
 abbrev pub import_rows_left : ImportRows → List (Result (Import × Site) Fault)
 import_rows_left it = sited (imports_in_rows it) (sites_in_rows it)
 
--- the rows are read from these binds, which stand in these bytes
+-- the rows are read from these binds, which lie in these bytes
 abbrev pub AreImportRowsOver : List ℕ × Binds → ImportRows → Type 0
 AreImportRowsOver x rows.Nothing = Unit {0}
 AreImportRowsOver x (rows.Binds it) =

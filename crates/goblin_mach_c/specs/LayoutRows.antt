@@ -1,4 +1,5 @@
--- Faults of layout as C sees them: their rules and parts as the numbers of `goblin_mach.h` (GM_LAYOUT_FILE_KIND, GM_PART_HEADER and those behind them).
+-- Faults of layout as C sees them: their rules and parts as the numbers of `goblin_mach.h` (GM_LAYOUT_FILE_KIND, GM_PART_HEADER
+-- and the following ones).
 use Rattle.std.specs.Prelude.{◌≡◌, ℕ, List, [], drop, Option, Some, None}
 use Rattle.goblin_mach.specs.File.{HasFatMagic}
 use Rattle.mach_parts.specs.ArchForms.{arch_form_32, arch_form_64}
@@ -116,7 +117,7 @@ part_number part.Binds = 33
 part_number part.Entry = 34
 part_number part.Slice = 35
 
--- the part, the command and the number of the other one; 0 where there is none
+-- the part, the command and the number of the other owner; 0 if there is none
 abbrev pub other_part : Option Owner → ℕ
 other_part None = 0
 other_part (Some o) = part_number o.part
@@ -129,7 +130,7 @@ abbrev pub other_index : Option Owner → ℕ
 other_index None = 0
 other_index (Some o) = o.index
 
--- A fault: its rule, the two numbers that show it, whose it is, and the other one, if two disagree.
+-- A fault: its rule, the two numbers that show it, its owner, and the other owner, if two disagree.
 abbrev pub layout_row : LayoutFault → gm_layout_fault
 layout_row f =
     record {
@@ -148,7 +149,7 @@ layout_row f =
 abbrev pub file_of : List ℕ → gm_image → List ℕ
 file_of bytes image = drop image.offset bytes
 
--- the faults of the table of a fat file, of 32 or of 64 bits; none where the bytes begin with the magic of neither
+-- the faults of the table of a fat file, of 32 or 64 bits; none if the bytes begin with neither magic
 pub record HasTableFaults (bytes : List ℕ) (faults : List LayoutFault) : Type 0 where
   pub table : HasFatMagic bytes → AreContainerFaults arch_form_32 bytes faults
   pub table_64 : HasFat64Magic bytes → AreContainerFaults arch_form_64 bytes faults

@@ -25,7 +25,7 @@ abbrev pub flag : Bool → ℕ
 flag true = 1
 flag false = 0
 
--- whether a mode of opening is the lossy one: 0 is the strict one
+-- whether a mode of opening is the lossy one; 0 is the strict one
 abbrev pub lossy_mode : ℕ → Bool
 lossy_mode mode = not (mode == 0)
 
@@ -37,7 +37,7 @@ pub record AreHeaderNumbers (h : Header) (c : gm_image) : Type 0 where
   pub filetype : c.filetype ≡ h.filetype
   pub flags : c.flags ≡ h.flags
 
--- where the symbols of a table stand, how many they are, and where their names begin; all 0 where there is no table
+-- the offset of a table's symbols, how many they are, and the offset of their names; all 0 if there is no table
 abbrev pub AreTableNumbers : Option SymbolTable → ℕ → ℕ → ℕ → Type 0
 AreTableNumbers None start count names = (start ≡ 0) × (count ≡ 0) × (names ≡ 0)
 AreTableNumbers (Some t) start count names = (start ≡ t.start) × (count ≡ t.nsyms) × (names ≡ t.strtab)
@@ -59,7 +59,7 @@ pub record AreNumbers (bytes : List ℕ) (o : ℕ) (ctx : Ctx) (cs : List Comman
   pub entry : entry_point_in (cputype_at ctx bytes o) cs ≡ Ok (record { address = c.entry; old_style = old_style })
   pub entry_style : c.is_old_style_entry ≡ flag old_style
 
--- An image opens at o in lossy mode, and strictly where that was asked for, and these are its numbers.
+-- An image opens at o in lossy mode, and strictly if that was requested, and these are its numbers.
 pub record IsOpened (bytes : List ℕ) (o : ℕ) (c : gm_image) : Type 0 where
   pub ctx : Ctx
   pub commands : List Command
@@ -72,22 +72,22 @@ abbrev pub OpensIn : Bool → List ℕ → ℕ → Type 0
 OpensIn true bytes o = LossyOpens bytes o
 OpensIn false bytes o = Opens bytes o
 
--- a fault that stands where it is opened so
+-- a fault that is there when it is opened so
 abbrev pub FaultIn : Bool → List ℕ → ℕ → Fault → Type 0
 FaultIn true bytes o f = LossyFault bytes o f
 FaultIn false bytes o f = ImageFault bytes o f
 
--- a fault for which it can't be opened by a number for a mode: one that stands there; or the number is of no mode
+-- a fault because of which it can't be opened with a number for a mode: one that is there, or that the number is no mode
 abbrev pub FaultByMode : ℕ → List ℕ → ℕ → Fault → Type 0
 FaultByMode mode bytes o f = ((mode ≤ 1) × FaultIn (lossy_mode mode) bytes o f) ⊎ ((1 < mode) × (f ≡ malformed))
 
--- ---- the numbers of an image that is held
+-- ---- the numbers of an opened image
 
 abbrev pub width_of : Bool → Container
 width_of true = width.Big
 width_of false = width.Little
 
--- the numbers that an image holds, which was opened at o in a mode
+-- the numbers of an image that was opened at o in a mode
 pub record HoldsNumbers (m : MachO Global) (o : ℕ) (lossy : Bool) (c : gm_image) : Type 0 where
   pub place : c.offset ≡ o
   pub mode : c.is_lossy ≡ flag lossy

@@ -27,13 +27,13 @@ abbrev pub rows_of : {R : Type 0} → (Command → Option R) → List Command �
 rows_of row [] = []
 rows_of row (c ∷ cs) = with_rows (row c) (rows_of row cs)
 
--- what was read as C sees it; nothing where nothing could be read
+-- what was read, as C sees it; nothing if it couldn't be read
 abbrev pub shown : {V R : Type 0} → (V → R) → Option (Result V Fault) → Option R
 shown show None = None
 shown show (Some (Ok v)) = Some (show v)
 shown show (Some (Err f)) = None
 
--- A segment: its command stands at `command`, and `data_len` bytes of the file from `fileoff` on are its data.
+-- A segment: its command is at `command`, and its data are `data_len` bytes of the file at `fileoff`.
 abbrev pub segment_row : SegmentView → gm_segment
 segment_row s =
     record {
@@ -66,16 +66,16 @@ library_kind_number Reexport = 2
 library_kind_number Upward = 3
 library_kind_number Lazy = 4
 
--- a number where something holds, else 0
+-- a number if something holds, else 0
 abbrev pub number_where : Bool → ℕ → ℕ
 number_where holds n = if holds then n else 0
 
--- the number of how a library is used
+-- the number for how a library is used
 abbrev pub attributes_number : LibraryAttributes → ℕ
 attributes_number a =
     bit_or (bit_or (bit_or (number_where a.is_weak 1) (number_where a.is_reexport 2)) (number_where a.is_upward 4)) (number_where a.is_delayed 8)
 
--- A library: its name stands at `name`, and has `name_len` bytes.
+-- A library: its name is `name_len` bytes at `name`.
 abbrev pub library_row : Command → NamedLibrary → gm_library
 library_row c l =
     record {
@@ -89,7 +89,7 @@ library_row c l =
       reserved = 0;
     }
 
--- the library that a command brings in, if it does, and its name can be read
+-- the library that a command loads, if it does, and its name can be read
 abbrev pub library_row_by : Endian → List ℕ → Command → Option gm_library
 library_row_by le bytes c = shown (library_row c) (named_by le bytes c)
 
@@ -97,7 +97,7 @@ library_row_by le bytes c = shown (library_row c) (named_by le bytes c)
 abbrev pub library_rows : List ℕ → gm_image → List gm_library
 library_rows bytes image = rows_of (library_row_by (ctx_seen image).le bytes) (commands_seen bytes image)
 
--- A run path: it stands at `path` and has `path_len` bytes.
+-- A run path: `path_len` bytes at `path`.
 abbrev pub run_path_row : Command → List ℕ → gm_run_path
 run_path_row c path = record { path = name_place c; path_len = length path }
 
@@ -108,13 +108,13 @@ run_path_row_by bytes c = shown (run_path_row c) (run_path_by bytes c)
 abbrev pub run_path_rows : List ℕ → gm_image → List gm_run_path
 run_path_rows bytes image = rows_of (run_path_row_by bytes) (commands_seen bytes image)
 
--- A name by which the image is known as a library: it stands at `name` and has `name_len` bytes.
+-- A name of the image as a library: `name_len` bytes at `name`.
 abbrev pub id_row : Command → List ℕ → gm_id
 id_row c name = record { name = name_place c; name_len = length name }
 
 abbrev pub id_row_by : List ℕ → Command → Option gm_id
 id_row_by bytes c = shown (id_row c) (id_by bytes c)
 
--- these names, of which the last is the image's own
+-- these names; the last is the image's own
 abbrev pub id_rows : List ℕ → gm_image → List gm_id
 id_rows bytes image = rows_of (id_row_by bytes) (commands_seen bytes image)

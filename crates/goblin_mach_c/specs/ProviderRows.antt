@@ -1,4 +1,4 @@
--- Who gives an undefined symbol as C sees it.
+-- The provider of an undefined symbol as C sees it.
 use Rattle.std.specs.Prelude.{ℕ, ◌+◌, List, [], replicate, Option, Some, None, Result, Ok, Err}
 use Rattle.mach_base.specs.Fault.{Fault}
 use Rattle.mach_parts.specs.Bindings.{Provider}
@@ -15,15 +15,15 @@ abbrev pub told_provider : Result Provider Fault → gm_provider
 told_provider (Ok p) = provider_row_of (provider_number p) (ordinal_number p) 0
 told_provider (Err f) = provider_row_of 0 0 (code_of_fault f)
 
--- who gives a symbol, if that was written down
+-- the provider of a symbol, if it was recorded
 abbrev pub provider_row : Option (Result Provider Fault) → gm_provider
 provider_row None = record { library = 0; provider = 0; is_told = 0; code = 0; reserved = 0 }
 provider_row (Some found) = told_provider found
 
--- an image's list of so many libraries, the image itself before them, of which the names don't matter
+-- an image's list of so many libraries, after the image itself; their names don't matter
 abbrev pub nameless : ℕ → List (List ℕ)
 nameless libraries = replicate (libraries + 1) []
 
--- the record of a symbol, but for the place of its name
+-- the record of a symbol, except the offset of its name
 abbrev pub symbol_record_seen : gm_symbol → Nlist
 symbol_record_seen s = record { n_strx = 0; n_type = s.n_type; n_sect = s.section; n_desc = s.desc; n_value = s.value }

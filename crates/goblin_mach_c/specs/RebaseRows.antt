@@ -8,13 +8,13 @@ use Rattle.goblin_mach_c.specs.Codes.{code_of_fault}
 use Rattle.goblin_mach_c.specs.FixupRows.{address_diverse, diversity_of, is_signed, key_of}
 use Rattle.goblin_mach_c.specs.declared.rebases.gm_rebase.{gm_rebase}
 
--- the number of a kind, as the opcodes have it
+-- the number of a kind, as in the opcodes
 abbrev pub rebase_kind_number : RebaseKind → ℕ
 rebase_kind_number Pointer = 1
 rebase_kind_number TextAbsolute32 = 2
 rebase_kind_number TextRelative32 = 3
 
--- a rebase, or why they can't be read further
+-- a rebase, or why no further ones can be read
 abbrev pub rebase_seen : Result Rebase Fault → gm_rebase
 rebase_seen (Ok r) =
     record {

@@ -1,4 +1,4 @@
--- How far the rebases of an image were given, and those that come behind.
+-- The position in the rebases of an image, and the rebases after it.
 use Rattle.std.specs.Prelude.{◌≡◌, ◌++◌, ◌∷◌, ℕ, List, [], Option, Some, None, Result, Ok, Err, map, drop}
 use Rattle.std.specs.declared.alloc.Global.{Global}
 use Rattle.mach_base.specs.Context.{pointer_size}
@@ -34,7 +34,7 @@ use Rattle.goblin_mach_c.specs.declared.rebases.RebaseRows.{RebaseRows}
 use Rattle.goblin_mach_c.specs.declared.rebases.gm_rebase.{gm_rebase}
 use Rattle.goblin_mach_c.specs.declared.rebases.gm_rebase_cursor.{gm_rebase_cursor}
 
--- What rebases are read from: the stream of opcodes, the chains, the byte order, how many bytes a pointer has, and the segments.
+-- What rebases are read from: the stream of opcodes, the chains, the byte order, the size of a pointer in bytes, and the segments.
 pub record RebaseSource : Type 0 where
   pub stream : Option CutStream
   pub chained : Result (Option Fixups) Fault
@@ -42,7 +42,7 @@ pub record RebaseSource : Type 0 where
   pub pointer : ℕ
   pub segments : List SegmentView
 
--- that of an image that is held
+-- the source of an opened image
 abbrev pub rebase_source_of : MachO Global → RebaseSource
 rebase_source_of m = record {
   stream = rebase_stream_in (bytes_held m) (commands_held m);
@@ -52,7 +52,7 @@ rebase_source_of m = record {
   segments = segments_held m;
 }
 
--- that of the commands of some bytes
+-- the source of the commands of some bytes
 abbrev pub rebase_source_there : Ctx → List ℕ → List Command → RebaseSource
 rebase_source_there ctx bytes cs = record {
   stream = rebase_stream_in bytes cs;
@@ -62,21 +62,21 @@ rebase_source_there ctx bytes cs = record {
   segments = lossy_segments_in ctx bytes cs;
 }
 
--- ---- the rebases behind a cursor
+-- ---- the rebases after a cursor
 
--- those behind a place of the opcodes; none where there are none
+-- those after a place of the opcodes; none if there are no opcodes
 abbrev pub opcodes_rebased : BindCursor → Option CutStream → RebaseSource → List (Result Rebase Fault)
 opcodes_rebased c None x = []
 opcodes_rebased c (Some s) x = opcode_rebases_behind (cut_input s x.pointer x.segments) (cut_range s) c
 
--- these rebases of the opcodes come at a stage: at the start all of them
+-- the rebases of the opcodes at a stage: at the start all of them
 abbrev pub AreRebasesAtStage : Stage → BindCursor → RebaseSource → List (Result Rebase Fault) → Type 0
 AreRebasesAtStage start c x items = AreRebasesByOpcodes x.stream x.le x.pointer x.segments items
 AreRebasesAtStage under_way c x items = items ≡ opcodes_rebased c x.stream x
 AreRebasesAtStage over c x items = items ≡ []
 
--- These rebases come behind a cursor: those of the opcodes and then those among the fixups of the chains behind its two parts, up
--- to the first fault.
+-- The rebases after a cursor: those of the opcodes and then those among the fixups of the chains, each after its part of the
+-- cursor, up to the first fault.
 pub record AreRebasesBehind (c : gm_rebase_cursor) (x : RebaseSource) (items : List (Result Rebase Fault)) : Type 0 where
   pub by_opcodes : List (Result Rebase Fault)
   pub fixups : List (Result Fixup Fault)
@@ -86,14 +86,14 @@ pub record AreRebasesBehind (c : gm_rebase_cursor) (x : RebaseSource) (items : L
 
 -- ---- what is written
 
--- The rows of the rebases behind a cursor were written, as many as there are and fit, and behind the new cursor come the others.
+-- The rows of the rebases after a cursor were written, as many as there are and fit, and the others come after the new cursor.
 pub record AreRebasesWritten (x : RebaseSource) (before after : gm_rebase_cursor) (old new : List gm_rebase) (n : ℕ) : Type 0 where
   pub items : List (Result Rebase Fault)
   pub behind : AreRebasesBehind before x items
   pub rows : Fills (map rebase_seen items) old new n
   pub rest : AreRebasesBehind after x (drop n items)
 
--- these rebases of the image at o come behind a cursor
+-- the rebases of the image at o after a cursor
 abbrev pub HasRebasesBehind : List ℕ → ℕ → gm_rebase_cursor → List (Result Rebase Fault) → Type 0
 HasRebasesBehind bytes o c items = OfImage bytes o (λ ctx cs. AreRebasesBehind c (rebase_source_there ctx bytes cs) items)
 
@@ -101,7 +101,7 @@ HasRebasesBehind bytes o c items = OfImage bytes o (λ ctx cs. AreRebasesBehind 
 abbrev pub WritesRebases : List ℕ → ℕ → (before after : gm_rebase_cursor) → (old new : List gm_rebase) → ℕ → Type 0
 WritesRebases bytes o before after old new n = OfImage bytes o (λ ctx cs. AreRebasesWritten (rebase_source_there ctx bytes cs) before after old new n)
 
--- ---- what is left to the rows
+-- ---- what is left for the rows
 
 abbrev pub opcodes_left_by : Option RebaseWalk → List (Result Rebase Fault)
 opcodes_left_by None = []
@@ -114,7 +114,7 @@ rebased_left it = rebases_among (walk.fixups_left it.fixups)
 abbrev pub chains_rebased : RebaseRows → List (Result Rebase Fault)
 chains_rebased it = rebases_among (fixup_rows_left it.fixups)
 
--- all of them, whether or not a fault stands among them
+-- all of them, whether or not there is a fault among them
 abbrev pub all_rebase_rows_left : RebaseRows → List (Result Rebase Fault)
 all_rebase_rows_left it = opcodes_left_by it.opcodes ++ chains_rebased it
 
@@ -125,12 +125,12 @@ abbrev pub IsOverOpcodes : RebaseSource → Option RebaseWalk → Type 0
 IsOverOpcodes x None = Unit {0}
 IsOverOpcodes x (Some it) = (s : CutStream) × (x.stream ≡ Some s) × IsOverRebases (cut_input s x.pointer x.segments) (cut_range s) it
 
--- the rows are read from this
+-- the rows are read from this source
 pub record AreRebaseRowsOver (x : RebaseSource) (it : RebaseRows) : Type 0 where
   pub opcodes : IsOverOpcodes x it.opcodes
   pub fixups : AreFixupRowsOver (record { chained = x.chained; segments = x.segments }) it.fixups
 
--- what comes first, and what is left behind it; behind an error nothing matters
+-- the first of them, and what is left after it; after an error nothing matters
 abbrev pub RebaseFirst : List (Result Rebase Fault) → Option (Result declared.Rebase Error) → List (Result Rebase Fault) → Type 0
 RebaseFirst before None after = (before ≡ []) × (after ≡ [])
 RebaseFirst before (Some (Ok r)) after = before ≡ Ok (rebase_view r) ∷ after

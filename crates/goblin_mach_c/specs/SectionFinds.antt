@@ -1,4 +1,4 @@
--- A section that was sought as C sees it.
+-- A section that was looked up, as C sees it.
 use Rattle.std.specs.Prelude.{◌≡◌, ◌⊎◌, ℕ, List, replicate, Option, Some, None, Ok, Err}
 use Rattle.mach_base.specs.Fault.{Fault}
 use Rattle.mach_parts.specs.declared.segment.numbered.NumberedSection.{NumberedSection}
@@ -46,14 +46,14 @@ found_section_row None =
       reserved = 0;
     }
 
--- the row is that of the first section of the image at o in which an address lies
+-- the row is that of the first section of the image at o that holds an address
 abbrev pub FindsSectionAt : List ℕ → ℕ → ℕ → gm_found_section → Type 0
 FindsSectionAt bytes o a row = (found : Option NumberedSection) × HasSectionAt bytes o a found × (row ≡ found_section_row found)
 
--- that of its section of a number
+-- the row is that of its section of a number
 abbrev pub FindsSectionOf : List ℕ → ℕ → ℕ → gm_found_section → Type 0
 FindsSectionOf bytes o n row = (found : Option NumberedSection) × HasSectionOf bytes o n (Ok found) × (row ≡ found_section_row found)
 
--- a fault of opening, or the section's own
+-- a fault of opening, or of the section
 abbrev pub SectionFaultIn : List ℕ → gm_image → ℕ → Fault → Type 0
 SectionFaultIn bytes c n f = FaultIn (lossy_mode c.is_lossy) bytes c.offset f ⊎ HasSectionOf bytes c.offset n (Err f)

@@ -44,7 +44,7 @@ section_row (Err f) =
       code = code_of_fault f;
     }
 
--- `count` sections behind the command of a segment
+-- `count` sections after the command of a segment
 abbrev pub section_rows : List ℕ → gm_image → ℕ → ℕ → List gm_section
 section_rows bytes image command count = items_from (λ k. section_row (section_item (ctx_seen image) bytes command k)) 0 count
 

@@ -1,4 +1,5 @@
--- The code signature of an image as C sees it. The kinds of faults are the numbers of `goblin_mach.h` (GM_SIGNATURE_BLOB and those behind it).
+-- The code signature of an image as C sees it. The kinds of faults are the numbers of `goblin_mach.h` (GM_SIGNATURE_BLOB and the
+-- following ones).
 use Rattle.std.specs.Prelude.{◌≡◌, ◌⊎◌, ◌↔◌, ℕ, List, [], map, drop, replicate, Bool, IsTrue, Option, Some, None, Result, Ok, Err}
 use Rattle.std.specs.Option.{option_map}
 use Rattle.mach_base.specs.Fault.{Fault}
@@ -21,9 +22,9 @@ use Rattle.goblin_mach_c.specs.declared.signature.gm_signature.{gm_signature}
 use Rattle.goblin_mach_c.specs.declared.signature.gm_signature_fault.{gm_signature_fault}
 use Rattle.goblin_mach_c.specs.declared.signature.SignatureRows.{SignatureRows}
 
--- ---- what the directory that counts says
+-- ---- the directory that counts
 
--- where a text stands, how many bytes it has, and its code
+-- the offset of a text, its length, and its code
 abbrev pub text_numbers : Result (Option (ℕ × ℕ)) Fault → ℕ × ℕ × ℕ
 text_numbers (Ok (Some place)) = (place.0, place.1, 0)
 text_numbers (Ok None) = (0, 0, 0)
@@ -75,7 +76,7 @@ no_signature =
       reserved = 0;
     }
 
--- that of an image, if it has a signature
+-- the row of an image, if it has a signature
 abbrev pub signature_row : Option SignedDirectoryThere → gm_signature
 signature_row (Some x) = directory_row x
 signature_row None = no_signature
@@ -84,30 +85,30 @@ signature_row None = no_signature
 abbrev pub WritesSignatureRow : List ℕ → ℕ → gm_signature → Type 0
 WritesSignatureRow bytes o row = (found : Option SignedDirectoryThere) × HasSignedDirectory bytes o (Ok found) × (row ≡ signature_row found)
 
--- a fault of opening, or that of the signature or of its directories
+-- a fault of opening, of the signature or of its directories
 abbrev pub DirectoryFaultIn : List ℕ → gm_image → Fault → Type 0
 DirectoryFaultIn bytes c f = FaultIn (lossy_mode c.is_lossy) bytes c.offset f ⊎ HasSignedDirectory bytes c.offset (Err f)
 
--- ---- what isn't as it was signed
+-- ---- the faults of a signature
 
 abbrev pub fault_row : (kind slot : ℕ) → gm_signature_fault
 fault_row kind slot = record { found = 0; limit = 0; kind = kind; slot = slot; index = 0; code = 0 }
 
--- of the code that the directory of a slot covers
+-- those of the code that the directory at a slot covers
 abbrev pub code_row : (slot : ℕ) → CodeFault → gm_signature_fault
 code_row slot (code.Scattered place) = record { found = place; limit = 0; kind = 7; slot = slot; index = 0; code = 0 }
 code_row slot (code.Limit limit len) = record { found = limit; limit = len; kind = 8; slot = slot; index = 0; code = 0 }
 code_row slot (code.Slots slots pages) = record { found = slots; limit = pages; kind = 9; slot = slot; index = 0; code = 0 }
 code_row slot (code.Page index start end) = record { found = start; limit = end; kind = 10; slot = slot; index = index; code = 0 }
 
--- of a special slot
+-- those of a special slot
 abbrev pub special_row : (slot : ℕ) → SpecialFault → gm_signature_fault
 special_row slot (special.Unknown k) = record { found = 0; limit = 0; kind = 11; slot = slot; index = k; code = 0 }
 special_row slot (special.Unsealed k) = record { found = 0; limit = 0; kind = 12; slot = slot; index = k; code = 0 }
 special_row slot (special.Changed k) = record { found = 0; limit = 0; kind = 13; slot = slot; index = k; code = 0 }
 special_row slot (special.Absent k) = record { found = 0; limit = 0; kind = 14; slot = slot; index = k; code = 0 }
 
--- of a directory
+-- those of a directory
 abbrev pub directory_fault_row : (slot : ℕ) → DirectoryFaultSeen → gm_signature_fault
 directory_fault_row slot (identifier_refused f) = record { found = 0; limit = 0; kind = 4; slot = slot; index = 0; code = code_of_fault f }
 directory_fault_row slot (team_refused f) = record { found = 0; limit = 0; kind = 5; slot = slot; index = 0; code = code_of_fault f }
@@ -127,7 +128,7 @@ abbrev pub fault_rows : Option (List SignatureFaultSeen) → List gm_signature_f
 fault_rows None = []
 fault_rows (Some faults) = map signature_fault_row faults
 
--- what is left to the rows
+-- what is left for the rows
 abbrev pub fault_rows_by : Option SignatureFaults → List gm_signature_fault
 fault_rows_by faults = fault_rows (option_map signature_faults_left faults)
 
@@ -139,7 +140,7 @@ abbrev pub WritesSignatureFaults : List ℕ → ℕ → (first : ℕ) → (old n
 WritesSignatureFaults bytes o first old new n =
     (faults : Option (List SignatureFaultSeen)) × HasSignatureFaults bytes o (Ok faults) × Fills (drop first (fault_rows faults)) old new n
 
--- a fault of opening, or that of the signature
+-- a fault of opening, or of the signature
 abbrev pub SignatureFaultIn : List ℕ → gm_image → Fault → Type 0
 SignatureFaultIn bytes c f = FaultIn (lossy_mode c.is_lossy) bytes c.offset f ⊎ HasSignatureFaults bytes c.offset (Err f)
 

@@ -1,4 +1,4 @@
--- Slots as C sees them: the stubs and pointers of an image that stand for symbols.
+-- Slots as C sees them: the stubs and pointers of an image that belong to symbols.
 use Rattle.std.specs.Prelude.{◌≡◌, ◌⊎◌, ℕ, List, map, drop, Option, Some, None, Result, Ok, Err}
 use Rattle.mach_base.specs.Fault.{Fault}
 use Rattle.mach_parts.specs.Slots.{Slot, SlotOwner, named_slot, local_slot, absolute_slot, local_absolute_slot}
@@ -21,21 +21,21 @@ slot_kind_number Stub = 3
 slot_kind_number LazyLibraryPointer = 4
 slot_kind_number ThreadLocalPointer = 5
 
--- what the entry of a slot says, as of an indirect symbol
+-- the kind of a slot's entry, as for an indirect symbol
 abbrev pub owner_number : SlotOwner → ℕ
 owner_number (named_slot index name) = 0
 owner_number local_slot = 1
 owner_number absolute_slot = 2
 owner_number local_absolute_slot = 3
 
--- the number of its symbol, and 0 of the others
+-- the number of its symbol, 0 for other entries
 abbrev pub owner_symbol : SlotOwner → ℕ
 owner_symbol (named_slot index name) = index
 owner_symbol local_slot = 0
 owner_symbol absolute_slot = 0
 owner_symbol local_absolute_slot = 0
 
--- where the name of its symbol stands, and how many bytes it has: as the row of the symbol says
+-- the offset of its symbol's name, and its length, as in the row of the symbol
 abbrev pub name_of_symbol : SymbolTable → SlotOwner → ℕ × ℕ
 name_of_symbol t (named_slot index name) = ((symbol_row t index).name, (symbol_row t index).name_len)
 name_of_symbol t local_slot = (0, 0)
@@ -77,7 +77,7 @@ slot_row t (Ok s) =
     }
 slot_row t (Err f) = no_slot f
 
--- the slot in which an address lies, or the row of none
+-- the slot that holds an address, or the row for none
 abbrev pub slot_row_at : SymbolTable → Option Slot → gm_slot
 slot_row_at t (Some s) = slot_row t (Ok s)
 slot_row_at t None =
@@ -95,18 +95,18 @@ slot_row_at t None =
       code = 0;
     }
 
--- The rows of an image's slots from a number on were written, as many as there are and fit.
+-- The rows of an image's slots from index `first` on were written, as many as there are and fit.
 pub record WritesSlots (bytes : List ℕ) (c : gm_image) (first : ℕ) (old new : List gm_slot) (n : ℕ) : Type 0 where
   pub items : List (Result Slot Fault)
   pub has : HasSymbolSlots bytes c.offset items
   pub rows : Fills (drop first (map (slot_row (table_seen bytes c)) items)) old new n
 
--- The row is that of the slot in which an address lies, or of none.
+-- The row is that of the slot that holds an address, or that for none.
 pub record FindsSlot (bytes : List ℕ) (c : gm_image) (a : ℕ) (row : gm_slot) : Type 0 where
   pub slot : Option Slot
   pub has : HasSymbolSlotAt bytes c.offset a (Ok slot)
   pub is : row ≡ slot_row_at (table_seen bytes c) slot
 
--- a fault of opening, or the slot's own
+-- a fault of opening, or of the slot
 abbrev pub SlotFaultIn : List ℕ → gm_image → ℕ → Fault → Type 0
 SlotFaultIn bytes c a f = FaultIn (lossy_mode c.is_lossy) bytes c.offset f ⊎ HasSymbolSlotAt bytes c.offset a (Err f)

@@ -1,4 +1,4 @@
--- How far the functions of an image were given, and those that come behind.
+-- The position in the functions of an image, and the functions after it.
 use Rattle.std.specs.Prelude.{◌≡◌, ℕ, ◌+◌, List, [], take, map, drop, Option, Some, None, Result, Ok, Err}
 use Rattle.mach_base.specs.Fault.{Fault}
 use Rattle.mach_load.specs.FunctionStarts.{starts_behind}
@@ -13,29 +13,29 @@ use Rattle.goblin_mach_c.specs.declared.starts.gm_function_start.{gm_function_st
 use Rattle.goblin_mach_c.specs.declared.starts.gm_start_cursor.{gm_start_cursor}
 use Rattle.goblin_mach_c.specs.declared.starts.StartRows.{StartRows}
 
--- a function's address, or why they can't be read further
+-- a function's address, or why no further ones can be read
 abbrev pub function_start_row : Result ℕ Fault → gm_function_start
 function_start_row (Ok address) = record { address = address; code = 0; reserved = 0 }
 function_start_row (Err f) = record { address = 0; code = code_of_fault f; reserved = 0 }
 
--- the bytes before the end of the numbers that a command places, and this end; none where no command places any
+-- the bytes before the end of the numbers that a command places, and this end; none if no command places any
 abbrev pub starts_source : List ℕ → Option (ℕ × ℕ) → List ℕ × ℕ
 starts_source bytes None = ([], 0)
 starts_source bytes (Some range) = (take (range.0 + range.1) bytes, range.0 + range.1)
 
--- these functions come at a stage, of the numbers that a command places and the address of the image's first byte: at the start all of them, and
--- under way those by the numbers from a place on, the first of which counts from an address
+-- the functions at a stage, from the numbers that a command places and the address of the image's first byte: at the start all of
+-- them; on the way those of the numbers from a place on, the first of which counts from an address
 abbrev pub AreStartsAtStage : Stage → gm_start_cursor → List ℕ → Option (ℕ × ℕ) → ℕ → List (Result ℕ Fault) → Type 0
 AreStartsAtStage start c bytes range base items = AreStartsAt bytes range base items
 AreStartsAtStage under_way c bytes range base items =
     let source = starts_source bytes range in items ≡ starts_behind source.0 source.1 c.place c.address
 AreStartsAtStage over c bytes range base items = items ≡ []
 
--- these come behind a cursor
+-- those after a cursor
 abbrev pub AreStartsBehindCursor : gm_start_cursor → List ℕ → Option (ℕ × ℕ) → ℕ → List (Result ℕ Fault) → Type 0
 AreStartsBehindCursor c bytes range base items = AreStartsAtStage (stage_of c.stage) c bytes range base items
 
--- The rows of the functions behind a cursor were written, as many as there are and fit, and behind the new cursor come the others.
+-- The rows of the functions after a cursor were written, as many as there are and fit, and the others come after the new cursor.
 pub record AreStartsWritten (bytes : List ℕ) (range : Option (ℕ × ℕ)) (base : ℕ) (before after : gm_start_cursor) (old new : List gm_function_start)
     (n : ℕ) : Type 0 where
   pub items : List (Result ℕ Fault)
@@ -47,7 +47,7 @@ pub record AreStartsWritten (bytes : List ℕ) (range : Option (ℕ × ℕ)) (ba
 abbrev pub OfStarts : List ℕ → ℕ → (Option (ℕ × ℕ) → ℕ → Type 0) → Type 0
 OfStarts bytes o Holds = OfImage bytes o (λ ctx cs. Holds (starts_place_in cs) (base_of (lossy_segments_in ctx bytes cs)))
 
--- these functions of the image at o come behind a cursor
+-- the functions of the image at o after a cursor
 abbrev pub HasStartsBehind : List ℕ → ℕ → gm_start_cursor → List (Result ℕ Fault) → Type 0
 HasStartsBehind bytes o c items = OfStarts bytes o (λ range base. AreStartsBehindCursor c bytes range base items)
 
@@ -55,11 +55,11 @@ HasStartsBehind bytes o c items = OfStarts bytes o (λ range base. AreStartsBehi
 abbrev pub WritesStarts : List ℕ → ℕ → (before after : gm_start_cursor) → (old new : List gm_function_start) → ℕ → Type 0
 WritesStarts bytes o before after old new n = OfStarts bytes o (λ range base. AreStartsWritten bytes range base before after old new n)
 
--- ---- what is left to the rows
+-- ---- what is left for the rows
 
 abbrev pub start_rows_left : StartRows → List (Result ℕ Fault)
 start_rows_left it = starts_behind it.bytes.now it.upto it.place it.address
 
--- the rows are read from this
+-- the rows are read from this source
 abbrev pub AreStartRowsOver : List ℕ × ℕ → StartRows → Type 0
 AreStartRowsOver x it = (it.bytes.now ≡ x.0) × (it.upto ≡ x.1)

@@ -13,13 +13,13 @@ use Rattle.goblin_mach_c.specs.declared.symbols.Table.{Table}
 use Rattle.goblin_mach_c.specs.declared.symbols.gm_symbol.{gm_symbol}
 use Rattle.goblin_mach_c.specs.declared.symbols.SymbolRows.{SymbolRows}
 
--- 0 of a text, and else why there is none
+-- 0 for a text, else why there is none
 abbrev pub text_code : Result (List ℕ) Fault → ℕ
 text_code (Ok text) = 0
 text_code (Err f) = code_of_fault f
 
--- The row of a record whose name begins at a place: the bytes there up to a zero, whether or not they are a text. A place past the
--- end has none, and 0 is told for it.
+-- The row of a record whose name begins at a place: the bytes there up to a zero, whether or not they are text. A place past the
+-- end has no name, and is reported as 0.
 abbrev pub named_row : List ℕ → ℕ → Nlist → gm_symbol
 named_row bytes place s =
     record {
@@ -36,7 +36,7 @@ named_row bytes place s =
 abbrev pub unread_row : Fault → gm_symbol
 unread_row f = record { value = 0; name = 0; name_len = 0; section = 0; code = code_of_fault f; desc = 0; n_type = 0 }
 
--- the row of a record as it was read, whose name counts from a place
+-- the row of a record that was read; its name counts from a place
 abbrev pub read_row : List ℕ → ℕ → Result Nlist Fault → gm_symbol
 read_row bytes strtab (Ok s) = named_row bytes (place_after strtab s.n_strx) s
 read_row bytes strtab (Err f) = unread_row f
@@ -45,7 +45,7 @@ read_row bytes strtab (Err f) = unread_row f
 abbrev pub symbol_row : SymbolTable → ℕ → gm_symbol
 symbol_row t k = read_row t.bytes t.strtab (nlist_at t.ctx t.bytes (symbol_place t k))
 
--- A row says a symbol with its name, which stands at its place; or why one of them is missing.
+-- A row is that of a symbol with its name, which is at its place; or it says why one of them is missing.
 abbrev pub SaysSymbol : ℕ → Result (List ℕ × Nlist) Fault → gm_symbol → Type 0
 SaysSymbol strtab (Ok found) row =
     row ≡ record {
@@ -59,7 +59,7 @@ SaysSymbol strtab (Ok found) row =
     }
 SaysSymbol strtab (Err f) row = row.code ≡ code_of_fault f
 
--- the table that an image is said to have
+-- the table that the numbers of an image describe
 abbrev pub table_seen : List ℕ → gm_image → SymbolTable
 table_seen bytes c = record { bytes = bytes; start = c.symbols_at; nsyms = c.symbols; strtab = c.names_at; ctx = ctx_seen c }
 
@@ -67,7 +67,7 @@ table_seen bytes c = record { bytes = bytes; start = c.symbols_at; nsyms = c.sym
 abbrev pub symbol_rows : List ℕ → gm_image → List gm_symbol
 symbol_rows bytes image = items_from (symbol_row (table_seen bytes image)) 0 image.symbols
 
--- ---- what is left to the rows
+-- ---- what is left for the rows
 
 abbrev pub symbol_table_in : Table → SymbolTable
 symbol_table_in t = record { bytes = t.bytes.now; start = t.start; nsyms = t.count; strtab = t.strtab; ctx = t.ctx }

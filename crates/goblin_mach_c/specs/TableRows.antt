@@ -1,4 +1,4 @@
--- The tables that load commands place or hold as C sees them: data among code, indirect symbols, notes, tools, options.
+-- The tables that load commands place or hold as C sees them: data in code, indirect symbols, notes, tools, options.
 use Rattle.std.specs.Prelude.{ℕ, ◌-◌, List, map, length, take, Option, option_map, Result, Ok, Err}
 use Rattle.mach_base.specs.Answer.{◌>>=◌}
 use Rattle.mach_base.specs.declared.context.Endian.{Endian}
@@ -28,14 +28,14 @@ use Rattle.goblin_mach_c.specs.declared.notes.gm_note.{gm_note}
 use Rattle.goblin_mach_c.specs.declared.options.gm_linker_option.{gm_linker_option}
 use Rattle.goblin_mach_c.specs.declared.tools.gm_build_tool.{gm_build_tool}
 
--- ---- data among code
+-- ---- data in code
 
 -- an entry, or why it can't be read
 abbrev pub data_in_code_row : Result DataInCodeEntry Fault → gm_data_in_code_entry
 data_in_code_row (Ok e) = record { offset = e.offset; length = e.length; kind = e.kind; code = 0 }
 data_in_code_row (Err f) = record { offset = 0; length = 0; kind = 0; code = code_of_fault f }
 
--- those of an image
+-- the rows of an image
 abbrev pub data_in_code_rows : List ℕ → gm_image → List gm_data_in_code_entry
 data_in_code_rows bytes image = map data_in_code_row (data_in_code_there (ctx_seen image).le bytes (data_place_in (commands_seen bytes image)))
 
@@ -48,25 +48,25 @@ indirect_kind_number Local = 1
 indirect_kind_number Absolute = 2
 indirect_kind_number LocalAbsolute = 3
 
--- the number of the symbol, and 0 of the others
+-- the number of the symbol, 0 for other entries
 abbrev pub indirect_number : IndirectSymbol → ℕ
 indirect_number (Symbol number) = number
 indirect_number Local = 0
 indirect_number Absolute = 0
 indirect_number LocalAbsolute = 0
 
--- what an entry says, or why it can't be read
+-- an entry, or why it can't be read
 abbrev pub indirect_row : Result IndirectSymbol Fault → gm_indirect_symbol
 indirect_row (Ok s) = record { kind = indirect_kind_number s; symbol = indirect_number s; code = 0 }
 indirect_row (Err f) = record { kind = 0; symbol = 0; code = code_of_fault f }
 
--- those of an image
+-- the rows of an image
 abbrev pub indirect_rows : List ℕ → gm_image → List gm_indirect_symbol
 indirect_rows bytes image = map indirect_row (indirect_symbols_in (indirect_table_in (ctx_seen image) bytes (commands_seen bytes image)))
 
 -- ---- notes
 
--- The note of the command at a place, whose bytes are said to stand at another, or why it can't be read.
+-- The note of the command at `command`, which gives its data at `place`, or why it can't be read.
 abbrev pub note_row : ℕ → ℕ → Result NoteView Fault → gm_note
 note_row command place (Ok n) =
     record {
@@ -84,11 +84,11 @@ note_row command place (Err f) =
 abbrev pub note_row_at : List ℕ → ℕ → ℕ × ℕ → gm_note
 note_row_at bytes command range = note_row command range.0 (note_at bytes command range.0 range.1)
 
--- the note that a command brings, if it is one
+-- the note of a command, if it is one
 abbrev pub note_row_by : List ℕ → Command → Option gm_note
 note_row_by bytes c = option_map (note_row_at bytes c.offset) (note_range c.kind c.values)
 
--- those of an image
+-- the rows of an image
 abbrev pub note_rows : List ℕ → gm_image → List gm_note
 note_rows bytes image = rows_of (note_row_by bytes) (commands_seen bytes image)
 
@@ -103,11 +103,11 @@ build_tool_row (Err f) = record { command = 0; tool = 0; version = 0; code = cod
 abbrev pub tools_of_command : Endian → List ℕ → Command → List (Result (ℕ × BuildToolVersion) Fault)
 tools_of_command le bytes c = tools_of le bytes c.offset c
 
--- those of an image, up to the first fault
+-- the rows of an image, up to the first fault
 abbrev pub build_tool_rows : List ℕ → gm_image → List gm_build_tool
 build_tool_rows bytes image = map build_tool_row (listed_in (tools_of_command (ctx_seen image).le bytes) (commands_seen bytes image))
 
--- what is left of a command's
+-- what is left of a command's tools
 abbrev pub tools_in_part : Part → ToolTable
 tools_in_part p = record { place = p.place; size = p.end; count = p.count }
 
@@ -135,11 +135,11 @@ with_command command (Err f) = Err f
 abbrev pub options_of_command : List ℕ → Command → List (Result (ℕ × ℕ × List ℕ) Fault)
 options_of_command bytes c = map (with_command c.offset) (placed_options (option_texts bytes c))
 
--- those of an image, up to the first fault
+-- the rows of an image, up to the first fault
 abbrev pub linker_option_rows : List ℕ → gm_image → List gm_linker_option
 linker_option_rows bytes image = map linker_option_row (listed_in (options_of_command bytes) (commands_seen bytes image))
 
--- what is left of a command's
+-- what is left of a command's options
 abbrev pub texts_in_part : List ℕ → Part → OptionTexts
 texts_in_part bytes p = record { bytes = take p.end bytes; place = p.place; count = p.count }
 

@@ -1,4 +1,4 @@
--- How far the weak binds of an image were given, and those that come behind.
+-- The position in the weak binds of an image, and the weak binds after it.
 use Rattle.std.specs.Prelude.{◌≡◌, ℕ, List, [], Option, Some, None, Result, drop, take}
 use Rattle.std.specs.declared.alloc.Global.{Global}
 use Rattle.mach_base.specs.Context.{pointer_size}
@@ -27,14 +27,14 @@ use Rattle.goblin_mach_c.specs.declared.imports.gm_bind_cursor.{gm_bind_cursor}
 use Rattle.goblin_mach_c.specs.declared.weak_binds.WeakRows.{WeakRows}
 use Rattle.goblin_mach_c.specs.declared.weak_binds.gm_weak_bind.{gm_weak_bind}
 
--- What weak binds are read from: the bytes, the stream of opcodes in them, how many bytes a pointer has, and the segments.
+-- What weak binds are read from: the bytes, the stream of opcodes in them, the size of a pointer in bytes, and the segments.
 pub record WeakSource : Type 0 where
   pub bytes : List ℕ
   pub stream : Option CutStream
   pub pointer : ℕ
   pub segments : List SegmentView
 
--- that of an image that is held
+-- the source of an opened image
 abbrev pub weak_source_of : MachO Global → WeakSource
 weak_source_of m = record {
   bytes = bytes_held m;
@@ -43,7 +43,7 @@ weak_source_of m = record {
   segments = segments_held m;
 }
 
--- that of the commands of some bytes
+-- the source of the commands of some bytes
 abbrev pub weak_source_there : Ctx → List ℕ → List Command → WeakSource
 weak_source_there ctx bytes cs = record {
   bytes = bytes;
@@ -55,24 +55,24 @@ weak_source_there ctx bytes cs = record {
 abbrev pub weak_input : WeakSource → CutStream → Input
 weak_input x s = cut_input s x.pointer x.segments
 
--- ---- the weak binds behind a cursor
+-- ---- the weak binds after a cursor
 
--- those behind a place of the stream; none where there is no stream
+-- those after a place of the stream; none if there is no stream
 abbrev pub weak_behind : BindCursor → Option CutStream → WeakSource → List (Result WeakBind Fault)
 weak_behind c None x = []
 weak_behind c (Some s) x = weak_binds_behind (weak_input x s) (cut_range s) c
 
--- these weak binds come at a stage: at the start all of them
+-- the weak binds at a stage: at the start all of them
 abbrev pub AreWeakBindsAtStage : Stage → BindCursor → WeakSource → List (Result WeakBind Fault) → Type 0
 AreWeakBindsAtStage start c x items = AreImageWeakBinds x.stream x.pointer x.segments items
 AreWeakBindsAtStage under_way c x items = items ≡ weak_behind c x.stream x
 AreWeakBindsAtStage over c x items = items ≡ []
 
--- these come behind a cursor
+-- those after a cursor
 abbrev pub AreWeakBindsBehind : gm_bind_cursor → WeakSource → List (Result WeakBind Fault) → Type 0
 AreWeakBindsBehind c x items = AreWeakBindsAtStage (stage_of c.stage) c.binds x items
 
--- ---- where their names stand
+-- ---- where their names are
 
 abbrev pub weak_sites_of : BindCursor → Option CutStream → WeakSource → List Site
 weak_sites_of c None x = []
@@ -93,7 +93,7 @@ AreWeakSitesBehind c x sites = AreWeakSitesAtStage (stage_of c.stage) c.binds x 
 
 -- ---- what is written
 
--- these weak binds come behind a cursor, each with the place of its own name
+-- the weak binds after a cursor, each with the place of its own name
 pub record AreWeakPlacedBehind (c : gm_bind_cursor) (x : WeakSource) (items : List (Result (WeakBind × ℕ) Fault)) : Type 0 where
   pub rows : List (Result WeakBind Fault)
   pub sites : List Site
@@ -101,15 +101,14 @@ pub record AreWeakPlacedBehind (c : gm_bind_cursor) (x : WeakSource) (items : Li
   pub sites_behind : AreWeakSitesBehind c x sites
   pub are : items ≡ placed rows (places_of sites)
 
--- The rows of the weak binds behind a cursor were written, as many as there are and fit, and behind the new cursor come the
--- others.
+-- The rows of the weak binds after a cursor were written, as many as there are and fit, and the others come after the new cursor.
 pub record AreWeakBindsWritten (x : WeakSource) (before after : gm_bind_cursor) (old new : List gm_weak_bind) (n : ℕ) : Type 0 where
   pub items : List (Result (WeakBind × ℕ) Fault)
   pub behind : AreWeakPlacedBehind before x items
   pub rows : FillsBy (IsWeakRow x.bytes) items old new n
   pub rest : AreWeakPlacedBehind after x (drop n items)
 
--- these weak binds of the image at o come behind a cursor
+-- the weak binds of the image at o after a cursor
 abbrev pub HasWeakBindsBehind : List ℕ → ℕ → gm_bind_cursor → List (Result WeakBind Fault) → Type 0
 HasWeakBindsBehind bytes o c items = OfImage bytes o (λ ctx cs. AreWeakBindsBehind c (weak_source_there ctx bytes cs) items)
 
@@ -117,7 +116,7 @@ HasWeakBindsBehind bytes o c items = OfImage bytes o (λ ctx cs. AreWeakBindsBeh
 abbrev pub WritesWeakBinds : List ℕ → ℕ → (before after : gm_bind_cursor) → (old new : List gm_weak_bind) → ℕ → Type 0
 WritesWeakBinds bytes o before after old new n = OfImage bytes o (λ ctx cs. AreWeakBindsWritten (weak_source_there ctx bytes cs) before after old new n)
 
--- ---- what is left to the rows
+-- ---- what is left for the rows
 
 abbrev pub weak_left_by : Option WeakBindWalk → List (Result WeakBind Fault)
 weak_left_by None = []
@@ -130,12 +129,12 @@ weak_sites_by (Some it) = weak_sites_left it
 abbrev pub weak_rows_left : WeakRows → List (Result (WeakBind × ℕ) Fault)
 weak_rows_left it = placed (weak_left_by it.walk) (places_of (weak_sites_by it.walk))
 
--- the walk goes over a stream that is the front of the bytes
+-- the walk reads a stream that is a prefix of the bytes
 abbrev pub IsOverWeak : WeakSource → Option WeakBindWalk → Type 0
 IsOverWeak x None = Unit {0}
 IsOverWeak x (Some it) =
     (s : CutStream) × (n : ℕ) × (x.stream ≡ Some s) × (s.bytes ≡ take n x.bytes) × IsOverWeakBinds (weak_input x s) (cut_range s) it
 
--- the rows are read from this
+-- the rows are read from this source
 abbrev pub AreWeakRowsOver : WeakSource → WeakRows → Type 0
 AreWeakRowsOver x it = IsOverWeak x it.walk

@@ -12,7 +12,7 @@ abbrev pub weak_name : WeakBind → List ℕ
 weak_name (strong_name name) = name
 weak_name (weakly_bound b) = b.name
 
--- a weak bind whose name stands at a place; a name that the image defines itself has nothing else
+-- a weak bind with the place of its name; a name that the image defines itself has nothing else
 abbrev pub weak_bind_row : ℕ → WeakBind → gm_weak_bind
 weak_bind_row place (strong_name name) =
     record {
@@ -39,7 +39,7 @@ weak_bind_row place (weakly_bound b) =
       reserved = 0;
     }
 
--- why the weak binds can't be read further
+-- why no further weak binds can be read
 abbrev pub no_weak_bind : Fault → gm_weak_bind
 no_weak_bind f =
     record {
@@ -54,12 +54,12 @@ no_weak_bind f =
       reserved = 0;
     }
 
--- The row has the numbers of the weak bind and the place of its name, and the name stands there.
+-- The row has the numbers of the weak bind and the place of its name, and the name is there.
 pub record SaysWeakBind (bytes : List ℕ) (w : WeakBind) (place : ℕ) (row : gm_weak_bind) : Type 0 where
   pub numbers : row ≡ weak_bind_row (told_at (weak_name w) place) w
   pub name : NameStandsAt bytes row.name (weak_name w)
 
--- a row says a weak bind with the place of its name, or the fault that ends them
+-- a row is that of a weak bind with the place of its name, or of the fault that ends them
 abbrev pub IsWeakRow : List ℕ → Result (WeakBind × ℕ) Fault → gm_weak_bind → Type 0
 IsWeakRow bytes (Ok w) row = SaysWeakBind bytes w.0 w.1 row
 IsWeakRow bytes (Err f) row = row ≡ no_weak_bind f

@@ -1,4 +1,4 @@
--- The entries of a fat file of 32 or of 64 bits as C sees them, in one row.
+-- The entries of a fat file of 32 or 64 bits as C sees them, in rows of one type.
 use Rattle.std.specs.Prelude.{◌==◌, ◌+◌, ◌-◌, ◌/◌, ℕ, List, Result, Ok, Err, length, nat_lt, if◌then◌else◌}
 use Rattle.mach_base.specs.Fault.{Fault}
 use Rattle.mach_base.specs.Number.{number_at}
@@ -25,15 +25,15 @@ abbrev pub number_or_zero : Result ℕ Fault → ℕ
 number_or_zero (Ok n) = n
 number_or_zero (Err f) = 0
 
--- whether some bytes begin with the magic of a fat file of 64 bits: a number of 0 is none
+-- the magic at the start of the bytes, or 0, which is no magic
 abbrev pub magic_or_zero : List ℕ → ℕ
 magic_or_zero bytes = number_or_zero (number_at Big 4 bytes 0)
 
--- how many entries some bytes have, of 64 bits: none where they don't begin with the magic of such a file, or its header is short
+-- how many entries of 64 bits some bytes have: none if they don't begin with the magic of such a file, or its header is short
 abbrev pub fat_count_64 : List ℕ → ℕ
 fat_count_64 bytes = if magic_or_zero bytes == 0xcafe_babf then number_or_zero (number_at Big 4 bytes 4) else 0
 
--- how many of them are told: all that the header says where they lie in the bytes; else those that lie whole in them, and one more
+-- how many of them are reported: all of the header's count if they lie in the bytes; else those that lie whole in them, and one more
 abbrev pub told_count_64 : List ℕ → ℕ
 told_count_64 bytes =
     let whole = (length bytes - 8) / 32 in if nat_lt whole (fat_count_64 bytes) then whole + 1 else fat_count_64 bytes
@@ -45,6 +45,6 @@ fat_rows_of_64 bytes = items_from (λ k. wide_row_64 (arch_in arch_form_64 bytes
 abbrev pub fat_rows_of_32 : List ℕ → List gm_fat_entry64
 fat_rows_of_32 bytes = items_from (λ k. wide_row (fat_row (arch_at bytes k))) 0 (told_count bytes)
 
--- those of either: bytes that begin with the one magic don't begin with the other
+-- those of either form: bytes that begin with one magic don't begin with the other
 abbrev pub wide_fat_rows : List ℕ → List gm_fat_entry64
 wide_fat_rows bytes = if magic_or_zero bytes == 0xcafe_babf then fat_rows_of_64 bytes else fat_rows_of_32 bytes

@@ -1,4 +1,4 @@
-//! The members and the symbols of an archive, and what archive some bytes are.
+//! The members and the symbols of an archive, and which kind of archive some bytes are.
 
 ghost use Rattle.std.specs.Prelude.{◌≡◌, ◌≢◌, ℕ, List, Result, drop};
 ghost use Rattle.mach_base.specs.Fault.{Fault};
@@ -20,7 +20,8 @@ use mach_c_places::{
     ArchiveForm, PlacedMember, PlacedMembers, PlacedSymbol, PlacedSymbols, form_of,
 };
 
-/// A member of an archive: where its header, its bytes and its name stand, and the numbers of the header, each `GM_NO_NUMBER` where its field is none.
+/// A member of an archive: the offsets of its header, its bytes and its name, and the numbers of the header, each `GM_NO_NUMBER`
+/// if its field is no number.
 #[derive(Clone, Copy)]
 #[repr(C)]
 pub struct gm_archive_member {
@@ -30,30 +31,30 @@ pub struct gm_archive_member {
     pub gid: u64,
     pub mode: u64,
     pub header: usize,
-    /// Its bytes, without a long name.
+    /// The offset of its bytes, after a long name.
     pub data: usize,
     pub data_len: usize,
     pub name: usize,
     pub name_len: usize,
-    /// Why its name can't be read, whose place and length are 0 then; its bytes can, all the same.
+    /// Why its name can't be read: its place and length are 0 then, but the member's bytes can be read.
     pub name_code: u32,
-    /// Why there is no member: all else is 0 then, and nothing comes behind it.
+    /// Why there is no member: everything else is 0 then, and no member follows.
     pub code: u32,
 }
 
-/// A symbol of an archive's index: its name, and the place of a member's header. Whether one stands there isn't tested.
+/// A symbol of an archive's index: its name, and the offset of a member's header. Whether a header is there isn't checked.
 #[derive(Clone, Copy)]
 #[repr(C)]
 pub struct gm_archive_symbol {
     pub member: u64,
     pub name: usize,
     pub name_len: usize,
-    /// Why there is no symbol: all else is 0 then, and nothing comes behind it.
+    /// Why there is no symbol: everything else is 0 then, and no symbol follows.
     pub code: u32,
     pub reserved: u32,
 }
 
-// Where a name stands, how many bytes it has, and its code.
+// Returns the offset of a name, its length, and its code.
 fn name_numbers(told: &Result<(usize, usize)>) -> (usize, usize, u32)
     ensures { result ≡ rows.name_numbers (read_as (λ told. told) told.now) }
 {
@@ -63,7 +64,7 @@ fn name_numbers(told: &Result<(usize, usize)>) -> (usize, usize, u32)
     }
 }
 
-/// A member as C sees it.
+/// Returns a member as C sees it.
 pub fn member_row(placed: &PlacedMember<'_>) -> gm_archive_member
     ensures { result ≡ rows.member_row (placed_member_view placed.now) }
 {
@@ -84,7 +85,7 @@ pub fn member_row(placed: &PlacedMember<'_>) -> gm_archive_member
     }
 }
 
-/// What is written where there is no member: why, or `GM_OK`.
+/// Returns the row for no member: its code says why, or is `GM_OK`.
 pub fn no_member(code: u32) -> gm_archive_member
     ensures { result ≡ rows.no_member code }
 {
@@ -103,7 +104,7 @@ pub fn no_member(code: u32) -> gm_archive_member
     }
 }
 
-// A symbol as C sees it.
+// Returns a symbol as C sees it.
 fn symbol_row(placed: &PlacedSymbol<'_>) -> gm_archive_symbol
     ensures { result ≡ rows.archive_symbol_row (placed_symbol_view placed.now) }
 {
@@ -117,7 +118,7 @@ fn symbol_row(placed: &PlacedSymbol<'_>) -> gm_archive_symbol
     }
 }
 
-// What is written where there is no symbol.
+// Returns the row for no symbol.
 fn no_symbol(code: u32) -> gm_archive_symbol
     ensures { result ≡ rows.no_archive_symbol code }
 {
@@ -130,7 +131,7 @@ fn no_symbol(code: u32) -> gm_archive_symbol
     }
 }
 
-// What is left of an archive's members.
+// The members of an archive that are left.
 #[derive(Drop)]
 struct MemberRows<'a> {
     members: PlacedMembers<'a>,
@@ -157,7 +158,7 @@ impl ItemRows for MemberRows<'_> {
     }
 }
 
-// What is left of the symbols of an archive's index.
+// The symbols of an archive's index that are left.
 #[derive(Drop)]
 struct SymbolRows<'a> {
     symbols: PlacedSymbols<'a>,
@@ -184,8 +185,8 @@ impl ItemRows for SymbolRows<'_> {
     }
 }
 
-/// Writes the members of an archive from a number on, as many as there are and fit, and answers how many. The last one is why there are no more, where a
-/// header has a fault, and the only one why the bytes are no archive.
+/// Writes the members of an archive from index `first` on, as many as there are and fit, and returns how many. If a header has a
+/// fault, the last row says why there are no more. If the bytes are no archive, the only row says why.
 #[unsafe(no_mangle)]
 pub extern "C" fn gmr_archive_members(
     bytes: &[u8],
@@ -201,8 +202,9 @@ pub extern "C" fn gmr_archive_members(
     fill_items(&mut rows, out)
 }
 
-/// Writes the symbols of an archive's index from a number on, in the order of its table, as many as there are and fit, and answers how many: none
-/// without an index. The last one is why there are no more, where a name has a fault, and the only one why the index can't be read.
+/// Writes the symbols of an archive's index from index `first` on, in the order of its table, as many as there are and fit, and
+/// returns how many. Without an index there are none. If a name has a fault, the last row says why there are no more. If the
+/// index can't be read, the only row says why.
 #[unsafe(no_mangle)]
 pub extern "C" fn gmr_archive_symbols(
     bytes: &[u8],
@@ -218,7 +220,7 @@ pub extern "C" fn gmr_archive_symbols(
     fill_items(&mut rows, out)
 }
 
-// The number of a form.
+// Returns the number of a form.
 fn number_of(form: ArchiveForm) -> u32
     ensures { result ≡ rows.form_number form }
 {
@@ -230,7 +232,8 @@ fn number_of(form: ArchiveForm) -> u32
     }
 }
 
-/// Writes what archive some bytes are to `kind`. It is refused where they begin as an archive whose front can't be read; a refusal leaves `kind`.
+/// Writes to `kind` which archive some bytes are. It is refused if they begin as an archive whose start can't be read; then
+/// `kind` is unchanged.
 #[unsafe(no_mangle)]
 pub extern "C" fn gmr_archive_kind(bytes: &[u8], kind: &mut u32, error: &mut gm_error) -> u32
     ensures found { result ≡ 0 → rows.IsFormNumber bytes.now kind.new }

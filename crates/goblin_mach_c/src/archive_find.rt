@@ -1,4 +1,4 @@
-//! One member of an archive: that which defines a symbol, or the first of a name.
+//! One member of an archive: the one that defines a symbol, or the first of a name.
 
 ghost use Rattle.std.specs.Prelude.{◌≡◌, ◌≢◌, option_map};
 ghost use Rattle.std.specs.Str.{IsUtf8};
@@ -12,7 +12,7 @@ use crate::errors::{GM_OK, gm_error, refuse};
 use mach_base::Error;
 use mach_c_places::{PlacedMember, member_named, member_of_symbol};
 
-// A member that was sought, if it was found.
+// Returns the row of a member that was looked up, if it was found.
 fn found_row(found: &Option<PlacedMember<'_>>) -> gm_archive_member
     ensures { result ≡ rows.found_row (option_map placed_member_view found.now) }
 {
@@ -22,9 +22,9 @@ fn found_row(found: &Option<PlacedMember<'_>>) -> gm_archive_member
     }
 }
 
-/// Writes the member that defines a symbol, by the index of an archive, to `member`; where no symbol of the index has this name its `header` is 0. Refused
-/// where the archive, its index, a name before that one or the member's header can't be read, and as malformed where the name is no UTF-8. A refusal
-/// leaves `member`.
+/// Writes the member that defines a symbol to `member`, by the index of an archive. If the index has no symbol of this name,
+/// `header` is 0. It is refused if the archive, its index, a name before that symbol's or the member's header can't be read, and
+/// as malformed if the name isn't UTF-8. A refused call leaves `member` unchanged.
 #[unsafe(no_mangle)]
 pub extern "C" fn gmr_archive_find(
     bytes: &[u8],
@@ -51,8 +51,8 @@ pub extern "C" fn gmr_archive_find(
     }
 }
 
-/// Writes the first member of a name of an archive to `member`; where no member has it, its `header` is 0. Refused where the archive or a header before that
-/// member's can't be read. A refusal leaves `member`.
+/// Writes the first member of a name to `member`. If no member has the name, `header` is 0. It is refused if the archive or a
+/// header before that member's can't be read. A refused call leaves `member` unchanged.
 #[unsafe(no_mangle)]
 pub extern "C" fn gmr_archive_member_named(
     bytes: &[u8],

@@ -1,4 +1,4 @@
-//! What dyld binds of an image: by its opcodes, and then by its chains.
+//! The bindings of an image: those of its opcodes, then those of its chains.
 
 ghost use Rattle.std.specs.Prelude.{◌≡◌, ◌≢◌, ◌<◌, ◌^◌, ◌⊎◌, ◌∷◌, ℕ, List, [], length, Ok, Err, Some, Result, IfOk, IfSome, Option};
 ghost use Rattle.mach_base.specs.Fault.{Fault, fault_of};
@@ -44,39 +44,39 @@ use goblin_mach::{MachO, OpcodeBindingIterator, Provider};
 use mach_base::{Error, Result, Steps};
 use std::alloc::Global;
 
-/// A place in memory that takes a symbol's address from a provider: the symbol's name is `name_len` bytes at `name`.
+/// A place in memory that takes a symbol's address from a provider. The symbol's name is `name_len` bytes at `name`.
 #[derive(Clone, Copy)]
 #[repr(C)]
 pub struct gm_binding {
-    /// The address in memory of the pointer to bind, and its place in the file.
+    /// The address in memory of the pointer to bind, and its file offset.
     pub address: u64,
     pub offset: u64,
     /// What is added to the symbol's address.
     pub addend: i64,
     pub name: usize,
     pub name_len: usize,
-    /// The ordinal of the library, and else 0.
+    /// The ordinal of the library, 0 for other providers.
     pub library: u64,
-    /// 0 a library, 1 the image itself, 2 the program, 3 any image, 4 any image, a definition that isn't weak before others.
+    /// 0 a library, 1 the image itself, 2 the main program, 3 any image, 4 any image, with definitions that aren't weak before others.
     pub provider: u32,
     /// Whether the symbol may be missing, and whether it is bound at its first use: 0 or 1 each.
     pub is_weak: u32,
     pub is_lazy: u32,
-    /// `GM_OK`, or why the bindings can't be read further.
+    /// `GM_OK`, or why no further bindings can be read.
     pub code: u32,
 }
 
-/// How far the bindings of an image were given: numbers alone, which go with the bytes and the image. All zero is the start.
+/// The position in the bindings of an image: only numbers, which belong to the bytes and the image. All zero is the start.
 #[derive(Clone, Copy)]
 #[repr(C)]
 pub struct gm_binding_cursor {
-    /// How far those of the opcodes were given.
+    /// The position in those of the opcodes.
     pub opcodes: gm_bind_cursor,
-    /// How far the fixups of the chains have been gone over.
+    /// The position in the fixups of the chains.
     pub chains: gm_fixup_cursor,
 }
 
-// The numbers of a provider.
+// Returns the numbers of a provider.
 #[inline(always)]
 fn numbers_of(provider: Provider<'_>) -> (u32, u64)
     ensures provider { result.0 ≡ provider_number (provider_view provider.entry) }
@@ -91,7 +91,7 @@ fn numbers_of(provider: Provider<'_>) -> (u32, u64)
     }
 }
 
-// Why the bindings can't be read further, as C sees it.
+// Returns the row that says why no further bindings can be read.
 fn refused_row(why: &Error) -> gm_binding
     ensures { result ≡ no_binding (fault_of why.now) }
 {
@@ -109,7 +109,7 @@ fn refused_row(why: &Error) -> gm_binding
     }
 }
 
-// A binding as C sees it.
+// Returns a binding as C sees it.
 #[inline(always)]
 fn row_of(placed: &PlacedBinding<'_>) -> gm_binding
     ensures numbers { result ≡ binding_row (told_at placed.now.binding.name.now placed.now.name_place) (binding_view placed.now.binding) }
@@ -131,7 +131,7 @@ fn row_of(placed: &PlacedBinding<'_>) -> gm_binding
     }
 }
 
-// Where the name of a bind of the chains stands, whose data begin at a place.
+// Returns the offset of the name of a chain's bind. `data` is the offset of the chains' data.
 #[inline(always)]
 fn name_place(chained: &ChainedFixups<'_>, chains_at: usize, fixup: &Fixup) -> usize
     ensures stands { (bytes : List ℕ) (size : ℕ) → length bytes < 2 ^ 64 → slice_at size bytes chains_at ≡ Ok (fixups_view chained.now).payload
@@ -151,7 +151,7 @@ fn name_place(chained: &ChainedFixups<'_>, chains_at: usize, fixup: &Fixup) -> u
     }
 }
 
-// The next binding of the chains, whose data begin at a place, or the fault that ends them.
+// Returns the next binding of the chains, or the fault that ends them.
 fn next_bound<'a>(
     walk: &mut ChainWalk<'a, '_>,
     libs: &[&'a str],
@@ -187,7 +187,7 @@ fn next_bound<'a>(
     }
 }
 
-/// What is left of the bindings of an image: those of its opcodes, and the fixups of its chains, whose data begin at a place.
+/// The bindings of an image that are left: those of its opcodes, and the fixups of its chains with the offset of their data.
 #[derive(Drop)]
 struct BindingRows<'a, 'b> {
     opcodes: Option<OpcodeBindingIterator<'a, 'b>>,
@@ -199,7 +199,7 @@ struct BindingRows<'a, 'b> {
 }
 
 impl<'a, 'b> BindingRows<'a, 'b> {
-    // The next binding of the chains, or the fault that ends them.
+    // Returns the next binding of the chains, or the fault that ends them.
     fn next_of_chains(&mut self) -> Option<Result<PlacedBinding<'a>>>
         ensures items { ComesFirst (chains_left self.old) result (chains_left self.new) }
         ensures opcodes { self.new.opcodes ≡ self.old.opcodes }
@@ -222,7 +222,7 @@ impl<'a, 'b> BindingRows<'a, 'b> {
         }
     }
 
-    // The next binding, or the next fault.
+    // Returns the next binding, or the next fault.
     #[inline(always)]
     fn step(&mut self) -> Option<Result<PlacedBinding<'a>>>
         ensures items { ComesFirst (all_binding_rows_left self.old) result (all_binding_rows_left self.new) }
@@ -239,7 +239,7 @@ impl<'a, 'b> BindingRows<'a, 'b> {
         self.next_of_chains()
     }
 
-    // Leaves nothing.
+    // Ends the list.
     fn end(&mut self)
         ensures left { binding_rows_left self.new ≡ [] }
         ensures placed { placed_left self.new ≡ [] }
@@ -275,7 +275,7 @@ impl<'a, 'b> ItemRows for BindingRows<'a, 'b> {
     }
 }
 
-// The bindings of an image's opcodes behind a cursor.
+// Returns the bindings of an image's opcodes after a cursor.
 fn opcodes_behind<'a, 'b>(
     image: &'b MachO<'a, Global>,
     cursor: &gm_bind_cursor,
@@ -298,7 +298,7 @@ fn opcodes_behind<'a, 'b>(
     }
 }
 
-// A cursor of those that are left.
+// Returns a cursor before those that are left.
 fn opcode_cursor(opcodes: &Option<OpcodeBindingIterator<'_, '_>>) -> gm_bind_cursor
     ensures items { (x : BindingSource) → AreOverOpcodes x opcodes.now
         → AreBindingsAtStage (stage_of result.stage) result.binds x.binds (opcode_rows_left opcodes.now) }
@@ -314,7 +314,7 @@ fn opcode_cursor(opcodes: &Option<OpcodeBindingIterator<'_, '_>>) -> gm_bind_cur
     }
 }
 
-// Where the data of an image's chains begin.
+// Returns the offset of the data of an image's chains.
 fn chains_at(image: &MachO<'_, Global>) -> usize
     ensures stand { StandAt (source_of image.now) result }
     ensures place { result ≡ (source_of image.now).chains_at }
@@ -326,7 +326,7 @@ fn chains_at(image: &MachO<'_, Global>) -> usize
 }
 
 impl<'a, 'b> BindingRows<'a, 'b> {
-    // Those behind a cursor.
+    // Returns the bindings after a cursor.
     fn behind(image: &'b MachO<'a, Global>, cursor: &gm_binding_cursor) -> Self
         ensures items { AreBindingsBehind cursor.now (binds_of_image image.now) (chained_held image.now) (binding_rows_left result) }
         ensures placed { ArePlacedBehind cursor.now (source_of image.now) (placed_left result) }
@@ -343,7 +343,7 @@ impl<'a, 'b> BindingRows<'a, 'b> {
         }
     }
 
-    // A cursor of those that are left.
+    // Returns a cursor before those that are left.
     fn cursor(&self) -> gm_binding_cursor
         ensures items { (x : BindingSource) → AreBindingRowsOver x self.now → AreBindingsBehind result x.binds x.chained (binding_rows_left self.now) }
         ensures placed { (x : BindingSource) → AreBindingRowsOver x self.now → ArePlacedBehind result x (placed_left self.now) }
@@ -355,9 +355,10 @@ impl<'a, 'b> BindingRows<'a, 'b> {
     }
 }
 
-/// Writes what dyld binds of an image behind a cursor, by its opcodes and then by its chains, as much as there is and fits,
-/// and how many to `count`, and moves the cursor behind them. The last may be the error that ends them. It opens the image
-/// again, and takes memory for its commands while it runs. A refusal leaves the array, the count and the cursor.
+/// Writes the bindings of an image after a cursor, those of its opcodes and then those of its chains, as many as there are and
+/// fit; writes how many to `count`, and moves the cursor past them. The last row may be the error that ends them. It opens the
+/// image again, and allocates memory for its commands while it runs. A refused call leaves the array, the count and the cursor
+/// unchanged.
 #[unsafe(no_mangle)]
 pub extern "C" fn gmr_bindings(
     alloc: Global,

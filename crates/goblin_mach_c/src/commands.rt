@@ -1,4 +1,4 @@
-//! The load commands, one behind the other, with no memory.
+//! The load commands, one after the other, without an allocation.
 
 ghost use Rattle.std.specs.Prelude.{◌≡◌, drop, map, min};
 ghost use Rattle.std.specs.Iterator.{YieldsFirst, YieldsFirstBy};
@@ -20,7 +20,7 @@ pub struct Commands<'a> {
     le: Endian,
 }
 
-// The smaller one of two numbers.
+// Returns the smaller of two numbers.
 fn no_more_than(count: usize, most: usize) -> usize
     ensures { result ≡ min count most }
 {
@@ -28,7 +28,7 @@ fn no_more_than(count: usize, most: usize) -> usize
 }
 
 impl<'a> Commands<'a> {
-    /// Those of an image: no more than could lie in the bytes.
+    /// Returns the commands of an image: no more than could lie in the bytes.
     pub fn of(bytes: &'a [u8], image: &gm_image) -> Self
         ensures { readable_commands_left result ≡ commands_seen bytes.now image.now }
     {
@@ -40,7 +40,7 @@ impl<'a> Commands<'a> {
         }
     }
 
-    /// The next command.
+    /// Returns the next command.
     #[inline(always)]
     pub fn next_command(&mut self) -> Option<LoadCommand>
         ensures { YieldsFirstBy command_of readable_commands_left self.old result self.new }
@@ -60,7 +60,7 @@ impl<'a> Commands<'a> {
         }
     }
 
-    /// The same, for those who look at its fields: most commands are read in place.
+    /// The same for callers that read its fields: most commands are read in place.
     #[inline(always)]
     pub fn next_in_place(&mut self) -> Option<LoadCommand>
         ensures { YieldsFirstBy command_of readable_commands_left self.old result self.new }
@@ -78,7 +78,7 @@ impl<'a> Commands<'a> {
     }
 }
 
-/// A load command: its record stands at `offset` and has `size` bytes.
+/// A load command: its record is `size` bytes at `offset`.
 #[derive(Clone, Copy)]
 #[repr(C)]
 pub struct gm_command {
@@ -102,8 +102,8 @@ impl<'a> Rows for Commands<'a> {
     }
 }
 
-/// Writes the commands of an image from a number on, as many as there are and fit, and answers how many. There is none
-/// behind the first that can't be read.
+/// Writes the commands of an image from index `first` on, as many as there are and fit, and returns how many. None follows the
+/// first that can't be read.
 #[unsafe(no_mangle)]
 pub extern "C" fn gmr_commands(
     bytes: &[u8],

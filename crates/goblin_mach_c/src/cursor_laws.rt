@@ -1,4 +1,4 @@
-//! Theorems: at a cursor that is all zero, what comes behind is the whole list.
+//! Theorems: after a cursor that is all zero comes the whole list.
 
 ghost use Rattle.std.specs.Prelude.{◌≡◌, ◌↔◌, ℕ, List, Result};
 ghost use Rattle.mach_base.specs.Fault.{Fault};
@@ -22,37 +22,37 @@ ghost use Rattle.goblin_mach_c.specs.declared.fixups.gm_fixup_cursor.{gm_fixup_c
 ghost use Rattle.goblin_mach_c.specs.declared.rebases.gm_rebase_cursor.{gm_rebase_cursor};
 ghost use Rattle.goblin_mach_c.specs.declared.starts.gm_start_cursor.{gm_start_cursor};
 
-/// At stage 0 the fixups behind a cursor are all those of the image.
+/// At stage 0 the fixups after a cursor are all those of the image.
 pub fn fixups_begin_at_the_start()
     ensures { (bytes : List ℕ) (o : ℕ) (c : gm_fixup_cursor) → c.stage ≡ 0 → (items : List (Result Fixup Fault))
         → HasFixupsBehind bytes o c items ↔ HasFixups bytes o items }
 {}
 
-/// At stage 0 the functions behind a cursor are all those of the image.
+/// At stage 0 the functions after a cursor are all those of the image.
 pub fn starts_begin_at_the_start()
     ensures { (bytes : List ℕ) (o : ℕ) (c : gm_start_cursor) → c.stage ≡ 0 → (items : List (Result ℕ Fault))
         → HasStartsBehind bytes o c items ↔ HasFunctionStarts bytes o items }
 {}
 
-/// At stage 0 the imports behind a cursor are all those of the image.
+/// At stage 0 the imports after a cursor are all those of the image.
 pub fn imports_begin_at_the_start()
     ensures { (bytes : List ℕ) (o : ℕ) (c : gm_bind_cursor) → c.stage ≡ 0 → (items : List (Result Import Fault))
         → HasImportsBehind bytes o c items ↔ HasImportItems bytes o items }
 {}
 
-/// At stage 0 of both parts the bindings behind a cursor are all those of the image.
+/// If both parts of a cursor are at stage 0, the bindings after it are all those of the image.
 pub fn bindings_begin_at_the_start()
     ensures { (bytes : List ℕ) (o : ℕ) (c : gm_binding_cursor) → c.opcodes.stage ≡ 0 → c.chains.stage ≡ 0
         → (items : List (Result Binding Fault)) → HasBindingsBehind bytes o c items ↔ HasBindings bytes o items }
 {}
 
-/// At stage 0 the weak binds behind a cursor are all those of the image.
+/// At stage 0 the weak binds after a cursor are all those of the image.
 pub fn weak_binds_begin_at_the_start()
     ensures { (bytes : List ℕ) (o : ℕ) (c : gm_bind_cursor) → c.stage ≡ 0 → (items : List (Result WeakBind Fault))
         → HasWeakBindsBehind bytes o c items ↔ HasWeakBinds bytes o items }
 {}
 
-/// At stage 0 of both parts the rebases behind a cursor are all those of the image.
+/// If both parts of a cursor are at stage 0, the rebases after it are all those of the image.
 pub fn rebases_begin_at_the_start()
     ensures { (bytes : List ℕ) (o : ℕ) (c : gm_rebase_cursor) → c.opcodes.stage ≡ 0 → c.chains.stage ≡ 0
         → (items : List (Result Rebase Fault)) → HasRebasesBehind bytes o c items ↔ HasRebases bytes o items }

@@ -1,4 +1,4 @@
-//! The data among an image's code, read in place.
+//! The data in an image's code, read in place.
 
 ghost use Rattle.std.specs.Prelude.{◌≡◌, drop};
 ghost use Rattle.mach_load.specs.DataInCode.{data_in_code_item};
@@ -15,8 +15,8 @@ use goblin_mach::table_places::DataPlaces;
 use mach_base::{Endian, Record, Result};
 use mach_records::DataInCodeEntry;
 
-/// Data among code (struct data_in_code_entry): `length` bytes, `offset` behind the image's first byte in memory. Where `code` is not
-/// `GM_OK` the record can't be read, and the rest is 0.
+/// Data in code (struct data_in_code_entry): `length` bytes, `offset` bytes after the image's first byte in memory. If `code`
+/// isn't `GM_OK` the record can't be read, and the rest is 0.
 #[derive(Clone, Copy)]
 #[repr(C)]
 pub struct gm_data_in_code_entry {
@@ -26,7 +26,7 @@ pub struct gm_data_in_code_entry {
     pub code: u32,
 }
 
-// The entries that stand from a place on.
+// The entries from a place on.
 #[derive(Clone, Copy)]
 struct Entries<'a> {
     bytes: &'a [u8],
@@ -34,7 +34,7 @@ struct Entries<'a> {
     le: Endian,
 }
 
-// An entry, or why it can't be read.
+// Returns an entry, or why it can't be read.
 fn row_of(found: &Result<DataInCodeEntry>) -> gm_data_in_code_entry
     ensures { result ≡ data_in_code_row (data_in_code_read found.now) }
 {
@@ -65,7 +65,7 @@ impl<'a> Numbered for Entries<'a> {
     }
 }
 
-/// Writes the data among an image's code from a number on, as many as there are and fit, and answers how many.
+/// Writes the entries for data in an image's code from index `first` on, as many as there are and fit, and returns how many.
 #[unsafe(no_mangle)]
 pub extern "C" fn gmr_data_in_code(
     bytes: &[u8],

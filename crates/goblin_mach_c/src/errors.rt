@@ -1,4 +1,4 @@
-//! Errors: a code and words.
+//! Errors: a code and a text.
 
 ghost use Rattle.std.specs.Prelude.{◌≡◌, ◌≢◌, [], Some, slice_get, IsOk, OnOk};
 ghost use Rattle.mach_base.specs.Fault.{fault_of};
@@ -15,25 +15,25 @@ pub const GM_OK: u32 = 0;
 /// The bytes break a rule of the format.
 pub const GM_MALFORMED: u32 = 1;
 
-/// The magic number is none of those that are read.
+/// The magic number is not one of those that are read.
 pub const GM_BAD_MAGIC: u32 = 2;
 
-/// A read fails at its place.
+/// A read goes past the end of the bytes.
 pub const GM_SHORT: u32 = 3;
 
-/// So many things cannot lie in the bytes.
+/// A count is larger than the bytes could hold.
 pub const GM_TOO_MANY: u32 = 4;
 
-/// Memory was refused.
+/// Memory ran out.
 pub const GM_NO_MEMORY: u32 = 5;
 
-/// The array that a call is handed has room for no row.
+/// The array given to a call has no room for a row.
 pub const GM_NO_ROWS: u32 = 6;
 
-/// What is to be written has more bytes than there is room for.
+/// The output is larger than the room for it.
 pub const GM_NO_SPACE: u32 = 7;
 
-/// The code of an error.
+/// Returns the code of an error.
 pub fn code_of(error: &Error) -> u32
     ensures code { result ≡ code_of_fault (fault_of error.now) }
     ensures some { result ≢ 0 }
@@ -52,11 +52,11 @@ pub fn code_of(error: &Error) -> u32
 #[repr(C)]
 pub struct gm_error {
     pub code: u32,
-    /// The words, with zero bytes behind them.
+    /// The text, padded with zero bytes.
     pub text: [u8; 124],
 }
 
-// Words as a text of 124 bytes, of which the last is 0.
+// Returns words as a text of 124 bytes, of which the last is 0.
 fn text_of(words: &[u8]) -> [u8; 124]
     ensures ended { slice_get result 123 ≡ Some 0 }
     ensures words { result ≡ error_text words.now }
@@ -67,7 +67,7 @@ fn text_of(words: &[u8]) -> [u8; 124]
     text
 }
 
-/// Reports an error, and answers its code.
+/// Reports an error, and returns its code.
 #[cold]
 #[inline(never)]
 pub fn refuse(error: &Error, out: &mut gm_error) -> u32
@@ -84,7 +84,7 @@ pub fn refuse(error: &Error, out: &mut gm_error) -> u32
     code
 }
 
-// Writes the words of an error into an empty text: surely those of a broken rule that has room.
+// Writes the text of an error into an empty string. That of a broken rule which fits is always written.
 fn write_words(error: &Error, words: &mut ArrayString<123>) -> fmt::Result
     requires { words.old.bytes ≡ [] }
     ensures written { OnOk result (words.new.bytes ≡ words_of error.now) }
@@ -99,7 +99,7 @@ fn write_words(error: &Error, words: &mut ArrayString<123>) -> fmt::Result
     }
 }
 
-// The words of an error; none, where they have no room.
+// Returns the text of an error; none if it doesn't fit.
 fn words_text(error: &Error) -> [u8; 124]
     ensures ended { slice_get result 123 ≡ Some 0 }
     ensures words { HasErrorWords (words_of error.now) result }
@@ -112,7 +112,7 @@ fn words_text(error: &Error) -> [u8; 124]
     }
 }
 
-/// Reports that an array has room for no row.
+/// Reports that an array has no room for a row.
 #[cold]
 #[inline(never)]
 pub fn refuse_no_rows(out: &mut gm_error) -> u32
@@ -127,7 +127,7 @@ pub fn refuse_no_rows(out: &mut gm_error) -> u32
     GM_NO_ROWS
 }
 
-/// Reports that there is too little room for what is to be written.
+/// Reports that there is too little room for the output.
 #[cold]
 #[inline(never)]
 pub fn refuse_no_space(out: &mut gm_error) -> u32
@@ -142,7 +142,7 @@ pub fn refuse_no_space(out: &mut gm_error) -> u32
     GM_NO_SPACE
 }
 
-/// Reports a refusal of before again, by its code.
+/// Reports an earlier refusal again, by its code.
 #[cold]
 #[inline(never)]
 pub fn refuse_again(code: u32, out: &mut gm_error) -> u32

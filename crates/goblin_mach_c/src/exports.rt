@@ -1,4 +1,4 @@
-//! The exports of an image in batches, by a walk whose numbers, name and open nodes are the caller's.
+//! The exports of an image in batches. The caller keeps the numbers, the name and the open nodes of the walk.
 
 ghost use Rattle.std.specs.Prelude.{◌≡◌, ◌≢◌, ◌-◌, ◌+◌, ◌^◌, ◌++◌, ◌<◌, ◌≤◌, ◌⊎◌, ℕ, List, Option, Some, None, drop, length, min, take};
 ghost use Rattle.mach_dyld.specs.Cursors.{HasGivenTo, IsOwnAt};
@@ -25,8 +25,8 @@ use goblin_mach::laws::walked_exports_of_image;
 use mach_base::Error;
 use std::alloc::Global;
 
-/// How far a walk of an image's exports has come: numbers alone, each of them 0 at the start. They go with the image, and
-/// with the name and the open nodes that the call before was handed.
+/// The position of a walk over an image's exports: only numbers, all 0 at the start. They belong to the image, and to the name
+/// and the open nodes of the previous call.
 #[derive(Clone, Copy)]
 #[repr(C)]
 pub struct gm_export_walk {
@@ -37,8 +37,8 @@ pub struct gm_export_walk {
     pub code: u32,
 }
 
-/// An export. Its name stands at `name` among the names, and has `name_len` bytes. Of a re-export `library` is the number of the
-/// library, the image itself being number 0, and the name there stands at `target` in the bytes.
+/// An export. Its name is `name_len` bytes at `name` in the buffer for names. For a re-export `library` is the number of the
+/// library (the image itself is number 0), and `target` is the offset of the name there in the bytes.
 #[derive(Clone, Copy)]
 #[repr(C)]
 pub struct gm_listed_export {
@@ -49,39 +49,39 @@ pub struct gm_listed_export {
     pub what: gm_export,
 }
 
-/// What a batch has, and why it ends.
+/// What a batch holds, and why it ends.
 #[derive(Clone, Copy)]
 #[repr(C)]
 pub struct gm_export_batch {
-    /// How many rows were written, and how many bytes of names.
+    /// How many rows, and how many bytes of names, were written.
     pub count: usize,
     pub names_len: usize,
-    /// How many rows, bytes or open nodes there must be to go on; 0 where no more are needed.
+    /// How many rows, bytes or open nodes are needed to go on; 0 if no more are needed.
     pub needed: usize,
-    /// One of the numbers of an end.
+    /// One of `GM_MORE` to `GM_REFUSED`.
     pub end: u32,
     pub reserved: u32,
 }
 
-/// The array is full, or what is left for names is less than a name may need.
+/// The array is full, or the room left for names is less than a name may need.
 const GM_MORE: u32 = 0;
 
 /// There are no more exports.
 const GM_END: u32 = 1;
 
-/// There is no room for a row, or a name may be longer than all that is there for names.
+/// There is no room for a row, or the buffer for names is smaller than the longest name that the walk allows.
 const GM_NO_ROOM: u32 = 2;
 
-/// The name that comes next is longer than the walk's name may be.
+/// The next name is longer than the walk allows.
 const GM_NAME_SHORT: u32 = 3;
 
-/// More nodes are open than the stack has.
+/// More nodes are open than the stack can hold.
 const GM_STACK_SHORT: u32 = 4;
 
 /// The call was refused.
 const GM_REFUSED: u32 = 5;
 
-// What comes in place of an export.
+// What comes instead of an export.
 #[derive(Drop)]
 enum Ending {
     End,
@@ -90,7 +90,7 @@ enum Ending {
     StackTooShort,
 }
 
-// The export that comes next, or what comes in its place.
+// Returns the next export, or what comes instead.
 #[inline(always)]
 fn export_or_ending(next: NextExport<'_>) -> Result<ExportInfo<'_>, Ending>
     ensures { next_export_of result ≡ next.entry }
@@ -104,7 +104,7 @@ fn export_or_ending(next: NextExport<'_>) -> Result<ExportInfo<'_>, Ending>
     }
 }
 
-// Puts the front of a name, `count` bytes or all, at a place among others. Answers how many bytes that are.
+// Copies the first `count` bytes of a name, or all, to a place in the buffer for names, and returns how many.
 #[inline(always)]
 fn put_name(name: &[u8], count: usize, names: &mut [u8], at: usize) -> usize
     requires { at + length name.now ≤ length names.old }
@@ -122,7 +122,7 @@ fn put_name(name: &[u8], count: usize, names: &mut [u8], at: usize) -> usize
     count
 }
 
-// Of a re-export that was given last the number of its library, and where its name there stands.
+// Returns the number of the library of the last re-export, and the offset of its name there.
 #[inline(always)]
 fn brought_from(trie: &ExportTrie<'_>, cursor: &TrieCursor, info: &ExportInfo<'_>) -> (usize, usize)
     ensures { (libs : List (List ℕ)) → IsOwnAt trie.now.bytes libs trie.now.from cursor.now.node (info_of info.now)
@@ -137,9 +137,9 @@ fn brought_from(trie: &ExportTrie<'_>, cursor: &TrieCursor, info: &ExportInfo<'_
     }
 }
 
-// Goes on along a trie, and writes the exports that come: their rows into an array, and their names one behind the other. It
-// stops where the array is full or a name might not fit, and answers how many rows and how many bytes it wrote, and
-// what came in place of an export, if anything did.
+// Goes on along a trie, and writes the next exports: their rows into an array, and their names one after the other. It stops if
+// the array is full or a name might not fit. It returns how many rows and how many bytes it wrote, and what came instead of an
+// export, if anything did.
 fn write_exports<'a>(
     trie: &ExportTrie<'a>,
     libs: &[&'a str],
@@ -185,8 +185,7 @@ fn write_exports<'a>(
     (out.len(), used, None)
 }
 
-// Why a batch ends, and how much there must be to go on: how many rows, bytes of a name and of names, and nodes
-// of the stack.
+// Returns why a batch ends, and what is needed to go on: how many rows, bytes of a name or of names, or nodes of the stack.
 fn end_of(
     ending: &Option<Ending>,
     rows: usize,
@@ -208,7 +207,7 @@ fn end_of(
     }
 }
 
-// Tells of a refusal, if the batch ends by one.
+// Reports a refusal, if the batch ends with one.
 fn told(ending: Option<Ending>, error: &mut gm_error) -> u32
     ensures code { IsCode ending result }
     ensures good { (rows : ℕ) (room : ℕ) (name : ℕ) → result ≡ 0 → end_number rows room name ending < 5 }
@@ -222,7 +221,7 @@ fn told(ending: Option<Ending>, error: &mut gm_error) -> u32
     }
 }
 
-// Begins a walk, if it has not begun.
+// Starts a walk that has not begun.
 fn begin(trie: &ExportTrie<'_>, walk: &mut gm_export_walk)
     ensures begun { walk.new.is_begun ≢ 0 }
     ensures code { walk.new.code ≡ walk.old.code }
@@ -294,7 +293,7 @@ fn go_along<'a>(
     walk.code
 }
 
-// The trie that an image holds, or one of no bytes.
+// Returns the trie of an image, or an empty one.
 fn trie_of<'a, 'b>(image: &'b MachO<'a, Global>, empty: &'b ExportTrie<'a>) -> &'b ExportTrie<'a>
     requires { empty.now ≡ empty_range }
     ensures { result.now ≡ trie_or_empty (trie_held image.now) }
@@ -302,7 +301,7 @@ fn trie_of<'a, 'b>(image: &'b MachO<'a, Global>, empty: &'b ExportTrie<'a>) -> &
     image.export_trie().unwrap_or(empty)
 }
 
-// The batch of a call that was refused before it gave anything.
+// Returns the batch of a call that was refused before it wrote anything.
 fn nothing() -> gm_export_batch
     ensures { result ≡ no_batch }
 {
@@ -315,11 +314,12 @@ fn nothing() -> gm_export_batch
     }
 }
 
-/// Goes on with a walk of an image's exports: writes a row for each export that comes and its name behind that of the one
-/// before, and what the batch has and why it ends to `batch`. `name` and `stack` are the walk's between the calls: where one is
-/// too short, or there is no room for a name, the call may be made again with more, which begins with what was there. It opens
-/// the image again, and takes memory for its commands while it runs. A refusal before it goes on leaves all but the batch and the
-/// error; a walk that was refused for a fault of its trie stays refused.
+/// Goes on with a walk over an image's exports. It writes a row for each next export, and its name after the previous one; and to
+/// `batch` what the batch holds and why it ends.
+/// `name` and `stack` belong to the walk between calls. If one is too short, or there is no room for a name, repeat the call with
+/// larger ones that begin with the old contents.
+/// It opens the image again, and allocates memory for its commands while it runs. If it is refused before it goes on, only the
+/// batch and the error change. A walk that was refused for a fault of its trie stays refused.
 #[unsafe(no_mangle)]
 pub extern "C" fn gmr_exports(
     alloc: Global,

@@ -12,8 +12,7 @@ use goblin_mach::peek;
 use mach_base::Result;
 use mach_parts::fat::{FAT_MAGIC, FatArch, FatHeader, SIZEOF_FAT_ARCH, SIZEOF_FAT_HEADER};
 
-/// An entry of a fat file, as its record says (struct fat_arch). Where `code` is not `GM_OK` the record can't be read,
-/// and the rest is 0.
+/// An entry of a fat file, from its record (struct fat_arch). If `code` isn't `GM_OK` the record can't be read, and the rest is 0.
 #[derive(Clone, Copy)]
 #[repr(C)]
 pub struct gm_fat_entry {
@@ -25,7 +24,7 @@ pub struct gm_fat_entry {
     pub code: u32,
 }
 
-// A record as C sees it.
+// Returns a record as C sees it.
 fn row_of(found: &Result<FatArch>) -> gm_fat_entry
     ensures { result ≡ fat_row (arch_read found.now) }
 {
@@ -49,7 +48,7 @@ fn row_of(found: &Result<FatArch>) -> gm_fat_entry
     }
 }
 
-/// The entry of a number, by its record.
+/// Returns the entry at an index, from its record.
 pub fn fat_entry_at(bytes: &[u8], number: u32) -> gm_fat_entry
     ensures { result ≡ fat_row (arch_at bytes.now number) }
 {
@@ -73,7 +72,7 @@ impl<'a> Numbered for Records<'a> {
     }
 }
 
-// How many entries the header of a fat file says; 0 where the bytes begin with none.
+// Returns the count of entries in the header of a fat file; 0 if the bytes begin with no such header.
 fn count_of(bytes: &[u8]) -> u32
     ensures { result ≡ fat_count bytes.now }
 {
@@ -86,7 +85,7 @@ fn count_of(bytes: &[u8]) -> u32
     }
 }
 
-/// How many records are told: of those that the header says the ones that lie whole in the bytes, and one more where it says more.
+/// Returns how many records are reported: those of the header's count that lie whole in the bytes, and one more if the count is larger.
 pub fn told_of(bytes: &[u8]) -> u32
     ensures { result ≡ told_count bytes.now }
 {
@@ -99,8 +98,8 @@ pub fn told_of(bytes: &[u8]) -> u32
     }
 }
 
-/// Writes the entries of a fat file from a number on, as many as there are and fit, and answers how many: none where the
-/// bytes don't begin as a fat file does. Where its table is cut the last one is the first that isn't whole in the bytes.
+/// Writes the entries of a fat file from index `first` on, as many as there are and fit, and returns how many. There are none if
+/// the bytes don't begin as a fat file. If its table is cut, the last row is for the first record that isn't whole in the bytes.
 #[unsafe(no_mangle)]
 pub extern "C" fn gmr_fat_entries(bytes: &[u8], first: usize, out: &mut [gm_fat_entry]) -> usize
     ensures { Fills (drop first (fat_rows bytes.now)) out.old out.new result }

@@ -1,4 +1,4 @@
-//! The entries of a fat file of 32 or of 64 bits, in one row.
+//! The entries of a fat file of 32 or 64 bits, in rows of one type.
 
 ghost use Rattle.std.specs.Prelude.{◌≡◌, drop};
 ghost use Rattle.mach_parts.specs.ArchForms.{arch_form_64, arch_in};
@@ -17,8 +17,8 @@ use mach_base::{Endian, Result, read_u32};
 use mach_parts::fat::SIZEOF_FAT_HEADER;
 use mach_parts::{FAT_MAGIC_64, FatArch64, SIZEOF_FAT_ARCH_64, read_arch};
 
-/// An entry of a fat file of 32 or of 64 bits, as its record says (struct fat_arch, struct fat_arch_64). Where `code` is not `GM_OK` the record can't be
-/// read, and the rest is 0.
+/// An entry of a fat file of 32 or 64 bits, from its record (struct fat_arch, struct fat_arch_64). If `code` isn't `GM_OK` the
+/// record can't be read, and the rest is 0.
 #[derive(Clone, Copy)]
 #[repr(C)]
 pub struct gm_fat_entry64 {
@@ -30,7 +30,7 @@ pub struct gm_fat_entry64 {
     pub code: u32,
 }
 
-// An entry of 32 bits.
+// Returns an entry of 32 bits in the wide row.
 fn wide(entry: &gm_fat_entry) -> gm_fat_entry64
     ensures { result ≡ wide_row entry.now }
 {
@@ -44,7 +44,7 @@ fn wide(entry: &gm_fat_entry) -> gm_fat_entry64
     }
 }
 
-// A record of 64 bits as C sees it.
+// Returns a record of 64 bits as C sees it.
 fn row_of_64(found: &Result<FatArch64>) -> gm_fat_entry64
     ensures { result ≡ wide_row_64 (read_as (λ arch. arch) found.now) }
 {
@@ -100,7 +100,7 @@ impl<'a> Numbered for Records64<'a> {
     }
 }
 
-// How many entries the header of a fat file of 64 bits says; 0 where the bytes begin with none.
+// Returns the count of entries in the header of a fat file of 64 bits; 0 if the bytes begin with no such header.
 fn count_of_64(bytes: &[u8]) -> u32
     ensures { result ≡ fat_count_64 bytes.now }
 {
@@ -110,7 +110,7 @@ fn count_of_64(bytes: &[u8]) -> u32
     }
 }
 
-// How many records are told: of those that the header says the ones that lie whole in the bytes, and one more where it says more.
+// Returns how many records are reported: those of the header's count that lie whole in the bytes, and one more if the count is larger.
 fn told_of_64(bytes: &[u8]) -> u32
     ensures { result ≡ told_count_64 bytes.now }
 {
@@ -123,7 +123,7 @@ fn told_of_64(bytes: &[u8]) -> u32
     }
 }
 
-// Writes the entries of a fat file of 64 bits from a number on.
+// Writes the entries of a fat file of 64 bits from index `first` on.
 fn write_64(bytes: &[u8], first: usize, out: &mut [gm_fat_entry64]) -> usize
     ensures { Fills (drop first (fat_rows_of_64 bytes.now)) out.old out.new result }
 {
@@ -131,7 +131,7 @@ fn write_64(bytes: &[u8], first: usize, out: &mut [gm_fat_entry64]) -> usize
     fill(&mut rows, out)
 }
 
-// Writes the entries of a fat file of 32 bits from a number on.
+// Writes the entries of a fat file of 32 bits from index `first` on.
 fn write_32(bytes: &[u8], first: usize, out: &mut [gm_fat_entry64]) -> usize
     ensures { Fills (drop first (fat_rows_of_32 bytes.now)) out.old out.new result }
 {
@@ -139,8 +139,9 @@ fn write_32(bytes: &[u8], first: usize, out: &mut [gm_fat_entry64]) -> usize
     fill(&mut rows, out)
 }
 
-/// Writes the entries of a fat file of 32 or of 64 bits from a number on, as many as there are and fit, and answers how many: none where the bytes begin as
-/// neither does. Where its table is cut the last one is the first that isn't whole in the bytes.
+/// Writes the entries of a fat file of 32 or 64 bits from index `first` on, as many as there are and fit, and returns how many.
+/// There are none if the bytes begin as neither. If its table is cut, the last row is for the first record that isn't whole in
+/// the bytes.
 #[unsafe(no_mangle)]
 pub extern "C" fn gmr_fat_entries64(bytes: &[u8], first: usize, out: &mut [gm_fat_entry64]) -> usize
     ensures { Fills (drop first (wide_fat_rows bytes.now)) out.old out.new result }

@@ -1,4 +1,4 @@
-//! What an image exports one name as.
+//! The export of a name from an image.
 
 ghost use Rattle.std.specs.Prelude.{◌≡◌, ◌≢◌, ◌⊎◌, IfOk, IfErr, List, Option, None, Some, option_map};
 ghost use Rattle.std.specs.Str.{IsUtf8};
@@ -19,22 +19,22 @@ use goblin_mach::laws::{exports_of_image, found_export_of_image};
 use mach_base::{Error, Result};
 use std::alloc::Global;
 
-/// What an image exports a name as. `kind` is 0 where it does not, 1 for an address, 2 for a symbol of another library, 3 for a
-/// stub with its resolver. Addresses count from the image's start.
+/// The export of a name. `kind` is 0 for none, 1 for an address, 2 for a symbol of another library, 3 for a stub with its
+/// resolver. Addresses count from the image's start.
 #[derive(Clone, Copy)]
 #[repr(C)]
 pub struct gm_export {
     pub address: u64,
     pub resolver: u64,
     pub flags: u64,
-    /// How long the name of the other library is, and the name there; 0 where it is the same name.
+    /// The lengths of the other library's name, and of the name there; the latter is 0 if it is the same name.
     pub library_len: usize,
     pub target_len: usize,
     pub kind: u32,
     pub reserved: u32,
 }
 
-// What the image at a place exports a name as.
+// Finds the export of a name in the image at a place.
 fn find<'a>(
     alloc: Global,
     bytes: &'a [u8],
@@ -53,7 +53,7 @@ fn find<'a>(
     image.find_export(alloc, name)
 }
 
-// The answer of no export.
+// Returns the answer for no export.
 #[inline(always)]
 fn no_export() -> gm_export
     ensures { result ≡ export_row None }
@@ -69,7 +69,7 @@ fn no_export() -> gm_export
     }
 }
 
-/// The numbers of an export.
+/// Returns the numbers of an export.
 pub fn row_of_export(info: &ExportInfo<'_>) -> gm_export
     ensures { result ≡ export_row (Some (info_of info.now)) }
 {
@@ -105,7 +105,7 @@ pub fn row_of_export(info: &ExportInfo<'_>) -> gm_export
     }
 }
 
-// The numbers of an answer.
+// Returns the numbers of an answer.
 fn row_of(found: &Option<ExportInfo<'_>>) -> gm_export
     ensures { result ≡ export_row (option_map info_of found.now) }
 {
@@ -115,7 +115,7 @@ fn row_of(found: &Option<ExportInfo<'_>>) -> gm_export
     }
 }
 
-// The name of the library of a re-export; else no text.
+// Returns the name of a re-export's library; else an empty text.
 fn library_of<'a>(found: &Option<ExportInfo<'a>>) -> &'a str
     ensures { result.now ≡ library_text (option_map info_of found.now) }
 {
@@ -125,7 +125,7 @@ fn library_of<'a>(found: &Option<ExportInfo<'a>>) -> &'a str
     }
 }
 
-// The name that a re-export has there, if it is another one; else no text.
+// Returns the name that a re-export has there, if it is another one; else an empty text.
 fn target_of<'a>(found: &Option<ExportInfo<'a>>) -> &'a str
     ensures { result.now ≡ target_text (option_map info_of found.now) }
 {
@@ -140,7 +140,7 @@ fn target_of<'a>(found: &Option<ExportInfo<'a>>) -> &'a str
     }
 }
 
-// Puts a text into the front of an array, as much of it as fits.
+// Copies a text to the start of an array, as much of it as fits.
 fn put(text: &str, out: &mut [u8])
     ensures { IsPut text.now out.old out.new }
 {
@@ -153,10 +153,10 @@ fn put(text: &str, out: &mut [u8])
     out[..count].copy_from_slice(&text[..count]);
 }
 
-/// Seeks a name among the exports of an image, by its trie: only nodes on the way of the name are read, and the first export of
-/// that name is told. A trie that has a list is not refused. Of a re-export the name
-/// of the library is put into `library`, and the name there into `target`, as much as fits. It opens the image again, and takes
-/// memory for its commands while it runs. A refusal leaves all but the error.
+/// Finds the first export of a name in an image, by its trie. It reads only the nodes on the path of the name. If the image opens
+/// and its exports are a list, a name that is UTF-8 is refused only if memory runs out.
+/// For a re-export it writes the name of the library to `library`, and the name there to `target`, as much as fits.
+/// It opens the image again, and allocates memory for its commands while it runs. A refused call leaves everything but the error unchanged.
 #[unsafe(no_mangle)]
 pub extern "C" fn gmr_find_export(
     alloc: Global,

@@ -25,21 +25,21 @@ use goblin_mach::chained_fixups::{
 use mach_base::{Error, Result, Steps};
 use std::alloc::Global;
 
-/// A pointer that is to be corrected: at `address` in memory, `offset` bytes behind the start of segment `segment`.
+/// A pointer that dyld changes: at `address` in memory, `offset` bytes after the start of segment `segment`.
 #[derive(Clone, Copy)]
 #[repr(C)]
 pub struct gm_fixup {
     pub address: u64,
     pub offset: u64,
-    /// The address of a rebase, or the number.
+    /// The target address of a rebase, or the number.
     pub target: u64,
     pub segment: u32,
-    /// 0 a rebase, 1 a bind, 2 a number that is no pointer.
+    /// 0 a rebase, 1 a bind, 2 a number that isn't a pointer.
     pub kind: u32,
-    /// The number of the import of a bind, and what is added to its address.
+    /// The index of a bind's import, and what is added to its address.
     pub import: u32,
     pub addend: i32,
-    /// Whether the pointer is signed, and how: 0 or 1, the key, what is mixed in, and 0 or 1 for the address.
+    /// Whether the pointer is signed (0 or 1), its key, its diversity, and whether its address is mixed in (0 or 1).
     pub is_signed: u32,
     pub key: u32,
     pub diversity: u32,
@@ -48,7 +48,7 @@ pub struct gm_fixup {
     pub code: u32,
 }
 
-/// The four numbers of how a pointer is signed.
+/// Returns the four numbers of a pointer's signing.
 #[inline(always)]
 pub fn signing(auth: Option<PointerAuth>) -> (u32, u32, u32, u32)
     ensures signed { result.0 ≡ rows.is_signed (auth_seen auth) }
@@ -67,7 +67,7 @@ pub fn signing(auth: Option<PointerAuth>) -> (u32, u32, u32, u32)
     }
 }
 
-// The four numbers of what a fixup asks for: its kind, the target, the import and the addend.
+// Returns the four numbers of what a fixup does: its kind, the target, the import and the addend.
 #[inline(always)]
 fn asked(kind: FixupKind) -> (u32, u64, u32, i32)
     ensures kind { result.0 ≡ rows.fixup_kind_number (kind_view kind) }
@@ -82,7 +82,7 @@ fn asked(kind: FixupKind) -> (u32, u64, u32, i32)
     }
 }
 
-// Why the chains can't be read further, as C sees it.
+// Returns the row that says why the chains can't be read further.
 fn refused_row(why: &Error) -> gm_fixup
     ensures { result ≡ fixup_row (Err (fault_of why.now)) }
 {
@@ -102,7 +102,7 @@ fn refused_row(why: &Error) -> gm_fixup
     }
 }
 
-// A fixup as C sees it.
+// Returns a fixup as C sees it.
 #[inline(always)]
 fn row_of(found: &Result<Fixup>) -> gm_fixup
     ensures { result ≡ fixup_row (fixup_read found.now) }
@@ -130,29 +130,29 @@ fn row_of(found: &Result<Fixup>) -> gm_fixup
     }
 }
 
-/// How far the fixups of an image were given: numbers alone, which go with the bytes and the image. All zero is the start.
+/// The position in the fixups of an image: only numbers, which belong to the bytes and the image. All zero is the start.
 #[derive(Clone, Copy)]
 #[repr(C)]
 pub struct gm_fixup_cursor {
-    /// How far the walk along the chains has come.
+    /// The position along the chains.
     pub chains: FixupCursor,
-    /// 0 at the start, 1 along the chains; any other number says that all were given.
+    /// 0 at the start, 1 along the chains; any other number is the end.
     pub stage: u32,
 }
 
-/// Fixups of an image's chains, and what stands at the front of these.
+/// The fixups of an image's chains, and the header of these.
 #[derive(Drop)]
 pub struct ChainWalk<'a, 'b> {
     pub chained: ChainedFixups<'a>,
     pub fixups: FixupIterator<'a, 'b>,
 }
 
-/// What is left of the fixups of an image.
+/// The fixups of an image that are left.
 #[derive(Drop)]
 pub enum FixupRows<'a, 'b> {
-    /// There is no chain to be read; and why not, as long as that was not told.
+    /// There is no chain to read; with the reason, until it is reported.
     Unread(Option<Error>),
-    /// Fixups of its chains.
+    /// The fixups of its chains.
     Chains(ChainWalk<'a, 'b>),
 }
 
@@ -184,7 +184,7 @@ impl<'a, 'b> ItemRows for FixupRows<'a, 'b> {
     }
 }
 
-// A cursor of a stage at which it is not said how far the walk has come.
+// Returns a cursor at a stage that needs no position.
 fn at_stage(stage: u32) -> gm_fixup_cursor
     ensures { result.stage ≡ stage }
 {
@@ -204,7 +204,7 @@ fn at_stage(stage: u32) -> gm_fixup_cursor
 }
 
 impl<'a, 'b> FixupRows<'a, 'b> {
-    /// Those behind a cursor.
+    /// Returns the fixups after a cursor.
     pub fn behind(image: &'b MachO<'a, Global>, cursor: &gm_fixup_cursor) -> Self
         ensures items { AreFixupsBehind cursor.now (chained_held image.now) (segments_held image.now) (fixup_rows_left result) }
         ensures over { AreFixupRowsOver (record { chained = chained_held image.now; segments = segments_held image.now }) result }
@@ -224,7 +224,7 @@ impl<'a, 'b> FixupRows<'a, 'b> {
         }
     }
 
-    /// A cursor of those that are left.
+    /// Returns a cursor before those that are left.
     pub fn cursor(&self) -> gm_fixup_cursor
         ensures { (x : FixupSource) → AreFixupRowsOver x self.now → AreFixupsBehind result x.chained x.segments (fixup_rows_left self.now) }
     {
@@ -239,9 +239,9 @@ impl<'a, 'b> FixupRows<'a, 'b> {
     }
 }
 
-/// Writes the fixups of an image's chains behind a cursor, as many as there are and fit, and how many to `count`, and moves
-/// the cursor behind them. The last may be the error that ends them. It opens the image again, and takes memory for its
-/// commands while it runs. A refusal leaves the array, the count and the cursor.
+/// Writes the fixups of an image's chains after a cursor, as many as there are and fit; writes how many to `count`, and moves the
+/// cursor past them. The last row may be the error that ends them. It opens the image again, and allocates memory for its
+/// commands while it runs. A refused call leaves the array, the count and the cursor unchanged.
 #[unsafe(no_mangle)]
 pub extern "C" fn gmr_fixups(
     alloc: Global,

@@ -1,4 +1,4 @@
-//! The names by which an image is known as a library, read in place.
+//! The names of an image as a library, read in place.
 
 ghost use Rattle.std.specs.Prelude.{◌≡◌, drop};
 ghost use Rattle.goblin_mach_c.specs.Fill.{Fills};
@@ -11,7 +11,7 @@ use crate::rows::{fill, skip};
 use mach_base::read_text;
 use mach_load::{CommandVariant, LoadCommand};
 
-/// A name by which an image is known as a library (`LC_ID_DYLIB`): it stands at `name`, and has `name_len` bytes.
+/// A name of an image as a library (`LC_ID_DYLIB`): `name_len` bytes at `name`.
 #[derive(Clone, Copy)]
 #[repr(C)]
 pub struct gm_id {
@@ -46,8 +46,8 @@ impl<'a> Pick for Ids<'a> {
     }
 }
 
-/// Writes the names by which an image is known as a library from a number on, as many as there are and fit, and answers how many.
-/// The last one of all counts.
+/// Writes the names of an image as a library from index `first` on, as many as there are and fit, and returns how many. The last
+/// one of all is the image's name.
 #[unsafe(no_mangle)]
 pub extern "C" fn gmr_ids(bytes: &[u8], image: &gm_image, first: usize, out: &mut [gm_id]) -> usize
     ensures { Fills (drop first (id_rows bytes.now image.now)) out.old out.new result }

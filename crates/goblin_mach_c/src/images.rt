@@ -1,27 +1,27 @@
-//! An image as C has it: numbers, which go with the bytes that it was opened in.
+//! An image as C holds it: numbers, which belong to the bytes that it was opened in.
 
 ghost use Rattle.std.specs.Prelude.{◌≡◌};
 ghost use Rattle.goblin_mach_c.specs.Seen.{ctx_seen};
 
 use mach_base::{Container, Ctx, Endian};
 
-/// An image that was opened: numbers of its header and its commands.
+/// An opened image: numbers of its header and its commands.
 #[derive(Clone, Copy)]
 #[repr(C)]
 pub struct gm_image {
-    /// Where it begins in the bytes.
+    /// The offset of its header in the bytes.
     pub offset: usize,
-    /// The address at which it begins to run, or 0.
+    /// The address of its entry point, or 0.
     pub entry: u64,
-    /// Where its first command stands.
+    /// The offset of its first command.
     pub first_command: usize,
     pub commands: usize,
-    /// How many segments it has, how many libraries it brings in, how many run paths and symbols.
+    /// How many segments, libraries, run paths and symbols it has.
     pub segments: usize,
     pub libraries: usize,
     pub run_paths: usize,
     pub symbols: usize,
-    /// Where its symbols stand, and their names.
+    /// The offsets of its symbols and of their names.
     pub symbols_at: usize,
     pub names_at: usize,
     pub magic: u32,
@@ -36,7 +36,7 @@ pub struct gm_image {
     pub is_64: u32,
 }
 
-/// The width and the byte order of an image.
+/// Returns the width and the byte order of an image.
 pub fn ctx_of(image: &gm_image) -> Ctx
     ensures { result ≡ ctx_seen image.now }
 {
@@ -53,7 +53,7 @@ pub fn ctx_of(image: &gm_image) -> Ctx
     Ctx::new(container, le)
 }
 
-/// The version of the interface: that of the header that goes with it.
+/// Returns the version of the interface, which is that of the matching header.
 #[unsafe(no_mangle)]
 pub extern "C" fn gmr_version() -> u32
     ensures { result ≡ 1 }

@@ -24,17 +24,17 @@ use goblin_mach::imports::{BindCursor, BindIterator, PlacedImport};
 use mach_base::{Error, Result};
 use std::alloc::Global;
 
-/// A symbol that the image takes from a library: its name is `name_len` bytes at `name`, and its library is the one of
-/// ordinal `library`, 0 for the image itself.
+/// A symbol that the image takes from a library. Its name is `name_len` bytes at `name`, and its library has ordinal `library`, 0
+/// for the image itself.
 #[derive(Clone, Copy)]
 #[repr(C)]
 pub struct gm_import {
-    /// The address in memory of the pointer to bind, and its place in the file.
+    /// The address in memory of the pointer to bind, and its file offset.
     pub address: u64,
     pub offset: u64,
     /// What is added to the symbol's address.
     pub addend: i64,
-    /// The place after the last DONE before the bind, counted from the start of its range, or 0.
+    /// The offset after the last DONE before the bind, counted from the start of its range, or 0.
     pub start_of_sequence_offset: u64,
     pub name: usize,
     pub name_len: usize,
@@ -44,21 +44,21 @@ pub struct gm_import {
     /// Whether the symbol may be missing, and whether it is bound at its first use: 0 or 1 each.
     pub is_weak: u32,
     pub is_lazy: u32,
-    /// `GM_OK`, or why the imports can't be read further.
+    /// `GM_OK`, or why no further imports can be read.
     pub code: u32,
 }
 
-/// How far the imports of an image were given: numbers alone, which go with the bytes and the image. All zero is the start.
+/// The position in the imports of an image: only numbers, which belong to the bytes and the image. All zero is the start.
 #[derive(Clone, Copy)]
 #[repr(C)]
 pub struct gm_bind_cursor {
-    /// How far the reading of the streams has come.
+    /// The position in the streams.
     pub binds: BindCursor,
-    /// 0 at the start, 1 in the streams; any other number says that all were given.
+    /// 0 at the start, 1 in the streams; any other number is the end.
     pub stage: u32,
 }
 
-/// Where a name is said to stand: one of no bytes at 0.
+/// Returns the offset reported for a name; an empty one is reported at 0.
 #[inline(always)]
 pub fn place_of_name(name: &str, place: usize) -> usize
     ensures place { result ≡ told_at name.now place }
@@ -68,7 +68,7 @@ pub fn place_of_name(name: &str, place: usize) -> usize
     if name.is_empty() { 0 } else { place }
 }
 
-// Why the imports can't be read further, as C sees it.
+// Returns the row that says why no further imports can be read.
 fn refused_row(why: &Error) -> gm_import
     ensures { result ≡ no_import (fault_of why.now) }
 {
@@ -87,7 +87,7 @@ fn refused_row(why: &Error) -> gm_import
     }
 }
 
-// An import as C sees it.
+// Returns an import as C sees it.
 #[inline(always)]
 fn row_of(placed: &PlacedImport<'_>) -> gm_import
     ensures numbers { result ≡ import_row (told_at placed.now.import.name.now placed.now.name_place) placed.now.library (import_seen placed.now.import) }
@@ -110,7 +110,7 @@ fn row_of(placed: &PlacedImport<'_>) -> gm_import
     }
 }
 
-/// What is left of the imports of an image: nothing, or those of its binds.
+/// The imports of an image that are left: none, or those of its binds.
 #[derive(Drop)]
 enum ImportRows<'a, 'b> {
     Nothing,
@@ -143,7 +143,7 @@ impl<'a, 'b> ItemRows for ImportRows<'a, 'b> {
 }
 
 impl<'a, 'b> ImportRows<'a, 'b> {
-    // Those behind a cursor.
+    // Returns the imports after a cursor.
     fn behind(image: &'b MachO<'a, Global>, cursor: &gm_bind_cursor) -> Self
         ensures items { AreImportsBehind cursor.now (binds_of_image image.now) (imports_in_rows result) }
         ensures sites { AreSitesBehind cursor.now (binds_of_image image.now) (sites_in_rows result) }
@@ -165,7 +165,7 @@ impl<'a, 'b> ImportRows<'a, 'b> {
         }
     }
 
-    // A cursor of those that are left.
+    // Returns a cursor before those that are left.
     fn cursor(&self) -> gm_bind_cursor
         ensures items { (x : List ℕ × Binds) → AreImportRowsOver x self.now → AreImportsBehind result x.1 (imports_in_rows self.now) }
         ensures sites { (x : List ℕ × Binds) → AreImportRowsOver x self.now → AreSitesBehind result x.1 (sites_in_rows self.now) }
@@ -180,7 +180,7 @@ impl<'a, 'b> ImportRows<'a, 'b> {
     }
 }
 
-/// The cursor behind the last import.
+/// Returns the cursor after the last import.
 pub fn over() -> gm_bind_cursor
     ensures { result.stage ≡ 2 }
 {
@@ -208,9 +208,9 @@ pub fn over() -> gm_bind_cursor
     gm_bind_cursor { binds, stage: 2 }
 }
 
-/// Writes the imports of an image's binds behind a cursor, as many as there are and fit, and how many to `count`, and moves
-/// the cursor behind them. The last may be the error that ends them. It opens the image again, and takes memory for its
-/// commands while it runs. A refusal leaves the array, the count and the cursor.
+/// Writes the imports of an image's binds after a cursor, as many as there are and fit; writes how many to `count`, and moves the
+/// cursor past them. The last row may be the error that ends them. It opens the image again, and allocates memory for its
+/// commands while it runs. A refused call leaves the array, the count and the cursor unchanged.
 #[unsafe(no_mangle)]
 pub extern "C" fn gmr_imports(
     alloc: Global,

@@ -18,10 +18,10 @@ use mach_load::{CommandVariant, LoadCommand};
 use mach_parts::{IndirectSymbol, IndirectSymbols};
 use mach_records::DysymtabCommand;
 
-/// The number of a symbol.
+/// The entry is the number of a symbol.
 pub const GM_INDIRECT_SYMBOL: u32 = 0;
 
-/// The pointer is the image's own: no symbol says whose.
+/// The pointer is the image's own: no symbol names its target.
 pub const GM_INDIRECT_LOCAL: u32 = 1;
 
 /// The pointer is an absolute number.
@@ -30,12 +30,12 @@ pub const GM_INDIRECT_ABSOLUTE: u32 = 2;
 /// The pointer is the image's own, and an absolute number.
 pub const GM_INDIRECT_LOCAL_ABSOLUTE: u32 = 3;
 
-/// An entry of the table of indirect symbols: what it says, and the number of its symbol, or 0. Where `code` is not `GM_OK` it can't be
+/// An entry of the table of indirect symbols: its kind, and the number of its symbol, or 0. If `code` isn't `GM_OK` it can't be
 /// read, and the rest is 0.
 #[derive(Clone, Copy)]
 #[repr(C)]
 pub struct gm_indirect_symbol {
-    /// `GM_INDIRECT_SYMBOL` or one of those behind it.
+    /// `GM_INDIRECT_SYMBOL` to `GM_INDIRECT_LOCAL_ABSOLUTE`.
     pub kind: u32,
     pub symbol: u32,
     pub code: u32,
@@ -54,7 +54,7 @@ impl Subject for IndirectTables {
 
     ghost reading = { λ _. indirect_place_by };
 
-    /// It is never refused.
+    /// Reading it never fails.
     fn read(&self, command: &LoadCommand) -> Option<Result<DysymtabCommand>> {
         match &command.command {
             CommandVariant::Dysymtab(c) => Some(Ok(*c)),
@@ -63,7 +63,7 @@ impl Subject for IndirectTables {
     }
 }
 
-// An entry, or why it can't be read.
+// Returns an entry, or why it can't be read.
 fn row_of(found: &Result<IndirectSymbol>) -> gm_indirect_symbol
     ensures { result ≡ indirect_row (indirect_read found.now) }
 {
@@ -87,7 +87,7 @@ impl<'a> Numbered for IndirectSymbols<'a> {
     }
 }
 
-/// Writes the indirect symbols of an image from a number on, as many as there are and fit, and answers how many.
+/// Writes the indirect symbols of an image from index `first` on, as many as there are and fit, and returns how many.
 #[unsafe(no_mangle)]
 pub extern "C" fn gmr_indirect_symbols(
     bytes: &[u8],

@@ -1,9 +1,9 @@
-//! Rows that say the items of a list one after the other, where a row may say more than its item, as the place of a name.
+//! Rows for the items of a list, one after the other. A row may say more than its item, such as the offset of a name.
 
 ghost use Rattle.std.specs.Prelude.{◌≡◌, List, drop};
 ghost use Rattle.goblin_mach_c.specs.Say.{FillsBy, SaysFirst};
 
-/// Rows that say items, one at a time.
+/// Rows for items, one at a time.
 pub trait ItemRows {
     type Row: Copy;
 
@@ -15,19 +15,19 @@ pub trait ItemRows {
     // The items that are left.
     ghost left: { Self → List Item };
 
-    // They are read from this.
+    // The rows are read from this source.
     ghost IsOver: { Source → Self → Type 0 };
 
-    // A row says an item that is read from this.
+    // A row is that of an item from this source.
     ghost Says: { Source → Item → Self.Row → Type 0 };
 
-    /// The row of the next item, if there is one.
+    /// Returns the row of the next item, if there is one.
     fn next(&mut self) -> Option<Self::Row>
         ensures says { (x : Source) → IsOver x self.old → SaysFirst (Says x) (left self.old) result (left self.new) }
         ensures over { (x : Source) → IsOver x self.old → IsOver x self.new };
 }
 
-/// Writes rows into the front of an array, as many as there are items and fit, and answers how many.
+/// Writes rows to the start of an array, as many as there are items and fit, and returns how many.
 #[inline(always)]
 pub fn fill_items<R: ItemRows>(rows: &mut R, out: &mut [R::Row]) -> usize
     ensures filled { (x : R.Source) → R.IsOver x rows.old → FillsBy (R.Says x) (R.left rows.old) out.old out.new result }
@@ -43,7 +43,7 @@ pub fn fill_items<R: ItemRows>(rows: &mut R, out: &mut [R::Row]) -> usize
     out.len()
 }
 
-/// Passes over `count` items, or over all where there are fewer.
+/// Skips `count` items, or all if there are fewer.
 pub fn skip_items<R: ItemRows>(rows: &mut R, count: usize)
     ensures rest { (x : R.Source) → R.IsOver x rows.old → R.left rows.new ≡ drop count (R.left rows.old) }
     ensures over { (x : R.Source) → R.IsOver x rows.old → R.IsOver x rows.new }

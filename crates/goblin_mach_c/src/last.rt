@@ -1,4 +1,4 @@
-//! What the last command of a subject says, read in place.
+//! The value of the last command about a subject, read in place.
 
 ghost use Rattle.std.specs.Prelude.{◌≡◌, option_map};
 ghost use Rattle.goblin_mach.specs.Readings.{last_of, read_of};
@@ -8,7 +8,7 @@ use crate::commands::Commands;
 use crate::images::gm_image;
 use goblin_mach::readings::{Subject, put_readable};
 
-/// What the last readable command of a subject says, among those of an image.
+/// Returns the value of the last readable command about a subject in an image.
 pub fn last_said<S: Subject>(bytes: &[u8], image: &gm_image, subject: &S) -> Option<S::Value>
     ensures { option_map S.seen result ≡ last_of (read_of (S.reading subject.now) (commands_seen bytes.now image.now)) }
 {

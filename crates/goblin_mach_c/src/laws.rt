@@ -1,4 +1,4 @@
-//! Theorems: what the lists of an image that `gm_open` opened are in the bytes.
+//! Theorems: what the lists of an image that `gm_open` opened are, in terms of the bytes.
 
 ghost use Rattle.std.specs.Prelude.{◌≡◌, ◌<◌, ◌≤◌, ◌^◌, ◌++◌, [], ℕ, List, Result, length, map};
 ghost use Rattle.mach_base.specs.Fault.{Fault};
@@ -24,8 +24,8 @@ ghost use Rattle.goblin_mach_c.specs.TableRows.{data_in_code_row, data_in_code_r
 ghost use Rattle.goblin_mach_c.specs.declared.exports.gm_export_walk.{gm_export_walk};
 ghost use Rattle.goblin_mach_c.specs.declared.images.gm_image.{gm_image};
 
-/// The commands that its numbers say are the image's commands, and the segments among them its segments; and its
-/// symbols are those of the image's table, each row saying its own.
+/// The commands read by its numbers are the image's commands, and the segments among them are its segments. Its symbols are those
+/// of the image's table, and each row is that of its symbol.
 pub fn lists_of_opened()
     ensures commands { (bytes : List ℕ) (o : ℕ) (c : gm_image) → IsOpened bytes o c → HasCommands bytes o (commands_seen bytes c) }
     ensures segments { (bytes : List ℕ) (o : ℕ) (c : gm_image) → IsOpened bytes o c
@@ -34,7 +34,7 @@ pub fn lists_of_opened()
         → (symbols : List (Result (List ℕ × Nlist) Fault)) × HasSymbols bytes o symbols × AllSay (SaysSymbol c.names_at) symbols (symbol_rows bytes c) }
 {}
 
-/// The data among code that its numbers say are the image's, and so are the indirect symbols.
+/// The data in code read by its numbers are the image's, and so are the indirect symbols.
 pub fn tables_of_opened()
     ensures data_in_code { (bytes : List ℕ) (o : ℕ) (c : gm_image) → IsOpened bytes o c
         → (items : List (Result DataInCodeEntry Fault)) × HasDataInCode bytes o items × (data_in_code_rows bytes c ≡ map data_in_code_row items) }
@@ -42,19 +42,19 @@ pub fn tables_of_opened()
         → (items : List (Result IndirectSymbol Fault)) × HasIndirectSymbols bytes o items × (indirect_rows bytes c ≡ map indirect_row items) }
 {}
 
-/// The record of an entry of a fat file is told without a code where it lies whole in the bytes, and else with that of a short read.
+/// The row of a fat file's entry has no code if its record lies whole in the bytes; else it has that of a short read.
 pub fn fat_codes()
     ensures whole { (bytes : List ℕ) (k : ℕ) → length bytes < 2 ^ 64 → k < whole_fat_records bytes → (fat_row (arch_at bytes k)).code ≡ 0 }
     ensures cut { (bytes : List ℕ) (k : ℕ) → length bytes < 2 ^ 64 → 8 ≤ length bytes → whole_fat_records bytes ≤ k → (fat_row (arch_at bytes k)).code ≡ 3 }
 {}
 
-/// A walk of exports that is all zeros has given nothing of an image that opens.
+/// A walk that is all zeros has returned no export of an image that opens.
 pub fn walk_of_zeros()
     ensures { (bytes : List ℕ) (o : ℕ) (w : gm_export_walk) (name : List ℕ) (stack : List Open) → LossyOpens bytes o → w.is_begun ≡ 0 → w.code ≡ 0
         → HasWalked bytes o w name stack [] }
 {}
 
-/// What a walk has given of an image whose exports have a list begins that list: none is left out, and none comes twice.
+/// If the exports of an image are a list, what a walk has returned is a prefix of it: none is left out, and none comes twice.
 pub fn walks_begin_the_list()
     ensures { (bytes : List ℕ) (o : ℕ) (w : gm_export_walk) (name : List ℕ) (stack : List Open) (found : List Entry) (list : List Entry)
         → HasWalked bytes o w name stack found → HasExports bytes o list → (rest : List Entry) × (list ≡ found ++ rest) }

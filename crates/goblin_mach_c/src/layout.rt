@@ -24,27 +24,27 @@ use mach_parts::fat::{FAT_MAGIC, FatArch};
 use mach_parts::{FAT_MAGIC_64, FatArch64};
 use std::alloc::Global;
 
-/// A fault of layout, of a rule: whose it is, the other one where two disagree, and the two numbers that show it.
+/// A fault of layout: the rule that is broken, its owner, the other owner if two disagree, and the two numbers that show it.
 #[derive(Clone, Copy)]
 #[repr(C)]
 pub struct gm_layout_fault {
-    /// What is there, and what it breaks, as the rule says.
+    /// What is there, and the limit that it breaks, in the meaning of the rule.
     pub found: u64,
     pub limit: u64,
-    /// The place of the owner's command; 0 of the header. Of a slice the place of its record.
+    /// The offset of the owner's command; 0 for the header. For a slice the offset of its record.
     pub command: u64,
-    /// The number of a section in its segment, from 1; of a symbol, an entry or a record, from 0; 0 where there is none.
+    /// The number of a section in its segment, from 1; of a symbol, an entry or a record, from 0; 0 if there is none.
     pub index: u64,
-    /// The same of the other one; 0 where there is none.
+    /// The same for the other owner; 0 if there is none.
     pub other_command: u64,
     pub other_index: u64,
     pub rule: u32,
-    /// What the owner is, and the other one; 0 where there is none.
+    /// What the owner is, and the other one; 0 if there is none.
     pub part: u32,
     pub other_part: u32,
 }
 
-// The number of a rule.
+// Returns the number of a rule.
 fn rule_number(rule: Rule) -> u32
     ensures { result ≡ rows.rule_number rule }
 {
@@ -114,7 +114,7 @@ fn rule_number(rule: Rule) -> u32
     }
 }
 
-// The number of a part.
+// Returns the number of a part.
 fn part_number(part: Part) -> u32
     ensures { result ≡ rows.part_number part }
 {
@@ -157,7 +157,7 @@ fn part_number(part: Part) -> u32
     }
 }
 
-// The numbers of the other one: its part, its command and its number.
+// Returns the numbers of the other owner: its part, its command and its number.
 fn numbers_of(other: Option<Owner>) -> (u32, u64, u64)
     ensures part { result.0 ≡ rows.other_part other }
     ensures command { result.1 ≡ rows.other_command other }
@@ -169,7 +169,7 @@ fn numbers_of(other: Option<Owner>) -> (u32, u64, u64)
     }
 }
 
-// A fault as C sees it.
+// Returns a fault as C sees it.
 fn row_of(fault: &LayoutFault) -> gm_layout_fault
     ensures { result ≡ layout_row fault.now }
 {
@@ -205,7 +205,7 @@ impl<'a> Rows for LayoutRows<'a> {
     }
 }
 
-// Writes faults from a number on, and answers how many.
+// Writes faults from index `first` on, and returns how many.
 fn write_from(faults: &[LayoutFault], first: usize, out: &mut [gm_layout_fault]) -> usize
     ensures { Fills (drop first (map layout_row faults.now)) out.old out.new result }
 {
@@ -214,7 +214,7 @@ fn write_from(faults: &[LayoutFault], first: usize, out: &mut [gm_layout_fault])
     fill(&mut rows, out)
 }
 
-// The faults of the layout of the image at the first of these bytes.
+// Returns the faults of the layout of the image at the start of these bytes.
 fn image_faults(alloc: Global, bytes: &[u8], lossy: bool) -> Result<Vec<LayoutFault, Global>>
     ensures listed { IfOk result (λ v. HasLayoutFaults bytes.now v.items) }
     ensures only { OpensIn lossy bytes.now 0 → IsOkUnlessMemory result }
@@ -225,7 +225,7 @@ fn image_faults(alloc: Global, bytes: &[u8], lossy: bool) -> Result<Vec<LayoutFa
     layout_faults(alloc, &image)
 }
 
-/// The bytes from a place on.
+/// Returns the bytes from a place on.
 pub fn from(bytes: &[u8], place: usize) -> &[u8]
     ensures { result.now ≡ drop place bytes.now }
 {
@@ -236,9 +236,9 @@ pub fn from(bytes: &[u8], place: usize) -> &[u8]
     }
 }
 
-/// Writes the faults of the layout of an image from a number on, as many as there are and fit, and how many to `count`. They are
-/// those of the file that begins with the image, and their places count from there. It opens the image again, and takes memory
-/// while it runs. A refusal leaves the array and the count.
+/// Writes the faults of an image's layout from index `first` on, as many as there are and fit, and how many to `count`. They are
+/// those of the file that begins with the image, and offsets count from there. It opens the image again, and allocates memory
+/// while it runs. A refused call leaves the array and the count unchanged.
 #[unsafe(no_mangle)]
 pub extern "C" fn gmr_layout_faults(
     alloc: Global,
@@ -271,7 +271,7 @@ pub extern "C" fn gmr_layout_faults(
     }
 }
 
-// The faults of the table of a fat file, of 32 or of 64 bits; none where the bytes don't begin as one.
+// Returns the faults of the table of a fat file, of 32 or 64 bits; none if the bytes don't begin as one.
 fn table_faults(alloc: Global, bytes: &[u8]) -> Result<Vec<LayoutFault, Global>>
     ensures listed { IfOk result (λ v. HasTableFaults bytes.now v.items) }
     ensures only { IsOkUnlessMemory result }
@@ -283,9 +283,9 @@ fn table_faults(alloc: Global, bytes: &[u8]) -> Result<Vec<LayoutFault, Global>>
     }
 }
 
-/// Writes the faults of the table of a fat file, of 32 or of 64 bits, from a number on, as many as there are and fit, and how many to `count`: none
-/// where the bytes don't begin as a fat file does. It takes memory while it runs, and want of memory alone refuses it. A
-/// refusal leaves the array and the count.
+/// Writes the faults of the table of a fat file, of 32 or 64 bits, from index `first` on, as many as there are and fit, and how
+/// many to `count`. There are none if the bytes don't begin as a fat file. It allocates memory while it runs, and is refused only
+/// if memory runs out. A refused call leaves the array and the count unchanged.
 #[unsafe(no_mangle)]
 pub extern "C" fn gmr_container_faults(
     alloc: Global,
@@ -316,8 +316,8 @@ pub extern "C" fn gmr_container_faults(
     }
 }
 
-/// Of an image that `gm_open` opened at the first of the bytes the file opens that begins with it: want of memory alone keeps its
-/// faults from being told.
+/// For an image that `gm_open` opened at the start of the bytes, the file that begins with it opens, too. So its faults can be
+/// listed unless memory runs out.
 pub fn layout_of_opened()
     ensures { (bytes : List ℕ) (c : numbers.gm_image) → IsOpened bytes 0 c → OpensIn (lossy_mode c.is_lossy) (file_of bytes c) 0 }
 {}

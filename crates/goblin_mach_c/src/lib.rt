@@ -1,5 +1,5 @@
-//! The C interface of goblin_mach: every function takes the bytes again, answers a code or a count, and writes only
-//! into what the caller hands in. Nothing is kept between calls.
+//! The C interface of goblin_mach. Every function takes the bytes again, returns a code or a count, and writes only to the
+//! caller's buffers. Nothing is kept between calls.
 #![tactic(auto)]
 
 mod archive;

@@ -19,19 +19,19 @@ pub const GM_REQUIRED: u32 = 0;
 /// `LC_LOAD_WEAK_DYLIB`: it may be missing.
 pub const GM_WEAK: u32 = 1;
 
-/// `LC_REEXPORT_DYLIB`: what it exports the image exports as well.
+/// `LC_REEXPORT_DYLIB`: the image exports its exports, too.
 pub const GM_REEXPORT: u32 = 2;
 
 /// `LC_LOAD_UPWARD_DYLIB`: it may need the image in turn.
 pub const GM_UPWARD: u32 = 3;
 
-/// `LC_LAZY_LOAD_DYLIB`: it is to be loaded when it is first used.
+/// `LC_LAZY_LOAD_DYLIB`: it is loaded at its first use.
 pub const GM_LAZY: u32 = 4;
 
 /// The library may be missing.
 pub const GM_USED_WEAK: u32 = 1;
 
-/// What the library exports the image exports as well.
+/// The image exports the library's exports, too.
 pub const GM_USED_REEXPORT: u32 = 2;
 
 /// The library may need the image in turn.
@@ -40,23 +40,23 @@ pub const GM_USED_UPWARD: u32 = 4;
 /// The library is set up when it is first used.
 pub const GM_USED_DELAYED: u32 = 8;
 
-/// A library that an image brings in. Its name stands at `name`, and has `name_len` bytes.
+/// A library that an image loads. Its name is `name_len` bytes at `name`.
 #[derive(Clone, Copy)]
 #[repr(C)]
 pub struct gm_library {
     pub name: usize,
     pub name_len: usize,
-    /// `GM_REQUIRED` or one of those behind it.
+    /// `GM_REQUIRED` to `GM_LAZY`.
     pub kind: u32,
     pub timestamp: u32,
     pub current_version: u32,
     pub compatibility_version: u32,
-    /// How it is used: `GM_USED_WEAK` and those behind it, added up.
+    /// How it is used: the sum of `GM_USED_WEAK` to `GM_USED_DELAYED`.
     pub attributes: u32,
     pub reserved: u32,
 }
 
-// The number of a kind.
+// Returns the number of a kind.
 fn kind_number(kind: LibraryKind) -> u32
     ensures { result ≡ library_kind_number kind }
 {
@@ -69,14 +69,14 @@ fn kind_number(kind: LibraryKind) -> u32
     }
 }
 
-// A number where something holds, else 0.
+// Returns a number if `holds`, else 0.
 fn number_where(holds: bool, number: u32) -> u32
     ensures { result ≡ number_where holds number }
 {
     if holds { number } else { 0 }
 }
 
-// The number of attributes.
+// Returns the number of attributes.
 fn attributes_number(attributes: LibraryAttributes) -> u32
     ensures { result ≡ attributes_number attributes }
 {
@@ -120,8 +120,7 @@ impl<'a> Pick for Libraries<'a> {
     }
 }
 
-/// Writes the libraries of an image from a number on, as many as there are and fit, and answers how many. The ordinal of
-/// the first is 1.
+/// Writes the libraries of an image from index `first` on, as many as there are and fit, and returns how many. The first has ordinal 1.
 #[unsafe(no_mangle)]
 pub extern "C" fn gmr_libraries(
     bytes: &[u8],

@@ -1,4 +1,4 @@
-//! The rows of what load commands list: several of one command, up to the first that can't be read.
+//! The rows of what load commands list: several for one command, up to the first that can't be read.
 
 ghost use Rattle.std.specs.Prelude.{◌≡◌, List, Result, map};
 ghost use Rattle.mach_base.specs.Fault.{Fault};
@@ -12,16 +12,16 @@ use crate::images::gm_image;
 use crate::rows::Rows;
 use mach_load::LoadCommand;
 
-/// What is left of the list of one command.
+/// The position in the list of one command.
 #[derive(Clone, Copy)]
 pub struct Part {
-    /// Where the command stands.
+    /// The offset of the command.
     pub command: usize,
-    /// The place of the next item, or that of the command.
+    /// The offset of the next item, or that of the command.
     pub place: usize,
-    /// Where the command ends, or its size.
+    /// The end of the command, or its size.
     pub end: usize,
-    /// How many items were given, where they go by their number.
+    /// How many items were returned, if they go by their index.
     pub index: u32,
     /// How many items there are, or are left.
     pub count: u32,
@@ -39,22 +39,22 @@ pub trait Lists {
     // The items of a command.
     ghost lists: { Self → Command → List (Result Item Fault) };
 
-    // Those that are left of it.
+    // The items left of a command.
     ghost left: { Self → Part → List (Result Item Fault) };
 
-    // The row of an item, or of the fault that ends them.
+    // The row of an item, or of the fault that ends the items.
     ghost shown: { Result Item Fault → Self.Row };
 
-    /// The list of a command.
+    /// Returns the list of a command.
     fn open(&self, command: &LoadCommand) -> Part
         ensures { left self.now result ≡ lists self.now (command_of command.now) };
 
-    /// The row of the next item; or that of the fault that ends all lists.
+    /// Returns the row of the next item, or of the fault that ends all lists.
     fn next(&self, part: &mut Part) -> Option<std::result::Result<Self::Row, Self::Row>>
         ensures { GivesFirst shown (left self.now part.old) result (left self.now part.new) };
 }
 
-/// The rows of what an image's commands list, up to the first fault, and its row.
+/// The rows of what an image's commands list, up to the first fault and its row.
 #[derive(Drop)]
 pub struct Listed<'a, L: Lists + Drop> {
     commands: Commands<'a>,
@@ -63,7 +63,7 @@ pub struct Listed<'a, L: Lists + Drop> {
     ended: bool,
 }
 
-/// Those of an image.
+/// Returns the rows of an image.
 pub fn list_rows<'a, L: Lists + Drop>(bytes: &'a [u8], image: &gm_image, what: L) -> Listed<'a, L>
     ensures { listed_left (L.shown) result.ended (part_left (L.left result.what) result.part)
         (listed_in (L.lists result.what) (readable_commands_left result.commands))

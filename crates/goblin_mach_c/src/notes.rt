@@ -17,12 +17,12 @@ use crate::rows::{fill, skip};
 use mach_base::{Result, bytes_at, read_text};
 use mach_load::{CommandVariant, LoadCommand, Note};
 
-/// Bytes of some tool's own (struct note_command): its name is `owner_len` bytes at `owner`, and the note is `size` bytes at `place`.
-/// Where `code` is not `GM_OK` one of them can't be read, and all but `command` is 0.
+/// Data of some tool (struct note_command): its owner is `owner_len` bytes at `owner`, and the note is `size` bytes at `place`.
+/// If `code` isn't `GM_OK` one of them can't be read, and all but `command` is 0.
 #[derive(Clone, Copy)]
 #[repr(C)]
 pub struct gm_note {
-    /// Where its command stands.
+    /// The offset of its command.
     pub command: usize,
     pub owner: usize,
     pub owner_len: usize,
@@ -32,7 +32,7 @@ pub struct gm_note {
     pub reserved: u32,
 }
 
-// The place and the size of the bytes that a command brings, if it is a note.
+// Returns the offset and the size of the data that a command places, if it is a note.
 #[inline(always)]
 fn range_of(command: &LoadCommand) -> Option<(u64, u64)>
     ensures { let c = command_of command.now in result ≡ note_range c.kind c.values }
@@ -43,14 +43,14 @@ fn range_of(command: &LoadCommand) -> Option<(u64, u64)>
     }
 }
 
-// The owner's name in the 16 bytes at a place.
+// Reads the owner's name from the 16 bytes at a place.
 fn owner_at(bytes: &[u8], place: usize) -> Result<&str>
     ensures { Reads (λ text. text.now) result (note_owner_at bytes.now place) }
 {
     read_text(bytes_at(bytes, place, 16)?, 0)
 }
 
-// The bytes of a note, wherever those of an empty one are said to be.
+// Returns the bytes of a note. An empty one may be placed anywhere.
 fn bytes_of(bytes: &[u8], offset: u64, size: u64) -> Result<&[u8]>
     ensures { Reads (λ found. found.now) result (note_bytes bytes.now offset size) }
 {
@@ -60,7 +60,7 @@ fn bytes_of(bytes: &[u8], offset: u64, size: u64) -> Result<&[u8]>
     bytes_at(bytes, offset as usize, size as usize)
 }
 
-// The note of a command at a place.
+// Reads the note of the command at a place.
 #[tactic(auto, unfolding(mach_load::specs::Notes::note_at))]
 fn note_at(bytes: &[u8], place: usize, offset: u64, size: u64) -> Result<Note<'_>>
     ensures { Reads note_view result (defined.note_at bytes.now place offset size) }
@@ -70,7 +70,7 @@ fn note_at(bytes: &[u8], place: usize, offset: u64, size: u64) -> Result<Note<'_
     Ok(Note { owner, data })
 }
 
-// The note of the command at a place, whose bytes are said to stand at another, or why it can't be read.
+// Returns the note of the command at `command`, which gives its data at `place`, or why it can't be read.
 fn row_of(command: usize, place: u64, found: &Result<Note<'_>>) -> gm_note
     ensures { result ≡ note_row command place (note_read found.now) }
 {
@@ -115,7 +115,7 @@ impl<'a> Pick for Notes<'a> {
     }
 }
 
-/// Writes the notes of an image from a number on, as many as there are and fit, and answers how many.
+/// Writes the notes of an image from index `first` on, as many as there are and fit, and returns how many.
 #[unsafe(no_mangle)]
 pub extern "C" fn gmr_notes(
     bytes: &[u8],

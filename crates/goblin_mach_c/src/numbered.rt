@@ -1,23 +1,23 @@
-//! Rows that go by their number.
+//! Rows by their index.
 
 ghost use Rattle.std.specs.Prelude.{◌≡◌, ◌-◌, ℕ, drop};
 ghost use Rattle.mach_base.specs.Items.{items_from};
 
 use crate::rows::Rows;
 
-/// Rows that go by their number.
+/// Rows by their index.
 pub trait Numbered {
     type Row: Copy;
 
-    // The row of a number.
+    // The row at an index.
     ghost item: { Self → ℕ → Self.Row };
 
-    /// The row of a number.
+    /// Returns the row at an index.
     fn at(&self, number: u32) -> Self::Row
         ensures { result ≡ item self.now number };
 }
 
-/// The rows from a number on, before another.
+/// The rows from one index on, up to another.
 #[derive(Drop)]
 pub struct Numbers<S: Numbered + Drop> {
     source: S,
@@ -25,7 +25,7 @@ pub struct Numbers<S: Numbered + Drop> {
     end: u32,
 }
 
-/// The rows of a source from number `first` on, of `count` rows in all.
+/// Returns the rows of a source from index `first` on, of `count` rows in all.
 pub fn rows_from<S: Numbered + Drop>(source: S, first: usize, count: u32) -> Numbers<S>
     ensures { items_from (S.item result.source) result.next (result.end - result.next) ≡ drop first (items_from (S.item source) 0 count) }
 {

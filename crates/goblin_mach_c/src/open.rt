@@ -1,4 +1,4 @@
-//! Opening.
+//! Opening an image.
 
 ghost use Rattle.std.specs.Prelude.{◌≡◌, ◌≢◌, ◌⊎◌, ◌<◌, ◌≤◌, ◌+◌, length, IfOk, IfErr, false, option_map};
 ghost use Rattle.mach_base.specs.Answer.{Stands, IsOkUnlessMemory};
@@ -33,14 +33,14 @@ pub fn open(alloc: Global, bytes: &[u8], offset: usize, lossy: bool) -> Result<M
     }
 }
 
-// 1 says yes and 0 says no.
+// Returns 1 for yes and 0 for no.
 pub fn flag(yes: bool) -> u32
     ensures { result ≡ flag yes }
 {
     if yes { 1 } else { 0 }
 }
 
-// Where the first command of an image stands.
+// Returns the offset of an image's first command.
 fn first_command(bytes: &[u8], offset: usize, is_64: bool) -> usize
     requires { offset + 32 ≤ length bytes.now }
     ensures { result ≡ offset + header_size (width_of is_64) }
@@ -53,7 +53,7 @@ fn first_command(bytes: &[u8], offset: usize, is_64: bool) -> usize
     offset + Header::size_with(&Ctx::new(container, Endian::Little))
 }
 
-// Where the symbols stand, how many they are, and where their names begin.
+// Returns the offset of the symbols, how many they are, and the offset of their names.
 fn table_numbers(symbols: &Option<Symbols<'_>>) -> (usize, usize, usize)
     ensures { AreTableNumbers (option_map table_of symbols.now) result.0 result.1 result.2 }
 {
@@ -63,7 +63,7 @@ fn table_numbers(symbols: &Option<Symbols<'_>>) -> (usize, usize, usize)
     }
 }
 
-// The numbers of an image that was opened at a place.
+// Returns the numbers of an image that was opened at a place.
 fn numbers(bytes: &[u8], image: &MachO<'_, Global>, offset: usize, lossy: bool) -> gm_image
     requires { offset + 32 ≤ length bytes.now }
     ensures { HoldsNumbers image.now offset lossy result }
@@ -92,11 +92,11 @@ fn numbers(bytes: &[u8], image: &MachO<'_, Global>, offset: usize, lossy: bool) 
     }
 }
 
-// The mode that passes over what can't be read. The strict one is 0, and there is no other.
+// The mode that skips what can't be read. 0 is the strict mode, and there is no other.
 const GM_LOSSY: u32 = 1;
 
-/// Opens the image at a place of the bytes: strictly where `mode` is 0, in lossy mode where it is 1. It takes memory for the
-/// commands while it runs. A refusal leaves the image as it was.
+/// Opens the image at a place of the bytes: strictly if `mode` is 0, in lossy mode if it is 1. It allocates memory for the
+/// commands while it runs. A refused call leaves the image unchanged.
 #[unsafe(no_mangle)]
 pub extern "C" fn gmr_open(
     alloc: Global,

@@ -1,4 +1,4 @@
-//! The options that an image has for the linker, read in place.
+//! The linker options in an image, read in place.
 
 ghost use Rattle.std.specs.Prelude.{◌≡◌, ◌+◌, ◌<◌, ℕ, List, drop, length, take, IfOk};
 ghost use Rattle.mach_base.specs.Answer.{Reads};
@@ -17,12 +17,12 @@ use mach_base::{Error, Result, read_text};
 use mach_load::{CommandVariant, LoadCommand};
 use mach_records::SIZEOF_LINKER_OPTION_COMMAND;
 
-/// An option for the linker (struct linker_option_command): it is `text_len` bytes at `text`. Where `code` is not `GM_OK` it can't be read,
-/// none comes behind it, and the rest is 0.
+/// A linker option (struct linker_option_command): `text_len` bytes at `text`. If `code` isn't `GM_OK` it can't be read, none
+/// follows it, and the rest is 0.
 #[derive(Clone, Copy)]
 #[repr(C)]
 pub struct gm_linker_option {
-    /// Where its command stands.
+    /// The offset of its command.
     pub command: usize,
     pub text: usize,
     pub text_len: usize,
@@ -30,19 +30,19 @@ pub struct gm_linker_option {
     pub reserved: u32,
 }
 
-// How many texts a command has.
+// Returns how many texts a command has.
 #[inline(always)]
 fn option_count(command: &LoadCommand) -> u32
     ensures { let c = command_of command.now in result ≡ option_count c.kind c.values }
 {
     match &command.command {
-        // The number of texts stands where other commands of this size have the place of their data.
+        // The count of texts is where other commands of this size have the offset of their data.
         CommandVariant::LinkerOption(c) => c.dataoff,
         _ => 0,
     }
 }
 
-// The bytes before a place; all of them where there are no more.
+// Returns the bytes before a place; all of them if there are no more.
 #[inline(always)]
 fn front(bytes: &[u8], end: usize) -> &[u8]
     ensures { result.now ≡ take end bytes.now }
@@ -50,7 +50,7 @@ fn front(bytes: &[u8], end: usize) -> &[u8]
     &bytes[..end.min(bytes.len())]
 }
 
-// The text at a place, which ends with a zero before the bytes end.
+// Returns the text at a place. A zero byte must end it before the bytes end.
 #[tactic(auto, unfolding(mach_load::specs::LinkerOptions::option_at))]
 #[inline(always)]
 fn option_at(bytes: &[u8], place: usize) -> Result<&str>
@@ -126,7 +126,7 @@ impl<'a> Lists for Options<'a> {
     }
 }
 
-/// Writes the options that an image has for the linker from a number on, as many as there are and fit, and answers how many.
+/// Writes the linker options in an image from index `first` on, as many as there are and fit, and returns how many.
 #[unsafe(no_mangle)]
 pub extern "C" fn gmr_linker_options(
     bytes: &[u8],

@@ -1,4 +1,4 @@
-//! The rows of those commands that have one.
+//! The rows of the commands that have one.
 
 ghost use Rattle.std.specs.Prelude.{◌≡◌, Option};
 ghost use Rattle.mach_load.specs.Command.{Command};
@@ -10,19 +10,19 @@ use crate::commands::Commands;
 use crate::rows::Rows;
 use mach_load::LoadCommand;
 
-/// What is picked of the commands.
+/// Which commands have a row.
 pub trait Pick {
     type Row: Copy;
 
     // The row of a command, if it has one.
     ghost picked: { Self → Command → Option Self.Row };
 
-    /// The row of a command, if it has one.
+    /// Returns the row of a command, if it has one.
     fn pick(&self, command: &LoadCommand) -> Option<Self::Row>
         ensures { result ≡ picked self.now (command_of command.now) };
 }
 
-/// The rows of those commands that have one, in order.
+/// The rows of the commands that have one, in order.
 #[derive(Drop)]
 pub struct Picked<'a, P: Pick + Drop> {
     pub commands: Commands<'a>,

@@ -1,4 +1,4 @@
-//! Who gives an undefined symbol, as the linker wrote it down: by numbers alone.
+//! The provider of an undefined symbol, as the linker recorded it, from numbers alone.
 
 ghost use Rattle.std.specs.Prelude.{◌≡◌, Some};
 ghost use Rattle.goblin_mach.specs.ImageSlots.{bind_ordinal_of, names_library, symbol_provider_of};
@@ -11,22 +11,22 @@ use crate::symbols::gm_symbol;
 use mach_parts::header::MH_TWOLEVEL;
 use mach_parts::symbols::{N_PBUD, N_UNDF, Nlist};
 
-/// Who gives a symbol: a library by its ordinal, or another one.
+/// The provider of a symbol: a library by its ordinal, or another one.
 #[derive(Clone, Copy)]
 #[repr(C)]
 pub struct gm_provider {
-    /// The ordinal of the library, and else 0.
+    /// The ordinal of the library, 0 for other providers.
     pub library: u64,
-    /// As of a binding: 0 a library, 1 the image itself, 2 the program, 3 any image.
+    /// As for a binding: 0 a library, 1 the image itself, 2 the main program, 3 any image.
     pub provider: u32,
-    /// Whether the linker wrote it down: 0 or 1. Where it didn't, the rest is 0.
+    /// Whether the linker recorded it: 0 or 1. If it didn't, the rest is 0.
     pub is_told: u32,
-    /// `GM_OK`, or `GM_MALFORMED` where the ordinal is past the last library.
+    /// `GM_OK`, or `GM_MALFORMED` if the ordinal is past the last library.
     pub code: u32,
     pub reserved: u32,
 }
 
-// The record of a symbol, but for the place of its name.
+// Returns the record of a symbol, except the offset of its name.
 fn record_of(symbol: &gm_symbol) -> Nlist
     ensures { result ≡ symbol_record_seen symbol.now }
 {
@@ -39,7 +39,7 @@ fn record_of(symbol: &gm_symbol) -> Nlist
     }
 }
 
-// Whether the linker wrote down of a symbol which library gives it.
+// Whether the linker recorded the library of a symbol.
 fn has_library(flags: u32, symbol: &Nlist) -> bool
     ensures { result ≡ names_library flags symbol.now }
 {
@@ -50,7 +50,7 @@ fn has_library(flags: u32, symbol: &Nlist) -> bool
     kind == N_UNDF && symbol.n_value == 0 || kind == N_PBUD
 }
 
-// The row of a provider.
+// Returns the row of a provider.
 fn told(provider: u32, library: u64, code: u32) -> gm_provider
     ensures { result ≡ provider_row_of provider library code }
 {
@@ -63,7 +63,7 @@ fn told(provider: u32, library: u64, code: u32) -> gm_provider
     }
 }
 
-// The provider of an ordinal, in an image of so many libraries.
+// Returns the provider of an ordinal, in an image of so many libraries.
 #[tactic(auto, unfolding(mach_parts::specs::Bindings::provider_of))]
 fn provider_in(libraries: usize, ordinal: u16) -> gm_provider
     ensures { result ≡ provider_row (Some (provider_of (nameless libraries) (bind_ordinal_of ordinal))) }
@@ -77,7 +77,7 @@ fn provider_in(libraries: usize, ordinal: u16) -> gm_provider
     }
 }
 
-/// Who gives a symbol of an image, as the linker wrote it down, is written to `found`.
+/// Writes the provider of an image's symbol, as the linker recorded it, to `found`.
 #[unsafe(no_mangle)]
 pub extern "C" fn gmr_symbol_provider(image: &gm_image, symbol: &gm_symbol, found: &mut gm_provider)
     ensures { found.new ≡ provider_row (symbol_provider_of image.now.flags (nameless image.now.libraries) (symbol_record_seen symbol.now)) }

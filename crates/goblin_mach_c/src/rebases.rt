@@ -1,4 +1,4 @@
-//! What dyld rebases of an image: by its opcodes, and then by its chains.
+//! The rebases of an image: those of its opcodes, then those of its chains.
 
 ghost use Rattle.std.specs.Prelude.{◌≡◌, ◌≢◌, ◌<◌, [], Err, Ok, Result, length, option_map};
 ghost use Rattle.mach_base.specs.Fault.{Fault, fault_of};
@@ -30,39 +30,38 @@ use mach_c_places::opcode_ranges::rebase_range;
 use mach_dyld::{Rebase, RebaseKind};
 use std::alloc::Global;
 
-/// A place in memory whose number dyld corrects by how far the image was moved: at `address`, `offset` bytes behind the start of
-/// segment `segment`.
+/// A place in memory whose number dyld adjusts by the slide of the image: at `address`, `offset` bytes after the start of segment `segment`.
 #[derive(Clone, Copy)]
 #[repr(C)]
 pub struct gm_rebase {
     pub address: u64,
     pub offset: u64,
-    /// The number that stands there before it is corrected.
+    /// The number there before it is adjusted.
     pub target: u64,
     pub segment: u32,
     /// 1 a pointer, 2 an absolute address of 32 bits in code, 3 a relative one.
     pub kind: u32,
-    /// Whether the pointer is signed, and how: 0 or 1, the key, what is mixed in, and 0 or 1 for the address.
+    /// Whether the pointer is signed (0 or 1), its key, its diversity, and whether its address is mixed in (0 or 1).
     pub is_signed: u32,
     pub key: u32,
     pub diversity: u32,
     pub is_address_diverse: u32,
-    /// `GM_OK`, or why the rebases can't be read further.
+    /// `GM_OK`, or why no further rebases can be read.
     pub code: u32,
     pub reserved: u32,
 }
 
-/// How far the rebases of an image were given: numbers alone, which go with the bytes and the image. All zero is the start.
+/// The position in the rebases of an image: only numbers, which belong to the bytes and the image. All zero is the start.
 #[derive(Clone, Copy)]
 #[repr(C)]
 pub struct gm_rebase_cursor {
-    /// How far those of the opcodes were given.
+    /// The position in those of the opcodes.
     pub opcodes: gm_bind_cursor,
-    /// How far the fixups of the chains have been gone over.
+    /// The position in the fixups of the chains.
     pub chains: gm_fixup_cursor,
 }
 
-// The number of a kind.
+// Returns the number of a kind.
 #[inline(always)]
 fn kind_number(kind: RebaseKind) -> u32
     ensures { result ≡ rebase_kind_number kind }
@@ -74,7 +73,7 @@ fn kind_number(kind: RebaseKind) -> u32
     }
 }
 
-// Why the rebases can't be read further, as C sees it.
+// Returns the row that says why no further rebases can be read.
 fn refused_row(why: &Error) -> gm_rebase
     ensures { result ≡ rebase_seen (Err (fault_of why.now)) }
 {
@@ -93,7 +92,7 @@ fn refused_row(why: &Error) -> gm_rebase
     }
 }
 
-// A rebase as C sees it.
+// Returns a rebase as C sees it.
 #[inline(always)]
 fn row_of(rebase: &Rebase) -> gm_rebase
     ensures { result ≡ rebase_seen (Ok (rebase_view rebase.now)) }
@@ -114,7 +113,7 @@ fn row_of(rebase: &Rebase) -> gm_rebase
     }
 }
 
-// The rebase that a fixup is, if it is one.
+// Returns the rebase that a fixup is, if it is one.
 #[inline(always)]
 fn rebase_of(fixup: &Fixup) -> Option<Rebase>
     ensures { option_map rebase_view result ≡ rebase_in (fixup_view fixup.now) }
@@ -133,7 +132,7 @@ fn rebase_of(fixup: &Fixup) -> Option<Rebase>
     }
 }
 
-// The next rebase of the chains, or the fault that ends them.
+// Returns the next rebase of the chains, or the fault that ends them.
 fn next_rebased(walk: &mut ChainWalk<'_, '_>) -> Option<Result<Rebase>>
     ensures items { RebaseFirst (rebased_left walk.old) result (rebased_left walk.new) }
     ensures over { (x : FixupInput) → IsOverFixups x walk.old.fixups → IsOverFixups x walk.new.fixups }
@@ -152,7 +151,7 @@ fn next_rebased(walk: &mut ChainWalk<'_, '_>) -> Option<Result<Rebase>>
     }
 }
 
-/// What is left of the rebases of an image: those of its opcodes, and the fixups of its chains.
+/// The rebases of an image that are left: those of its opcodes, and the fixups of its chains.
 #[derive(Drop)]
 struct RebaseRows<'a, 'b> {
     opcodes: Option<RebaseWalk<'a, 'b>>,
@@ -160,7 +159,7 @@ struct RebaseRows<'a, 'b> {
 }
 
 impl<'a, 'b> RebaseRows<'a, 'b> {
-    // The next rebase of the chains, or the fault that ends them.
+    // Returns the next rebase of the chains, or the fault that ends them.
     fn next_of_chains(&mut self) -> Option<Result<Rebase>>
         ensures items { RebaseFirst (chains_rebased self.old) result (chains_rebased self.new) }
         ensures opcodes { self.new.opcodes ≡ self.old.opcodes }
@@ -175,7 +174,7 @@ impl<'a, 'b> RebaseRows<'a, 'b> {
         }
     }
 
-    // The next rebase, or the next fault.
+    // Returns the next rebase, or the next fault.
     #[inline(always)]
     fn step(&mut self) -> Option<Result<Rebase>>
         ensures items { RebaseFirst (all_rebase_rows_left self.old) result (all_rebase_rows_left self.new) }
@@ -190,7 +189,7 @@ impl<'a, 'b> RebaseRows<'a, 'b> {
         self.next_of_chains()
     }
 
-    // Leaves nothing.
+    // Ends the list.
     fn end(&mut self)
         ensures left { rebase_rows_left self.new ≡ [] }
         ensures over { (x : RebaseSource) → AreRebaseRowsOver x self.old → AreRebaseRowsOver x self.new }
@@ -225,7 +224,7 @@ impl<'a, 'b> ItemRows for RebaseRows<'a, 'b> {
     }
 }
 
-// The rebases of an image's opcodes behind a cursor.
+// Returns the rebases of an image's opcodes after a cursor.
 fn opcodes_behind<'a, 'b>(
     image: &'b MachO<'a, Global>,
     cursor: &gm_bind_cursor,
@@ -246,7 +245,7 @@ fn opcodes_behind<'a, 'b>(
     }
 }
 
-// A cursor of those that are left.
+// Returns a cursor before those that are left.
 fn opcode_cursor(opcodes: &Option<RebaseWalk<'_, '_>>) -> gm_bind_cursor
     ensures { (x : RebaseSource) → IsOverOpcodes x opcodes.now
         → AreRebasesAtStage (stage_of result.stage) result.binds x (opcodes_left_by opcodes.now) }
@@ -261,7 +260,7 @@ fn opcode_cursor(opcodes: &Option<RebaseWalk<'_, '_>>) -> gm_bind_cursor
 }
 
 impl<'a, 'b> RebaseRows<'a, 'b> {
-    // Those behind a cursor.
+    // Returns the rebases after a cursor.
     fn behind(image: &'b MachO<'a, Global>, cursor: &gm_rebase_cursor) -> Self
         ensures items { AreRebasesBehind cursor.now (rebase_source_of image.now) (rebase_rows_left result) }
         ensures over { AreRebaseRowsOver (rebase_source_of image.now) result }
@@ -272,7 +271,7 @@ impl<'a, 'b> RebaseRows<'a, 'b> {
         }
     }
 
-    // A cursor of those that are left.
+    // Returns a cursor before those that are left.
     fn cursor(&self) -> gm_rebase_cursor
         ensures { (x : RebaseSource) → AreRebaseRowsOver x self.now → AreRebasesBehind result x (rebase_rows_left self.now) }
     {
@@ -283,9 +282,10 @@ impl<'a, 'b> RebaseRows<'a, 'b> {
     }
 }
 
-/// Writes what dyld rebases of an image behind a cursor, by its opcodes and then by its chains, as much as there is and fits, and how
-/// many to `count`, and moves the cursor behind them. The last may be the error that ends them. It opens the image again, and takes
-/// memory for its commands while it runs. A refusal leaves the array, the count and the cursor.
+/// Writes the rebases of an image after a cursor, those of its opcodes and then those of its chains, as many as there are and
+/// fit; writes how many to `count`, and moves the cursor past them. The last row may be the error that ends them. It opens the
+/// image again, and allocates memory for its commands while it runs. A refused call leaves the array, the count and the cursor
+/// unchanged.
 #[unsafe(no_mangle)]
 pub extern "C" fn gmr_rebases(
     alloc: Global,

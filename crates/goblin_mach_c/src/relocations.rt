@@ -12,7 +12,7 @@ use crate::rows::fill;
 use mach_base::{Endian, Record};
 use mach_parts::relocation::{RelocationInfo, SIZEOF_RELOCATION_INFO};
 
-/// A relocation (struct relocation_info). Where `code` is not `GM_OK` it can't be read, and the rest is 0.
+/// A relocation (struct relocation_info). If `code` isn't `GM_OK` it can't be read, and the rest is 0.
 #[derive(Clone, Copy)]
 #[repr(C)]
 pub struct gm_relocation {
@@ -51,7 +51,7 @@ impl<'a> Numbered for Relocations<'a> {
     }
 }
 
-/// Writes the relocations of a section from a number on, as many as there are and fit, and answers how many.
+/// Writes the relocations of a section from index `first` on, as many as there are and fit, and returns how many.
 #[unsafe(no_mangle)]
 pub extern "C" fn gmr_relocations(
     bytes: &[u8],

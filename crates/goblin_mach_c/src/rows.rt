@@ -1,4 +1,4 @@
-//! Rows one after the other, and the array of a caller that they are written into.
+//! Rows one after the other, and the caller's array that they are written to.
 
 ghost use Rattle.std.specs.Prelude.{◌≡◌, List, drop};
 ghost use Rattle.std.specs.Iterator.{YieldsFirst};
@@ -11,12 +11,12 @@ pub trait Rows {
     // The rows that are left.
     ghost left: { Self → List Self.Row };
 
-    /// The next row, if there is one.
+    /// Returns the next row, if there is one.
     fn next(&mut self) -> Option<Self::Row>
         ensures { YieldsFirst left self.old result self.new };
 }
 
-/// Writes rows into the front of an array, as many as there are and fit, and answers how many.
+/// Writes rows to the start of an array, as many as there are and fit, and returns how many.
 #[inline(always)]
 pub fn fill<R: Rows>(rows: &mut R, out: &mut [R::Row]) -> usize
     ensures filled { Fills (R.left rows.old) out.old out.new result }
@@ -31,7 +31,7 @@ pub fn fill<R: Rows>(rows: &mut R, out: &mut [R::Row]) -> usize
     out.len()
 }
 
-/// Passes over `count` rows, or over all where there are fewer.
+/// Skips `count` rows, or all if there are fewer.
 pub fn skip<R: Rows>(rows: &mut R, count: usize)
     ensures { R.left rows.new ≡ drop count (R.left rows.old) }
 {

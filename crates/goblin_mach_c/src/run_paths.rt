@@ -11,7 +11,7 @@ use crate::rows::{fill, skip};
 use mach_base::read_text;
 use mach_load::{CommandVariant, LoadCommand};
 
-/// A path on which the libraries of an image are sought: it stands at `path`, and has `path_len` bytes.
+/// A path on which the image's libraries are searched: `path_len` bytes at `path`.
 #[derive(Clone, Copy)]
 #[repr(C)]
 pub struct gm_run_path {
@@ -19,7 +19,7 @@ pub struct gm_run_path {
     pub path_len: usize,
 }
 
-// The run paths of some bytes.
+// The run paths in some bytes.
 #[derive(Clone, Copy)]
 struct RunPaths<'a> {
     bytes: &'a [u8],
@@ -46,7 +46,7 @@ impl<'a> Pick for RunPaths<'a> {
     }
 }
 
-/// Writes the run paths of an image from a number on, as many as there are and fit, and answers how many.
+/// Writes the run paths of an image from index `first` on, as many as there are and fit, and returns how many.
 #[unsafe(no_mangle)]
 pub extern "C" fn gmr_run_paths(
     bytes: &[u8],

@@ -1,4 +1,4 @@
-//! The section of an address, and that of a symbol's number.
+//! The section that holds an address, and the section of a symbol's number.
 
 ghost use Rattle.std.specs.Prelude.{◌≡◌, ◌≢◌};
 ghost use Rattle.goblin_mach_c.specs.Codes.{IsRefusalCode};
@@ -12,7 +12,8 @@ use goblin_mach::laws::{numbered_section_of_image, section_at_of_image};
 use mach_parts::segment::NumberedSection;
 use std::alloc::Global;
 
-/// A section that was sought, number `number` of segment `segment`, with all of its record. Where `is_found` is 0 there is none, and all is 0.
+/// A section that was looked up: number `number` of segment `segment`, with its whole record. If `is_found` is 0 there is none,
+/// and everything is 0.
 #[derive(Clone, Copy)]
 #[repr(C)]
 pub struct gm_found_section {
@@ -33,7 +34,7 @@ pub struct gm_found_section {
     pub reserved: u32,
 }
 
-// A section that was sought as C sees it.
+// Returns a section that was looked up, as C sees it.
 fn row_of(found: &Option<NumberedSection>) -> gm_found_section
     ensures { result ≡ found_section_row found.now }
 {
@@ -75,8 +76,8 @@ fn row_of(found: &Option<NumberedSection>) -> gm_found_section
     }
 }
 
-/// Seeks the first section of an image in which an address lies, and writes it to `section`. Those that aren't in the bytes are passed over.
-/// It opens the image again, and takes memory for its commands while it runs. A refusal leaves `section`.
+/// Writes the first section of an image that holds an address to `section`. Sections that aren't in the bytes are skipped. It
+/// opens the image again, and allocates memory for its commands while it runs. A refused call leaves `section` unchanged.
 #[unsafe(no_mangle)]
 pub extern "C" fn gmr_section_at(
     alloc: Global,
@@ -102,8 +103,9 @@ pub extern "C" fn gmr_section_at(
     }
 }
 
-/// Seeks the section that the number of a symbol means, counted from 1 over all segments, and writes it to `section`. It opens the image again,
-/// and takes memory for its commands while it runs. Refused also where the section isn't in the bytes; a refusal leaves `section`.
+/// Writes the section of a symbol's section number to `section`. The number counts from 1 over all segments. It opens the image
+/// again, and allocates memory for its commands while it runs. It is also refused if the section isn't in the bytes. A refused
+/// call leaves `section` unchanged.
 #[unsafe(no_mangle)]
 pub extern "C" fn gmr_section_of(
     alloc: Global,

@@ -14,8 +14,8 @@ use mach_base::{Ctx, Error, Result, SizeWith};
 use mach_parts::segment::{Section, SectionData, Segment};
 use mach_records::SegmentCommand64;
 
-/// A section. `data_len` bytes of the file from `offset` on are its data: none where it is of zeros, or out of the file.
-/// Where `code` is not `GM_OK` it can't be read, and the rest is 0.
+/// A section. Its data are `data_len` bytes of the file at `offset`: none if it is filled with zeros, or lies outside of the
+/// file. If `code` isn't `GM_OK` it can't be read, and the rest is 0.
 #[derive(Clone, Copy)]
 #[repr(C)]
 pub struct gm_section {
@@ -32,7 +32,7 @@ pub struct gm_section {
     pub code: u32,
 }
 
-// The sections behind the command at a place.
+// The sections after the command at a place.
 #[derive(Clone, Copy)]
 struct Sections<'a> {
     bytes: &'a [u8],
@@ -40,7 +40,7 @@ struct Sections<'a> {
     ctx: Ctx,
 }
 
-// The command of a segment that has one section.
+// The command of a segment with one section.
 const ONE_SECTION: SegmentCommand64 = SegmentCommand64 {
     cmd: 0,
     cmdsize: 0,
@@ -56,7 +56,7 @@ const ONE_SECTION: SegmentCommand64 = SegmentCommand64 {
 };
 
 impl<'a> Sections<'a> {
-    // The section of a number, with its data.
+    // Reads the section of a number, with its data.
     fn read(&self, number: u32) -> Result<(Section, SectionData<'a>)>
         ensures { section_read result ≡ section_item self.now.ctx self.now.bytes.now self.now.command number }
     {
@@ -71,7 +71,7 @@ impl<'a> Sections<'a> {
     }
 }
 
-// A section with its data, or why it can't be read.
+// Returns a section with its data, or why it can't be read.
 fn row_of(found: &Result<(Section, SectionData<'_>)>) -> gm_section
     ensures { result ≡ section_row (section_read found.now) }
 {
@@ -115,8 +115,8 @@ impl<'a> Numbered for Sections<'a> {
     }
 }
 
-/// Writes the sections of a segment from a number on, as many as there are and fit, and answers how many. The segment is
-/// told by the place of its command and by how many sections that has.
+/// Writes the sections of a segment from index `first` on, as many as there are and fit, and returns how many. The segment is
+/// given by the offset of its command and its count of sections.
 #[unsafe(no_mangle)]
 pub extern "C" fn gmr_sections(
     bytes: &[u8],

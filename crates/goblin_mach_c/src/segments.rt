@@ -15,8 +15,7 @@ use mach_base::{Ctx, Result};
 use mach_load::{CommandVariant, LoadCommand};
 use mach_parts::segment::Segment;
 
-/// A segment. Its command stands at `command`, and `data_len` bytes of the file from `fileoff` on are its data: none
-/// where they are not all in the bytes.
+/// A segment. Its command is at `command`, and its data are `data_len` bytes of the file at `fileoff`: none if they are not all in the bytes.
 #[derive(Clone, Copy)]
 #[repr(C)]
 pub struct gm_segment {
@@ -33,14 +32,14 @@ pub struct gm_segment {
     pub flags: u32,
 }
 
-// The segments of some bytes.
+// The segments in some bytes.
 #[derive(Clone, Copy)]
 struct Segments<'a> {
     bytes: &'a [u8],
     ctx: Ctx,
 }
 
-// A segment as C sees it.
+// Returns a segment as C sees it.
 fn row_of(segment: &Segment<'_>, command: usize) -> gm_segment
     requires { (segment_view segment.now).offset ≡ command }
     ensures { result ≡ segment_row (segment_view segment.now) }
@@ -80,7 +79,7 @@ impl<'a> Pick for Segments<'a> {
     }
 }
 
-/// Writes the segments of an image from a number on, as many as there are and fit, and answers how many.
+/// Writes the segments of an image from index `first` on, as many as there are and fit, and returns how many.
 #[unsafe(no_mangle)]
 pub extern "C" fn gmr_segments(
     bytes: &[u8],

@@ -1,4 +1,4 @@
-//! The code signature of an image: what the code directory that counts says, and what isn't as it was signed.
+//! The code signature of an image: the code directory that counts, and the faults of the signature.
 
 ghost use Rattle.std.specs.Prelude.{◌≡◌, ◌≢◌, ◌<◌, drop, length};
 ghost use Rattle.std.specs.Option.{option_map};
@@ -22,12 +22,12 @@ use mach_signature::laws::{as_signed_of_image, signature_faults_of_image};
 use mach_signature::{CodeFault, DirectoryFault, SignatureFault, SignatureFaults, SpecialFault};
 use std::alloc::Global;
 
-/// What the code directory of a signature says that counts. A text has its place in the bytes and its length, both 0 where there is none, and
-/// a code, which is not `GM_OK` where it can't be read. Where `is_signed` is 0 there is no signature, and all is 0.
+/// The code directory that counts in a signature. A text has its offset in the bytes and its length, both 0 if there is none, and
+/// a code, which isn't `GM_OK` if it can't be read. If `is_signed` is 0 there is no signature, and everything is 0.
 #[derive(Clone, Copy)]
 #[repr(C)]
 pub struct gm_signature {
-    /// So many bytes of the image are covered, and so many pages.
+    /// How many bytes of the image are covered, and how many pages they have.
     pub limit: u64,
     pub pages: u64,
     pub identifier: usize,
@@ -40,19 +40,19 @@ pub struct gm_signature {
     pub version: u32,
     pub flags: u32,
     pub hash_type: u32,
-    /// A page has 2 to this number of bytes; 0 is any number.
+    /// The size of a page as a power of 2; 0 if all covered bytes are one page.
     pub page_size: u32,
     pub identifier_code: u32,
     pub team_code: u32,
     pub entitlements_code: u32,
     /// 0 or 1.
     pub is_signed: u32,
-    /// The first 20 bytes of the directory's hash, by its own kind of hash.
+    /// The first 20 bytes of the directory's hash, by its own hash type.
     pub cdhash: [u8; 20],
     pub reserved: u32,
 }
 
-// Where a text stands, how many bytes it has, and its code.
+// Returns the offset of a text, its length, and its code.
 fn text_numbers(found: Result<Option<(usize, usize)>>) -> (usize, usize, u32)
     ensures { result ≡ rows.text_numbers (read_as (λ place. place) found) }
 {
@@ -63,7 +63,7 @@ fn text_numbers(found: Result<Option<(usize, usize)>>) -> (usize, usize, u32)
     }
 }
 
-// What a code directory says as C sees it.
+// Returns a code directory as C sees it.
 fn row_of(it: &SignedDirectory<'_>) -> gm_signature
     ensures { result ≡ rows.directory_row (signed_directory_view it.now) }
 {
@@ -93,7 +93,7 @@ fn row_of(it: &SignedDirectory<'_>) -> gm_signature
     }
 }
 
-// That there is no signature.
+// Returns the row for no signature.
 fn no_signature() -> gm_signature
     ensures { result ≡ rows.no_signature }
 {
@@ -119,7 +119,7 @@ fn no_signature() -> gm_signature
     }
 }
 
-// What a signature says as C sees it, if there is one.
+// Returns a signature as C sees it, if there is one.
 fn signature_row(found: &Option<SignedDirectory<'_>>) -> gm_signature
     ensures { result ≡ rows.signature_row (option_map signed_directory_view found.now) }
 {
@@ -129,9 +129,10 @@ fn signature_row(found: &Option<SignedDirectory<'_>>) -> gm_signature
     }
 }
 
-/// Writes what the code directory of an image says that counts to `signature`; that there is none, where no command brings a signature. It opens the
-/// image again, and takes memory for its commands while it runs. Refused also where the signature or one of its directories can't be read, and where two
-/// directories are of one kind of hash, or there is none; a refusal leaves `signature`.
+/// Writes the code directory that counts in an image to `signature`, or that there is none if no command places a signature. It
+/// opens the image again, and allocates memory for its commands while it runs. It is also refused if the signature or one of its
+/// directories can't be read, if two directories have the same hash type, or if there is none. A refused call leaves `signature`
+/// unchanged.
 #[unsafe(no_mangle)]
 pub extern "C" fn gmr_code_signature(
     alloc: Global,
@@ -165,19 +166,19 @@ pub extern "C" fn gmr_code_signature(
 #[derive(Clone, Copy)]
 #[repr(C)]
 pub struct gm_signature_fault {
-    /// What is there, and what was to be, as the kind says.
+    /// What is there, and what was expected, in the meaning of the kind.
     pub found: u64,
     pub limit: u64,
     pub kind: u32,
-    /// The slot of the directory that it is of, or of a blob that has a wrong magic; 0 of a blob that can't be read.
+    /// The slot of the directory at fault, or of a blob with a wrong magic; 0 for a blob that can't be read.
     pub slot: u32,
-    /// The number of the blob or the page, or the special slot; 0 where it is none of these.
+    /// The number of the blob or the page, or the special slot; 0 for other faults.
     pub index: u32,
-    /// Why something can't be read; `GM_OK` of other kinds.
+    /// Why something can't be read; `GM_OK` for other kinds.
     pub code: u32,
 }
 
-// A fault of a kind, of the directory of a slot, with no numbers.
+// Returns a fault of a kind, for the directory at a slot, without numbers.
 fn fault_row(kind: u32, slot: u32) -> gm_signature_fault
     ensures { result ≡ rows.fault_row kind slot }
 {
@@ -191,7 +192,7 @@ fn fault_row(kind: u32, slot: u32) -> gm_signature_fault
     }
 }
 
-// A fault of the code that the directory of a slot covers.
+// Returns a fault of the code that the directory at a slot covers.
 fn code_row(slot: u32, fault: &CodeFault) -> gm_signature_fault
     ensures { result ≡ rows.code_row slot fault.now }
 {
@@ -219,7 +220,7 @@ fn code_row(slot: u32, fault: &CodeFault) -> gm_signature_fault
     }
 }
 
-// A fault of a special slot of the directory of a slot.
+// Returns a fault of a special slot, for the directory at a slot.
 fn special_row(slot: u32, fault: &SpecialFault) -> gm_signature_fault
     ensures { result ≡ rows.special_row slot fault.now }
 {
@@ -235,7 +236,7 @@ fn special_row(slot: u32, fault: &SpecialFault) -> gm_signature_fault
     }
 }
 
-// A fault of the directory of a slot.
+// Returns a fault of the directory at a slot.
 fn directory_row(slot: u32, fault: &DirectoryFault) -> gm_signature_fault
     ensures { result ≡ rows.directory_fault_row slot (directory_fault_view fault.now) }
 {
@@ -258,7 +259,7 @@ fn directory_row(slot: u32, fault: &DirectoryFault) -> gm_signature_fault
     }
 }
 
-// A fault as C sees it.
+// Returns a fault as C sees it.
 fn row_of_fault(fault: &SignatureFault) -> gm_signature_fault
     ensures { result ≡ rows.signature_fault_row (signature_fault_view fault.now) }
 {
@@ -282,7 +283,7 @@ fn row_of_fault(fault: &SignatureFault) -> gm_signature_fault
     }
 }
 
-// What is left of the faults of a signature, if there is one.
+// The faults of a signature that are left, if there is one.
 #[derive(Drop)]
 struct SignatureRows<'a> {
     faults: Option<SignatureFaults<'a>>,
@@ -300,7 +301,7 @@ impl<'a> Rows for SignatureRows<'a> {
     }
 }
 
-// Writes faults from a number on, and answers how many.
+// Writes faults from index `first` on, and returns how many.
 fn write_from(
     faults: Option<SignatureFaults<'_>>,
     first: usize,
@@ -313,9 +314,10 @@ fn write_from(
     fill(&mut rows, out)
 }
 
-/// Writes what of an image isn't as it was signed from a number on, as much as there is and fits, and how many to `count`: none where no command
-/// brings a signature. It opens the image again, takes memory for its commands while it runs, and hashes what is covered from the first page on.
-/// Refused also where the signature can't be read; a refusal leaves the array and the count.
+/// Writes the faults of an image's signature from index `first` on, as many as there are and fit, and how many to `count`; none
+/// if no command places a signature. It opens the image again, allocates memory for its commands while it runs, and hashes the
+/// covered bytes from the first page on. It is also refused if the signature can't be read. A refused call leaves the array and
+/// the count unchanged.
 #[unsafe(no_mangle)]
 pub extern "C" fn gmr_signature_faults(
     alloc: Global,
@@ -352,8 +354,9 @@ pub extern "C" fn gmr_signature_faults(
     }
 }
 
-/// Says by 1 that an image has a signature and is as it was signed, and by 0 that it isn't. It opens the image again, takes memory for its commands
-/// while it runs, and hashes what is covered. Refused also where the signature can't be read; a refusal leaves `as_signed`.
+/// Writes 1 to `as_signed` if an image has a signature and is as it was signed, else 0. It opens the image again, allocates
+/// memory for its commands while it runs, and hashes the covered bytes. It is also refused if the signature can't be read. A
+/// refused call leaves `as_signed` unchanged.
 #[unsafe(no_mangle)]
 pub extern "C" fn gmr_is_as_signed(
     alloc: Global,

@@ -1,4 +1,4 @@
-//! The stubs and pointers of an image that stand for symbols.
+//! The stubs and pointers of an image that belong to symbols.
 
 ghost use Rattle.std.specs.Prelude.{◌≡◌, ◌≢◌, ◌<◌, Ok, length, map, option_map};
 ghost use Rattle.mach_base.specs.Fault.{fault_of};
@@ -32,17 +32,17 @@ pub const GM_SLOT_POINTER: u32 = 1;
 /// A pointer that is bound at its first use.
 pub const GM_SLOT_LAZY_POINTER: u32 = 2;
 
-/// Code that jumps by a pointer.
+/// Code that jumps through a pointer.
 pub const GM_SLOT_STUB: u32 = 3;
 
 /// A pointer into a library that is loaded at its first use.
 pub const GM_SLOT_LAZY_LIBRARY_POINTER: u32 = 4;
 
-/// A pointer to a variable that each thread has for itself.
+/// A pointer to a variable of which each thread has its own.
 pub const GM_SLOT_THREAD_LOCAL_POINTER: u32 = 5;
 
-/// A stub or a pointer that stands for a symbol: `len` bytes at `address`, in section `section` of segment `segment`. Its symbol's name
-/// is `name_len` bytes at `name`. Where `code` is not `GM_OK` it can't be read, and the rest is 0.
+/// A stub or a pointer that belongs to a symbol: `len` bytes at `address`, in section `section` of segment `segment`. Its
+/// symbol's name is `name_len` bytes at `name`. If `code` isn't `GM_OK` it can't be read, and the rest is 0.
 #[derive(Clone, Copy)]
 #[repr(C)]
 pub struct gm_slot {
@@ -52,16 +52,16 @@ pub struct gm_slot {
     pub name: usize,
     pub name_len: usize,
     pub section: u32,
-    /// `GM_SLOT_POINTER` or one of those behind it.
+    /// `GM_SLOT_POINTER` to `GM_SLOT_THREAD_LOCAL_POINTER`.
     pub kind: u32,
-    /// The number of its entry in the table of indirect symbols, what this says, and the number of its symbol, or 0.
+    /// The index of its entry in the table of indirect symbols, the kind of the entry, and the number of its symbol, or 0.
     pub index: u32,
     pub owner: u32,
     pub symbol: u32,
     pub code: u32,
 }
 
-// The number of a kind.
+// Returns the number of a kind.
 fn kind_number(kind: SlotKind) -> u32
     ensures { result ≡ slot_kind_number kind }
 {
@@ -74,7 +74,7 @@ fn kind_number(kind: SlotKind) -> u32
     }
 }
 
-// What the entry of a slot says, and the number of its symbol.
+// Returns the kind of a slot's entry, and the number of its symbol.
 fn owner_numbers(symbol: SlotSymbol<'_>) -> (u32, u32)
     ensures owner { result.0 ≡ rows.owner_number (slot_symbol_view symbol.entry) }
     ensures symbol { result.1 ≡ rows.owner_symbol (slot_symbol_view symbol.entry) }
@@ -87,7 +87,7 @@ fn owner_numbers(symbol: SlotSymbol<'_>) -> (u32, u32)
     }
 }
 
-// Where the name of a slot's symbol stands, and how many bytes it has.
+// Returns the offset of the name of a slot's symbol, and its length.
 fn name_numbers(bytes: &[u8], image: &gm_image, symbol: SlotSymbol<'_>) -> (usize, usize)
     ensures { result ≡ name_of_symbol (table_seen bytes.now image.now) (slot_symbol_view symbol.entry) }
 {
@@ -100,7 +100,7 @@ fn name_numbers(bytes: &[u8], image: &gm_image, symbol: SlotSymbol<'_>) -> (usiz
     }
 }
 
-// Why a slot can't be read, as C sees it.
+// Returns the row that says why a slot can't be read.
 fn refused_row(why: &Error) -> gm_slot
     ensures { result ≡ rows.no_slot (fault_of why.now) }
 {
@@ -119,7 +119,7 @@ fn refused_row(why: &Error) -> gm_slot
     }
 }
 
-// A slot as C sees it, with the name of its symbol.
+// Returns a slot as C sees it, with the name of its symbol.
 fn row_of(bytes: &[u8], image: &gm_image, slot: &SymbolSlot<'_>) -> gm_slot
     ensures { result ≡ slot_row (table_seen bytes.now image.now) (Ok (slot_view slot.now)) }
 {
@@ -161,9 +161,9 @@ impl<'a, 'b> Rows for SlotRows<'a, 'b> {
     }
 }
 
-/// Writes the stubs and pointers of an image that stand for symbols from a number on, as many as there are and fit, and how many to
-/// `count`. It opens the image again, takes memory for its commands while it runs, and goes over the slots before. A refusal leaves the
-/// array and the count.
+/// Writes the slots of an image from index `first` on, as many as there are and fit, and how many to `count`. It opens the image
+/// again, allocates memory for its commands while it runs, and visits the slots before. A refused call leaves the array and the
+/// count unchanged.
 #[unsafe(no_mangle)]
 pub extern "C" fn gmr_slots(
     alloc: Global,
@@ -201,7 +201,7 @@ pub extern "C" fn gmr_slots(
     }
 }
 
-// The slot in which an address lies, or the row of none.
+// Returns the slot that holds an address, or the row for none.
 fn found_row(bytes: &[u8], image: &gm_image, slot: &Option<SymbolSlot<'_>>) -> gm_slot
     ensures { result ≡ rows.slot_row_at (table_seen bytes.now image.now) (option_map slot_view slot.now) }
 {
@@ -223,8 +223,9 @@ fn found_row(bytes: &[u8], image: &gm_image, slot: &Option<SymbolSlot<'_>>) -> g
     }
 }
 
-/// Seeks the stub or pointer in which an address lies, and writes it to `slot`: one of kind `GM_NO_SLOT` where there is none. It opens the
-/// image again, and takes memory for its commands while it runs. Refused also where the slot can't be read; a refusal leaves `slot`.
+/// Writes the stub or pointer that holds an address to `slot`; its kind is `GM_NO_SLOT` if there is none. It opens the image
+/// again, and allocates memory for its commands while it runs. It is also refused if the slot can't be read. A refused call
+/// leaves `slot` unchanged.
 #[unsafe(no_mangle)]
 pub extern "C" fn gmr_slot_at(
     alloc: Global,

@@ -1,4 +1,4 @@
-//! Where the functions of an image begin.
+//! The start addresses of an image's functions.
 
 ghost use Rattle.std.specs.Prelude.{◌≡◌, ◌≢◌, ◌<◌, ◌+◌, ℕ, [], Err, List, Ok, Option, Result, Some, length, take};
 ghost use Rattle.mach_base.specs.Answer.{Reads};
@@ -24,7 +24,7 @@ use mach_base::{Error, Result, quick_uleb, uleb};
 use mach_records::LinkeditDataCommand;
 use std::alloc::Global;
 
-/// The address at which a function begins, before sliding. Where `code` is not `GM_OK` it can't be read, none comes behind it, and it is 0.
+/// The address of a function, before sliding. If `code` isn't `GM_OK` it can't be read, none follows it, and it is 0.
 #[derive(Clone, Copy)]
 #[repr(C)]
 pub struct gm_function_start {
@@ -33,28 +33,28 @@ pub struct gm_function_start {
     pub reserved: u32,
 }
 
-/// How far the functions of an image were given: numbers alone, which go with the bytes and the image. All zero is the start.
+/// The position in the functions of an image: only numbers, which belong to the bytes and the image. All zero is the start.
 #[derive(Clone, Copy)]
 #[repr(C)]
 pub struct gm_start_cursor {
-    /// The place of the next number, and the address that it counts from.
+    /// The offset of the next number, and the address that it counts from.
     pub place: usize,
     pub address: u64,
-    /// 0 at the start, 1 among the numbers; any other number says that all were given.
+    /// 0 at the start, 1 among the numbers; any other number is the end.
     pub stage: u32,
 }
 
-/// What is left of the functions of an image: numbers from a place on, up to another, the first of which counts from an address.
+/// The functions of an image that are left: numbers from one place up to another. The first counts from an address.
 #[derive(Clone, Copy)]
 pub struct StartRows<'a> {
-    // The bytes before the last place.
+    // The bytes before the end of the numbers.
     bytes: &'a [u8],
     upto: usize,
     place: usize,
     address: u64,
 }
 
-// The number at a place, and the place after it.
+// Returns the number at a place, and the place after it.
 #[inline(always)]
 fn number_at(bytes: &[u8], place: usize) -> Result<(u64, usize)>
     ensures { Reads (λ found. found) result (uleb_at bytes.now place) }
@@ -65,7 +65,7 @@ fn number_at(bytes: &[u8], place: usize) -> Result<(u64, usize)>
     }
 }
 
-// The function behind an address, by the number at a place, and the place after that; none behind a 0.
+// Returns the function after an address, by the number at a place, and the place after that; none after a 0.
 #[tactic(auto, unfolding(mach_load::specs::FunctionStarts::function_start_at))]
 #[inline(always)]
 fn start_at(bytes: &[u8], place: usize, address: u64) -> Result<Option<(u64, usize)>>
@@ -81,7 +81,7 @@ fn start_at(bytes: &[u8], place: usize, address: u64) -> Result<Option<(u64, usi
     Ok(Some((start, next)))
 }
 
-// An address as C sees it.
+// Returns an address as C sees it.
 fn row_of(address: u64) -> gm_function_start
     ensures { result ≡ function_start_row (Ok address) }
 {
@@ -92,7 +92,7 @@ fn row_of(address: u64) -> gm_function_start
     }
 }
 
-// Why the functions can't be read further, as C sees it.
+// Returns the row that says why no further functions can be read.
 fn refused_row(why: &Error) -> gm_function_start
     ensures { result ≡ function_start_row (Err (fault_of why.now)) }
 {
@@ -153,7 +153,7 @@ impl<'a> StartRows<'a> {
         }
     }
 
-    // Those by the numbers from a place on that a command places, the first of which counts from an address.
+    // Returns the functions of the numbers from a place on that a command places; the first counts from an address.
     fn placed(bytes: &'a [u8], command: &LinkeditDataCommand, place: usize, address: u64) -> Self
         ensures over { AreStartRowsOver (starts_source bytes.now (Some (command.now.dataoff, command.now.datasize))) result }
         ensures left { start_rows_left result ≡ starts_behind (take (command.now.dataoff + command.now.datasize) bytes.now)
@@ -168,7 +168,7 @@ impl<'a> StartRows<'a> {
         }
     }
 
-    // None, by the numbers that a command places.
+    // Returns none, after the numbers that a command places.
     fn past(bytes: &'a [u8], command: &LinkeditDataCommand) -> Self
         ensures over { AreStartRowsOver (starts_source bytes.now (Some (command.now.dataoff, command.now.datasize))) result }
         ensures left { start_rows_left result ≡ [] }
@@ -182,7 +182,7 @@ impl<'a> StartRows<'a> {
         }
     }
 
-    // Those behind a cursor.
+    // Returns the functions after a cursor.
     fn behind(image: &MachO<'a, Global>, cursor: &gm_start_cursor) -> Self
         ensures items { AreStartsBehindCursor cursor.now (bytes_held image.now) (starts_place_in (commands_held image.now)) (base_held image.now)
             (start_rows_left result) }
@@ -199,7 +199,7 @@ impl<'a> StartRows<'a> {
         }
     }
 
-    // A cursor of those that are left.
+    // Returns a cursor before those that are left.
     fn cursor(&self) -> gm_start_cursor
         ensures { (bytes : List ℕ) (range : Option (ℕ × ℕ)) (base : ℕ) → AreStartRowsOver (starts_source bytes range) self.now
             → AreStartsBehindCursor result bytes range base (start_rows_left self.now) }
@@ -212,9 +212,9 @@ impl<'a> StartRows<'a> {
     }
 }
 
-/// Writes where the functions of an image begin behind a cursor, as many as there are and fit, and how many to `count`, and moves the
-/// cursor behind them. The last may be the error that ends them. It opens the image again, and takes memory for its commands while it
-/// runs. A refusal leaves the array, the count and the cursor.
+/// Writes the start addresses of an image's functions after a cursor, as many as there are and fit; writes how many to `count`,
+/// and moves the cursor past them. The last row may be the error that ends them. It opens the image again, and allocates memory
+/// for its commands while it runs. A refused call leaves the array, the count and the cursor unchanged.
 #[unsafe(no_mangle)]
 pub extern "C" fn gmr_function_starts(
     alloc: Global,

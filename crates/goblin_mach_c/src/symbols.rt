@@ -16,8 +16,9 @@ use crate::rows::{Rows, fill};
 use mach_base::{Container, Ctx, Error, Record, Result, SizeWith, read_text};
 use mach_parts::symbols::{Nlist, Nlist32, Nlist64, Symbols};
 
-/// A symbol. Its name stands at `name` in the bytes, and has `name_len` of them up to a zero. Where `code` is not `GM_OK` these are
-/// no text; or they begin past the end, and both numbers are 0; or the record can't be read, and all else is 0.
+/// A symbol. Its name is `name_len` bytes at `name`, up to a zero byte.
+/// If `code` isn't `GM_OK` there are three cases: the name isn't text; it begins past the end, and both numbers are 0; or the
+/// record can't be read, and everything else is 0.
 #[derive(Clone, Copy)]
 #[repr(C)]
 pub struct gm_symbol {
@@ -30,7 +31,7 @@ pub struct gm_symbol {
     pub n_type: u8,
 }
 
-// The table that an image is said to have: how many symbols stand from a place on, and their names from another.
+// The table that the numbers of an image describe: the count of symbols, their offset, and that of their names.
 #[derive(Clone, Copy)]
 struct Table<'a> {
     bytes: &'a [u8],
@@ -47,7 +48,7 @@ pub struct SymbolRows<'a> {
     next: usize,
 }
 
-// The record of a symbol at a place.
+// Reads the record of a symbol at a place.
 fn record_at(bytes: &[u8], place: usize, ctx: Ctx) -> Result<Nlist>
     ensures { Reads (λ symbol. symbol) result (nlist_at ctx bytes.now place) }
 {
@@ -57,7 +58,7 @@ fn record_at(bytes: &[u8], place: usize, ctx: Ctx) -> Result<Nlist>
     }
 }
 
-// The bytes up to the first zero.
+// Returns the bytes up to the first zero.
 fn before_zero(bytes: &[u8]) -> &[u8]
     ensures { result.now ≡ before_first is_zero bytes.now }
 {
@@ -65,14 +66,14 @@ fn before_zero(bytes: &[u8]) -> &[u8]
     &bytes[..len]
 }
 
-// How many bytes stand at a place before the first zero.
+// Returns how many bytes come before the first zero from a place on.
 fn run_len(bytes: &[u8], place: usize) -> usize
     ensures { result ≡ length (run_at bytes.now place) }
 {
     before_zero(from(bytes, place)).len()
 }
 
-// Whether a text stands at a place, or why none does.
+// Returns 0 if there is text at a place, else why there is none.
 fn text_code(bytes: &[u8], place: usize) -> u32
     ensures { result ≡ text_code (text_at bytes.now place) }
 {
@@ -82,7 +83,7 @@ fn text_code(bytes: &[u8], place: usize) -> u32
     }
 }
 
-// Why the record of a symbol can't be read.
+// Returns the row that says why the record of a symbol can't be read.
 fn refused_row(why: &Error) -> gm_symbol
     ensures { result ≡ unread_row (fault_of why.now) }
 {
@@ -97,7 +98,7 @@ fn refused_row(why: &Error) -> gm_symbol
     }
 }
 
-// A symbol whose name need not be a text, which begins at a place.
+// Returns a symbol whose name at a place may not be text.
 fn row_of(bytes: &[u8], place: usize, symbol: &Nlist) -> gm_symbol
     ensures { result ≡ named_row bytes.now place symbol.now }
 {
@@ -113,7 +114,7 @@ fn row_of(bytes: &[u8], place: usize, symbol: &Nlist) -> gm_symbol
 }
 
 impl<'a> Table<'a> {
-    // Where the record of a symbol stands.
+    // Returns the offset of a symbol's record.
     fn place(&self, index: usize) -> usize
         ensures { result ≡ symbol_place (symbol_table_in self.now) index }
     {
@@ -121,7 +122,7 @@ impl<'a> Table<'a> {
         self.start.saturating_add(before)
     }
 
-    // A symbol whose name can't be read, or not even its record.
+    // Returns a symbol whose name, or even its record, can't be read.
     #[cold]
     #[inline(never)]
     fn unnamed_row(&self, index: usize) -> gm_symbol
@@ -137,7 +138,7 @@ impl<'a> Table<'a> {
         }
     }
 
-    // A symbol as C sees it. The rare row is taken apart, so that no other one goes through memory.
+    // Returns a symbol as C sees it. The rare row is built apart, so that no other row goes through memory.
     #[inline(always)]
     fn row(&self, index: usize) -> gm_symbol
         ensures { result ≡ symbol_row (symbol_table_in self.now) index }
@@ -185,7 +186,7 @@ impl<'a> Rows for SymbolRows<'a> {
     }
 }
 
-// The symbols of an image from a number on.
+// Returns the symbols of an image from a number on.
 #[inline(always)]
 fn rows_from<'a>(bytes: &'a [u8], image: &gm_image, first: usize) -> SymbolRows<'a>
     ensures { symbol_rows_left result ≡ drop first (symbol_rows bytes.now image.now) }
@@ -200,7 +201,7 @@ fn rows_from<'a>(bytes: &'a [u8], image: &gm_image, first: usize) -> SymbolRows<
     SymbolRows { table, next: first }
 }
 
-/// Writes the symbols of an image from a number on, as many as there are and fit, and answers how many.
+/// Writes the symbols of an image from index `first` on, as many as there are and fit, and returns how many.
 #[unsafe(no_mangle)]
 pub extern "C" fn gmr_symbols(
     bytes: &[u8],
@@ -214,7 +215,7 @@ pub extern "C" fn gmr_symbols(
     fill(&mut rows, out)
 }
 
-/// A symbol of an image by its number, as C sees it. Whether the image has so many isn't tested.
+/// Returns a symbol of an image by its number, as C sees it. Whether the image has so many isn't checked.
 pub fn symbol_of(bytes: &[u8], image: &gm_image, index: usize) -> gm_symbol
     ensures { result ≡ symbol_row (table_seen bytes.now image.now) index }
 {

@@ -17,12 +17,12 @@ use mach_base::{Endian, Error, Record, Result};
 use mach_load::{CommandVariant, LoadCommand};
 use mach_records::{BuildToolVersion, BuildVersionCommand};
 
-/// A tool that an image was built with (struct build_tool_version). Where `code` is not `GM_OK` it can't be read, none comes behind it, and
-/// the rest is 0.
+/// A tool that an image was built with (struct build_tool_version). If `code` isn't `GM_OK` it can't be read, none follows it,
+/// and the rest is 0.
 #[derive(Clone, Copy)]
 #[repr(C)]
 pub struct gm_build_tool {
-    /// Where its command stands.
+    /// The offset of its command.
     pub command: usize,
     pub tool: u32,
     pub version: u32,
@@ -30,7 +30,7 @@ pub struct gm_build_tool {
     pub reserved: u32,
 }
 
-// How many tools a command is said to have.
+// Returns how many tools a command claims.
 #[inline(always)]
 fn tool_count(command: &LoadCommand) -> u32
     ensures { let c = command_of command.now in result ≡ tool_count c.kind c.values }
@@ -41,7 +41,7 @@ fn tool_count(command: &LoadCommand) -> u32
     }
 }
 
-// The next tool of a command.
+// Returns the next tool of a command.
 #[tactic(auto, unfolding(mach_load::specs::BuildTools::tool_at))]
 #[inline(always)]
 fn tool_in(bytes: &[u8], le: Endian, part: Part) -> Result<BuildToolVersion>
@@ -109,7 +109,7 @@ impl<'a> Lists for Tools<'a> {
     }
 }
 
-/// Writes the tools that an image was built with from a number on, as many as there are and fit, and answers how many.
+/// Writes the tools that an image was built with from index `first` on, as many as there are and fit, and returns how many.
 #[unsafe(no_mangle)]
 pub extern "C" fn gmr_build_tools(
     bytes: &[u8],

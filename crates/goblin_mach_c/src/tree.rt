@@ -18,7 +18,7 @@ use goblin_mach::laws::walked_exports_of_image;
 use mach_base::Result;
 use std::alloc::Global;
 
-// Goes over all that a walk gives.
+// Visits all items of a walk.
 fn go_over(mut walk: ExportWalk<'_, '_>) -> Result<()>
     ensures whole { (t : TrieRange) (libs : List (List ℕ)) → HasGiven t libs [] walk.entry
         → OnOk result ((list : List Entry) × ListsExports t libs list) }
@@ -30,7 +30,7 @@ fn go_over(mut walk: ExportWalk<'_, '_>) -> Result<()>
     Ok(())
 }
 
-// Goes over the exports of the image at a place.
+// Visits the exports of the image at a place.
 fn go_over_exports(alloc: Global, bytes: &[u8], offset: usize, lossy: bool) -> Result<()>
     ensures whole { OnOk result ((list : List Entry) × HasExports bytes.now offset list) }
     ensures refused { IfErr result (Stands (WalkFault lossy bytes.now offset)) }
@@ -41,9 +41,9 @@ fn go_over_exports(alloc: Global, bytes: &[u8], offset: usize, lossy: bool) -> R
     go_over(walk)
 }
 
-/// Whether all exports of an image can be read, and no two paths of its trie lead to one node: then they are a list, and a walk of
-/// `gm_exports` gives it. It opens the image again, goes over all its exports, and takes memory for its commands and a bit for
-/// each byte of the trie while it runs.
+/// Whether all exports of an image can be read, and no two paths of its trie lead to one node. Then they are a list, and a walk
+/// of `gm_exports` returns it. It opens the image again, visits all its exports, and allocates memory for its commands and one
+/// bit for each byte of the trie while it runs.
 #[unsafe(no_mangle)]
 pub extern "C" fn gmr_exports_are_a_tree(
     alloc: Global,

@@ -1,4 +1,4 @@
-//! What dyld binds weakly of an image: names that it defines itself, and places that take the definition that all images share.
+//! The weak binds of an image: names that it defines itself, and places that take the definition that all images share.
 
 ghost use Rattle.std.specs.Prelude.{◌≡◌, ◌≢◌, ◌<◌, ◌⊎◌, ℕ, [], List, Result, length};
 ghost use Rattle.mach_base.specs.Fault.{Fault, fault_of};
@@ -25,11 +25,11 @@ use mach_dyld::WeakBind;
 use std::alloc::Global;
 
 /// A place in memory that takes the definition of a name that all images share, or a name that the image defines itself and not
-/// weakly: the name is `name_len` bytes at `name`.
+/// weakly. The name is `name_len` bytes at `name`.
 #[derive(Clone, Copy)]
 #[repr(C)]
 pub struct gm_weak_bind {
-    /// The address in memory of the pointer to bind, and its place in the file.
+    /// The address in memory of the pointer to bind, and its file offset.
     pub address: u64,
     pub offset: u64,
     /// What is added to the symbol's address.
@@ -40,12 +40,12 @@ pub struct gm_weak_bind {
     pub is_strong: u32,
     /// Whether the symbol may be missing: 0 or 1.
     pub is_weak: u32,
-    /// `GM_OK`, or why the weak binds can't be read further.
+    /// `GM_OK`, or why no further weak binds can be read.
     pub code: u32,
     pub reserved: u32,
 }
 
-// Why the weak binds can't be read further, as C sees it.
+// Returns the row that says why no further weak binds can be read.
 fn refused_row(why: &Error) -> gm_weak_bind
     ensures { result ≡ no_weak_bind (fault_of why.now) }
 {
@@ -62,7 +62,7 @@ fn refused_row(why: &Error) -> gm_weak_bind
     }
 }
 
-// A row as C sees it.
+// Returns a row as C sees it.
 #[inline(always)]
 fn row_of(placed: &PlacedWeakBind<'_>) -> gm_weak_bind
     ensures numbers { result ≡ weak_bind_row (told_at (weak_name (weak_bind_view placed.now.row)) placed.now.name_place) (weak_bind_view placed.now.row) }
@@ -96,7 +96,7 @@ fn row_of(placed: &PlacedWeakBind<'_>) -> gm_weak_bind
     }
 }
 
-/// What is left of the weak binds of an image.
+/// The weak binds of an image that are left.
 #[derive(Drop)]
 struct WeakRows<'a, 'b> {
     walk: Option<WeakBindWalk<'a, 'b>>,
@@ -127,7 +127,7 @@ impl<'a, 'b> ItemRows for WeakRows<'a, 'b> {
     }
 }
 
-// The weak binds of an image behind a cursor.
+// Returns the weak binds of an image after a cursor.
 fn walk_behind<'a, 'b>(
     image: &'b MachO<'a, Global>,
     cursor: &gm_bind_cursor,
@@ -150,7 +150,7 @@ fn walk_behind<'a, 'b>(
 }
 
 impl<'a, 'b> WeakRows<'a, 'b> {
-    // A cursor of those that are left.
+    // Returns a cursor before those that are left.
     fn cursor(&self) -> gm_bind_cursor
         ensures items { (x : WeakSource) → AreWeakRowsOver x self.now → AreWeakBindsBehind result x (weak_left_by self.now.walk) }
         ensures sites { (x : WeakSource) → AreWeakRowsOver x self.now → AreWeakSitesBehind result x (weak_sites_by self.now.walk) }
@@ -165,9 +165,9 @@ impl<'a, 'b> WeakRows<'a, 'b> {
     }
 }
 
-/// Writes what dyld binds weakly of an image behind a cursor, as much as there is and fits, and how many to `count`, and moves the
-/// cursor behind them. The last may be the error that ends them. It opens the image again, and takes memory for its commands while
-/// it runs. A refusal leaves the array, the count and the cursor.
+/// Writes the weak binds of an image after a cursor, as many as there are and fit; writes how many to `count`, and moves the
+/// cursor past them. The last row may be the error that ends them. It opens the image again, and allocates memory for its
+/// commands while it runs. A refused call leaves the array, the count and the cursor unchanged.
 #[unsafe(no_mangle)]
 pub extern "C" fn gmr_weak_binds(
     alloc: Global,

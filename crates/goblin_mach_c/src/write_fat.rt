@@ -1,4 +1,4 @@
-//! Fat files that are written.
+//! Writing fat files.
 
 ghost use Rattle.std.specs.Prelude.{◌≡◌, ◌≢◌, ◌<◌, length};
 ghost use Rattle.mach_fat_writer.specs.Parts.{IsPartsFault, form_by};
@@ -10,10 +10,11 @@ use crate::errors::{GM_OK, gm_error, refuse, refuse_no_space};
 use mach_fat_writer::{FatPart, write_parts};
 use std::alloc::Global;
 
-/// Writes the fat file of some parts of these bytes, in their order, into the front of `out`, and how many bytes it has to `needed`: of 64 bits, or of 32
-/// where `is_64` is 0. Refused where a part isn't in the bytes; as malformed where an alignment is above 2^15, where two entries are for one cpu, and where
-/// a record can't hold a place or a length; and where `out` has less room than is needed, which `needed` says then. A refusal leaves `out`, and any
-/// but the last one `needed`. Memory is taken for the entries, and not for their bytes.
+/// Writes the fat file of some parts of these bytes, in their order, to the start of `out`, and its size to `needed`. It has 64
+/// bits, or 32 if `is_64` is 0.
+/// It is refused if a part isn't in the bytes; as malformed if an alignment is above 2^15, if two entries are for one cpu, or if
+/// a record can't hold an offset or a length; and if `out` is too small, and then `needed` is the size. A refused call leaves
+/// `out` unchanged, and `needed` except in the last case. It allocates memory for the entries, not for their bytes.
 #[tactic(auto, using(crate::proofs::PartsWritten::fits, crate::proofs::PartsWritten::lacks, crate::proofs::PartsWritten::stays))]
 #[unsafe(no_mangle)]
 pub extern "C" fn gmr_write_fat(
