@@ -10,7 +10,7 @@ use Rattle.mach_parts.specs.Fat.{fat_arch_of_values}
 use Rattle.goblin_mach.specs.FatFile.{arch_at, arch_place}
 use Rattle.goblin_mach_c.specs.FatRows.{fat_row, whole_fat_records}
 
--- the code of a record that is read so: it begins before the end, and is whole
+-- the code of a record, by whether it begins past the end, and whether it is whole
 abbrev code_by : (behind whole : Bool) (s left : ℕ) → List Value → ℕ
 code_by behind whole s left values =
     (fat_row ((if behind then Err (bad_offset s) else (if whole then Ok values else Err (too_big 20 left))) >>= λ vs. Ok (fat_arch_of_values vs))).code
