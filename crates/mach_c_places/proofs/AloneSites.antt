@@ -1,4 +1,4 @@
--- Where the names of the rows of one stream stand at its start: it is read as the later of two, the first of which is empty.
+-- Where the names of one stream's rows are at its start: it is read as the second of two streams, the first of which is empty.
 use Rattle.mach_dyld.proofs.BindNames.{◌≡◌, ◌++◌, ◌∙◌, List, [], Bool, true, false, None, refl, ap, cond, append-nil, all_from, reading_within}
 use Rattle.mach_dyld.proofs.BindNames.{Range, Placed, Reader, Moves, start_of}
 use Rattle.mach_dyld.specs.Sites.{AreSites, no_site, sites_from, sites_in}

@@ -19,7 +19,7 @@ pub members_listed : (a : ArchiveView) (items : List (Result MemberView Fault)) 
 members_listed a items are =
     one_list a.bytes a.names a.begin items (members_of_view a) are (members_are a.bytes a.names (length a.bytes - a.begin) a.begin (omega arith))
 
--- the member that a name finds, where the symbols are those of the table
+-- the member that a name finds, if the symbols are those of the table
 module _ (a : ArchiveView) (name : List ℕ) (r : Result (Option Member) Error)
     (found : (t : IndexTable) (items : List (Result IndexSymbol Fault)) → archive_table a ≡ Ok (Some t) → AreIndexSymbols t 0 items
     → Reads (option_map member_view) r (found_by_name a name items))

@@ -1,4 +1,4 @@
--- The code directory that an image holds is that of the bytes that it was opened in.
+-- The code directory of an opened image is that of the bytes in which it was opened.
 use Rattle.std.proofs.Common.{◌≡◌}
 use Rattle.goblin_mach.specs.Modes.{HoldsAs}
 use Rattle.goblin_mach.specs.OpenImage.{bytes_held, commands_held}

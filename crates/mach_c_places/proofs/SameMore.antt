@@ -1,4 +1,4 @@
--- Settings whose parts are equal are equal.
+-- Additional settings are equal if their parts are.
 use Rattle.std.proofs.Common.{◌≡◌, ◌∙◌, ℕ, Bool, ap}
 use Rattle.mach_base.specs.declared.context.Endian.{Endian}
 use Rattle.mach_dyld.specs.declared.rebases.Rebasing.{Rebasing}

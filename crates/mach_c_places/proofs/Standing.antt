@@ -1,4 +1,4 @@
--- Whether a text stands at a place.
+-- Whether a text is at a place.
 use Rattle.std.proofs.Common.{◌≡◌, ◌-◌, ◌≤◌, ℕ, Bool, List, length, take, drop, sym, ◌∙◌, arith}
 use Rattle.std.specs.Prelude.{IsTrue, ◌↔◌}
 use Rattle.std.specs.Str.{bytes_eq}

@@ -30,7 +30,7 @@ weak_tells x b m i e = by_test m.is_own e
     by_test true e = ap name_in (same_ok e)
     by_test false e = of_bind x (set_now m) b i e
 
--- that of a row of the code
+-- the name of a row of the code
 pub seen_name : (w : declared.WeakBind) → name_in (weak_bind_view w) ≡ name_of_weak w
 seen_name (variants.Strong name) = refl
 seen_name (variants.Bind binding) = refl

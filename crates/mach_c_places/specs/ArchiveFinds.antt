@@ -1,4 +1,4 @@
--- What archive some bytes are, and which member of it is found.
+-- Which archive some bytes are, and the members that are found in it.
 use Rattle.std.specs.Prelude.{◌≡◌, ℕ, List, [], ◌∷◌, ◌++◌, Bool, false, nat_eq, codes, Option, Some, None, Result, Ok, Err, if◌then◌else◌}
 use Rattle.std.specs.List.{starts_with}
 use Rattle.std.specs.Str.{bytes_eq}
@@ -20,7 +20,7 @@ abbrev pub form_of_kind : ArchiveKind → ArchiveForm
 form_of_kind kinds.Gnu = Gnu
 form_of_kind kinds.Bsd = Bsd
 
--- what archive some bytes are, or why the front of what begins as one can't be read
+-- which archive some bytes are, or why the start of what begins as one can't be read
 abbrev pub archive_form : List ℕ → Result ArchiveForm Fault
 archive_form bytes =
     if starts_with nat_eq bytes (codes "!<thin>" ++ 0x0a ∷ []) then Ok Thin
@@ -31,7 +31,7 @@ archive_form bytes =
 abbrev pub found_by_symbol : ArchiveView → List ℕ → Result (Option MemberView) Fault
 found_by_symbol a name = symbols_of_view a >>= found_by_name a name
 
--- that of the archive which some bytes are
+-- the same for the archive in some bytes
 abbrev pub member_by_symbol : List ℕ → List ℕ → Result (Option MemberView) Fault
 member_by_symbol bytes name = archive_in bytes >>= (λ a. found_by_symbol a name)
 
@@ -46,11 +46,11 @@ first_of_name name [] = Ok None
 first_of_name name (Ok m ∷ items) = if has_name name (member_name_bytes m) then Ok (Some m) else first_of_name name items
 first_of_name name (Err f ∷ items) = Err f
 
--- that of the archive which some bytes are
+-- the same for the archive in some bytes
 abbrev pub member_by_name : List ℕ → List ℕ → Result (Option MemberView) Fault
 member_by_name bytes name = archive_in bytes >>= (λ a. first_of_name name (members_of_view a))
 
--- what is told of a member that was sought: itself, and the place of its name
+-- the answer for a member that was looked up: the member itself, and the place of its name
 abbrev pub TellsFound : List ℕ → Option MemberView → Option (MemberView × ToldName) → Type 0
 TellsFound bytes None None = Unit {0}
 TellsFound bytes None (Some told) = ⊥

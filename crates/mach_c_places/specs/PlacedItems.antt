@@ -1,4 +1,4 @@
--- Members and symbols that are given one at a time, each with the place of its name.
+-- Members and symbols, one at a time, each with the place of its name.
 use Rattle.std.specs.Prelude.{◌≡◌, ℕ, List, [], ◌∷◌, ◌++◌, Option, Some, None, option_map, Result, Ok, Err}
 use Rattle.mach_base.specs.Fault.{Fault, fault_item, fault_of}
 use Rattle.mach_base.specs.Items.{read_as}
@@ -15,7 +15,7 @@ use Rattle.mach_c_places.specs.declared.archive.symbols.PlacedSymbol.{PlacedSymb
 use Rattle.mach_c_places.specs.declared.archive.symbols.PlacedSymbols.{PlacedSymbols}
 use Rattle.mach_c_places.specs.declared.archive.symbols.SymbolWalk.{SymbolWalk}
 
--- what is told of a name: its place and its length, or why there is none
+-- the answer for a name: its place and its length, or why there is none
 abbrev pub ToldName : Type 0
 ToldName = Result (ℕ × ℕ) Fault
 
@@ -27,7 +27,7 @@ placed_member_view p = (member_view p.member, read_as (λ told. told) p.name)
 abbrev pub member_answer : Result PlacedMember Error → Result (MemberView × ToldName) Fault
 member_answer answer = read_as placed_member_view answer
 
--- The first of the members before is given, and those after are left; or its fault; or there are none.
+-- The answer is the first of the members before, and those after are left; or its fault; or there are none.
 abbrev pub GivesMember : List ℕ → List (Result MemberView Fault) → Option (Result (MemberView × ToldName) Fault) → List (Result MemberView Fault) → Type 0
 GivesMember bytes before None after = (before ≡ []) × (after ≡ [])
 GivesMember bytes before (Some (Ok (m, told))) after = (before ≡ Ok m ∷ after) × TellsText bytes (member_name_bytes m) told
@@ -41,7 +41,7 @@ members_walked (Some w) = members_left w.members
 abbrev pub placed_members_left : PlacedMembers → List (Result MemberView Fault)
 placed_members_left it = fault_item (option_map fault_of it.refused) ++ members_walked it.walk
 
--- places count in these bytes
+-- the places are in these bytes
 abbrev pub AreMembersOver : List ℕ → PlacedMembers → Type 0
 AreMembersOver bytes it = (w : MemberWalk) → it.walk ≡ Some w → w.places.bytes.now ≡ bytes
 

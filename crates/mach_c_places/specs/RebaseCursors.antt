@@ -1,4 +1,4 @@
--- How far the reading of the rebases of opcodes has come, as numbers, and those that come behind.
+-- Positions in the rebases of opcodes, as numbers, and the rebases after them.
 use Rattle.std.specs.Prelude.{List, Result, if◌then◌else◌}
 use Rattle.mach_base.specs.Fault.{Fault}
 use Rattle.mach_base.specs.Number.{says_yes}
@@ -14,19 +14,19 @@ use Rattle.mach_dyld.specs.RebasesLeft.{rebase_rules}
 use Rattle.mach_dyld.specs.declared.rebases.Rebasing.{Rebasing}
 use Rattle.mach_c_places.specs.declared.rebases.RebaseWalk.{RebaseWalk}
 
--- the byte order that the numbers of a cursor say
+-- the byte order of a cursor
 abbrev pub order_in : BindCursor → Endian
 order_in c = if says_yes c.ordinal then order.Big else order.Little
 
--- the settings beside those of a bind
+-- the settings in addition to those of a bind
 abbrev pub rebasing_in : BindCursor → Rebasing
 rebasing_in c = record { le = order_in c; kind = c.kind; has_segment = says_yes c.has_segment }
 
--- the rebases that come behind a cursor of a range
+-- the rebases after a cursor of a range
 abbrev pub opcode_rebases_behind : Input → Range → BindCursor → List (Result Rebase Fault)
 opcode_rebases_behind x r c = items_of rebase_rules x r (rebasing_in c) (state_in x.bytes c)
 
--- ---- what is left to a walk
+-- ---- what is left for a walk
 
 abbrev pub rebase_walk_left : RebaseWalk → List (Result Rebase Fault)
 rebase_walk_left it = items_left rebase_rules it.stream
@@ -35,6 +35,6 @@ rebase_walk_left it = items_left rebase_rules it.stream
 abbrev pub IsOverRebases : Input → Range → RebaseWalk → Type 0
 IsOverRebases x r it = machine.IsOver x r it.stream
 
--- it has ended: nothing is left, and it stays so
+-- it has ended: nothing is left, now and later
 abbrev pub HasEndedRebaseWalk : RebaseWalk → Type 0
 HasEndedRebaseWalk it = machine.HasEnded rebase_rules it.stream

@@ -1,4 +1,4 @@
--- Where in an image stands what its signature says.
+-- The places of a signature's texts in an image.
 use Rattle.std.specs.Prelude.{◌≡◌, ◌==◌, ◌&&◌, ◌-◌, ℕ, List, length, find, Bool, false, Option, Some, None, Result, Ok, Err}
 use Rattle.std.specs.List.{range_with_len}
 use Rattle.std.specs.Option.{option_map}
@@ -19,7 +19,7 @@ use Rattle.mach_c_places.specs.declared.signature.SignedDirectory.{SignedDirecto
 
 -- ---- the directory that counts
 
--- where a signature begins in its image, the signature, and its code directory that counts
+-- the offset of a signature in its image, the signature, and the code directory that counts in it
 pub record SignedDirectoryThere : Type 0 where
   pub dataoff : ℕ
   pub signature : SuperBlob
@@ -29,7 +29,7 @@ abbrev pub signed_directory_view : SignedDirectory → SignedDirectoryThere
 signed_directory_view x =
     record { dataoff = x.dataoff; signature = signature_view x.signature; directory = directory_view x.directory }
 
--- those of the signature that lies at a place, if one does, or why it or its directory can't be read
+-- the same for the signature at a place, if there is one, or why it or its directory can't be read
 abbrev pub signed_directory_there : List ℕ → Option (ℕ × ℕ) → Result (Option SignedDirectoryThere) Fault
 signed_directory_there bytes None = Ok None
 signed_directory_there bytes (Some place) = do
@@ -37,17 +37,17 @@ signed_directory_there bytes (Some place) = do
   d ← directory_of s
   Ok (Some (record { dataoff = place.0; signature = s; directory = d }))
 
--- those of an image
+-- that of an image
 abbrev pub image_signed_directory : List ℕ → List Command → Result (Option SignedDirectoryThere) Fault
 image_signed_directory bytes cs = signed_directory_there bytes (signature_place_in cs)
 
--- those of the image that opens at a place
+-- that of the image that opens at a place
 abbrev pub HasSignedDirectory : List ℕ → ℕ → Result (Option SignedDirectoryThere) Fault → Type 0
 HasSignedDirectory bytes o found = OfImage bytes o (λ ctx cs. found ≡ image_signed_directory bytes cs)
 
--- ---- where it stands
+-- ---- where the directory is
 
--- a code directory that can be read and has this kind of hash
+-- a code directory that can be read and has this hash type
 abbrev pub is_hashed_so : (hash_type : ℕ) → Result Directory Fault → Bool
 is_hashed_so hash_type (Ok d) = d.head.hash_type == hash_type
 is_hashed_so hash_type (Err f) = false
@@ -60,16 +60,16 @@ is_directory_of hash_type s k = is_directory_slot (slot_at s k) && is_hashed_so 
 abbrev pub first_directory_of : (hash_type : ℕ) → SuperBlob → Option ℕ
 first_directory_of hash_type s = find (is_directory_of hash_type s) (range_with_len 0 s.count)
 
--- where the index says that a blob stands; 0 of none
+-- the offset of a blob, from the index; 0 for none
 abbrev pub place_if_any : SuperBlob → Option ℕ → ℕ
 place_if_any s None = 0
 place_if_any s (Some k) = blob_place s k
 
--- Where the directory that counts begins in the image: where the index has the directory of its hash, of which there is one alone.
+-- The offset in the image of the directory that counts: that of the directory with its hash in the index; there is only one.
 abbrev pub directory_start : SignedDirectoryThere → ℕ
 directory_start x = place_after x.dataoff (place_if_any x.signature (first_directory_of x.directory.head.hash_type x.signature))
 
--- ---- names and entitlements: where they stand in the image, and how many bytes they have
+-- ---- names and entitlements: their offsets in the image, and their lengths
 
 abbrev pub placed_name : SignedDirectoryThere → (at : ℕ) → Option (List ℕ) → Option (ℕ × ℕ)
 placed_name x at name = option_map (λ text. (place_after (directory_start x) at, length text)) name
@@ -84,7 +84,7 @@ offset_or_zero (Some at) = at
 abbrev pub team_place : SignedDirectoryThere → Result (Option (ℕ × ℕ)) Fault
 team_place x = team_of x.directory >>= (λ name. Ok (placed_name x (offset_or_zero x.directory.team_offset) name))
 
--- behind the 8 bytes of head of the first blob of slot 5
+-- after the head of 8 bytes of the first blob of slot 5
 abbrev pub content_place : SignedDirectoryThere → BlobThere → ℕ × ℕ
 content_place x blob = (place_after (place_after x.dataoff blob.offset) 8, length blob.bytes - 8)
 

@@ -1,10 +1,10 @@
--- Where the names of the rows of one stream stand.
+-- Where the names of one stream's rows are.
 use Rattle.std.specs.Prelude.{◌≡◌, List, Option}
 use Rattle.mach_base.specs.Fault.{Fault}
 use Rattle.mach_dyld.specs.Sites.{Site, sites_in}
 use Rattle.mach_dyld.specs.Streams.{IsLongestBy, Placed, Range, Reader}
 
--- these are those of all its rows, up to what can't be read
+-- the sites of all its rows, up to what can't be read
 pub record AreSitesAlone (reader : Reader) (r : Range) (sites : List Site) : Type 0 where
   pub ps : List Placed
   pub stop : Option Fault

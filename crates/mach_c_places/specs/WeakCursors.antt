@@ -1,4 +1,4 @@
--- How far the reading of weak binds has come, as numbers, and those that come behind.
+-- Positions in weak binds, as numbers, and the weak binds after them.
 use Rattle.std.specs.Prelude.{ℕ, List, Result, Ok, Err}
 use Rattle.mach_base.specs.Fault.{Fault, fault_of}
 use Rattle.mach_base.specs.Number.{says_yes}
@@ -19,23 +19,23 @@ use Rattle.mach_c_places.specs.SitesAlone.{AreSitesAlone}
 use Rattle.mach_c_places.specs.declared.weak_binds.PlacedWeakBind.{PlacedWeakBind}
 use Rattle.mach_c_places.specs.declared.weak_binds.WeakBindWalk.{WeakBindWalk}
 
--- the settings beside those of a bind that the numbers of a cursor say
+-- the settings of a cursor in addition to those of a bind
 abbrev pub weak_more_in : BindCursor → WeakExtra
 weak_more_in c = record { kind = c.kind; has_name = says_yes c.has_name; has_segment = says_yes c.has_segment; is_own = says_yes c.ordinal }
 
--- the weak binds that come behind a cursor of a range
+-- the weak binds after a cursor of a range
 abbrev pub weak_binds_behind : Input → Range → BindCursor → List (Result WeakBind Fault)
 weak_binds_behind x r c = items_of weak_rules x r (weak_more_in c) (state_in x.bytes c)
 
--- where the names of all rows of a range stand
+-- where the names of all rows of a range are
 abbrev pub AreWeakSites : Input → Range → List Site → Type 0
 AreWeakSites x r sites = AreSitesAlone (weak_opcode_at r x.pointer x.bytes) r sites
 
--- and those of the rows behind a cursor
+-- and those of the rows after a cursor
 abbrev pub weak_sites_behind : Input → Range → BindCursor → List Site
 weak_sites_behind x r c = sites_of (λ (s : Range). weak_opcode_at s x.pointer x.bytes) r (site_seen x.bytes c) (state_in x.bytes c)
 
--- ---- what is left to a walk
+-- ---- what is left for a walk
 
 abbrev pub weak_walk_left : WeakBindWalk → List (Result WeakBind Fault)
 weak_walk_left it = items_left weak_rules it.stream
@@ -43,11 +43,11 @@ weak_walk_left it = items_left weak_rules it.stream
 abbrev pub weak_sites_left : WeakBindWalk → List Site
 weak_sites_left it = sites_left weak_rules it.stream
 
--- it reads this, and knows where its name stands
+-- it reads this, and knows where its name is
 abbrev pub IsOverWeakBinds : Input → Range → WeakBindWalk → Type 0
 IsOverWeakBinds x r it = machine.IsOver x r it.stream
 
--- it has ended: nothing is left, and it stays so
+-- it has ended: nothing is left, now and later
 abbrev pub HasEndedWeakWalk : WeakBindWalk → Type 0
 HasEndedWeakWalk it = machine.HasEnded weak_rules it.stream
 

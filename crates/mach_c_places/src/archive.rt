@@ -1,4 +1,4 @@
-//! Where the names of an archive's members and symbols are among its bytes.
+//! The offsets of the names of an archive's members and symbols.
 
 pub(crate) mod find;
 pub(crate) mod hint;

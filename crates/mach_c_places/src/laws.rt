@@ -1,4 +1,4 @@
-//! What is answered of an image that was opened is what its bytes say.
+//! What is answered for an opened image is what its bytes say.
 
 ghost use Rattle.goblin_mach.specs.Modes.{HoldsAs};
 ghost use Rattle.goblin_mach.specs.OpenImage.{bytes_held, commands_held};
@@ -7,7 +7,7 @@ ghost use Rattle.mach_c_places.specs.SignaturePlaces.{HasSignedDirectory, image_
 use goblin_mach::MachO;
 use std::alloc::Allocator;
 
-/// What `signed_directory` answers is what the bytes say.
+/// `signed_directory` answers what the bytes say.
 pub fn signed_directory_of_image<A: Allocator>(image: &MachO<'_, A>)
     ensures { HoldsAs image.now HasSignedDirectory (image_signed_directory (bytes_held image.now) (commands_held image.now)) }
 {}

@@ -1,17 +1,17 @@
-//! Places and lengths for C, which gets no texts: where the names of an archive and the texts of a signature are among the
-//! bytes; and how far a reading of weak binds or rebases has come, as numbers from which the next call goes on.
+//! Offsets and lengths for C, which gets no texts: those of the names of an archive and of the texts of a signature; and
+//! positions in weak binds and rebases, as numbers from which the next call goes on.
 #![tactic(auto)]
 
-// How far the reading of an image's opcodes has come.
+// Positions in an image's streams of opcodes.
 pub mod opcode_ranges;
 pub mod rebases;
 mod walk_numbers;
 pub mod weak_binds;
 
-// Where the names of an archive's members and symbols are.
+// The offsets of the names of an archive's members and symbols.
 mod archive;
 
-// Where the texts of an image's signature are.
+// The offsets of the texts of an image's signature.
 mod signature;
 
 // Laws.

@@ -1,4 +1,4 @@
-//! Where an image's streams of opcodes lie, cut behind their ranges.
+//! The streams of opcodes of an image: the bytes up to the end of a stream, and its range.
 
 ghost use Rattle.std.specs.Prelude.{◌≡◌, map, option_map};
 ghost use Rattle.mach_base.specs.Context.{pointer_size};
@@ -20,7 +20,7 @@ use mach_dyld::machine::{Makes, Source, State, Stream};
 use mach_load::{CommandVariant, LoadCommand};
 use mach_parts::segment::Segment;
 
-/// Bytes that are cut behind the range of a stream, and this range.
+/// The bytes up to the end of a stream, and its range in them.
 #[derive(Clone, Copy)]
 pub struct OpcodeRange<'a> {
     pub bytes: &'a [u8],
@@ -29,7 +29,7 @@ pub struct OpcodeRange<'a> {
 }
 
 impl<'a> OpcodeRange<'a> {
-    // By the place and the size that a command says.
+    // Cuts the bytes by the offset and the size in a command.
     fn new(bytes: &'a [u8], off: u32, size: u32) -> Self
         ensures { range_view result ≡ cut_stream bytes.now off size }
     {
@@ -42,7 +42,7 @@ impl<'a> OpcodeRange<'a> {
         }
     }
 
-    // What the stream is read from, over these segments.
+    // Returns the source of the stream, for these segments.
     fn source<'b>(&self, segments: &'b [Segment<'a>], ctx: Ctx) -> Source<'a, 'b>
         ensures input { input_of result ≡ cut_input (range_view self.now) (pointer_size ctx.container) (map segment_view segments.now) }
         ensures bytes { result.bytes.now ≡ self.now.bytes.now }
@@ -55,7 +55,7 @@ impl<'a> OpcodeRange<'a> {
         }
     }
 
-    /// The stream from a state on, over these segments, with these settings beside those of a bind.
+    /// Returns the stream from a state on, for these segments, with these settings in addition to those of a bind.
     pub fn stream<'b, M: Makes<'a>>(
         &self,
         segments: &'b [Segment<'a>],
@@ -83,7 +83,7 @@ impl<'a> OpcodeRange<'a> {
     }
 }
 
-// The range of weak binds of an image.
+// The range of an image's weak binds.
 #[derive(Clone, Copy)]
 struct WeakRanges<'a> {
     bytes: &'a [u8],
@@ -98,7 +98,7 @@ impl<'a> Subject for WeakRanges<'a> {
 
     ghost reading = { λ s. weak_stream_by s.bytes.now };
 
-    /// It is never refused.
+    /// Reading it never fails.
     fn read(&self, command: &LoadCommand) -> Option<Result<OpcodeRange<'a>>> {
         match &command.command {
             CommandVariant::DyldInfo(c) | CommandVariant::DyldInfoOnly(c) => {
@@ -109,7 +109,7 @@ impl<'a> Subject for WeakRanges<'a> {
     }
 }
 
-// That of rebases.
+// The range of an image's rebases.
 #[derive(Clone, Copy)]
 struct RebaseRanges<'a> {
     bytes: &'a [u8],
@@ -124,7 +124,7 @@ impl<'a> Subject for RebaseRanges<'a> {
 
     ghost reading = { λ s. rebase_stream_by s.bytes.now };
 
-    /// It is never refused.
+    /// Reading it never fails.
     fn read(&self, command: &LoadCommand) -> Option<Result<OpcodeRange<'a>>> {
         match &command.command {
             CommandVariant::DyldInfo(c) | CommandVariant::DyldInfoOnly(c) => {
@@ -135,14 +135,14 @@ impl<'a> Subject for RebaseRanges<'a> {
     }
 }
 
-/// The range of weak binds that the last command brings, if one does.
+/// Returns the range of weak binds that the last command places, if there is one.
 pub fn weak_range<'a>(bytes: &'a [u8], commands: &[LoadCommand]) -> Option<OpcodeRange<'a>>
     ensures { option_map range_view result ≡ weak_stream_in bytes.now (map command_of commands.now) }
 {
     last_readable(&WeakRanges { bytes }, commands)
 }
 
-/// That of rebases.
+/// Returns the range of rebases that the last command places, if there is one.
 pub fn rebase_range<'a>(bytes: &'a [u8], commands: &[LoadCommand]) -> Option<OpcodeRange<'a>>
     ensures { option_map range_view result ≡ rebase_stream_in bytes.now (map command_of commands.now) }
 {

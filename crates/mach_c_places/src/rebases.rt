@@ -27,7 +27,7 @@ pub struct RebaseWalk<'a, 'b> {
     stream: Stream<'a, 'b, Rebasing>,
 }
 
-// The byte order that the numbers of a cursor say.
+// Returns the byte order of a cursor.
 fn order_at(cursor: &BindCursor) -> Endian
     ensures { result ≡ order_in cursor.now }
 {
@@ -38,7 +38,7 @@ fn order_at(cursor: &BindCursor) -> Endian
     }
 }
 
-// Whether it has the highest byte first.
+// Whether the highest byte comes first.
 fn is_big(le: Endian) -> bool
     ensures { (if result then order.Big else order.Little) ≡ le }
 {
@@ -48,7 +48,7 @@ fn is_big(le: Endian) -> bool
     }
 }
 
-// The settings beside those of a bind.
+// Returns the settings in addition to those of a bind.
 fn rebasing_at(cursor: &BindCursor) -> Rebasing
     ensures { result ≡ rebasing_in cursor.now }
 {
@@ -60,7 +60,7 @@ fn rebasing_at(cursor: &BindCursor) -> Rebasing
 }
 
 impl<'a, 'b> RebaseWalk<'a, 'b> {
-    /// All those of a range, over these segments.
+    /// Returns all rebases of a range, for these segments.
     pub fn start(range: &OpcodeRange<'a>, segments: &'b [Segment<'a>], ctx: Ctx) -> Self
         ensures items { AreRebasesByOpcodes (Some (range_view range.now)) ctx.le (pointer_size ctx.container) (map segment_view segments.now)
             (rebase_walk_left result) }
@@ -78,7 +78,7 @@ impl<'a, 'b> RebaseWalk<'a, 'b> {
         }
     }
 
-    /// Those that come behind a cursor.
+    /// Returns the rebases after a cursor.
     pub fn behind(
         range: &OpcodeRange<'a>,
         segments: &'b [Segment<'a>],
@@ -97,7 +97,7 @@ impl<'a, 'b> RebaseWalk<'a, 'b> {
         }
     }
 
-    /// A cursor of those that are left.
+    /// Returns a cursor before those that are left.
     pub fn cursor(&self) -> BindCursor
         ensures { (x : Input) (r : Range) → IsOverRebases x r self.now → opcode_rebases_behind x r result ≡ rebase_walk_left self.now }
     {
@@ -111,7 +111,7 @@ impl<'a, 'b> RebaseWalk<'a, 'b> {
         numbers_of(self.stream.source.bytes, &self.stream.state, more)
     }
 
-    /// The next rebase, or the fault that ends them.
+    /// Returns the next rebase, or the fault that ends them.
     #[inline(always)]
     pub fn next_rebase(&mut self) -> Option<Result<Rebase>>
         ensures items { YieldsFirstBy rebase_read rebase_walk_left self.old result self.new }

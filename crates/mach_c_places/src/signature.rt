@@ -1,4 +1,4 @@
-//! The code directory that counts of an image, with the signature that it is in.
+//! The code directory that counts in an image, with its signature.
 
 ghost use Rattle.std.specs.Prelude.{◌≡◌};
 ghost use Rattle.std.specs.Option.{option_map};
@@ -14,17 +14,17 @@ use mach_signature::image::signature_place;
 use mach_signature::{CodeDirectory, CodeSignature, code_signature};
 use std::alloc::Allocator;
 
-/// The code directory that counts of an image, with the signature that it is in.
+/// The code directory that counts in an image, with its signature.
 #[derive(Clone, Copy)]
 pub struct SignedDirectory<'a> {
-    /// Where the signature begins in the image.
+    /// The offset of the signature in the image.
     pub dataoff: u32,
     pub signature: CodeSignature<'a>,
     pub directory: CodeDirectory<'a>,
 }
 
-/// The code directory that counts of an image, with its signature; none where no command brings one. Errors as those of
-/// `mach_signature::code_signature` and `CodeSignature::directory`. It takes no memory.
+/// Returns the code directory that counts in an image, with its signature; none if no command places one. Errors are those of
+/// `mach_signature::code_signature` and `CodeSignature::directory`. It allocates nothing.
 pub fn signed_directory<'a, A: Allocator>(
     image: &MachO<'a, A>,
 ) -> Result<Option<SignedDirectory<'a>>>

@@ -13,7 +13,7 @@ use mach_base::read_text;
 use mach_dyld::imports::BindCursor;
 use mach_dyld::machine::{Settings, State};
 
-/// The settings that a stream has beside those of a bind: the type, whether a name and a segment were set, and one more.
+/// The settings that a stream has in addition to those of a bind: the type, whether a name and a segment were set, and one other.
 #[derive(Clone, Copy)]
 pub struct More {
     pub kind: u8,
@@ -22,14 +22,14 @@ pub struct More {
     pub other: bool,
 }
 
-// A number that says whether.
+// Returns 1 for yes and 0 for no.
 fn flag(yes: bool) -> u8
     ensures { says_yes result ≡ yes }
 {
     if yes { 1 } else { 0 }
 }
 
-// The text at a place, and the place; no text and the last place there is where none stands there.
+// Returns the text at a place, and the place. If no text is there, it returns an empty one and the largest number.
 fn name_at(bytes: &[u8], place: usize) -> (&str, usize)
     ensures text { result.0.now ≡ text_or_none (text_at bytes.now place) }
     ensures stands { IsNamed bytes.now result.0.now result.1 }
@@ -41,7 +41,7 @@ fn name_at(bytes: &[u8], place: usize) -> (&str, usize)
     }
 }
 
-// The place of a name, or one outside the bytes where none was set.
+// Returns the place of a name, or the end of the bytes if none was set.
 fn place_in(bytes: &[u8], place: usize) -> usize
     ensures text { (name : List ℕ) → IsNamed bytes.now name place → text_or_none (text_at bytes.now result) ≡ name }
     ensures place { (name : List ℕ) → IsNamed bytes.now name place → place_named (text_at bytes.now result) result ≡ place }
@@ -53,7 +53,8 @@ fn place_in(bytes: &[u8], place: usize) -> usize
     }
 }
 
-/// The numbers of a state, with the settings beside; the one more is said where bindings say how an ordinal was set.
+/// Returns the numbers of a state, with its additional settings. `more.other` takes the field `ordinal`, in which bindings keep
+/// how an ordinal was set.
 pub fn numbers_of(bytes: &[u8], state: &State<'_>, more: More) -> BindCursor
     ensures state { NameStands bytes.now state.now.settings → state_in bytes.now result ≡ state_of state.now }
     ensures site { NameStands bytes.now state.now.settings → site_seen bytes.now result ≡ site_in state.now.settings }
@@ -86,7 +87,7 @@ pub fn numbers_of(bytes: &[u8], state: &State<'_>, more: More) -> BindCursor
     }
 }
 
-/// The state of some numbers.
+/// Returns the state of some numbers.
 pub fn state_at<'a>(bytes: &'a [u8], cursor: &BindCursor) -> State<'a>
     ensures state { state_of result ≡ state_in bytes.now cursor.now }
     ensures named { NameStands bytes.now result.settings }

@@ -21,11 +21,11 @@ use mach_dyld::machine::{Makes, State, Stream};
 use mach_dyld::weak_binds::WeakExtra;
 use mach_parts::segment::Segment;
 
-/// A row of the stream of weak binds, with the place of its name in the bytes.
+/// A row of the stream of weak binds, with the offset of its name in the bytes.
 #[derive(Clone, Copy, Debug)]
 pub struct PlacedWeakBind<'a> {
     pub row: WeakBind<'a>,
-    /// Where its name stands; no such place where it has no name.
+    /// The offset of its name; past the bytes if it has no name.
     pub name_place: usize,
 }
 
@@ -35,7 +35,7 @@ pub struct WeakBindWalk<'a, 'b> {
     stream: Stream<'a, 'b, WeakExtra>,
 }
 
-// The settings beside those of a bind that the numbers of a cursor say.
+// Returns the settings of a cursor in addition to those of a bind.
 fn extra_at(cursor: &BindCursor) -> WeakExtra
     ensures { result ≡ weak_more_in cursor.now }
 {
@@ -48,7 +48,7 @@ fn extra_at(cursor: &BindCursor) -> WeakExtra
 }
 
 impl<'a, 'b> WeakBindWalk<'a, 'b> {
-    /// All those of a range, over these segments.
+    /// Returns all rows of a range, for these segments.
     pub fn start(range: &OpcodeRange<'a>, segments: &'b [Segment<'a>], ctx: Ctx) -> Self
         ensures items { AreImageWeakBinds (Some (range_view range.now)) (pointer_size ctx.container) (map segment_view segments.now)
             (weak_walk_left result) }
@@ -64,7 +64,7 @@ impl<'a, 'b> WeakBindWalk<'a, 'b> {
         }
     }
 
-    /// Those that come behind a cursor.
+    /// Returns the rows after a cursor.
     pub fn behind(
         range: &OpcodeRange<'a>,
         segments: &'b [Segment<'a>],
@@ -86,7 +86,7 @@ impl<'a, 'b> WeakBindWalk<'a, 'b> {
         }
     }
 
-    /// A cursor of those that are left.
+    /// Returns a cursor before those that are left.
     pub fn cursor(&self) -> BindCursor
         ensures items { (x : Input) (r : Range) → IsOverWeakBinds x r self.now → weak_binds_behind x r result ≡ weak_walk_left self.now }
         ensures sites { (x : Input) (r : Range) → IsOverWeakBinds x r self.now → weak_sites_behind x r result ≡ weak_sites_left self.now }
@@ -101,7 +101,7 @@ impl<'a, 'b> WeakBindWalk<'a, 'b> {
         numbers_of(self.stream.source.bytes, &self.stream.state, more)
     }
 
-    /// The next row with the place of its name, or the fault that ends them.
+    /// Returns the next row with the offset of its name, or the fault that ends them.
     #[inline(always)]
     pub fn next_placed(&mut self) -> Option<Result<PlacedWeakBind<'a>>>
         ensures items { YieldsFirstBy placed_weak_read weak_walk_left self.old result self.new }

@@ -1,4 +1,4 @@
-//! What archive some bytes are, and one member of it: that which defines a symbol, or the first of a name.
+//! Which archive some bytes are, and one member of it: the one that defines a symbol, or the first of a name.
 
 ghost use Rattle.std.specs.Prelude.{◌≡◌, IfOk, IfErr, MatchResult, Ok, Err, option_map};
 ghost use Rattle.mach_base.specs.Answer.{Reads};
@@ -15,20 +15,20 @@ use crate::archive::members::PlacedMember;
 use mach_archive::{Archive, ArchiveKind, Member, Members};
 use mach_base::Result;
 
-/// What archive some bytes are.
+/// Which archive some bytes are.
 #[derive(Clone, Copy, Debug, PartialEq)]
 pub enum ArchiveForm {
-    /// They don't begin as an archive does.
+    /// They don't begin as an archive.
     NoArchive,
-    /// Short names are spelled up to a slash; long ones stand in a list of names.
+    /// Short names end with a slash; long ones are in a list of names.
     Gnu,
-    /// Short names are spelled up to a space; long ones stand behind their headers.
+    /// Short names end with a space; long ones come after their headers.
     Bsd,
     /// Its members are other files, and aren't read.
     Thin,
 }
 
-// The form of a kind of archives.
+// Returns the form of a kind of archive.
 fn form_of_kind(kind: ArchiveKind) -> ArchiveForm
     ensures { result ≡ form_of_kind kind }
 {
@@ -38,7 +38,8 @@ fn form_of_kind(kind: ArchiveKind) -> ArchiveForm
     }
 }
 
-/// What archive some bytes are, by their first 8 bytes and the front. It is refused where they begin as an archive whose front can't be read.
+/// Returns which archive some bytes are, by their first 8 bytes and the members at the start. It is refused if they begin as an
+/// archive whose start can't be read.
 pub fn form_of(bytes: &[u8]) -> Result<ArchiveForm>
     ensures { Reads (λ form. form) result (archive_form bytes.now) }
 {
@@ -51,7 +52,7 @@ pub fn form_of(bytes: &[u8]) -> Result<ArchiveForm>
     Ok(form_of_kind(Archive::parse(bytes)?.kind()))
 }
 
-// A member of an archive, which these bytes are, with the place of its name.
+// Returns a member of the archive in these bytes, with the offset of its name.
 fn placed<'a>(
     archive: &Archive<'a>,
     bytes: &[u8],
@@ -68,14 +69,14 @@ fn placed<'a>(
     }
 }
 
-// The member that defines a symbol, by the index of an archive.
+// Returns the member that defines a symbol, by the index of an archive.
 fn found_by_symbol<'a>(archive: &Archive<'a>, name: &str) -> Result<Option<Member<'a>>>
     ensures { Reads (option_map member_view) result (found_by_symbol (archive_of archive.now) name.now) }
 {
     archive.find_symbol(name)
 }
 
-/// The member that defines a symbol, by the index of the archive that these bytes are, as `Archive::find_symbol` gives it.
+/// Returns the member that defines a symbol, by the index of the archive in these bytes, like `Archive::find_symbol`.
 pub fn member_of_symbol<'a>(bytes: &'a [u8], name: &str) -> Result<Option<PlacedMember<'a>>>
     ensures { MatchResult result (λ found. (m : _) × (member_by_symbol bytes.now name.now ≡ Ok m)
         × TellsFound bytes.now m (option_map placed_member_view found)) (λ e. member_by_symbol bytes.now name.now ≡ Err (fault_of e)) }
@@ -85,7 +86,7 @@ pub fn member_of_symbol<'a>(bytes: &'a [u8], name: &str) -> Result<Option<Placed
     Ok(placed(&archive, bytes, found))
 }
 
-// Whether a member has this name. One whose name can't be read hasn't.
+// Whether a member has this name. A member whose name can't be read doesn't.
 fn has_name(member: &Member<'_>, name: &[u8]) -> bool
     ensures { result ≡ has_name name.now (member_name_bytes (member_view member.now)) }
 {
@@ -95,7 +96,7 @@ fn has_name(member: &Member<'_>, name: &[u8]) -> bool
     }
 }
 
-// The first member of a name among some, or the fault before it.
+// Returns the first of some members with a name, or the fault before it.
 fn first_of_name<'a>(mut members: Members<'a>, name: &[u8]) -> Result<Option<Member<'a>>>
     ensures { Reads (option_map member_view) result (first_of_name name.now (members_left members.entry)) }
 {
@@ -112,14 +113,14 @@ fn first_of_name<'a>(mut members: Members<'a>, name: &[u8]) -> Result<Option<Mem
     }
 }
 
-// The first member of a name of an archive, or the fault before it.
+// Returns the first member of an archive with a name, or the fault before it.
 fn first_of<'a>(archive: &Archive<'a>, name: &[u8]) -> Result<Option<Member<'a>>>
     ensures { Reads (option_map member_view) result (first_of_name name.now (members_of_view (archive_of archive.now))) }
 {
     first_of_name(archive.members(), name)
 }
 
-/// The first member of a name of the archive that these bytes are. A fault of a header before it is the answer.
+/// Returns the first member of the archive in these bytes with a name. If a header before it has a fault, that is the error.
 pub fn member_named<'a>(bytes: &'a [u8], name: &[u8]) -> Result<Option<PlacedMember<'a>>>
     ensures { MatchResult result (λ found. (m : _) × (member_by_name bytes.now name.now ≡ Ok m)
         × TellsFound bytes.now m (option_map placed_member_view found)) (λ e. member_by_name bytes.now name.now ≡ Err (fault_of e)) }

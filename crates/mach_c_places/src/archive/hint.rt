@@ -1,5 +1,5 @@
-//! Where names should stand, by the headers alone. Nothing is proved of these places but that they are numbers: whether a name stands at one is
-//! tested before it is told.
+//! Where names should be, from the headers alone. These places are only hints: nothing is proved about them, and whether a name
+//! is at one is checked before it is reported.
 
 use mach_archive::{Archive, ArchiveKind};
 use mach_base::Endian;
@@ -7,25 +7,25 @@ use mach_base::Endian;
 /// How many bytes a member's header has.
 const HEADER_SIZE: usize = 60;
 
-/// Where the first header stands.
+/// The offset of the first header.
 const FIRST: usize = 8;
 
-// The bytes from a place on; none behind the end.
+// Returns the bytes from a place on; none past the end.
 fn from(bytes: &[u8], place: usize) -> &[u8] {
     bytes.get(place..).unwrap_or(&[])
 }
 
-/// The name field of a header, and what is behind it.
+/// Returns the bytes from a header's name field on.
 pub(crate) fn header_at(bytes: &[u8], place: usize) -> &[u8] {
     from(bytes, place)
 }
 
-/// Where what follows a header begins.
+/// Returns the place after a header.
 pub(crate) fn behind_header(place: usize) -> usize {
     place.saturating_add(HEADER_SIZE)
 }
 
-/// The number behind the slash that a header begins with, if one stands there.
+/// Returns the number after the slash at the start of a header, if there is one.
 pub(crate) fn long_name_number(header: &[u8]) -> Option<usize> {
     let digits = header.strip_prefix(b"/")?;
     if digits.first()?.is_ascii_digit() {
@@ -35,7 +35,7 @@ pub(crate) fn long_name_number(header: &[u8]) -> Option<usize> {
     }
 }
 
-// The number that some digits spell, up to the first other byte.
+// Returns the number that some digits spell, up to the first other byte.
 fn number_of(digits: &[u8]) -> usize {
     let mut number: usize = 0;
     for digit in digits {
@@ -49,7 +49,7 @@ fn number_of(digits: &[u8]) -> usize {
     number
 }
 
-// The number at a place, of 4 or 8 bytes; 0 where it isn't whole.
+// Returns the number at a place, of 4 or 8 bytes; 0 if it isn't whole.
 pub(crate) fn number_at(bytes: &[u8], place: usize, is_wide: bool, le: Endian) -> usize {
     let here = from(bytes, place);
     if is_wide {
@@ -71,7 +71,7 @@ fn has_gnu_index(bytes: &[u8]) -> bool {
     field.starts_with(b"/ ") || field.starts_with(b"/SYM64/ ")
 }
 
-/// Where the list of long names should stand, in GNU's form: behind its header, which is the first one, or the first behind the index.
+/// Returns where the list of long names should be, in GNU's form: after its header, which is the first one or follows the index.
 pub(crate) fn long_names(archive: &Archive<'_>, bytes: &[u8]) -> Option<usize> {
     if let ArchiveKind::Bsd = archive.kind() {
         return None;
@@ -86,7 +86,7 @@ pub(crate) fn long_names(archive: &Archive<'_>, bytes: &[u8]) -> Option<usize> {
     Some(behind_header(header))
 }
 
-/// Where the index stands, how many bytes it has, and whether its numbers have 8 bytes.
+/// Returns the offset of the index, its length, and whether its numbers have 8 bytes.
 pub(crate) fn index_of(archive: &Archive<'_>, bytes: &[u8]) -> (usize, usize, bool) {
     let Ok(index) = archive.member_at(FIRST) else {
         return (0, 0, false);

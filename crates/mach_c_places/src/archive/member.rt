@@ -1,4 +1,4 @@
-//! Where the names of members stand.
+//! The offsets of members' names.
 
 ghost use Rattle.std.specs.Prelude.{◌≡◌};
 ghost use Rattle.mach_base.specs.Items.{read_as};
@@ -11,16 +11,16 @@ use crate::archive::substring::place_of;
 use mach_archive::{Archive, Member};
 use mach_base::Result;
 
-/// Where the names of an archive's members stand in its bytes.
+/// The offsets of the names of an archive's members.
 #[derive(Clone, Copy)]
 pub struct NamePlaces<'a> {
     pub bytes: &'a [u8],
-    // Where the list of long names should stand, in GNU's form.
+    // Where the list of long names should be, in GNU's form.
     names: Option<usize>,
 }
 
 impl<'a> NamePlaces<'a> {
-    /// Those of an archive, which these bytes are.
+    /// Returns those of an archive in these bytes.
     pub fn of(archive: &Archive<'_>, bytes: &'a [u8]) -> NamePlaces<'a>
         ensures { result.bytes.now ≡ bytes.now }
     {
@@ -30,7 +30,7 @@ impl<'a> NamePlaces<'a> {
         }
     }
 
-    // Where the name of a member should stand: behind its header, among the long names, or in the header.
+    // Returns where the name of a member should be: after its header, among the long names, or in the header.
     fn hint(&self, member: &Member<'_>) -> usize {
         let header = header_at(self.bytes, member.offset);
         if header.starts_with(b"#1/") {
@@ -42,7 +42,7 @@ impl<'a> NamePlaces<'a> {
         }
     }
 
-    /// Where the name of a member stands, and how many bytes it has. It is refused as `Member::name_bytes` refuses it.
+    /// Returns the offset of a member's name, and its length. It is refused as by `Member::name_bytes`.
     pub fn of_member(&self, member: &Member<'_>) -> Result<(usize, usize)>
         ensures { TellsText self.now.bytes.now (member_name_bytes (member_view member.now)) (read_as (λ told. told) result) }
     {

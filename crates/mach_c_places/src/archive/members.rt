@@ -1,4 +1,4 @@
-//! The members of an archive, each with the place of its name.
+//! The members of an archive, each with the offset of its name.
 
 ghost use Rattle.std.specs.Prelude.{◌≡◌, ℕ, List, option_map};
 ghost use Rattle.mach_archive.specs.ArchiveViews.{archive_of, members_left};
@@ -10,22 +10,22 @@ use crate::archive::member::NamePlaces;
 use mach_archive::{Archive, Member, Members};
 use mach_base::{Error, Result};
 
-/// A member, and where its name stands and how many bytes it has, or why it has none.
+/// A member, with the offset of its name and its length, or why it has none.
 #[derive(Drop)]
 pub struct PlacedMember<'a> {
     pub member: Member<'a>,
     pub name: Result<(usize, usize)>,
 }
 
-// What is left of the members of an archive.
+// The members of an archive that are left.
 #[derive(Clone, Copy)]
 pub struct MemberWalk<'a> {
     pub(crate) places: NamePlaces<'a>,
     pub(crate) members: Members<'a>,
 }
 
-/// The members of the archive that some bytes are, in order, up to the first header with a fault; then its error. Where the bytes are no archive,
-/// that is told.
+/// An iterator over the members of the archive in some bytes, in order, up to the first header with a fault; then its error. If
+/// the bytes are no archive, that error is the only item.
 #[derive(Drop)]
 pub struct PlacedMembers<'a> {
     pub(crate) walk: Option<MemberWalk<'a>>,
@@ -33,7 +33,7 @@ pub struct PlacedMembers<'a> {
 }
 
 impl<'a> MemberWalk<'a> {
-    // The members of an archive, which these bytes are.
+    // Returns the members of an archive in these bytes.
     fn of(archive: &Archive<'a>, bytes: &'a [u8]) -> MemberWalk<'a>
         ensures list { members_left result.members ≡ members_of_view (archive_of archive.now) }
         ensures bytes { result.places.bytes.now ≡ bytes.now }
@@ -44,7 +44,7 @@ impl<'a> MemberWalk<'a> {
         }
     }
 
-    // The next member.
+    // Returns the next member.
     fn next(&mut self) -> Option<Result<PlacedMember<'a>>>
         ensures given { GivesMember self.old.places.bytes.now (members_left self.old.members) (option_map member_answer result)
             (members_left self.new.members) }
@@ -61,7 +61,7 @@ impl<'a> MemberWalk<'a> {
 }
 
 impl<'a> PlacedMembers<'a> {
-    /// The members of the archive that these bytes are.
+    /// Returns the members of the archive in these bytes.
     pub fn of(bytes: &'a [u8]) -> PlacedMembers<'a>
         ensures list { placed_members_left result ≡ archive_members bytes.now }
         ensures over { AreMembersOver bytes.now result }
@@ -78,7 +78,7 @@ impl<'a> PlacedMembers<'a> {
         }
     }
 
-    /// The next member, or why it can't be read.
+    /// Returns the next member, or why it can't be read.
     pub fn next(&mut self) -> Option<Result<PlacedMember<'a>>>
         ensures given { (bytes : List ℕ) → AreMembersOver bytes self.old
             → GivesMember bytes (placed_members_left self.old) (option_map member_answer result) (placed_members_left self.new) }

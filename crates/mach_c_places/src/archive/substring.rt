@@ -1,4 +1,4 @@
-//! Where some bytes stand among others.
+//! The place of some bytes in others.
 
 ghost use Rattle.std.specs.Prelude.{◌≡◌, ◌↔◌, ℕ, IsTrue, Ok, MatchOption};
 ghost use Rattle.mach_base.specs.Items.{read_as};
@@ -6,7 +6,7 @@ ghost use Rattle.mach_c_places.specs.ArchivePlaces.{IsTextAt, IsNowhere, TellsTe
 
 use mach_base::{Error, Result};
 
-// Whether these bytes stand at a place.
+// Whether these bytes are at a place.
 #[inline(always)]
 fn stands_at(bytes: &[u8], part: &[u8], place: usize) -> bool
     ensures { IsTrue result ↔ IsTextAt part.now bytes.now place }
@@ -16,7 +16,7 @@ fn stands_at(bytes: &[u8], part: &[u8], place: usize) -> bool
         && &bytes[place..place + part.len()] == part
 }
 
-// The first place where these bytes stand, if there is one.
+// Returns the first place that has these bytes, if there is one.
 fn first_place(bytes: &[u8], part: &[u8]) -> Option<usize>
     ensures { MatchOption result (IsNowhere part.now bytes.now) (λ place. IsTextAt part.now bytes.now place) }
 {
@@ -28,7 +28,7 @@ fn first_place(bytes: &[u8], part: &[u8]) -> Option<usize>
     None
 }
 
-/// Where a text stands, and how many bytes it has. It is looked for at one place, where it should be, and else at all of them.
+/// Returns the offset of a text, and its length. It looks first where the text should be, then everywhere.
 pub(crate) fn place_of(bytes: &[u8], text: &[u8], hint: usize) -> Result<(usize, usize)>
     ensures { TellsText bytes.now (Ok text.now) (read_as (λ told. told) result) }
 {

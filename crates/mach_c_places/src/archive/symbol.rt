@@ -1,4 +1,4 @@
-//! Where the names of symbols stand.
+//! The offsets of symbols' names.
 
 ghost use Rattle.std.specs.Prelude.{◌≡◌, Ok};
 ghost use Rattle.mach_base.specs.Items.{read_as};
@@ -9,13 +9,13 @@ use crate::archive::substring::place_of;
 use mach_archive::{Archive, ArchiveKind, ArchiveSymbol};
 use mach_base::{Endian, Result};
 
-/// Where the names of the symbols of an archive's index stand in its bytes, one behind the other.
+/// The offsets of the names of an archive's symbols, one after the other.
 #[derive(Clone, Copy)]
 pub struct SymbolPlaces<'a> {
     pub bytes: &'a [u8],
-    // Where the next name should stand, or in BSD's form all names.
+    // Where the next name should be; in BSD's form where all names begin.
     names: usize,
-    // In BSD's form, where the next record stands, and the byte order.
+    // In BSD's form, the offset of the next record, and the byte order.
     record: Option<(usize, Endian)>,
     is_wide: bool,
 }
@@ -36,7 +36,7 @@ fn is_whole(bytes: &[u8], (start, len): (usize, usize), is_wide: bool, le: Endia
 }
 
 impl<'a> SymbolPlaces<'a> {
-    /// Those of an archive, which these bytes are.
+    /// Returns those of an archive in these bytes.
     pub fn of(archive: &Archive<'_>, bytes: &'a [u8]) -> SymbolPlaces<'a>
         ensures { result.bytes.now ≡ bytes.now }
     {
@@ -69,7 +69,7 @@ impl<'a> SymbolPlaces<'a> {
         }
     }
 
-    // Where the name of the next symbol should stand.
+    // Returns where the name of the next symbol should be.
     fn hint(&self) -> usize {
         match self.record {
             Some((record, le)) => self
@@ -79,7 +79,7 @@ impl<'a> SymbolPlaces<'a> {
         }
     }
 
-    // Goes on to the symbol behind the next one, whose name has so many bytes.
+    // Goes on after the next symbol, whose name has `len` bytes.
     fn go_on(&mut self, len: usize)
         ensures { self.new.bytes.now ≡ self.old.bytes.now }
     {
@@ -92,7 +92,7 @@ impl<'a> SymbolPlaces<'a> {
         }
     }
 
-    /// Where the name of a symbol stands, and how many bytes it has. Symbols are asked for in the order of the index, each once.
+    /// Returns the offset of a symbol's name, and its length. It must be called once for each symbol, in the order of the index.
     pub fn of_next(&mut self, symbol: &ArchiveSymbol<'_>) -> Result<(usize, usize)>
         ensures told { TellsText self.old.bytes.now (Ok symbol.now.name.now) (read_as (λ told. told) result) }
         ensures same { self.new.bytes.now ≡ self.old.bytes.now }

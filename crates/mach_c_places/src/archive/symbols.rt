@@ -1,4 +1,4 @@
-//! The symbols of an archive's index, each with the place of its name.
+//! The symbols of an archive's index, each with the offset of its name.
 
 ghost use Rattle.std.specs.Prelude.{◌≡◌, ℕ, List, Ok, IfOk, IfSome, option_map};
 ghost use Rattle.mach_base.specs.Answer.{Reads};
@@ -11,22 +11,23 @@ use crate::archive::symbol::SymbolPlaces;
 use mach_archive::{Archive, ArchiveSymbol, ArchiveSymbols};
 use mach_base::{Error, Result};
 
-/// A symbol, and where its name stands and how many bytes it has.
+/// A symbol, with the offset of its name and its length.
 #[derive(Drop)]
 pub struct PlacedSymbol<'a> {
     pub symbol: ArchiveSymbol<'a>,
     pub name: Result<(usize, usize)>,
 }
 
-// What is left of the symbols of an index.
+// The symbols of an index that are left.
 #[derive(Clone, Copy)]
 pub struct SymbolWalk<'a> {
     pub(crate) places: SymbolPlaces<'a>,
     pub(crate) symbols: ArchiveSymbols<'a>,
 }
 
-/// The symbols of the archive that some bytes are, in the order of its index, up to the first whose name has a fault; then its error. Where the bytes
-/// are no archive, or the index can't be read, that is told; without an index there are none.
+/// An iterator over the symbols of the archive in some bytes, in the order of its index, up to the first whose name has a fault;
+/// then its error. If the bytes are no archive, or the index can't be read, that error is the only item. Without an index there
+/// are none.
 #[derive(Drop)]
 pub struct PlacedSymbols<'a> {
     pub(crate) walk: Option<SymbolWalk<'a>>,
@@ -34,7 +35,7 @@ pub struct PlacedSymbols<'a> {
 }
 
 impl<'a> SymbolWalk<'a> {
-    // The symbols of an index that was read.
+    // Returns the symbols of an index that was read.
     fn of(archive: &Archive<'a>, bytes: &'a [u8], symbols: ArchiveSymbols<'a>) -> SymbolWalk<'a>
         ensures list { archive_symbols_left result.symbols ≡ archive_symbols_left symbols.entry }
         ensures bytes { result.places.bytes.now ≡ bytes.now }
@@ -45,7 +46,7 @@ impl<'a> SymbolWalk<'a> {
         }
     }
 
-    // The next symbol.
+    // Returns the next symbol.
     fn next(&mut self) -> Option<Result<PlacedSymbol<'a>>>
         ensures given { GivesSymbol self.old.places.bytes.now (archive_symbols_left self.old.symbols) (option_map symbol_answer result)
             (archive_symbols_left self.new.symbols) }
@@ -61,7 +62,7 @@ impl<'a> SymbolWalk<'a> {
     }
 }
 
-// The symbols of an archive, which these bytes are.
+// Returns the symbols of an archive in these bytes.
 fn walk_of<'a>(archive: &Archive<'a>, bytes: &'a [u8]) -> Result<Option<SymbolWalk<'a>>>
     ensures list { Reads symbols_walked result (symbols_of_view (archive_of archive.now)) }
     ensures over { IfOk result (λ walk. IfSome walk (λ w. w.places.bytes.now ≡ bytes.now)) }
@@ -73,7 +74,7 @@ fn walk_of<'a>(archive: &Archive<'a>, bytes: &'a [u8]) -> Result<Option<SymbolWa
     }
 }
 
-// The same of the archive that these bytes are.
+// Returns the symbols of the archive in these bytes.
 fn walk_in(bytes: &[u8]) -> Result<Option<SymbolWalk<'_>>>
     ensures list { Reads symbols_walked result (index_symbols_in bytes.now) }
     ensures over { IfOk result (λ walk. IfSome walk (λ w. w.places.bytes.now ≡ bytes.now)) }
@@ -83,7 +84,7 @@ fn walk_in(bytes: &[u8]) -> Result<Option<SymbolWalk<'_>>>
 }
 
 impl<'a> PlacedSymbols<'a> {
-    /// The symbols of the archive that these bytes are.
+    /// Returns the symbols of the archive in these bytes.
     pub fn of(bytes: &'a [u8]) -> PlacedSymbols<'a>
         ensures list { placed_symbols_left result ≡ archive_symbols bytes.now }
         ensures over { AreSymbolsOver bytes.now result }
@@ -100,7 +101,7 @@ impl<'a> PlacedSymbols<'a> {
         }
     }
 
-    /// The next symbol, or why it can't be read.
+    /// Returns the next symbol, or why it can't be read.
     pub fn next(&mut self) -> Option<Result<PlacedSymbol<'a>>>
         ensures given { (bytes : List ℕ) → AreSymbolsOver bytes self.old
             → GivesSymbol bytes (placed_symbols_left self.old) (option_map symbol_answer result) (placed_symbols_left self.new) }

@@ -1,4 +1,4 @@
-//! Where names and entitlements stand.
+//! The offsets of names and entitlements.
 
 ghost use Rattle.std.specs.Prelude.{◌≡◌, ◌<◌, ◌+◌, ◌*◌, IfSome, drop};
 ghost use Rattle.mach_base.specs.Answer.{Reads};
@@ -13,7 +13,7 @@ use crate::signature::SignedDirectory;
 use mach_base::{BE, Result};
 use mach_signature::{CodeDirectory, CodeSignature, is_directory_slot};
 
-// The blob of a number as a code directory.
+// Reads the blob of a number as a code directory.
 #[tactic(auto, unfolding(mach_signature::specs::Chosen::directory_in))]
 fn directory_at<'a>(signature: &CodeSignature<'a>, index: u32) -> Result<CodeDirectory<'a>>
     requires { index < signature.now.count }
@@ -23,7 +23,7 @@ fn directory_at<'a>(signature: &CodeSignature<'a>, index: u32) -> Result<CodeDir
     CodeDirectory::parse(blob.bytes)
 }
 
-// Whether the blob of a number is a code directory of this kind of hash.
+// Whether the blob of a number is a code directory of this hash type.
 fn is_directory_of(signature: &CodeSignature<'_>, index: u32, hash_type: u8) -> bool
     requires { index < signature.now.count }
     ensures { result ≡ defined.is_directory_of hash_type (signature_view signature.now) index }
@@ -37,7 +37,7 @@ fn is_directory_of(signature: &CodeSignature<'_>, index: u32, hash_type: u8) -> 
     }
 }
 
-// The number of the first code directory of this kind of hash.
+// Returns the number of the first code directory of this hash type.
 #[tactic(auto, using(mach_signature::proofs::NumberedLists::found_first, mach_signature::proofs::NumberedLists::found_none))]
 fn first_directory(signature: &CodeSignature<'_>, hash_type: u8) -> Option<u32>
     ensures first { result ≡ defined.first_directory_of hash_type (signature_view signature.now) }
@@ -51,7 +51,7 @@ fn first_directory(signature: &CodeSignature<'_>, hash_type: u8) -> Option<u32>
     None
 }
 
-// Where the index says that a blob stands.
+// Returns the offset of a blob, from the index.
 fn blob_place(signature: &CodeSignature<'_>, index: u32) -> usize
     requires { index < signature.now.count }
     ensures { result ≡ blob_place (signature_view signature.now) index }
@@ -60,7 +60,7 @@ fn blob_place(signature: &CodeSignature<'_>, index: u32) -> usize
 }
 
 impl<'a> SignedDirectory<'a> {
-    /// Where the directory begins in the image.
+    /// Returns the offset of the directory in the image.
     pub fn start(&self) -> usize
         ensures { result ≡ defined.directory_start (signed_directory_view self.now) }
     {
@@ -71,7 +71,7 @@ impl<'a> SignedDirectory<'a> {
         (self.dataoff as usize).saturating_add(offset)
     }
 
-    /// Where the identifier stands in the image, and how many bytes it has; none where it has none. Errors as those of
+    /// Returns the offset of the identifier in the image, and its length; none if it has none. Errors are those of
     /// `CodeDirectory::identifier`.
     pub fn identifier_place(&self) -> Result<Option<(usize, usize)>>
         ensures { Reads (λ found. found) result (defined.identifier_place (signed_directory_view self.now)) }
@@ -85,7 +85,7 @@ impl<'a> SignedDirectory<'a> {
         }
     }
 
-    /// The same of the name of the team.
+    /// The same for the name of the team.
     pub fn team_place(&self) -> Result<Option<(usize, usize)>>
         ensures { Reads (λ found. found) result (defined.team_place (signed_directory_view self.now)) }
     {
@@ -98,7 +98,7 @@ impl<'a> SignedDirectory<'a> {
         }
     }
 
-    /// The same of the entitlements in XML, behind the head of their blob.
+    /// The same for the entitlements in XML, after the head of their blob.
     pub fn entitlements_place(&self) -> Result<Option<(usize, usize)>>
         ensures { Reads (λ found. found) result (defined.entitlements_place (signed_directory_view self.now)) }
     {
