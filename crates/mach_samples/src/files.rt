@@ -1,4 +1,4 @@
-//! The built files of docs/FORMAT.md, and small images, which several crates of tests read.
+//! The built files of docs/FORMAT-IMAGE.md, and small images, which several crates of tests read.
 
 use std::alloc::{AllocError, Global};
 
@@ -38,7 +38,7 @@ pub const FILE_B: [u8; 376] = [
     0x00, 0x5f, 0x6d, 0x61, 0x69, 0x6e, 0x00, 0x00,
 ];
 
-/// File D: a 64-bit image of six commands, whose two segments have chains.
+/// File D: a 64-bit image of six commands, with chains in its two segments.
 pub const FILE_D: [u8; 436] = [
     0xcf, 0xfa, 0xed, 0xfe, 0x07, 0x00, 0x00, 0x01, 0x03, 0x00, 0x00, 0x00, 0x02, 0x00, 0x00, 0x00,
     0x06, 0x00, 0x00, 0x00, 0x00, 0x01, 0x00, 0x00, 0x00, 0x00, 0x00, 0x00, 0x00, 0x00, 0x00, 0x00,
@@ -78,7 +78,7 @@ pub const EXPORTS: [u8; 64] = [
     0x03, 0x00, 0xc0, 0x1e, 0x00, 0x03, 0x00, 0xd0, 0x1e, 0x00, 0x00, 0x00, 0x00, 0x00, 0x00, 0x00,
 ];
 
-/// A 64-bit little-endian image: its counts, and what stands behind the header.
+/// Builds a 64-bit little-endian image from its counts and what follows the header.
 pub fn image(alloc: Global, ncmds: u8, sizeofcmds: u8, rest: &[u8]) -> Result<Vec<u8>, AllocError> {
     let mut bytes = vec![in alloc;
         0xcf, 0xfa, 0xed, 0xfe, 0, 0, 0, 0, 0, 0, 0, 0, 0, 0, 0, 0, ncmds, 0, 0, 0, sizeofcmds, 0,
@@ -94,12 +94,12 @@ pub const BARE: [u8; 32] = [
     0, 0, 0, 0,
 ];
 
-/// An archive of no members, with eight bytes behind its magic.
+/// An archive without members, with eight bytes after its magic.
 pub const ARCHIVE: [u8; 16] = [
     0x21, 0x3c, 0x61, 0x72, 0x63, 0x68, 0x3e, 0x0a, 0, 0, 0, 0, 0, 0, 0, 0,
 ];
 
-/// A fat file of one entry, which stands at 28 and has `size` bytes.
+/// Builds a fat file of one entry, at 28 with `size` bytes.
 pub fn of_one(alloc: Global, size: u8, entry: &[u8]) -> Result<Vec<u8>, AllocError> {
     let mut bytes = vec![in alloc;
         0xca, 0xfe, 0xba, 0xbe, 0, 0, 0, 1, 0, 0, 0, 0, 0, 0, 0, 0, 0, 0, 0, 28, 0, 0, 0, size, 0,
@@ -109,7 +109,7 @@ pub fn of_one(alloc: Global, size: u8, entry: &[u8]) -> Result<Vec<u8>, AllocErr
     Ok(bytes)
 }
 
-/// A fat file said to have two entries, of which there is one record, of cpu 7.
+/// Builds a fat file whose header says two entries, with one record, for cpu 7, and then `zeros`.
 pub fn of_one_record(alloc: Global, zeros: &[u8]) -> Result<Vec<u8>, AllocError> {
     let mut bytes = vec![in alloc;
         0xca, 0xfe, 0xba, 0xbe, 0, 0, 0, 2, 0, 0, 0, 7, 0, 0, 0, 0, 0, 0, 0, 0, 0, 0, 0, 0, 0, 0,
@@ -119,7 +119,7 @@ pub fn of_one_record(alloc: Global, zeros: &[u8]) -> Result<Vec<u8>, AllocError>
     Ok(bytes)
 }
 
-/// File C: file B at 48 and an archive at 424.
+/// Builds file C: file B at 48 and an archive at 424.
 pub fn file_c(alloc: Global) -> Result<Vec<u8>, AllocError> {
     let mut bytes = vec![in alloc;
         0xca, 0xfe, 0xba, 0xbe, 0, 0, 0, 2, 1, 0, 0, 7, 0, 0, 0, 3, 0, 0, 0, 48, 0, 0, 1, 0x78, 0,
@@ -130,7 +130,7 @@ pub fn file_c(alloc: Global) -> Result<Vec<u8>, AllocError> {
     Ok(bytes)
 }
 
-/// A fat file of one entry at 28, which has as many bytes as file D.
+/// Builds a fat file of one entry at 28, as long as file D.
 pub fn fat_of_d(alloc: Global, entry: &[u8; 436]) -> Result<Vec<u8>, AllocError> {
     let mut bytes = vec![in alloc;
         0xca, 0xfe, 0xba, 0xbe, 0, 0, 0, 1, 1, 0, 0, 7, 0, 0, 0, 3, 0, 0, 0, 28, 0, 0, 1, 0xb4, 0,
@@ -140,25 +140,25 @@ pub fn fat_of_d(alloc: Global, entry: &[u8; 436]) -> Result<Vec<u8>, AllocError>
     Ok(bytes)
 }
 
-/// A file as a row of a table has it.
+/// A file, as the rows of tables describe it.
 #[derive(Clone, Copy)]
 pub enum File {
     /// These bytes.
     Of(&'static [u8]),
-    /// As many of these bytes as the number says, from the first one on.
+    /// The first so many of these bytes.
     Front(&'static [u8], usize),
-    /// A 64-bit little-endian image: its counts, and what stands behind the header.
+    /// A 64-bit little-endian image: its counts, and what follows the header.
     Image(u8, u8, &'static [u8]),
     /// A fat file of one entry, with its size.
     OfOne(u8, &'static [u8]),
-    /// A fat file said to have two entries, with one record and these bytes.
+    /// A fat file whose header says two entries, with one record and these bytes.
     OfOneRecord(&'static [u8]),
     /// File C.
     C,
 }
 
 impl File {
-    /// The bytes of the file.
+    /// Returns the bytes of the file.
     pub fn bytes(self, alloc: Global) -> Result<Vec<u8>, AllocError> {
         match self {
             File::Of(bytes) => bytes.to_vec(alloc),
