@@ -1,18 +1,18 @@
-/* goblin_mach reads Apple's Mach-O images out of bytes in memory. Each call is proved never to read or write outside of
-   what is handed in, whatever the bytes and the numbers are, and to write what is said of it here: docs/C.md has the
-   whole of it. The bytes must not change during a call. Nothing is kept between calls: a gm_image is numbers, is the
-   caller's, may be copied, and goes with the bytes that it was opened in. Any thread may call.
+/* goblin_mach reads Apple's Mach-O images from bytes in memory. Each call is proved to read and write only what the caller passes, whatever the
+   bytes and the numbers are, and to write what is said here; docs/C.md has all details. The bytes must not change during a call. Nothing is kept
+   between calls: a gm_image is numbers, belongs to the caller, may be copied, and is used with the bytes that it was opened in. Any thread may
+   call.
 
-   Calls with `first`, `out` and `cap` write the items of a list from number `first` on, as many as there are and fit,
-   answer how many, and leave the rest of the array as it was: 0 says that there are no more. NULL may stand where a
-   length is 0. Calls that answer a code answer GM_OK, or why not, with words in *error; `error` may be NULL.
+   Calls with `first`, `out` and `cap` write the items of a list from index `first` on, as many as there are and fit, return how many, and leave
+   the rest of the array unchanged: 0 means that there are no more. A pointer may be NULL if its length is 0. Calls that return a code return
+   GM_OK or the reason for a refusal, with a text in *error; `error` may be NULL.
 
-   Calls with a cursor write the items behind it, as many as there are and fit, move it behind them, and say in *count how many:
-   fewer than `cap` says that there are no more. With a `cap` of 0 they are refused with GM_NO_ROWS. A cursor is numbers that the calls
-   alone read; all zero is the start; it goes with the bytes and the image, and may be copied. They open the image again, and take memory
-   while they run. A refusal leaves the array, the cursor and *count as they were.
+   Calls with a cursor write the items after it, as many as there are and fit, move it past them, and write how many to *count: fewer than `cap`
+   means that there are no more. With a `cap` of 0 they are refused with GM_NO_ROWS. A cursor is numbers that only the calls read; all zero is
+   the start; it is used with the bytes and the image, and may be copied. These calls open the image again, and allocate memory while they run. A
+   refused call leaves the array, the cursor and *count unchanged.
 
-   The names of numbers, as GM_LC_MAIN of a command's, and calls that give them as texts stand at the end. */
+   The names of numbers, such as GM_LC_MAIN for a command's, and calls that return them as texts are at the end. */
 #ifndef GOBLIN_MACH_H
 #define GOBLIN_MACH_H
 #include <stdbool.h>
@@ -22,8 +22,8 @@
 extern "C" {
 #endif
 
-/* The version of this header. gm_version() and gm_version_number() answer those of the library: where MAJOR or MINOR differ, structs and calls
-   may; test GM_VERSION_FITS() once. */
+/* The version of this header. gm_version() and gm_version_number() return those of the library. If MAJOR or MINOR differ, structs and calls may
+   differ: test GM_VERSION_FITS() once. */
 #define GM_VERSION_MAJOR 0
 #define GM_VERSION_MINOR 2
 #define GM_VERSION_PATCH 0
@@ -33,72 +33,75 @@ extern "C" {
 const char *gm_version(void);
 uint32_t gm_version_number(void);
 
-/* malformed bytes; a magic of no image; a read past the end or of no text; too many of a thing; memory was refused; `cap` is 0; what is to be written
-   is larger than `cap` */
+/* malformed bytes; a magic that no image has; a read past the end, or of bytes that aren't text; a count that is too large; memory ran out;
+   `cap` is 0; the output is larger than `cap` */
 enum { GM_OK, GM_MALFORMED, GM_BAD_MAGIC, GM_SHORT, GM_TOO_MANY, GM_NO_MEMORY, GM_NO_ROWS, GM_NO_SPACE };
 
 /* why a call was refused; the text ends with a zero byte */
 typedef struct gm_error { uint32_t code; char text[124]; } gm_error;
 
-/* Memory for a call: `take` answers a block of `size` bytes, aligned to 16, or NULL; `give` takes one back. A call gives
-   back all that it took, and both functions may call this library. Where NULL is handed in for a gm_memory, malloc and free serve. */
+/* Memory for a call: `take` returns a block of `size` bytes, aligned to 16, or NULL; `give` takes one back. A call gives back everything that it
+   took, and both functions may call this library. If a gm_memory is NULL, malloc and free are used. */
 typedef struct gm_memory {
     void *self;
     void *(*take)(void *self, size_t size);
     void (*give)(void *self, void *block);
 } gm_memory;
 
-/* Such memory out of bytes of the caller's, which are aligned to 16; `used` and `blocks` begin as 0. */
+/* Memory for calls from a buffer of the caller's, which is aligned to 16; `used` and `blocks` begin as 0. */
 typedef struct gm_arena { uint8_t *bytes; size_t size, used, blocks; } gm_arena;
 gm_memory gm_arena_memory(gm_arena *arena);
 
-/* ---- a fat file: its entries, 0 where the bytes are none. What an entry holds is bytes + offset, size of them; test
-   that they lie in the file. Where the header says more records than the bytes have, the last entry is the first that isn't whole in
-   them: its code is not GM_OK, and no other's is. */
+/* ---- a fat file: its entries; 0 if the bytes are none. An entry is `size` bytes at bytes + offset; check that they lie in the file. If the
+   header claims more records than the bytes have, the last entry is the first that isn't whole in them: its code is not GM_OK, and no other's
+   is. */
 typedef struct gm_fat_entry { uint32_t cputype, cpusubtype, offset, size, align, code; } gm_fat_entry;
 size_t gm_fat_entries(const uint8_t *bytes, size_t len, size_t first, gm_fat_entry *out, size_t cap);
 
-/* The same of a fat file of 32 or of 64 bits, whichever the bytes are. Add no place and size before they are tested: their sum may not fit 64 bits. */
+/* The same for a fat file of 32 or 64 bits, whichever the bytes are. Check an offset and a size before you add them: the sum may not fit 64
+   bits. */
 typedef struct gm_fat_entry64 { uint64_t offset, size; uint32_t cputype, cpusubtype, align, code; } gm_fat_entry64;
 size_t gm_fat_entries64(const uint8_t *bytes, size_t len, size_t first, gm_fat_entry64 *out, size_t cap);
 
-/* ---- a fat file that is written of parts of some bytes, each for another cpu: `len` bytes from `offset` on, at a place in the file that is a multiple of
-   2 to the power of `align`, at most 15, and behind the part before */
+/* ---- a fat file written from parts of a buffer, each for another cpu: `len` bytes from `offset` on. In the file each part follows the one
+   before it, at a multiple of 2 to the power of `align`, which is at most 15. */
 typedef struct gm_fat_part {
     size_t offset, len;
     uint32_t cputype, cpusubtype, align, reserved; /* the last is not read */
 } gm_fat_part;
 
-/* Writes the file into the front of `out`, and how many bytes it has to *needed: of 64 bits, or of 32 where `is_64` is 0. Where `cap` is too small, which
-   it may be on purpose, that is GM_NO_SPACE, with *needed written and nothing else. Refused also where a part isn't in the bytes (GM_SHORT), where an
-   alignment is too large, two parts are for one cpu whatever its capabilities, or a place or a length is too large for a record (GM_MALFORMED); this
-   leaves *needed, and any refusal `out`. It takes memory for the parts while it runs, and none for their bytes. `out` and the bytes don't overlap. */
+/* Writes the file to the start of `out`, and its size to *needed. It has 64 bits, or 32 if `is_64` is 0. If `cap` is too small, perhaps on
+   purpose, that is GM_NO_SPACE, and *needed is written. It is also refused if a part isn't in the bytes (GM_SHORT), and if an alignment is
+   too large, two parts are for one cpu whatever its capabilities, or an offset or a length is too large for a record (GM_MALFORMED). These
+   refusals leave *needed unchanged, and every refusal `out`. It allocates memory for the parts while it runs, not for their bytes. `out` and the
+   bytes must not overlap. */
 uint32_t gm_write_fat(const uint8_t *bytes, size_t len, const gm_fat_part *parts, size_t count, uint32_t is_64, uint8_t *out, size_t cap, size_t *needed,
                       const gm_memory *memory, gm_error *error);
 
 /* ---- an archive: a static library */
 enum { GM_ARCHIVE_NONE, GM_ARCHIVE_GNU, GM_ARCHIVE_BSD, GM_ARCHIVE_THIN };
 
-/* What archive the bytes are, by their first 8 and what stands in front: how short names are spelled; GM_ARCHIVE_NONE where they begin as none;
-   GM_ARCHIVE_THIN where its members are other files, which no call reads. Refused where the front of an archive can't be read; that leaves *kind. */
+/* Which archive the bytes are, by their first 8 and the members at the start: how short names are written; GM_ARCHIVE_NONE if they don't begin
+   as an archive; GM_ARCHIVE_THIN if its members are other files, which no call reads. It is refused if the start of an archive can't be read;
+   then *kind is unchanged. */
 uint32_t gm_archive_kind(const uint8_t *bytes, size_t len, uint32_t *kind, gm_error *error);
 
-/* Its members in order. The bytes of one are `data_len` at bytes + data; where they are an image it is opened by them, with places that count from there.
-   The name is `name_len` bytes at bytes + name, and may be any; where `name_code` is not GM_OK it can't be read, and both are 0. A row with a `code` is the
-   last: it says why there are no more members, or why the bytes are no archive, and has nothing else. `first` is not free: the headers before it are
-   read, so ask for many at a time. */
+/* Its members in order. The bytes of one are `data_len` at bytes + data. If they are an image, open it with these bytes; its offsets count from
+   there. The name is `name_len` bytes at bytes + name, and may be any bytes; if `name_code` is not GM_OK it can't be read, and both numbers are
+   0. A row with a `code` is the last: it says why there are no more members, or why the bytes are no archive, and has nothing else. `first` has
+   a cost: the headers before it are read, so request many members at a time. */
 typedef struct gm_archive_member {
-    uint64_t date, uid, gid, mode; /* seconds from 1970, owner, group, kind and permissions; each GM_NO_NUMBER where its field is none */
-    size_t header;                 /* the place of its header, 60 bytes */
+    uint64_t date, uid, gid, mode; /* seconds from 1970, owner, group, mode; each GM_NO_NUMBER if its field is no number */
+    size_t header;                 /* the offset of its header, which has 60 bytes */
     size_t data, data_len, name, name_len;
     uint32_t name_code, code;
 } gm_archive_member;
 #define GM_NO_NUMBER UINT64_MAX
 size_t gm_archive_members(const uint8_t *bytes, size_t len, size_t first, gm_archive_member *out, size_t cap);
 
-/* The symbols of its index in the index's order, none where it has none: each name is `name_len` bytes at bytes + name, and `member` is the `header` of
-   the member that defines it, which isn't tested. A row with a `code` is the last: why a name or the index can't be read, or why the bytes are no archive.
-   The names before `first` are read. */
+/* The symbols of its index in the order of the index; none if it has none. Each name is `name_len` bytes at bytes + name, and `member` is the
+   `header` of the member that defines it, which isn't checked. A row with a `code` is the last: why a name or the index can't be read, or why
+   the bytes are no archive. The names before `first` are read. */
 typedef struct gm_archive_symbol {
     uint64_t member;
     size_t name, name_len;
@@ -106,50 +109,49 @@ typedef struct gm_archive_symbol {
 } gm_archive_symbol;
 size_t gm_archive_symbols(const uint8_t *bytes, size_t len, size_t first, gm_archive_symbol *out, size_t cap);
 
-/* The member that defines a symbol, by the index; and the first member of a name. Where there is none, which is no refusal, all of *member is 0, its
-   `header` too. Refused where the archive, its index or a header that is read can't be; gm_archive_find also where the name is no UTF-8. A refusal leaves
-   *member. */
+/* The member that defines a symbol, by the index; and the first member with a name. If there is none, that is no refusal, and all of *member is
+   0, also `header`. Refused if the archive, its index or a header on the way can't be read; gm_archive_find also if the name isn't UTF-8. A
+   refused call leaves *member unchanged. */
 uint32_t gm_archive_find(const uint8_t *bytes, size_t len, const char *symbol, size_t symbol_len, gm_archive_member *member, gm_error *error);
 uint32_t gm_archive_member_named(const uint8_t *bytes, size_t len, const char *name, size_t name_len, gm_archive_member *member, gm_error *error);
 
 /* ---- an image */
 typedef struct gm_image {
-    size_t offset;                                              /* where it begins in the bytes */
-    uint64_t entry;                                             /* the address at which it begins to run, or 0 */
-    size_t first_command, commands;                             /* where its commands begin, and how many they are */
-    size_t segments, libraries, run_paths, symbols;             /* how many of each the call of that name gives */
-    size_t symbols_at, names_at;                                /* where its symbols stand, and their names */
+    size_t offset;                                              /* its offset in the bytes */
+    uint64_t entry;                                             /* the address of its entry point, or 0 */
+    size_t first_command, commands;                             /* the offset of its commands, and how many they are */
+    size_t segments, libraries, run_paths, symbols;             /* how many the call of that name returns */
+    size_t symbols_at, names_at;                                /* the offsets of its symbols and of their names */
     uint32_t magic, cputype, cpusubtype, filetype, flags;       /* of its header */
     uint32_t is_lossy, is_old_style_entry, is_little_endian, is_64; /* 0 or 1 each */
 } gm_image;
 enum { GM_STRICT, GM_LOSSY };
 
-/* How many of `count` records begin within `len` bytes, which stand from `start` on and have `size` bytes each. A file may claim any count of records. The
-   rows behind those that begin there can't be read. */
+/* How many of `count` records of `size` bytes each, from `start` on, begin within `len` bytes. A file may claim any count of records. The rows
+   after those that begin there can't be read. */
 static inline uint64_t gm_begun(size_t len, uint64_t start, uint64_t size, uint64_t count) {
     uint64_t begun = start < len && size != 0 ? (len - start - 1) / size + 1 : 0;
     return begun < count ? begun : count;
 }
 
-/* Opens the image at `offset`. GM_STRICT refuses what can't be read; GM_LOSSY passes over it; another mode is refused as
-   GM_MALFORMED. It takes memory while it runs, for the commands. A refusal leaves *image as it was, and GM_OK leaves *error. */
+/* Opens the image at `offset`. GM_STRICT refuses what can't be read; GM_LOSSY skips it; any other mode is refused as GM_MALFORMED. It allocates
+   memory for the commands while it runs. A refused call leaves *image unchanged, and GM_OK leaves *error. */
 uint32_t gm_open(const uint8_t *bytes, size_t len, size_t offset, uint32_t mode, const gm_memory *memory, gm_image *image, gm_error *error);
 
-/* ---- its load commands: each record stands at `offset` and has `size` bytes */
+/* ---- its load commands: each record is `size` bytes at `offset` */
 typedef struct gm_command { size_t offset, size; uint32_t cmd; } gm_command;
 size_t gm_commands(const uint8_t *bytes, size_t len, const gm_image *image, size_t first, gm_command *out, size_t cap);
 
-/* ---- its segments: the command stands at `command`; the data are `data_len` bytes from `fileoff` on, or none */
+/* ---- its segments: the command is at `command`; the data are `data_len` bytes at `fileoff`, or none */
 typedef struct gm_segment {
-    uint8_t name[16]; /* with zeros behind it, if it has fewer than 16 bytes */
+    uint8_t name[16]; /* padded with zeros if it has fewer than 16 bytes */
     uint64_t vmaddr, vmsize, fileoff, filesize;
     size_t command, data_len;
     uint32_t maxprot, initprot, sections, flags;
 } gm_segment;
 size_t gm_segments(const uint8_t *bytes, size_t len, const gm_image *image, size_t first, gm_segment *out, size_t cap);
 
-/* ---- the sections of a segment, which hands in its `command` and its `sections`; the data of a section are `data_len`
-   bytes from `offset` on */
+/* ---- the sections of a segment, which is given by its `command` and its `sections`; the data of a section are `data_len` bytes at `offset` */
 typedef struct gm_section {
     uint8_t name[16], segment[16];
     uint64_t addr, size;
@@ -158,12 +160,12 @@ typedef struct gm_section {
 } gm_section;
 size_t gm_sections(const uint8_t *bytes, size_t len, const gm_image *image, size_t command, uint32_t sections, size_t first, gm_section *out, size_t cap);
 
-/* ---- the relocations of a section, which hands in its `reloff` and its `nreloc` */
+/* ---- the relocations of a section, which is given by its `reloff` and its `nreloc` */
 typedef struct gm_relocation { int32_t address; uint32_t info, code; } gm_relocation;
 size_t gm_relocations(const uint8_t *bytes, size_t len, const gm_image *image, uint32_t reloff, uint32_t nreloc, size_t first, gm_relocation *out, size_t cap);
 
-/* ---- its symbols: the name of one is `name_len` bytes at bytes + name. Where `code` says that they are no text, or that none stand
-   there, the rest is as the record says; where the record can't be read all of it is 0. */
+/* ---- its symbols: the name of one is `name_len` bytes at bytes + name. If `code` says that these aren't text, or that there is no name, the
+   rest is as in the record; if the record can't be read everything else is 0. */
 typedef struct gm_symbol {
     uint64_t value;
     size_t name, name_len, section;
@@ -176,32 +178,33 @@ size_t gm_symbols(const uint8_t *bytes, size_t len, const gm_image *image, size_
 /* ---- its libraries, the one of ordinal 1 first: the name of one is `name_len` bytes at bytes + name */
 typedef struct gm_library {
     size_t name, name_len;
-    uint32_t kind, timestamp, current_version, compatibility_version; /* kind: that of its command's number */
-    uint32_t attributes, reserved; /* how it is used: GM_USED_WEAK and those behind it, added up */
+    uint32_t kind, timestamp, current_version, compatibility_version; /* kind: by its command */
+    uint32_t attributes, reserved; /* how it is used: the sum of GM_USED_WEAK and the following ones */
 } gm_library;
 enum { GM_REQUIRED, GM_WEAK, GM_REEXPORT, GM_UPWARD, GM_LAZY };
 enum { GM_USED_WEAK = 1, GM_USED_REEXPORT = 2, GM_USED_UPWARD = 4, GM_USED_DELAYED = 8 };
 size_t gm_libraries(const uint8_t *bytes, size_t len, const gm_image *image, size_t first, gm_library *out, size_t cap);
 
-/* ---- the paths on which its libraries are sought: each is `path_len` bytes at bytes + path */
+/* ---- the paths on which its libraries are searched: each is `path_len` bytes at bytes + path */
 typedef struct gm_run_path { size_t path, path_len; } gm_run_path;
 size_t gm_run_paths(const uint8_t *bytes, size_t len, const gm_image *image, size_t first, gm_run_path *out, size_t cap);
 
-/* ---- the names by which the image itself is known as a library (LC_ID_DYLIB), each `name_len` bytes at bytes + name: where there are several, the
-   last one counts */
+/* ---- the names of the image itself as a library (LC_ID_DYLIB), each `name_len` bytes at bytes + name: if there are several, the last one
+   counts */
 typedef struct gm_id { size_t name, name_len; } gm_id;
 size_t gm_ids(const uint8_t *bytes, size_t len, const gm_image *image, size_t first, gm_id *out, size_t cap);
 
-/* ---- where its functions begin (LC_FUNCTION_STARTS), in the order of their addresses, before sliding */
+/* ---- the start addresses of its functions (LC_FUNCTION_STARTS), in ascending order, before sliding */
 typedef struct gm_function_start {
     uint64_t address;
-    uint32_t code, reserved; /* code: GM_OK, or why they can't be read further */
+    uint32_t code, reserved; /* code: GM_OK, or why no further ones can be read */
 } gm_function_start;
 typedef struct gm_start_cursor { size_t place; uint64_t address; uint32_t stage, reserved; } gm_start_cursor;
 uint32_t gm_function_starts(const uint8_t *bytes, size_t len, const gm_image *image, gm_start_cursor *cursor, gm_function_start *out, size_t cap,
                             size_t *count, const gm_memory *memory, gm_error *error);
 
-/* ---- the data among its code (LC_DATA_IN_CODE): `length` bytes, `offset` behind the image's first byte in memory; of an object file behind address 0 */
+/* ---- the data in its code (LC_DATA_IN_CODE): `length` bytes, `offset` bytes after the image's first byte in memory; in an object file after
+   address 0 */
 typedef struct gm_data_in_code_entry {
     uint32_t offset;
     uint16_t length, kind; /* kind: a GM_DICE_KIND_ number */
@@ -209,31 +212,31 @@ typedef struct gm_data_in_code_entry {
 } gm_data_in_code_entry;
 size_t gm_data_in_code(const uint8_t *bytes, size_t len, const gm_image *image, size_t first, gm_data_in_code_entry *out, size_t cap);
 
-/* ---- its table of indirect symbols: whose the pointers and stubs are that count from a section's place in it */
+/* ---- its table of indirect symbols: those of the pointers and stubs of a section follow one another from the section's place in it */
 typedef struct gm_indirect_symbol {
-    uint32_t kind, symbol; /* symbol: of GM_INDIRECT_SYMBOL the number of gm_symbols, else 0 */
+    uint32_t kind, symbol; /* symbol: for GM_INDIRECT_SYMBOL its index for gm_symbols, else 0 */
     uint32_t code;         /* GM_OK, or why it can't be read */
 } gm_indirect_symbol;
 enum { GM_INDIRECT_SYMBOL, GM_INDIRECT_LOCAL, GM_INDIRECT_ABSOLUTE, GM_INDIRECT_LOCAL_ABSOLUTE };
 size_t gm_indirect_symbols(const uint8_t *bytes, size_t len, const gm_image *image, size_t first, gm_indirect_symbol *out, size_t cap);
 
-/* ---- its options for the linker (LC_LINKER_OPTION), of an object file: each is `text_len` bytes at bytes + text, of the command at `command` */
+/* ---- the linker options in an object file (LC_LINKER_OPTION): each is `text_len` bytes at bytes + text, from the command at `command` */
 typedef struct gm_linker_option {
     size_t command, text, text_len;
-    uint32_t code, reserved; /* code: GM_OK; or why it can't be read, and then none comes behind it */
+    uint32_t code, reserved; /* code: GM_OK; or why it can't be read, and then none follows it */
 } gm_linker_option;
 size_t gm_linker_options(const uint8_t *bytes, size_t len, const gm_image *image, size_t first, gm_linker_option *out, size_t cap);
 
-/* ---- the tools that it was built with (LC_BUILD_VERSION), of the command at `command` */
+/* ---- the tools that it was built with (LC_BUILD_VERSION), from the command at `command` */
 typedef struct gm_build_tool {
     size_t command;
     uint32_t tool, version;  /* a GM_TOOL_ number, and X.Y.Z in 16, 8 and 8 bits */
-    uint32_t code, reserved; /* code: GM_OK; or why it can't be read, and then none comes behind it */
+    uint32_t code, reserved; /* code: GM_OK; or why it can't be read, and then none follows it */
 } gm_build_tool;
 size_t gm_build_tools(const uint8_t *bytes, size_t len, const gm_image *image, size_t first, gm_build_tool *out, size_t cap);
 
-/* ---- its notes (LC_NOTE), of the command at `command`: the owner's name is `owner_len` bytes at bytes + owner, and the note is `size` bytes at
-   bytes + place. One of no bytes may be said to stand anywhere. */
+/* ---- its notes (LC_NOTE), from the command at `command`: the owner's name is `owner_len` bytes at bytes + owner, and the note is `size` bytes
+   at bytes + place. An empty note may be placed anywhere. */
 typedef struct gm_note {
     size_t command, owner, owner_len;
     uint64_t place;
@@ -242,48 +245,49 @@ typedef struct gm_note {
 } gm_note;
 size_t gm_notes(const uint8_t *bytes, size_t len, const gm_image *image, size_t first, gm_note *out, size_t cap);
 
-/* ---- its slots: the stubs and the pointers that stand for symbols, `len` bytes at `address` in memory, in section number `section` of segment
+/* ---- its slots: the stubs and the pointers that belong to symbols, `len` bytes at `address` in memory, in section number `section` of segment
    number `segment` */
 typedef struct gm_slot {
     uint64_t address, len;
-    size_t segment, name, name_len; /* of GM_INDIRECT_SYMBOL: its symbol's name is `name_len` bytes at bytes + name */
-    uint32_t section, kind;         /* kind: GM_SLOT_POINTER and those behind it */
-    uint32_t index, owner, symbol;  /* the number of its entry among gm_indirect_symbols, and what the entry says: `kind` and `symbol` there */
-    uint32_t code;                  /* GM_OK, or why it can't be read, and those behind it in its section, where they have no entry */
+    size_t segment, name, name_len; /* for GM_INDIRECT_SYMBOL: its symbol's name is `name_len` bytes at bytes + name */
+    uint32_t section, kind;         /* kind: GM_SLOT_POINTER and the following ones */
+    uint32_t index, owner, symbol;  /* the index of its entry for gm_indirect_symbols, and that entry's `kind` and `symbol` */
+    uint32_t code;                  /* GM_OK, or why it can't be read, nor those after it in its section if they have no entry */
 } gm_slot;
 enum { GM_NO_SLOT, GM_SLOT_POINTER, GM_SLOT_LAZY_POINTER, GM_SLOT_STUB, GM_SLOT_LAZY_LIBRARY_POINTER, GM_SLOT_THREAD_LOCAL_POINTER };
 
-/* The slots from number `first` on, and how many were written to *count. It opens the image again, takes memory while it runs, and goes over the
-   slots before `first`: ask for many at a time. With a `cap` of 0 it is refused with GM_NO_ROWS. A refusal leaves the array and *count. */
+/* The slots from index `first` on; how many were written is in *count. It opens the image again, allocates memory while it runs, and visits the
+   slots before `first`: request many at a time. With a `cap` of 0 it is refused with GM_NO_ROWS. A refused call leaves the array and *count
+   unchanged. */
 uint32_t gm_slots(const uint8_t *bytes, size_t len, const gm_image *image, size_t first, gm_slot *out, size_t cap, size_t *count,
                   const gm_memory *memory, gm_error *error);
 
-/* Seeks the slot in which an address lies: one of kind GM_NO_SLOT where there is none. It opens the image again, and takes memory while it runs.
-   Refused also where that slot can't be read; a refusal leaves *slot. */
+/* Finds the slot that holds an address; its kind is GM_NO_SLOT if there is none. It opens the image again, and allocates memory while it runs.
+   It is also refused if that slot can't be read; a refused call leaves *slot unchanged. */
 uint32_t gm_slot_at(const uint8_t *bytes, size_t len, const gm_image *image, uint64_t address, gm_slot *slot, const gm_memory *memory, gm_error *error);
 
-/* ---- who gives an undefined symbol, as the linker wrote it down in images with GM_MH_TWOLEVEL: a number of the symbol alone, which dyld need not
-   go by. `is_told` is 0 of any other symbol, and all else then. */
+/* ---- the provider of an undefined symbol, as the linker recorded it in images with GM_MH_TWOLEVEL: from a number of the symbol alone, which
+   dyld need not follow. For any other symbol `is_told` and everything else is 0. */
 typedef struct gm_provider {
-    uint64_t library;           /* the ordinal of a library, and else 0 */
+    uint64_t library;           /* the ordinal of a library, else 0 */
     uint32_t provider, is_told; /* GM_OF_LIBRARY, GM_OF_ITSELF, GM_OF_PROGRAM or GM_OF_ANY; 0 or 1 */
-    uint32_t code, reserved;    /* code: GM_OK, or GM_MALFORMED where the ordinal is past the last library */
+    uint32_t code, reserved;    /* code: GM_OK, or GM_MALFORMED if the ordinal is past the last library */
 } gm_provider;
 void gm_symbol_provider(const gm_image *image, const gm_symbol *symbol, gm_provider *found);
 
-/* ---- a section that is sought: number `number` of segment number `segment`, with all that its record says; all 0 where `is_found` is 0 */
+/* ---- a section that is looked up: number `number` of segment number `segment`, with its whole record; all 0 if `is_found` is 0 */
 typedef struct gm_found_section {
     uint8_t name[16], segment_name[16];
     uint64_t addr, size;
     size_t segment;
     uint32_t number, offset, align, reloff, nreloc, flags;
-    uint32_t reserved1, reserved2; /* of pointers and stubs: their place among gm_indirect_symbols; of stubs how many bytes each has */
+    uint32_t reserved1, reserved2; /* for pointers and stubs: the index of the first for gm_indirect_symbols; for stubs the size of each */
     uint32_t is_found, reserved;
 } gm_found_section;
 
-/* The first section in which an address lies, among those that are in the bytes; and the one that `section` of a gm_symbol means, counted from 1
-   over all segments. Both open the image again, and take memory while they run. A refusal leaves *section; the second is also refused where that
-   section isn't in the bytes. */
+/* The first section that holds an address, among those that are in the bytes; and the one with the number `section` of a gm_symbol, counted from
+   1 over all segments. Both open the image again, and allocate memory while they run. A refused call leaves *section unchanged; the second is
+   also refused if that section isn't in the bytes. */
 uint32_t gm_section_at(const uint8_t *bytes, size_t len, const gm_image *image, uint64_t address, gm_found_section *section, const gm_memory *memory,
                        gm_error *error);
 uint32_t gm_section_of(const uint8_t *bytes, size_t len, const gm_image *image, size_t number, gm_found_section *section, const gm_memory *memory,
@@ -292,38 +296,39 @@ uint32_t gm_section_of(const uint8_t *bytes, size_t len, const gm_image *image, 
 /* ---- one name among its exports: addresses count from the image's start */
 typedef struct gm_export {
     uint64_t address, resolver, flags;
-    size_t library_len, target_len; /* of a re-export: how long the library's name is, and the name there; 0: the same name */
+    size_t library_len, target_len; /* for a re-export: the lengths of the library's name and of the name there; 0: the same name */
     uint32_t kind, reserved;
 } gm_export;
 enum { GM_NO_EXPORT, GM_ADDRESS, GM_REEXPORTED, GM_STUB };
 
-/* Seeks a name, by the nodes on its way alone. Of a re-export as much of the library's name as fits is put into `library`, and of
-   the name there into `target`. It opens the image again, and takes memory while it runs. A refusal leaves all but *error. */
+/* Finds the export of a name; only the nodes on its path are read. For a re-export it writes as much of the library's name as fits to `library`,
+   and of the name there to `target`. It opens the image again, and allocates memory while it runs. A refused call leaves everything but *error
+   unchanged. */
 uint32_t gm_find_export(const uint8_t *bytes, size_t len, const gm_image *image, const char *name, size_t name_len, gm_export *found,
                         char *library, size_t library_cap, char *target, size_t target_cap, const gm_memory *memory, gm_error *error);
 
 /* ---- all of its exports, in batches */
 
-/* How far a walk of the exports has come: numbers, all 0 at the start, as in `gm_export_walk walk = {0};`. They may be copied, and
-   go with the bytes, the image, and the `name` and the `stack` that the call before left. */
+/* The position of a walk over the exports: numbers, all 0 at the start, as in `gm_export_walk walk = {0};`. They may be copied, and are used
+   with the bytes, the image, and the `name` and the `stack` that the previous call left. */
 typedef struct gm_open_node { size_t left, place, name_len; } gm_open_node;
 typedef struct gm_export_walk {
     size_t phase, visits_left, name_len, depth, node;
     gm_open_node top;
     uint32_t is_begun;
-    uint32_t code; /* GM_OK, or why the walk was refused; the next call is refused so again */
+    uint32_t code; /* GM_OK, or why the walk was refused; then the next call is refused, too */
 } gm_export_walk;
 
-/* a row: its name is `name_len` bytes at names + name, with no zero byte behind */
+/* a row: its name is `name_len` bytes at names + name, with no zero byte after it */
 typedef struct gm_listed_export {
     size_t name, name_len;
-    size_t library; /* of a re-export: number `library - 1` of gm_libraries; 0 is the image itself */
+    size_t library; /* for a re-export: index `library - 1` for gm_libraries; 0 is the image itself */
     size_t target;  /* the name there is `what.target_len` bytes at bytes + target; none: the same name */
     gm_export what; /* `kind` is never GM_NO_EXPORT */
 } gm_listed_export;
 
-/* What a call may write into. `name` is the walk's, for the longest name; `stack` is, for the nodes that are open at once;
-   `out` is for rows, and `names` for their names, one behind the other: let it be many times as long as `name`. */
+/* What a call may write to. `name` belongs to the walk, and must hold the longest name; so does `stack`, for the nodes that are open at once;
+   `out` is for rows, and `names` for their names, one after the other: make it many times as long as `name`. */
 typedef struct gm_export_room {
     char *name; size_t name_cap;
     gm_open_node *stack; size_t stack_cap;
@@ -331,35 +336,35 @@ typedef struct gm_export_room {
     char *names; size_t names_cap;
 } gm_export_room;
 
-/* so many rows and so many bytes of names were written; why there are no more; and how much is needed to go on */
+/* how many rows and how many bytes of names were written; why there are no more; and how much is needed to go on */
 typedef struct gm_export_batch { size_t count, names_len, needed; uint32_t end, reserved; } gm_export_batch;
 enum {
     GM_MORE,        /* the array is full, or less is left of `names` than a name may need: call again */
-    GM_END,         /* there are no more. Where two paths lead to one node it was given twice: see gm_exports_are_a_tree */
+    GM_END,         /* there are no more. If two paths lead to one node its exports came twice: see gm_exports_are_a_tree */
     GM_NO_ROOM,     /* `cap` is 0, and `needed` is 1; or `names` is shorter than `name`, and needs `needed` bytes */
-    GM_NAME_SHORT,  /* the name that comes next needs `needed` bytes of `name` */
+    GM_NAME_SHORT,  /* the next name needs `needed` bytes of `name` */
     GM_STACK_SHORT, /* the stack needs `needed` nodes */
-    GM_REFUSED      /* the code says why; the rows before it stand */
+    GM_REFUSED      /* the code says why; the rows before it are valid */
 };
 
-/* Goes on with a walk. Where `name` or `stack` is too short, or `names` is, call again with more, which begins with what was
-   there; no export is lost. It opens the image again, and takes memory while it runs. Refused for want of memory, it leaves
-   all but *batch and *error as they were, and may be called again. */
+/* Goes on with a walk. If `name`, `stack` or `names` is too short, call again with a larger one that begins with the old contents; no export is
+   lost. It opens the image again, and allocates memory while it runs. If memory runs out, everything but *batch and *error is unchanged, and the
+   call may be repeated. */
 uint32_t gm_exports(const uint8_t *bytes, size_t len, const gm_image *image, gm_export_walk *walk, const gm_export_room *room,
                     gm_export_batch *batch, const gm_memory *memory, gm_error *error);
 
-/* Whether all exports can be read, and no two paths of their trie lead to one node: GM_OK, and then a walk of gm_exports gives the
-   image's list of exports; else the code of a fault. It opens the image again, goes over all exports, and takes memory while it runs: for
-   the commands, and a bit for each byte of the trie. */
+/* Whether all exports can be read, and no two paths of their trie lead to one node: GM_OK, and then a walk of gm_exports returns the image's
+   list of exports; else the code of a fault. It opens the image again, visits all exports, and allocates memory while it runs: for the commands,
+   and one bit for each byte of the trie. */
 uint32_t gm_exports_are_a_tree(const uint8_t *bytes, size_t len, const gm_image *image, const gm_memory *memory, gm_error *error);
 
-/* ---- the fixups of its chains (LC_DYLD_CHAINED_FIXUPS): a pointer at `address` in memory, `offset` bytes behind the start
-   of segment number `segment` */
+/* ---- the fixups of its chains (LC_DYLD_CHAINED_FIXUPS): a pointer at `address` in memory, `offset` bytes after the start of segment number
+   `segment` */
 typedef struct gm_fixup {
     uint64_t address, offset;
-    uint64_t target; /* the address of a rebase, or the number */
+    uint64_t target; /* the target address of a rebase, or the number */
     uint32_t segment, kind;
-    uint32_t import; /* of a bind: the number of its import, and what is added to the address */
+    uint32_t import; /* for a bind: the index of its import, and what is added to the address */
     int32_t addend;
     uint32_t is_signed, key, diversity, is_address_diverse; /* how the pointer is signed on arm64e */
     uint32_t code; /* GM_OK, or why the chains can't be read further */
@@ -370,72 +375,71 @@ typedef struct gm_fixup_cursor { uint64_t chains[4]; uint32_t stage, reserved; }
 uint32_t gm_fixups(const uint8_t *bytes, size_t len, const gm_image *image, gm_fixup_cursor *cursor, gm_fixup *out, size_t cap, size_t *count,
                    const gm_memory *memory, gm_error *error);
 
-/* ---- its imports, by the binds of LC_DYLD_INFO: the name of one is `name_len` bytes at bytes + name, and its library is the one
-   of ordinal `library`, 0 for the image itself */
+/* ---- its imports, from the binds of LC_DYLD_INFO: the name of one is `name_len` bytes at bytes + name, and its library has ordinal `library`,
+   0 for the image itself */
 typedef struct gm_import {
     uint64_t address, offset; /* of the pointer to bind: in memory, and in the file */
     int64_t addend;
-    uint64_t start_of_sequence_offset; /* the place after the last DONE before it, counted from the start of its range, or 0 */
+    uint64_t start_of_sequence_offset; /* the offset after the last DONE before it, counted from the start of its range, or 0 */
     size_t name, name_len;
     uint64_t library;
     size_t size;                /* 8 for a lazy one, else 0 */
     uint32_t is_weak, is_lazy; /* whether the symbol may be missing, whether it is bound at its first use: 0 or 1 each */
-    uint32_t code;              /* GM_OK, or why they can't be read further */
+    uint32_t code;              /* GM_OK, or why no further ones can be read */
 } gm_import;
 typedef struct gm_bind_cursor { uint64_t binds[12]; uint32_t stage, reserved; } gm_bind_cursor;
 uint32_t gm_imports(const uint8_t *bytes, size_t len, const gm_image *image, gm_bind_cursor *cursor, gm_import *out, size_t cap, size_t *count,
                     const gm_memory *memory, gm_error *error);
 
-/* ---- what dyld binds of it, by the opcodes of LC_DYLD_INFO and then by the chains: the name of one is `name_len` bytes at bytes + name */
+/* ---- its bindings, from the opcodes of LC_DYLD_INFO and then from the chains: the name of one is `name_len` bytes at bytes + name */
 typedef struct gm_binding {
     uint64_t address, offset; /* of the pointer to bind: in memory, and in the file */
     int64_t addend;
     size_t name, name_len;
-    uint64_t library;           /* the ordinal of a library, and else 0 */
+    uint64_t library;           /* the ordinal of a library, else 0 */
     uint32_t provider;          /* where the symbol is looked for */
     uint32_t is_weak, is_lazy; /* whether the symbol may be missing, whether it is bound at its first use: 0 or 1 each */
-    uint32_t code;              /* GM_OK, or why they can't be read further */
+    uint32_t code;              /* GM_OK, or why no further ones can be read */
 } gm_binding;
 enum { GM_OF_LIBRARY, GM_OF_ITSELF, GM_OF_PROGRAM, GM_OF_ANY, GM_OF_ANY_WEAK };
 typedef struct gm_binding_cursor { gm_bind_cursor opcodes; gm_fixup_cursor chains; } gm_binding_cursor;
 uint32_t gm_bindings(const uint8_t *bytes, size_t len, const gm_image *image, gm_binding_cursor *cursor, gm_binding *out, size_t cap, size_t *count,
                      const gm_memory *memory, gm_error *error);
 
-/* ---- what dyld binds weakly of it, by the weak binds of LC_DYLD_INFO, as images of C++ have them: names that the image defines itself and
-   not weakly, and places that take the definition of a name that all images share, whatever was bound there before. The name of one is
-   `name_len` bytes at bytes + name. */
+/* ---- its weak binds, from LC_DYLD_INFO, which images of C++ have: names that the image defines itself and not weakly, and places that take the
+   definition of a name that all images share, whatever was bound there before. The name of one is `name_len` bytes at bytes + name. */
 typedef struct gm_weak_bind {
     uint64_t address, offset; /* of the pointer to bind: in memory, and in the file */
     int64_t addend;
     size_t name, name_len;
-    uint32_t is_strong;      /* 1 where the image defines the name itself: then no place is bound, and 0 stands in the other numbers */
+    uint32_t is_strong;      /* 1 if the image defines the name itself: then no place is bound, and the other numbers are 0 */
     uint32_t is_weak;        /* whether the symbol may be missing: 0 or 1 */
-    uint32_t code, reserved; /* code: GM_OK, or why they can't be read further */
+    uint32_t code, reserved; /* code: GM_OK, or why no further ones can be read */
 } gm_weak_bind;
 uint32_t gm_weak_binds(const uint8_t *bytes, size_t len, const gm_image *image, gm_bind_cursor *cursor, gm_weak_bind *out, size_t cap, size_t *count,
                        const gm_memory *memory, gm_error *error);
 
-/* ---- what dyld rebases of it, by the opcodes of LC_DYLD_INFO and then by the chains: places in memory whose number it corrects by how far
-   the image was moved, each at `address`, `offset` bytes behind the start of segment number `segment` */
+/* ---- its rebases, from the opcodes of LC_DYLD_INFO and then from the chains: places in memory whose number dyld adjusts by the slide of the
+   image, each at `address`, `offset` bytes after the start of segment number `segment` */
 typedef struct gm_rebase {
     uint64_t address, offset;
-    uint64_t target; /* the number that stands there before it is corrected */
+    uint64_t target; /* the number there before it is adjusted */
     uint32_t segment, kind;
     uint32_t is_signed, key, diversity, is_address_diverse; /* how the pointer is signed on arm64e */
-    uint32_t code, reserved; /* code: GM_OK, or why they can't be read further */
+    uint32_t code, reserved; /* code: GM_OK, or why no further ones can be read */
 } gm_rebase;
 enum { GM_REBASE_POINTER = 1, GM_REBASE_TEXT_ABSOLUTE, GM_REBASE_TEXT_RELATIVE };
 typedef struct gm_rebase_cursor { gm_bind_cursor opcodes; gm_fixup_cursor chains; } gm_rebase_cursor;
 uint32_t gm_rebases(const uint8_t *bytes, size_t len, const gm_image *image, gm_rebase_cursor *cursor, gm_rebase *out, size_t cap, size_t *count,
                     const gm_memory *memory, gm_error *error);
 
-/* ---- the faults of its layout, rule by rule: what of the file lies where the format and its readers don't allow it. docs/C.md
-   says what `found` and `limit` of each rule are. */
+/* ---- the faults of its layout, rule by rule: what lies where the format and its readers don't allow it. docs/C.md says what `found` and
+   `limit` are for each rule. */
 typedef struct gm_layout_fault {
-    uint64_t found, limit;               /* what is there, and what it breaks */
-    uint64_t command, index;             /* whose it is: the place of its command or record, and its number there, or 0 */
-    uint64_t other_command, other_index; /* the same of the other one, where two disagree */
-    uint32_t rule, part, other_part;     /* GM_LAYOUT_.., and GM_PART_..: other_part is GM_PART_NONE where there is no other one */
+    uint64_t found, limit;               /* what is there, and the limit that it breaks */
+    uint64_t command, index;             /* the owner: the offset of its command or record, and its number there, or 0 */
+    uint64_t other_command, other_index; /* the same for the other owner, if two disagree */
+    uint32_t rule, part, other_part;     /* GM_LAYOUT_.., and GM_PART_..: other_part is GM_PART_NONE if there is no other owner */
 } gm_layout_fault;
 
 /* the rules and the parts, with their plain names */
@@ -479,39 +483,40 @@ enum { GM_PART_NONE, GM_LAYOUT_PARTS(GM_LAYOUT_PART) };
 #undef GM_LAYOUT_RULE
 #undef GM_LAYOUT_PART
 
-/* the plain name of a rule, and of a part; "none" of a number that is none */
+/* the plain name of a rule, and of a part; "none" for any other number */
 const char *gm_layout_rule(uint32_t rule);
 const char *gm_layout_part(uint32_t part);
 
-/* The faults from number `first` on, and how many were written to *count: those of the file that begins with the image, and places count
-   from there. It opens the image again, and takes memory while it runs. With a `cap` of 0 it is refused with GM_NO_ROWS. A refusal leaves the
-   array and *count as they were. */
+/* The faults from index `first` on; how many were written is in *count. They are those of the file that begins with the image, and offsets count
+   from there. It opens the image again, and allocates memory while it runs. With a `cap` of 0 it is refused with GM_NO_ROWS. A refused call
+   leaves the array and *count unchanged. */
 uint32_t gm_layout_faults(const uint8_t *bytes, size_t len, const gm_image *image, size_t first, gm_layout_fault *out, size_t cap, size_t *count,
                           const gm_memory *memory, gm_error *error);
 
-/* The same of the table of a fat file, of 32 or of 64 bits: none where the bytes are none. Where `cap` is not 0, GM_NO_MEMORY is its one refusal. */
+/* The same for the table of a fat file, of 32 or 64 bits: none if the bytes are none. Unless `cap` is 0, it is only refused with GM_NO_MEMORY. */
 uint32_t gm_container_faults(const uint8_t *bytes, size_t len, size_t first, gm_layout_fault *out, size_t cap, size_t *count,
                              const gm_memory *memory, gm_error *error);
 
-/* ---- its code signature: what the code directory that counts says, which is the one that the system takes. A text is `.._len` bytes at bytes + .., and
-   both are 0 where there is none. */
+/* ---- its code signature: the code directory that counts, which is the one that the system takes. A text is `.._len` bytes at bytes + .., and
+   both are 0 if there is none. */
 typedef struct gm_signature {
-    uint64_t limit, pages;                                   /* so many bytes of the image are covered, and so many pages */
+    uint64_t limit, pages;                                   /* how many bytes of the image are covered, and how many pages they have */
     size_t identifier, identifier_len, team, team_len;
     size_t entitlements, entitlements_len;                   /* in XML */
     uint32_t version, flags, hash_type;                      /* flags: GM_CS_ADHOC and the like; hash_type: GM_CS_HASHTYPE_SHA256 and the like */
-    uint32_t page_size;                                      /* a page has 2 to this number of bytes; 0 is any number */
+    uint32_t page_size;                                      /* the size of a page as a power of 2; 0 if all covered bytes are one page */
     uint32_t identifier_code, team_code, entitlements_code;  /* GM_OK, or why the text can't be read */
-    uint32_t is_signed;                                      /* 0 or 1; where it is 0 no command brings a signature, and all is 0 */
-    uint8_t cdhash[20];                                      /* by this the system knows the code: 20 bytes of the directory's hash, by hash_type */
+    uint32_t is_signed;                                      /* 0 or 1; if it is 0 no command places a signature, and everything is 0 */
+    uint8_t cdhash[20];                                      /* the system knows the code by this: 20 bytes of the directory's hash, by hash_type */
     uint32_t reserved;
 } gm_signature;
 
-/* Writes it. It opens the image again, and takes memory while it runs. Refused also where the signature or one of its directories can't be read, and where two
-   directories are of one kind of hash, or there is none; a refusal leaves *signature as it was. */
+/* Writes it. It opens the image again, and allocates memory while it runs. It is also refused if the signature or one of its directories can't
+   be read, if two directories have the same hash type, or if there is none; a refused call leaves *signature unchanged. */
 uint32_t gm_code_signature(const uint8_t *bytes, size_t len, const gm_image *image, gm_signature *signature, const gm_memory *memory, gm_error *error);
 
-/* what isn't as it was signed: of a kind, of the directory of a slot, or of a blob. docs/C.md says what `found` and `limit` of each kind are. */
+/* what isn't as it was signed: a fault of a kind, of the directory at a slot or of a blob. docs/C.md says what `found` and `limit` are for each
+   kind. */
 typedef struct gm_signature_fault {
     uint64_t found, limit;
     uint32_t kind, slot, index, code; /* index: of a blob or a page, or a special slot; code: GM_OK, or why something can't be read */
@@ -526,27 +531,28 @@ typedef struct gm_signature_fault {
 enum { GM_SIGNATURE_NONE, GM_SIGNATURE_KINDS(GM_SIGNATURE_KIND) };
 #undef GM_SIGNATURE_KIND
 
-/* the plain name of a kind; "none" of a number that is none */
+/* the plain name of a kind; "none" for any other number */
 const char *gm_signature_kind(uint32_t kind);
 
-/* The faults of the signature from number `first` on, and how many were written to *count; none where no command brings a signature. It opens the image
-   again, takes memory while it runs, and hashes what is covered from the first page on: so hand in an array that takes them all where they are
-   many. With a `cap` of 0 it is refused with GM_NO_ROWS; refused also where the signature can't be read. A refusal leaves the array and *count as
-   they were. */
+/* The faults of the signature from index `first` on; how many were written is in *count; none if no command places a signature. It opens the
+   image again, allocates memory while it runs, and hashes the covered bytes from the first page on: if there are many faults, pass an array that
+   holds them all. With a `cap` of 0 it is refused with GM_NO_ROWS; it is also refused if the signature can't be read. A refused call leaves the
+   array and *count unchanged. */
 uint32_t gm_signature_faults(const uint8_t *bytes, size_t len, const gm_image *image, size_t first, gm_signature_fault *out, size_t cap, size_t *count,
                              const gm_memory *memory, gm_error *error);
 
-/* Whether the image has a signature and is as it was signed: 1, or 0, which it writes to *as_signed. It opens the image again, takes memory while it runs, and
-   hashes what is covered. Refused also where the signature can't be read; a refusal leaves *as_signed as it was. Who signed is not looked at. */
+/* Whether the image has a signature and is as it was signed: writes 1 or 0 to *as_signed. It opens the image again, allocates memory while it
+   runs, and hashes the covered bytes. It is also refused if the signature can't be read; a refused call leaves *as_signed unchanged. Who signed
+   is not checked. */
 uint32_t gm_is_as_signed(const uint8_t *bytes, size_t len, const gm_image *image, uint32_t *as_signed, const gm_memory *memory, gm_error *error);
 
-/* ---- the names of numbers; NULL of a number that has none */
-const char *gm_code_name(uint32_t code);                              /* "malformed", of a code of an error or of a row */
+/* ---- the names of numbers; NULL for a number without one */
+const char *gm_code_name(uint32_t code);                              /* "malformed", for the code of an error or of a row */
 const char *gm_cpu_name(uint32_t cputype, uint32_t cpusubtype);       /* "arm64e", as clang, lipo and LLVM call it */
 const char *gm_file_type_name(uint32_t filetype);                     /* "EXECUTE" */
-const char *gm_header_flag_name(uint32_t flag);                       /* "MH_PIE", of exactly one flag */
+const char *gm_header_flag_name(uint32_t flag);                       /* "MH_PIE", for exactly one flag */
 const char *gm_command_name(uint32_t cmd);                            /* "LC_SEGMENT_64" */
-const char *gm_symbol_type_name(uint8_t n_type);                      /* "N_SECT", by the bits of GM_N_TYPE; "N_FUN" of an entry for a debugger */
+const char *gm_symbol_type_name(uint8_t n_type);                      /* "N_SECT", by the bits of GM_N_TYPE; "N_FUN" for an entry for a debugger */
 const char *gm_relocation_name(uint32_t cputype, uint32_t type);      /* "ARM64_RELOC_BRANCH26", by `info >> 28` */
 const char *gm_platform_name(uint32_t platform);                      /* "MACOS" */
 
