@@ -1,5 +1,5 @@
-/* containers_test check FILE..: archives and fat files of 32 and 64 bits, all prefixes of these files and some that are written here: lists in batches, what
-   is found beside what is listed, and fat files that are written, read back by the format's words alone.
+/* containers_test check FILE..: tests archives and fat files of 32 and 64 bits, all prefixes of these files and some that are written here. It
+   tests lists in batches, look-ups against the lists, and written fat files, which are read back by the rules of the format alone.
    containers_test members|archive_symbols|entries FILE prints the lines of a list. */
 #include "goblin_mach.h"
 #include <inttypes.h>
@@ -45,7 +45,7 @@ static const list lists[] = {{"members", sizeof(gm_archive_member), rows_members
                              {"entries", sizeof(gm_fat_entry64), rows_entries, line_entries}};
 enum { LISTS = sizeof lists / sizeof *lists, LIMIT = 400 };
 
-/* the lines of a list in batches of so many, at most LIMIT of them, which may have zero bytes; each array is as long as it is said to be */
+/* the lines of a list in batches of so many, at most LIMIT of them, which may have zero bytes; each array has exactly the length that is passed */
 static char *lines(const list *l, const given *g, size_t batch, size_t *len) {
     char *all = NULL;
     size_t n = 0, k, room;
@@ -92,7 +92,7 @@ static void same_entries(const given *g) {
             || narrow[i].size != wide[i].size || narrow[i].align != wide[i].align || narrow[i].code != wide[i].code) DIE("entry %zu differs", i);
 }
 
-/* ---- what is found of an archive */
+/* ---- look-ups in an archive */
 
 static bool same_text(const given *g, size_t at, size_t len, size_t other, size_t other_len) {
     return len == other_len && !memcmp(g->bytes + at, g->bytes + other, len);
@@ -164,7 +164,7 @@ static void check(const uint8_t *bytes, size_t len) {
     check_archive(&g);
 }
 
-/* ---- fat files that are written */
+/* ---- written fat files */
 
 typedef struct { size_t asked, refused, held; } counted;
 static void *take(void *self, size_t size) {
@@ -181,7 +181,7 @@ static uint64_t big(const uint8_t *at, size_t width) {
     return n;
 }
 
-/* that these bytes are the fat file of the parts, byte for byte */
+/* checks that these bytes are the fat file of the parts, byte for byte */
 static void is_file(const uint8_t *out, size_t needed, const uint8_t *bytes, const gm_fat_part *p, size_t count, bool is_64) {
     size_t width = is_64 ? 32 : 20, end = 8 + width * count;
     if (needed < end || big(out, 4) != (is_64 ? GM_FAT_MAGIC_64 : GM_FAT_MAGIC) || big(out + 4, 4) != count) DIE("the front of a file");
@@ -201,7 +201,7 @@ static void is_file(const uint8_t *out, size_t needed, const uint8_t *bytes, con
     if (end != needed) DIE("%zu bytes behind the last entry", needed - end);
 }
 
-/* Writes parts with room of every kind, and with memory that is refused at each request. */
+/* Writes parts with room of every size, and with memory that is refused at each request. */
 static void writes(const uint8_t *bytes, size_t len, const gm_fat_part *p, size_t count, bool is_64, uint32_t wanted) {
     size_t needed = 99;
     gm_error e;
@@ -266,7 +266,7 @@ static void check_writes(void) {
     if (gm_write_fat(NULL, 0, NULL, 0, 0, NULL, 0, &needed, NULL, NULL) != GM_NO_SPACE || needed != 8) DIE("a file of no entry needs %zu", needed);
 }
 
-/* a table of 64 bits that says so many records, of which so many bytes are there */
+/* a table of 64 bits whose header says so many records, with so many bytes of them */
 static void check_cut(void) {
     static const struct { uint32_t says; size_t there, told; bool cut; } rows[] = {
         {0, 0, 0, false}, {0, 90, 0, false}, {1, 32, 1, false}, {1, 31, 1, true}, {2, 64, 2, false}, {2, 96, 2, false}, {2, 63, 2, true}, {2, 33, 2, true},
@@ -284,7 +284,7 @@ static void check_cut(void) {
     }
 }
 
-/* exactly the bytes of a file, so that a read behind them is seen */
+/* exactly the bytes of a file, so that a read past them is detected */
 static uint8_t *read_file(const char *name, size_t *len) {
     FILE *f = fopen(name, "rb");
     if (!f) DIE("%s can't be opened", name);

@@ -13,7 +13,7 @@
 
 namespace {
 
-// All rows of a list, asked for in batches.
+// All rows of a list, requested in batches.
 template <typename Row, typename Call>
 std::vector<Row> rows(Call call) {
     std::vector<Row> all;
@@ -23,7 +23,7 @@ std::vector<Row> rows(Call call) {
     return all;
 }
 
-// An image, with the bytes that it goes with.
+// An image, with its bytes.
 class macho {
 public:
     explicit macho(std::vector<uint8_t> held) : bytes(std::move(held)) {

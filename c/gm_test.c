@@ -1,9 +1,9 @@
-/* gm_test WHAT FILE prints the lines of a list, for comparison with the programs of this repository; gm_test names the rules of layout.
-   gm_test check FILE.. tests each file and each of its prefixes: batches of 1, 2, 7 and all give the same rows, the rest of an
-   array stays, memory may be refused at any request, an arena serves without malloc, NULL serves with length 0.
-   gm_test deep LEVELS goes over a trie of so many levels in buffers that grow.
-   gm_test constants FILE.. tests that constants and names of the header say what the calls answer of each file.
-   gm_test damage COUNT FILE.. hands in COUNT images of made-up numbers, by a fixed seed. */
+/* gm_test WHAT FILE prints the lines of a list, to compare them with the programs of this repository; gm_test names prints the rules of layout.
+   gm_test check FILE.. tests each file and each of its prefixes: batches of 1, 2, 7 and all give the same rows, the rest of an array is
+   unchanged, memory may be refused at any request, an arena works without malloc, NULL works for length 0.
+   gm_test deep LEVELS visits a trie of so many levels in buffers that grow.
+   gm_test constants FILE.. tests constants and names of the header against what the calls return for each file.
+   gm_test damage COUNT FILE.. passes COUNT images of made-up numbers, by a fixed seed. */
 #define _GNU_SOURCE
 #include "goblin_mach.h"
 #include <inttypes.h>
@@ -42,7 +42,7 @@ LIST(symbols, gm_symbol, gm_symbols(OF, first, rows, cap),
      fprintf(to, "%0*" PRIx64 " %x %zu %x %u ", g->image.is_64 ? 16 : 8, r->value, r->n_type, r->section, r->desc, r->code); text(to, g, r->name, r->name_len))
 LIST(libraries, gm_library, gm_libraries(OF, first, rows, cap),
      fprintf(to, "%u %u %x %x %u ", r->kind, r->timestamp, r->current_version, r->compatibility_version, r->attributes); text(to, g, r->name, r->name_len))
-/* memory that is refused at a request, and that is counted */
+/* memory that is refused at one request, and counted */
 
 typedef struct { size_t asked, refused, held; } counted;
 static void *take(void *self, size_t size) {
@@ -58,7 +58,7 @@ static void make_up(void *at, size_t size, size_t len);
 
 static int of_damage;
 
-/* what comes behind a cursor: from the start at 0, else where the last call went; of damage a cursor of made-up numbers */
+/* what comes after a cursor: from the start at 0, else from where the last call ended; for damage a cursor of made-up numbers */
 #define BEHIND(name, row, place) \
     static size_t name(const given *g, size_t first, row *rows, size_t cap) { \
         static place at; \
@@ -97,7 +97,7 @@ BEHIND(fixups, gm_fixup, gm_fixup_cursor)
 LIST(fixups, gm_fixup, fixups(g, first, rows, cap),
      fprintf(to, "%" PRIx64 " %" PRIx64 " %" PRIx64 " %u %u %u %d %u %u %u %u %u", r->address, r->offset, r->target, r->segment, r->kind, r->import,
              r->addend, r->is_signed, r->key, r->diversity, r->is_address_diverse, r->code))
-/* machdump's line of an import stands last */
+/* machdump's line of an import comes last */
 static void dylib(FILE *to, const given *g, uint64_t ordinal) {
     gm_library l;
     if (!ordinal) fputs("self", to);
@@ -143,7 +143,7 @@ LIST(notes, gm_note, gm_notes(OF, first, rows, cap),
 LIST(run_paths, gm_run_path, gm_run_paths(OF, first, rows, cap), text(to, g, r->path, r->path_len))
 LIST(ids, gm_id, gm_ids(OF, first, rows, cap), text(to, g, r->name, r->name_len))
 
-/* ---- the signature: one row, and what isn't as it was signed, in the words of machsign but for those of errors */
+/* ---- the signature: one row, and its faults, in the words of machsign except those of errors */
 
 static size_t signature(const given *g, size_t first, gm_signature *row, size_t cap) {
     gm_error e;
@@ -175,7 +175,7 @@ LIST(signature, gm_signature, signature(g, first, rows, cap),
 LIST(signature_faults, gm_signature_fault, signature_faults(g, first, rows, cap),
      fprintf(to, "%s %x %u %" PRIx64 " %" PRIx64 " %u", gm_signature_kind(r->kind), r->slot, r->index, r->found, r->limit, r->code))
 
-/* ---- faults of layout, of an image and of a fat file's table: the lines are those of machaudit */
+/* ---- faults of layout, of an image and of a fat file's table: the lines of machaudit */
 
 typedef uint32_t told(const given *g, size_t first, gm_layout_fault *out, size_t cap, size_t *count, const gm_memory *memory, gm_error *e);
 static uint32_t told_of_image(const given *g, size_t first, gm_layout_fault *out, size_t cap, size_t *count, const gm_memory *memory, gm_error *e) {
@@ -231,7 +231,7 @@ static const list *named(const char *name) {
     return NULL;
 }
 
-/* the lines of a list in batches of so many, at most LIMIT of them; each array is as long as it is said to be */
+/* the lines of a list in batches of so many, at most LIMIT of them; each array has exactly the length that is passed */
 static char *lines(const list *l, const given *g, size_t batch) {
     char *text_of = NULL;
     size_t len = 0, n = 0, k, room;
@@ -319,7 +319,7 @@ static void check_parts(given *g) {
     }
 }
 
-/* a name that is sought, also with memory that is refused; machdump has the exports of file C */
+/* a name that is looked up, also with memory that is refused; machdump has the exports of file C */
 static void finds(const given *g, const char *name, size_t name_len) {
     gm_export found, before;
     char library[8], target[8];
@@ -376,7 +376,7 @@ static void tells(told *call, const given *g) {
     tested++;
 }
 
-/* what is said of a signature with memory that is refused at each request; what isn't as it was signed is told exactly where the image isn't */
+/* the signature with memory that is refused at each request; it has faults exactly when the image isn't as it was signed */
 static void says(const given *g) {
     gm_signature_fault all[8], again[8];
     gm_signature said, said_again;
@@ -412,7 +412,7 @@ static void says(const given *g) {
     tested++;
 }
 
-/* the layout of an image behind other bytes is that of the image */
+/* the layout of an image after other bytes is that of the image */
 static void lies_behind(const given *g) {
     const size_t front = 16;
     uint8_t *bytes = malloc(front + g->len);
@@ -429,7 +429,7 @@ static void lies_behind(const given *g) {
 
 /* ---- exports */
 
-/* the room of a walk: each buffer is as long as it is said to be, so that a write behind it is seen */
+/* the buffers of a walk: each has exactly the length that is passed, so that a write past it is detected */
 static void *grown(void *held, size_t old, size_t size) {
     uint8_t *more = malloc(size + !size);
     if (!more) DIE("no memory");
@@ -448,7 +448,7 @@ static gm_export_room room_of(size_t some, size_t cap) {
 }
 static void give_room(gm_export_room *r) { free(r->name); free(r->stack); free(r->out); free(r->names); }
 
-/* a batch, and that what is behind its rows and its names is as it was */
+/* a batch; checks that what follows its rows and its names is unchanged */
 static uint32_t export_batch(const given *g, gm_export_walk *walk, const gm_export_room *r, gm_export_batch *b, const gm_memory *m) {
     gm_error e = {0};
     memset(r->out, 0xa5, r->cap * sizeof *r->out);
@@ -463,7 +463,7 @@ static uint32_t export_batch(const given *g, gm_export_walk *walk, const gm_expo
     return code;
 }
 
-/* goes on where it says that something is too short: with a byte or a node more than is asked for never, so that each call counts */
+/* enlarges what is too short, never by a byte or a node more than needed, so that each call counts */
 static void give_more(gm_export_room *r, const gm_export_batch *b) {
     size_t *cap = b->end == GM_NAME_SHORT ? &r->name_cap : b->end == GM_STACK_SHORT ? &r->stack_cap : &r->names_cap;
     if (b->needed <= *cap) DIE("no more is needed than there is");
@@ -473,7 +473,7 @@ static void give_more(gm_export_room *r, const gm_export_batch *b) {
     *cap = b->needed;
 }
 
-/* an export is what it is where its name is sought: the first of that name, so that of two with one name the others may differ */
+/* an export equals the one that is found by its name: the first of that name, so the later ones of that name may differ */
 static void same_as_found(const given *g, const gm_listed_export *x, const char *names) {
     gm_export found;
     gm_error e;
@@ -490,7 +490,7 @@ static void same_as_found(const given *g, const gm_listed_export *x, const char 
     brought++;
 }
 
-/* the lines of the exports in batches of so many, and how the walk ends; the buffers begin with so many bytes and nodes */
+/* the lines of the exports in batches of so many, and how the walk ends; the buffers start with so many bytes and nodes */
 static char *export_lines(const given *g, size_t cap, size_t some, bool of_library) {
     char *text_of = NULL;
     size_t len = 0;
@@ -545,7 +545,7 @@ static void exports_by_tree(const given *g, const char *lines) {
     trees += !code;
 }
 
-/* a root with two branches to one node: a walk gives its export twice and ends, and no tree */
+/* a root with two branches to one node: a walk returns its export twice and ends, and the exports are no tree */
 static void check_shared(void) {
     const uint32_t header[] = {0xfeedfacf, 0x01000007, 3, 6, 1, 16, 0, 0, 0x80000033, 16, 48, 12};
     const uint8_t trie[12] = {0, 2, 'a', 0, 8, 'b', 0, 8, 2, 0, 7, 0};
@@ -563,7 +563,7 @@ static void check_shared(void) {
     if (gm_exports_are_a_tree(OF, NULL, &e) != GM_OK) DIE("a trie without a shared node is no tree");
 }
 
-/* memory is refused at each request in turn, in the middle of a walk; and a walk in buffers of no length */
+/* memory is refused at each request in turn, in the middle of a walk; and a walk in buffers of length 0 */
 static void exports_by_memory(const given *g) {
     gm_export_walk walk = {0}, zeros = {0};
     gm_export_room none = {0}, r = room_of(64, 2);
@@ -588,7 +588,7 @@ static void exports_by_memory(const given *g) {
     give_room(&r);
 }
 
-/* a trie of so many levels, each of an inner node with two branches: the first leads on, the second to an export */
+/* a trie of so many levels, each an inner node with two branches: the first leads on, the second to an export */
 static void put_uleb3(uint8_t *at, size_t n) { at[0] = n | 0x80, at[1] = n >> 7 | 0x80, at[2] = n >> 14; }
 static void check_deep(size_t levels) {
     enum { AT = 48, NODE = 12, LEAF = 4 };
@@ -616,7 +616,7 @@ static void check_deep(size_t levels) {
         if (gm_exports(OF, &walk, &r, &b, NULL, &e)) DIE("a deep trie: %s", e.text);
         for (size_t i = 0; i < b.count; i++, n++) {
             const gm_listed_export *x = r.out + i;
-            bool last = n == 0; /* the deepest comes first, and then the others from below */
+            bool last = n == 0; /* the deepest comes first, then the others from the bottom up */
             if (x->name_len != (last ? levels : levels - n + 1) || r.names[x->name + x->name_len - 1] != (last ? 'a' : 'b'))
                 DIE("export %zu of a deep trie", n);
         }
@@ -663,12 +663,12 @@ static uint32_t word_at(const given *g, const uint8_t *at) {
     return n;
 }
 
-/* ---- the tables of commands, read here once more by the format's words alone */
+/* ---- the tables of commands, read here a second time, by the format alone */
 
-/* whether so many bytes stand at a place */
+/* whether so many bytes are at a place */
 static bool stand(const given *g, uint64_t at, uint64_t size) { return at <= g->len && size <= g->len - at; }
 
-/* the last command of a number, or one of no size */
+/* the last command of a number, or one of size 0 */
 static gm_command last_command(const given *g, uint32_t cmd) {
     gm_command c, last = {0};
     for (size_t i = 0; gm_commands(OF, i, &c, 1); i++)
@@ -721,7 +721,7 @@ typedef struct {
     bool has_segment, has_name;
 } opcodes;
 
-/* the opcodes whose place and size stand at a number of the command */
+/* the opcodes whose offset and size are at a number of the command */
 static opcodes opcodes_of(const given *g, size_t number) {
     gm_command c = last_command(g, GM_LC_DYLD_INFO), only = last_command(g, GM_LC_DYLD_INFO_ONLY);
     if (only.offset > c.offset) c = only;
@@ -734,7 +734,7 @@ static opcodes opcodes_of(const given *g, size_t number) {
 
 static bool has_byte(const given *g, const opcodes *o) { return o->at < g->len && o->at < o->upto; }
 
-/* a number of 7 bits a byte; false where it is cut, or has more than 64 bits */
+/* a number of 7 bits a byte; false if it is cut, or has more than 64 bits */
 static bool leb(const given *g, opcodes *o, bool is_signed, uint64_t *n) {
     *n = 0;
     for (int shift = 0;; shift += 7) {
@@ -750,13 +750,13 @@ static bool leb(const given *g, opcodes *o, bool is_signed, uint64_t *n) {
     }
 }
 
-/* the segment in which a pointer lies whole, if one was set and it does; all sums have 64 bits */
+/* the segment that holds a whole pointer, if one was set and it does; all sums have 64 bits */
 static bool lies(const given *g, const opcodes *o, uint64_t p, gm_segment *s) {
     if (!o->has_segment || !o->kind || o->kind > 3 || gm_segments(OF, o->segment, s, 1) != 1) return false;
     return o->offset <= s->vmsize && p <= s->vmsize - o->offset && s->vmaddr + o->offset >= s->vmaddr;
 }
 
-/* the number in so many bytes of a segment's memory: its data, and zeros behind them */
+/* the number in so many bytes of a segment's memory: its data, and zeros after them */
 static uint64_t in_memory(const given *g, const gm_segment *s, uint64_t offset, uint64_t width) {
     uint64_t n = 0;
     for (uint64_t i = 0; i < width; i++) {
@@ -772,7 +772,7 @@ static bool next_rebase(const given *g, gm_rebase_cursor *at, gm_rebase *r) {
     return count == 1;
 }
 
-/* the end, or a fault, of this code or of any where UINT32_MAX is said, and the end */
+/* the end, or a fault of this code (of any code for UINT32_MAX) and the end */
 static void ends_rebases(const given *g, gm_rebase_cursor *at, uint32_t code) {
     gm_rebase r, none = {0};
     if (code) {
@@ -783,7 +783,7 @@ static void ends_rebases(const given *g, gm_rebase_cursor *at, uint32_t code) {
     if (next_rebase(g, at, &r)) DIE("too many rebases");
 }
 
-/* whether the rebase by what was set is given; a fault where there is none */
+/* whether there is a rebase with the current settings; a fault if there is none */
 static bool is_rebased(const given *g, const opcodes *o, uint64_t p, gm_rebase_cursor *at) {
     gm_segment s;
     gm_rebase r;
@@ -793,7 +793,7 @@ static bool is_rebased(const given *g, const opcodes *o, uint64_t p, gm_rebase_c
     return true;
 }
 
-/* executes an opcode of rebases: how many come, and how far it advances behind each; false where it can't be read */
+/* executes an opcode of rebases: how many come, and how far it advances after each; false if it can't be read */
 static bool rebase_opcode(const given *g, opcodes *o, uint64_t p, uint64_t *count, uint64_t *stride) {
     uint64_t n = 0, skip = 0;
     if (!has_byte(g, o)) return false;
@@ -865,7 +865,7 @@ static void ends_weak(const given *g, gm_bind_cursor *at, bool is_fault) {
     if (next_weak(g, at, &w)) DIE("too many weak binds");
 }
 
-/* the name behind an opcode, up to its zero byte; of bytes that may be no UTF-8 the library says whether they are */
+/* the name after an opcode, up to its zero byte; if the bytes may not be UTF-8, the library decides */
 static bool weak_name(const given *g, opcodes *o, uint32_t flags, gm_bind_cursor *at) {
     bool plain = true;
     uint64_t name = o->at;
@@ -1015,7 +1015,7 @@ static void lists_by_bytes(const given *g) {
     if (gm_linker_options(OF, options, &o, 1) || gm_build_tools(OF, tools, &t, 1) || gm_notes(OF, notes, &n, 1)) DIE("too many options, tools or notes");
 }
 
-/* what a slot of a section is to be, of entry k of the indirect symbols: false ends the section */
+/* what a slot of a section should be, for entry k of the indirect symbols: false ends the section */
 static bool slot_by_bytes(const given *g, const gm_slot *r, uint64_t address, uint64_t len, uint64_t k, uint32_t kind) {
     gm_indirect_symbol entry;
     if (gm_indirect_symbols(OF, k, &entry, 1) != 1 || entry.code || address < len) {
@@ -1059,7 +1059,7 @@ static void slots_by_bytes(const given *g) {
                 if (rows[n].code == GM_OK && (rows[n].segment != i || rows[n].section != k)) DIE("a slot of another section");
                 if (!slot_by_bytes(g, &rows[n++], addr + (j + 1) * len, len, (uint64_t)first + j, kind)) break;
             }
-            if (s.code != GM_OK) return; /* (of those that lie partly in the file the rows stand in the tests of the library) */
+            if (s.code != GM_OK) return; /* (the library's own tests cover the rows of those that lie partly in the file) */
         }
     if (n != many) DIE("%zu slots, and not %zu", many, n);
     for (n = 0; n < many; n++) {
@@ -1160,7 +1160,7 @@ static void check(const uint8_t *bytes, size_t len) {
     }
 }
 
-/* ---- constants and names: what the calls answer of a file is what they say */
+/* ---- constants and names: they match what the calls return for a file */
 
 #if GM_MH_MAGIC_64 != 0xfeedfacf || GM_N_EXT != 1 || GM_EXPORT_SYMBOL_FLAGS_REEXPORT != 8 || GM_VERSION_NUMBER < 2000
 #error "a constant that the preprocessor reads otherwise"
@@ -1172,7 +1172,7 @@ static void has_name(const char *name, const char *of, uint32_t number) {
     named_numbers++;
 }
 
-/* the kind of the library that a command brings in, or -1 */
+/* the kind of the library that a command loads, or -1 */
 static int kind_of(uint32_t cmd) {
     switch (cmd) {
     case GM_LC_LOAD_DYLIB: return GM_REQUIRED;
@@ -1184,7 +1184,7 @@ static int kind_of(uint32_t cmd) {
     }
 }
 
-/* how the library of a command is used: by its four bytes at 24, where it is a struct dylib_use_command, else by its number */
+/* how the library of a command is used: by its four bytes at 24 if it is a struct dylib_use_command, else by its number */
 static uint32_t used_by(const given *g, const gm_command *c) {
     const uint8_t *at = g->bytes + c->offset;
     int may = (c->cmd == GM_LC_LOAD_DYLIB || c->cmd == GM_LC_LOAD_WEAK_DYLIB) && c->size >= 28;
@@ -1233,7 +1233,7 @@ static void constants_of_segments(const given *g) {
 static void constants_of_symbols(const given *g) {
     gm_symbol s;
     for (size_t i = 0; gm_symbols(OF, i, &s, 1); i++) {
-        if (s.n_type & GM_N_STAB) continue; /* (of a debugger's entries not all numbers have names) */
+        if (s.n_type & GM_N_STAB) continue; /* (not all numbers of a debugger's entries have names) */
         has_name(gm_symbol_type_name(s.n_type), "symbol type", s.n_type);
         if ((s.n_type & GM_N_TYPE) == GM_N_SECT && s.section == GM_NO_SECT) DIE("symbol %zu of no section", i);
     }
@@ -1330,7 +1330,7 @@ static void make_up(void *at, size_t size, size_t len) {
     }
 }
 
-/* a walk of which each number may be made up, with open nodes that may be */
+/* a walk in which each number may be made up, with open nodes that may be, too */
 static void damage_walk(const given *g) {
     gm_export_walk walk = {0};
     gm_export_room r = room_of(chance() % 40, chance() % 5);
@@ -1413,7 +1413,7 @@ static void print(const char *what, const uint8_t *bytes, size_t len) {
     if (l) print_list(l, &g);
 }
 
-/* exactly the bytes of a file, so that a read behind them is seen */
+/* exactly the bytes of a file, so that a read past them is detected */
 static uint8_t *read_file(const char *name, size_t *len) {
     FILE *f = fopen(name, "rb");
     if (!f) DIE("%s can't be opened", name);
@@ -1426,7 +1426,7 @@ static uint8_t *read_file(const char *name, size_t *len) {
     return bytes;
 }
 
-/* each rule and each part by its number, with its plain name */
+/* each rule and each part with its number and its plain name */
 static int print_names(void) {
     for (uint32_t n = 1; strcmp(gm_layout_rule(n), "none"); n++) printf("Rule %u %s\n", n, gm_layout_rule(n));
     for (uint32_t n = 1; strcmp(gm_layout_part(n), "none"); n++) printf("Part %u %s\n", n, gm_layout_part(n));
@@ -1437,7 +1437,7 @@ static int print_names(void) {
     return 0;
 }
 
-/* what no clause of the library says: the words of errors */
+/* what no clause of the library promises: the texts of errors */
 static void check_words(void) {
     static const struct { uint8_t bytes[31]; uint32_t code; const char *text; } rows[] = {
         {{0xcf, 0xfa, 0xed, 0xfe}, GM_MALFORMED, "malformed: a header is 32 bytes"},
@@ -1452,7 +1452,7 @@ static void check_words(void) {
     }
 }
 
-/* a fat file whose header says so many records, of which so many bytes are there: how many entries are told, and whether the last is cut */
+/* a fat file whose header says so many records, with so many bytes of them: how many entries are reported, and whether the last is cut */
 static void check_cut(void) {
     static const struct { uint32_t says; size_t there, told; bool cut; } rows[] = {
         {0, 0, 0, false}, {0, 60, 0, false}, {1, 20, 1, false}, {1, 19, 1, true}, {2, 40, 2, false}, {2, 60, 2, false}, {2, 39, 2, true}, {2, 21, 2, true},
@@ -1470,7 +1470,7 @@ static void check_cut(void) {
     }
 }
 
-/* an image of one symbol table, whose records and names are these */
+/* an image with one symbol table of these records and names */
 static uint8_t *image_of_symbols(const uint8_t *rest, size_t len, uint32_t nsyms, size_t *whole) {
     enum { AT = 56 };
     const uint32_t front[] = {0xfeedfacf, 0x01000007, 3, 6, 1, 24, 0, 0, 2, 24, AT, nsyms, AT + 16 * nsyms, (uint32_t)len - 16 * nsyms};
@@ -1481,7 +1481,7 @@ static uint8_t *image_of_symbols(const uint8_t *rest, size_t len, uint32_t nsyms
     return bytes;
 }
 
-/* what is told of a symbol whose name is no text, or is past the end */
+/* the answer for a symbol whose name isn't text, or is past the end */
 static void check_symbols(void) {
     static const struct { uint8_t strx, code; size_t at, len; } rows[] = {
         {1, GM_OK, 1, 2}, {4, GM_SHORT, 4, 3}, {6, GM_SHORT, 6, 1}, {8, GM_OK, 8, 1}, {9, GM_SHORT, 0, 0}};
@@ -1532,7 +1532,7 @@ static void check_within(const given *g) {
     if (!c.calls || mallocs == before_call) DIE("nothing was called within a call");
 }
 
-/* what a caller hands in wrongly, and what it may leave out */
+/* wrong arguments of a caller, and what a caller may leave out */
 static void check_edges(void) {
     given g = {0};
     uint8_t *bytes = image_of_symbols((const uint8_t[17]){0}, 17, 1, &g.len);

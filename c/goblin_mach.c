@@ -1,5 +1,5 @@
-/* The thin C side of goblin_mach: NULL where a length is 0, the caller's memory, and names of numbers. Nothing proves this file; docs/PROVED.md says
-   what is trusted in it. Every other line of the library is Rattle, proved. */
+/* The C side of goblin_mach, kept small: NULL for length 0, the caller's memory, and names of numbers. Nothing proves this file; docs/PROVED.md
+   says what is trusted in it. All other code of the library is Rattle, and proved. */
 #include "goblin_mach.h"
 #include <stdlib.h>
 #include <string.h>
@@ -9,7 +9,7 @@
 typedef struct { bool some; void *at; } tried;
 
 static _Thread_local const gm_memory *memory_of_call;
-static max_align_t nothing; /* stands where C says NULL */
+static max_align_t nothing; /* used instead of NULL */
 
 static tried try_block(void *block) { return (tried){block != NULL, block ? block : &nothing}; }
 
@@ -33,7 +33,7 @@ tried rattle_realloc(void *block, size_t kept, size_t size, size_t align) {
     return grown;
 }
 
-/* ---- an arena: blocks one behind the other, of which none is taken back before the last, and then all are */
+/* ---- an arena: blocks one after the other; none is taken back before the last, and then all are */
 
 static void *arena_take(void *self, size_t size) {
     gm_arena *a = self;
@@ -58,7 +58,7 @@ gm_memory gm_arena_memory(gm_arena *arena) { return (gm_memory){arena, arena_tak
 #define BYTES ((bytes) ? (bytes) : (const uint8_t *)&nothing)
 #define TOLD ((error) ? (error) : &unread)
 
-/* A call's allocator stands while it runs, and behind it that of the call around it, whose `take` or `give` made this one. */
+/* A call's allocator is installed while it runs, and restores the one of the call around it, whose `take` or `give` made this one. */
 #define WITH_MEMORY(call) { \
     const gm_memory *around = memory_of_call; \
     gm_error unread; \
@@ -68,7 +68,7 @@ gm_memory gm_arena_memory(gm_arena *arena) { return (gm_memory){arena, arena_tak
     return code; \
 }
 
-/* the version is the header's, where the library has the interface that this file calls */
+/* the version is the header's, if the library has the interface that this file calls */
 uint32_t gmr_version(void);
 const char *gm_version(void) { return GM_VERSION_TEXT; }
 uint32_t gm_version_number(void) { return gmr_version() == 1 ? GM_VERSION_NUMBER : 0; }
@@ -120,7 +120,7 @@ uint32_t gm_archive_member_named(const uint8_t *bytes, size_t len, const char *n
     return gmr_archive_member_named(BYTES, len, AT((char *)name), name_len, member, TOLD);
 }
 
-/* the rows of an image from a number on */
+/* the rows of an image from an index on */
 #define ROWS(name, row) \
     size_t gmr_##name(const uint8_t *, size_t, const gm_image *, size_t, row *, size_t); \
     size_t gm_##name(const uint8_t *bytes, size_t len, const gm_image *image, size_t first, row *out, size_t cap) { \
@@ -148,7 +148,7 @@ size_t gm_relocations(const uint8_t *bytes, size_t len, const gm_image *image, u
     return gmr_relocations(BYTES, len, image, reloff, nreloc, first, AT(out), cap);
 }
 
-/* the items of an image behind a cursor, or from a number on */
+/* the items of an image after a cursor, or from an index on */
 #define BEHIND(name, row, place) \
     uint32_t gmr_##name(const uint8_t *, size_t, const gm_image *, place, row *, size_t, size_t *, gm_error *); \
     uint32_t gm_##name(const uint8_t *bytes, size_t len, const gm_image *image, place from, row *out, size_t cap, size_t *count, \
@@ -164,7 +164,7 @@ BEHIND(layout_faults, gm_layout_fault, size_t)
 BEHIND(slots, gm_slot, size_t)
 BEHIND(signature_faults, gm_signature_fault, size_t)
 
-/* what is sought of an image by a number */
+/* what is looked up in an image by a number */
 #define SOUGHT(name, number, row) \
     uint32_t gmr_##name(const uint8_t *, size_t, const gm_image *, number, row *, gm_error *); \
     uint32_t gm_##name(const uint8_t *bytes, size_t len, const gm_image *image, number by, row *found, const gm_memory *memory, gm_error *error) \
@@ -173,7 +173,7 @@ SOUGHT(slot_at, uint64_t, gm_slot)
 SOUGHT(section_at, uint64_t, gm_found_section)
 SOUGHT(section_of, size_t, gm_found_section)
 
-/* what is said of an image's signature */
+/* the calls about an image's signature */
 #define SAID(name, row) \
     uint32_t gmr_##name(const uint8_t *, size_t, const gm_image *, row *, gm_error *); \
     uint32_t gm_##name(const uint8_t *bytes, size_t len, const gm_image *image, row *said, const gm_memory *memory, gm_error *error) \

@@ -1,5 +1,5 @@
-/* hostile CALL FILE makes a call of the library on a file as often as its list goes on, up to CALLS times or until SECONDS are over, and
-   prints how many rows it gave. Its caller holds it to a time and to memory. The status is 0, or 1 where the image is refused.
+/* hostile CALL FILE repeats a call of the library on a file as long as its list goes on, up to CALLS times or until SECONDS are over, and prints
+   how many rows it returned. Its caller limits time and memory. The status is 0, or 1 if the image is refused.
    hostile all FILE.. makes all calls on each of these files, each up to FEW_CALLS times, and prints nothing. The status is 0. */
 #define _GNU_SOURCE
 #include "goblin_mach.h"
@@ -15,7 +15,7 @@ typedef struct { const uint8_t *bytes; size_t len; gm_image image; } given;
 static size_t calls, most_calls = CALLS;
 static time_t begun;
 
-/* whether another call is to be made */
+/* whether to make another call */
 static int goes_on(void) { return calls++ < most_calls && time(NULL) - begun <= SECONDS; }
 
 /* the rows of a list that is called by number */
@@ -111,7 +111,7 @@ static size_t signature(const given *g) {
     return (!gm_code_signature(OF, &said, NULL, &e) && said.is_signed) + (!gm_is_as_signed(OF, &is, NULL, &e) && is);
 }
 
-/* what is sought by an address or a number: addresses of some order, and numbers up to as many */
+/* look-ups by an address or a number: addresses in some order, and numbers up to as many */
 static size_t slot_at(const given *g) {
     gm_slot slot;
     gm_found_section section;
@@ -176,7 +176,7 @@ static size_t open_all(const given *g) {
     return found + !gm_open(g->bytes, g->len, 0, GM_LOSSY, NULL, &image, &e);
 }
 
-/* what is sought of an archive: names of some lengths */
+/* look-ups in an archive: names of some lengths */
 static size_t archive_find(const given *g) {
     static char name[1 << 20];
     gm_archive_member one;
@@ -210,7 +210,7 @@ static const struct { const char *name; size_t (*call)(const given *); } all[] =
     CALL(tree), CALL(fixups), CALL(imports), CALL(bindings), CALL(weak_binds), CALL(rebases), CALL(function_starts), CALL(slots), CALL(slot_at),
     CALL(layout), CALL(signature), CALL(signature_faults)};
 
-/* the bytes of a file, 4 MB of them at most; or none, where it can't be read */
+/* the bytes of a file, 4 MB of them at most; none if it can't be read */
 static int read_file(const char *name, given *g) {
     static uint8_t bytes[1 << 22];
     FILE *file = fopen(name, "rb");
@@ -220,7 +220,7 @@ static int read_file(const char *name, given *g) {
     return 1;
 }
 
-/* makes call k on a file; whether the image opens, where the call is one on images */
+/* makes call k on a file; returns whether the image opens, if the call is one on images */
 static int make(size_t k, given *g, size_t *found, gm_error *e) {
     int refused = k >= 8 && gm_open(g->bytes, g->len, 0, GM_STRICT, NULL, &g->image, e) && gm_open(g->bytes, g->len, 0, GM_LOSSY, NULL, &g->image, e);
     calls = 0;

@@ -1,13 +1,13 @@
-/* What tools/rows loads into a program by LD_PRELOAD, where a row asks for memory, a clock or renames that fail. The environment says which:
-     SCARCE_GROWTH=N, N..   the Nth growth of memory is refused, or the Nth and all behind it
+/* tools/rows loads this into a program by LD_PRELOAD if a row requests memory, a clock or renames that fail. The environment says which:
+     SCARCE_GROWTH=N, N..   the Nth growth of memory is refused, or the Nth and all later ones
      SCARCE_HEAP=N          a growth is refused after which the program would hold more than N bytes
-     SCARCE_CLOCK=STEP,..   each reading of the monotonic clock is so many nanoseconds later than the one before, by these steps, over and over
+     SCARCE_CLOCK=STEP,..   each reading of the monotonic clock is so many nanoseconds after the previous one, by these steps in turn
      SCARCE_CLOCK=none      that clock can't be read
      SCARCE_RENAMES=none    no file can be renamed
-     SCARCE_TOLD=FD         here a letter is written once the first growth, reading or rename has met with that: g, c or r;
+     SCARCE_TOLD=FD         a letter is written to FD once the first growth, reading or rename was affected: g, c or r;
                             and h once the bytes that the program holds are counted
-   A growth is a call of the C library's allocator that comes from the program's own code, which the return address tells. What the C library asks for
-   by itself, before `main` or within a call, is neither counted nor refused. A block counts with all bytes of it that can be used. */
+   A growth is a call of the C library's allocator from the program's own code, which the return address shows. What the C library requests by
+   itself, before `main` or within a call, is neither counted nor refused. A block counts with all its usable bytes. */
 #define _GNU_SOURCE
 #include <errno.h>
 #include <fcntl.h>
@@ -31,7 +31,7 @@ static size_t count, readings, most, held;
 static bool all_behind, is_heap, no_clock, no_renames;
 static int told = -1;
 
-/* Where the program's own code lies: the first object of all is the program. */
+/* Where the program's own code is: the first of all objects is the program. */
 static int find_own(struct dl_phdr_info *info, size_t size, void *nothing) {
     (void)size, (void)nothing;
     for (int i = 0; i < info->dlpi_phnum; i++) {
@@ -65,13 +65,13 @@ static void tell(char letter) {
     if (write(told, &letter, 1) < 0) told = -1;
 }
 
-/* Whether a call of the allocator that returns to this address comes from the program's own code. */
+/* Whether an allocator call that returns to this address comes from the program's own code. */
 static bool is_own(void *back) {
     uintptr_t at = (uintptr_t)back;
     return at >= own_from && at < own_upto;
 }
 
-/* Whether a growth to so many bytes, in place of those of a block, is one too many. */
+/* Whether a growth to so many bytes, instead of those of a block, exceeds the limit. */
 static bool is_past_heap(size_t size, void *block) {
     if (!is_heap) return false;
     tell('h');
@@ -79,7 +79,7 @@ static bool is_past_heap(size_t size, void *block) {
     return size > most || others > most - size;
 }
 
-/* Whether a growth of the program's own code is the one that is refused, or one behind it. */
+/* Whether a growth by the program's own code is the one to refuse, or a later one. */
 static bool is_numbered(void) {
     growths++;
     if (refused == 0 || growths < refused || (growths > refused && !all_behind)) return false;
@@ -87,14 +87,14 @@ static bool is_numbered(void) {
     return true;
 }
 
-/* Whether a call of the allocator that returns to this address, for so many bytes in place of a block or of none, is refused. */
+/* Whether an allocator call that returns to this address is refused; it requests so many bytes instead of a block, or a new block. */
 static bool is_refused(void *back, size_t size, void *block) {
     if (!is_own(back) || (!is_numbered() && !is_past_heap(size, block))) return false;
     errno = ENOMEM;
     return true;
 }
 
-/* The block that was made, which counts if it is the program's own. */
+/* Returns the new block, which counts if it is the program's own. */
 static void *counted(void *back, void *made) {
     if (is_own(back)) held += malloc_usable_size(made);
     return made;
