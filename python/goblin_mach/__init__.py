@@ -1,4 +1,4 @@
-"""Reads Apple's Mach-O images, by the proved library libgoblin_mach.so.
+"""Reads Apple's Mach-O images with the proved library libgoblin_mach.so.
 
     import goblin_mach
     with goblin_mach.open("a.out") as file:
@@ -6,11 +6,10 @@
             for symbol in image.symbols():
                 print(hex(symbol.value), symbol.name)
 
-A file is mapped, not copied. Each list is an iterator that asks the library for 1,000 items at a time. What can't be read of a
-list is an item with an `error`; what can't be opened raises `Refused`, but for an entry of a fat file, which is an image with an `error`.
-A list may be as long as a hostile file says, up to 2^60 bindings: take of it what is wanted (`itertools.islice`). Bytes of a name
-that are no UTF-8 stand as surrogates, as `os.fsdecode` has them. It needs no package beside Python 3.8. docs/PYTHON.md says more.
-"""
+A file is mapped, not copied. Each list is an iterator that requests 1,000 items at a time from the library. An item that can't be read
+has an `error`. What can't be opened raises `Refused`, except an entry of a fat file, which is an image with an `error`. A list may be as
+long as a hostile file claims, up to 2^60 bindings: take only the part that you need (`itertools.islice`). Bytes of a name that aren't
+UTF-8 become surrogates, as by `os.fsdecode`. The package needs nothing but Python 3.8 or later. docs/PYTHON.md says more."""
 
 from __future__ import annotations
 

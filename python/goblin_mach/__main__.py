@@ -154,18 +154,18 @@ LINES: Dict[str, Callable[[Image], Iterator[str]]] = {
     "signature": _signature,
     "signature_faults": _signature_faults,
 }
-"""For each word what is printed of an image."""
+"""For each word, what is printed for an image."""
 
 TABLES: Dict[str, Tuple[str, Callable[[Image], Rows[Any]]]] = {
     "symbols": ("symbols", Image.symbols),
     "data_in_code": ("data in code entries", Image.data_in_code),
     "indirect_symbols": ("indirect symbols", Image.indirect_symbols),
 }
-"""For each word of a table what its records are called, and their list."""
+"""For each word of a table, what its records are called, and their list."""
 
 
 def _left_out(image: Image, word: str, lines: Iterator[str]) -> Iterator[str]:
-    """What isn't printed of a list: the records past the end, and the lines that are left."""
+    """What isn't printed of a list: the records past the end, and the lines beyond the limit."""
     if word in TABLES:
         called, table = TABLES[word]
         past = len(table(image)) - len(table(image).begun())
@@ -197,11 +197,11 @@ def _entries(file: File) -> Iterator[str]:
 
 
 WHOLE: Dict[str, Callable[[File], Iterator[str]]] = {"members": _members, "archive_symbols": _archive_symbols, "entries": _entries}
-"""For each word what is printed of a file."""
+"""For each word, what is printed for a file."""
 
 
 def _print(file: File, word: str) -> int:
-    """Prints the lines of a file's images, and what can't be opened: answers the status."""
+    """Prints the lines of a file's images, and what can't be opened; returns the status."""
     status = 0
     if word in WHOLE:
         for line in WHOLE[word](file):
@@ -227,7 +227,7 @@ def _print(file: File, word: str) -> int:
 
 
 def main(words: List[str]) -> int:
-    """Runs the program on these words: answers the status."""
+    """Runs the program with these arguments; returns the status."""
     if len(words) != 2 or words[0] not in (LINES.keys() | WHOLE.keys()):
         print(f"usage: python3 -m goblin_mach {'|'.join([*LINES, *WHOLE])} FILE", file=sys.stderr)
         return 2
@@ -241,15 +241,16 @@ def main(words: List[str]) -> int:
 
 def program() -> None:
     """Runs the program, and ends it."""
-    # A pipe that is closed and Ctrl-C end it as they end other programs: with no words, and by their signal. Where Ctrl-C was ignored it stays so.
+    # A closed pipe and Ctrl-C end it as they end other programs: without a message, and by their signal. If Ctrl-C was ignored it stays
+    # ignored.
     signal.signal(signal.SIGPIPE, signal.SIG_DFL)
     if signal.getsignal(signal.SIGINT) is signal.default_int_handler:
         signal.signal(signal.SIGINT, signal.SIG_DFL)
-    # Names are written as the bytes that they are in the file, whatever the locale is.
+    # Names are written as their bytes in the file, whatever the locale is.
     if isinstance(sys.stdout, io.TextIOWrapper):
         sys.stdout.reconfigure(encoding="utf-8", errors="surrogateescape")
     status = main(sys.argv[1:])
-    if status == 2:  # what a failed write left in the buffer would fail again, with words and a status of Python's own
+    if status == 2:  # the rest of the buffer would fail again, with a message and a status of Python's own
         os.dup2(os.open(os.devnull, os.O_WRONLY), sys.stdout.fileno())
     sys.exit(status)
 

@@ -6,7 +6,7 @@ from typing import Dict, Tuple
 
 from .enums import Arm64_32Subtype, Arm64Subtype, ArmSubtype, CpuType, PowerPcSubtype, X86_64Subtype, X86Subtype
 
-# The names that LLVM's tools print and take, by MachOObjectFile::getArchTriple of llvm/lib/Object/MachOObjectFile.cpp.
+# The names that LLVM's tools print and accept, from MachOObjectFile::getArchTriple of llvm/lib/Object/MachOObjectFile.cpp.
 NAMES: Dict[Tuple[int, int], str] = {
     (CpuType.X86, X86Subtype.I386_ALL): "i386",
     (CpuType.X86_64, X86_64Subtype.X86_64_ALL): "x86_64",
@@ -30,6 +30,7 @@ NAMES: Dict[Tuple[int, int], str] = {
 
 
 def arch_name(cputype: int, cpusubtype: int) -> str:
-    """The name of an architecture, whatever its capabilities are, as "arm64e"; "unknown(99,3)" of one that has none, as lipo says it."""
+    """The name of an architecture, whatever its capabilities, for example "arm64e"; "unknown(99,3)" for one without a name, as lipo
+    prints it."""
     kind = cpusubtype & 0xFFFFFF
     return NAMES.get((cputype, kind)) or f"unknown({cputype},{kind})"

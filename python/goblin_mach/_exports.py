@@ -1,4 +1,4 @@
-"""The exports of an image: a walk of their trie, in memory that grows as the walk asks for more, and one name by its way."""
+"""The exports of an image: a walk over their trie, in memory that grows as the walk requests more, and the look-up of one name."""
 
 from __future__ import annotations
 
@@ -20,7 +20,7 @@ _NODE = sizeof(s.gm_open_node)
 
 
 class _Room:
-    """The buffers of a walk, which grow as it asks for more."""
+    """The buffers of a walk, which grow as it requests more."""
 
     def __init__(self) -> None:
         self.walk, self.batch = s.gm_export_walk(), s.gm_export_batch()
@@ -43,14 +43,14 @@ class _Room:
 
 
 def _longer(old: ctypes.Array[c_char], count: int) -> ctypes.Array[c_char]:
-    """A longer buffer that begins with what was there."""
+    """A longer buffer that begins with the old contents."""
     new = (c_char * count)()
     ctypes.memmove(new, old, len(old))
     return new
 
 
 def exports(live: Callable[[], Held], numbers: Any, libraries: Callable[[], List[str]]) -> Iterator[Export]:
-    """All exports, in the order of the trie. `libraries` are the names of libraries by their ordinals."""
+    """All exports, in the order of the trie. `libraries` are the names of the libraries by their ordinals."""
     held, room, error = live(), _Room(), s.gm_error()
     life, view, known, new = held.life, held.view, None, tuple.__new__
     while True:
@@ -76,7 +76,7 @@ def exports(live: Callable[[], Held], numbers: Any, libraries: Callable[[], List
 
 
 def find_export(held: Held, numbers: Any, name: str) -> Optional[Export]:
-    """What the image exports a name as, or None."""
+    """The export of a name from the image, or None."""
     raw, found, error, size = name.encode("utf-8", "surrogateescape"), s.gm_export(), s.gm_error(), 256
     while True:
         library, target = ctypes.create_string_buffer(size), ctypes.create_string_buffer(size)
@@ -96,6 +96,6 @@ def find_export(held: Held, numbers: Any, name: str) -> Optional[Export]:
 
 
 def are_a_tree(held: Held, numbers: Any) -> Tuple[int, s.gm_error]:
-    """The code of the answer, and its words."""
+    """The code of the answer, and its text."""
     error = s.gm_error()
     return int(lib.gm_exports_are_a_tree(held.at, held.len, numbers, None, byref(error))), error

@@ -1,4 +1,4 @@
-"""Finds libgoblin_mach.so, loads it, and says what its calls take and answer."""
+"""Finds libgoblin_mach.so, loads it, and declares what its calls take and return."""
 
 from __future__ import annotations
 
@@ -12,7 +12,7 @@ from . import _structs as s
 from .errors import Refused
 
 FITS = (0, 2)
-"""MAJOR and MINOR of the versions of the library that this package is written for: others may have other structs and calls."""
+"""MAJOR and MINOR of the library versions that this package is written for; others may have other structs and calls."""
 
 HERE = os.path.dirname(os.path.abspath(__file__))
 NAME = "libgoblin_mach.so"
@@ -24,8 +24,8 @@ def _in_folder(folder: str) -> List[str]:
 
 
 def places() -> List[str]:
-    """Where the library is sought, in order: where GOBLIN_MACH says, and nowhere else if it says anything; beside this file, as in a wheel that
-    carries it; in build/ of the repository that the package lies in; and where the system's loader looks."""
+    """Where the library is searched, in order: where GOBLIN_MACH says, and only there if it is set; beside this file, as in a wheel that
+    includes it; in build/ of the repository that contains the package; and where the system's loader looks."""
     named = os.environ.get("GOBLIN_MACH")
     if named:
         return [named]
@@ -46,7 +46,7 @@ def _open_first(paths: Sequence[str]) -> ctypes.CDLL:
 
 
 def _prototypes() -> Dict[str, Tuple[Any, List[Any]]]:
-    """What each call answers, and what it takes."""
+    """What each call returns, and what it takes."""
     image, error, count = POINTER(s.gm_image), POINTER(s.gm_error), POINTER(c_size_t)
     held: List[Any] = [c_void_p, c_size_t]
     by_number: List[Any] = [c_size_t, c_void_p, c_size_t]
@@ -89,7 +89,8 @@ def _prototypes() -> Dict[str, Tuple[Any, List[Any]]]:
 
 
 def version_of(found: ctypes.CDLL) -> Tuple[int, int, int]:
-    """The version of a library. One that has no call for its number is of before 0.2.0, and has the same structs and calls where it answers 1."""
+    """The version of a library. One without a call for its number is older than 0.2.0, and has the same structs and calls if it answers
+    1."""
     if not hasattr(found, "gm_version_number"):
         found.gm_version.restype = c_uint32
         return (0, 2, 0) if found.gm_version() == 1 else (0, 0, 0)
@@ -99,7 +100,7 @@ def version_of(found: ctypes.CDLL) -> Tuple[int, int, int]:
 
 
 def load(paths: Sequence[str]) -> ctypes.CDLL:
-    """The library, loaded from the first of these places that has it; an ImportError where none has, or where it is of another version."""
+    """The library, loaded from the first of these places that has it; an ImportError if none has it, or if its version is another one."""
     found = _open_first(paths)
     try:
         version = version_of(found)
@@ -117,5 +118,5 @@ lib = load(places())
 
 
 def refused(error: s.gm_error) -> Refused:
-    """What the library says of a refusal."""
+    """The error for a refusal, with the library's text."""
     return Refused(error.code, error.text.decode("utf-8", "replace"))

@@ -1,4 +1,5 @@
-"""Items out of rows: for each kind of list what makes its items. Each is a loop of its own over tuples, since lists are long."""
+"""Items from rows: for each kind of list a function that builds its items. Each has a loop of its own over tuples, because lists are
+long."""
 
 from __future__ import annotations
 
@@ -25,13 +26,13 @@ SLOTS = ("none", "pointer", "lazy pointer", "stub", "lazy library pointer", "thr
 INDIRECT = ("symbol", "local", "absolute", "local absolute")
 
 Raws = Iterable[Tuple[Any, ...]]
-_new = tuple.__new__  # of a NamedTuple: the fields as one tuple, at a third of the time
+_new = tuple.__new__  # for a NamedTuple: takes the fields as one tuple, in a third of the time
 _error: Callable[[int], Optional[str]] = ERRORS.get
 _ESCAPED = "surrogateescape"
 
 
 def _told(number: int) -> Optional[int]:
-    """A number of a member's header, if its field is one (GM_NO_NUMBER)."""
+    """A number of a member's header, or None if its field is no number (GM_NO_NUMBER)."""
     return None if number == (1 << 64) - 1 else number
 
 
@@ -188,12 +189,12 @@ def slots(held: Held, raws: Raws, first: int) -> List[SymbolSlot]:
 
 
 def provider(found: s.gm_provider) -> Optional[SymbolProvider]:
-    """Who gives a symbol, if the linker wrote it down."""
+    """The provider of a symbol, if the linker recorded it."""
     return SymbolProvider(PROVIDERS[found.provider], found.library, _error(found.code)) if found.is_told else None
 
 
 def numbered_section(found: s.gm_found_section) -> Optional[NumberedSection]:
-    """A section that was sought, if it was found."""
+    """A section that was looked up, if it was found."""
     if not found.is_found:
         return None
     return NumberedSection(found.segment, found.number, _name(bytes(found.name)), _name(bytes(found.segment_name)), found.addr, found.size, found.offset,

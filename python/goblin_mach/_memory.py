@@ -1,4 +1,4 @@
-"""Bytes that the library reads where they lie."""
+"""Bytes that the library reads in place."""
 
 from __future__ import annotations
 
@@ -10,7 +10,7 @@ if TYPE_CHECKING:
 
 
 class _Buffer(ctypes.Structure):
-    """The front of CPython's Py_buffer."""
+    """The start of CPython's Py_buffer."""
 
     _fields_ = [("buf", ctypes.c_void_p), ("obj", ctypes.py_object), ("len", ctypes.c_ssize_t), ("itemsize", ctypes.c_ssize_t),
                 ("readonly", ctypes.c_int), ("ndim", ctypes.c_int), ("format", ctypes.c_char_p), ("shape", ctypes.c_void_p),
@@ -24,7 +24,7 @@ _give_buffer.argtypes = [ctypes.POINTER(_Buffer)]
 
 
 class Life:
-    """Whether a file has been closed: what was taken of it is not used any more."""
+    """Whether a file has been closed. What was taken from it can't be used after that."""
 
     __slots__ = ("closed",)
 
@@ -37,7 +37,8 @@ class Life:
 
 
 class Held:
-    """Some bytes, and where they lie in memory. They are not copied. They live as long as their file is open, or without an end."""
+    """Some bytes, and their address in memory. They are not copied. They are valid as long as their file is open, or always if there is
+    no file."""
 
     __slots__ = ("at", "len", "life", "view")
 
@@ -51,7 +52,7 @@ class Held:
         _give_buffer(ctypes.byref(buffer))
 
     def live(self) -> Held:
-        """Itself, as long as its file is open."""
+        """Returns itself if its file is open."""
         self.life.check()
         return self
 
@@ -60,5 +61,5 @@ class Held:
 
 
 def text(raw: ReadableBuffer) -> str:
-    """Bytes as a text. Those that are no UTF-8 stand as surrogates."""
+    """Bytes as text. Those that aren't UTF-8 become surrogates."""
     return str(raw, "utf-8", "surrogateescape")

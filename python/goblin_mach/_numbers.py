@@ -1,10 +1,10 @@
-"""What is common to numbers that have names.
+"""What all numbers with names have in common.
 
-The fields of items and images are plain `int`s, as the file says them, and a property beside each is the enum: `command.cmd` is 25, and
-`command.load_command` is `LoadCommand.SEGMENT_64`. So a list costs no look-up of a name that nobody asks for, what is printed, compared or pickled
-is a number in each version of Python, and a number that has no name is no fault. The property always answers an enum: of a number without a name
-one that is named after it, as `LoadCommand.UNKNOWN_0x99`, equal to the number, and not kept, so that a file can't make the tables grow.
-"""
+The fields of items and images are plain `int`s, as in the file, and a property of each gives the enum: `command.cmd` is 25, and
+`command.load_command` is `LoadCommand.SEGMENT_64`. So a list looks up no names that nobody uses, the values that are printed, compared
+or pickled are numbers in every version of Python, and a number without a name is no error. The property always returns an enum: for a
+number without a name one that is named after it, such as `LoadCommand.UNKNOWN_0x99`. It equals the number, and isn't stored, so a file
+can't make the tables grow."""
 
 from __future__ import annotations
 
@@ -16,7 +16,7 @@ F = TypeVar("F", bound="Flags")
 
 
 class Number(IntEnum):
-    """A number with a name. No number is refused."""
+    """A number with a name. Every number is accepted."""
 
     @classmethod
     def of(cls: Type[E], number: int) -> E:
@@ -51,22 +51,22 @@ class Number(IntEnum):
 
 
 class Flags(IntFlag):
-    """Bits with names. No bit is refused."""
+    """Bits with names. Every bit is accepted."""
 
     @classmethod
     def of(cls: Type[F], number: int) -> F:
-        """The flags of a number; bits that have no name are kept."""
+        """The flags of a number; bits without a name are kept."""
         return cls(number)
 
     @classmethod
     def _missing_(cls, value: object) -> Any:
         member = super()._missing_(value)
-        cls._value2member_map_.pop(member._value_, None)  # Python keeps each sum of flags that was ever asked for
+        cls._value2member_map_.pop(member._value_, None)  # Python stores every sum of flags that was ever looked up
         return member
 
     @property
     def names(self) -> Tuple[str, ...]:
-        """The names of the bits that are set, lowest first; a bit without a name stands as its number."""
+        """The names of the bits that are set, lowest first; a bit without a name appears as its number."""
         known = {member.value: name for name, member in reversed(list(type(self).__members__.items()))}
         bits = (1 << k for k in range(int(self).bit_length()))
         return tuple(known.get(bit, f"0x{bit:x}") for bit in bits if int(self) & bit)

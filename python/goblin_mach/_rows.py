@@ -13,40 +13,40 @@ from .errors import Refused
 
 T = TypeVar("T")
 BATCH = 1000
-"""How many items the library is asked for at a time."""
+"""How many items are requested from the library at a time."""
 
 Decode = Callable[[Held, Iterable[Tuple[Any, ...]], int], List[T]]
-"""What makes items of rows in some bytes, whose first one has this number in the list."""
+"""Builds items from rows in some bytes; the first row has this index in the list."""
 
 Table = Callable[[], Tuple[int, int, int]]
-"""A table as the file has it: where its records begin, how many bytes one has, and how many they are said to be."""
+"""A table as in the file: the offset of its records, the size of one, and how many the file claims."""
 
 
 class Kind(Generic[T]):
-    """A kind of list: the call that writes its rows, the struct of a row, and what makes items of rows."""
+    """A kind of list: the call that writes its rows, the struct of a row, and what builds items from rows."""
 
     __slots__ = ("call", "decode", "grows", "row")
 
     def __init__(self, call: Callable[..., Any], row: Type[ctypes.Structure], decode: Decode[T], grows: bool = False) -> None:
-        self.call, self.decode, self.grows = call, decode, grows  # batches grow where a call reads what is before its first item
+        self.call, self.decode, self.grows = call, decode, grows  # batches grow if a call reads what is before its first item
         self.row: struct.Struct = unpacker(row)
 
     def array(self, count: int) -> ctypes.Array[ctypes.c_char]:
-        """Room for so many rows."""
+        """Room for `count` rows."""
         return ctypes.create_string_buffer(count * self.row.size)
 
     def items(self, held: Held, array: ctypes.Array[ctypes.c_char], count: int, first: int) -> List[T]:
-        """The items of the first `count` rows of an array, whose numbers begin with `first`."""
+        """The items of the first `count` rows of an array, whose indices begin with `first`."""
         return self.decode(held, self.row.iter_unpack(memoryview(array)[:count * self.row.size]), first)
 
     def items_of(self, held: Held, row: ctypes.Structure) -> List[T]:
-        """The item of one row, as a list."""
+        """The item of one row, in a list."""
         return self.decode(held, self.row.iter_unpack(bytes(row)), 0)
 
 
 class Rows(Generic[T]):
-    """A list whose items stand at numbers of their own. It is an iterator over them, and is gone over once. Beside that `len` says how many there are,
-    an index or a slice asks for items anew, wherever the iterator is, and so does `in`."""
+    """A list whose items have indices. It is an iterator, which runs once. In addition it has `len`; an index or a slice, and `in`,
+    request items anew, independently of the iterator."""
 
     __slots__ = ("_end", "_given", "_kind", "_length", "_live", "_table", "_walk")
 
@@ -56,8 +56,8 @@ class Rows(Generic[T]):
         self._walk = self._items(0, None)
 
     def begun(self) -> Rows[T]:
-        """Those of them whose record begins within the bytes, as a list of its own. A file may claim 2^32 records, of which it has few. Lists that have no
-        table of records are given whole."""
+        """Those whose record begins within the bytes, as a list of its own. A file may claim 2^32 records when it has few. Lists without
+        a table of records are returned whole."""
         if self._table is None:
             return Rows(self._kind, self._live, self._given, self._length, None, self._end)
         held = self._live()
@@ -66,7 +66,7 @@ class Rows(Generic[T]):
         return Rows(self._kind, self._live, self._given, lambda: end, None, end)
 
     def _items(self, first: int, end: Optional[int]) -> Iterator[T]:
-        """The items from a number on, up to `end` if that is said, in batches."""
+        """The items from an index on, up to `end` if it is given, in batches."""
         kind, held = self._kind, self._live()
         if self._end is not None:
             end = self._end if end is None else min(end, self._end)
@@ -121,7 +121,7 @@ class Rows(Generic[T]):
         return found[0]
 
     def _slice(self, numbers: range) -> List[T]:
-        """The items of these numbers. What lies between them is read in batches, and isn't kept."""
+        """The items at these indices. Those between them are read in batches, and not kept."""
         if not numbers:
             return []
         first, end, step = min(numbers[0], numbers[-1]), max(numbers[0], numbers[-1]) + 1, abs(numbers.step)
@@ -132,7 +132,7 @@ class Rows(Generic[T]):
         name = self._kind.decode.__name__.replace("_", " ")
         try:
             return f"<Rows: {len(self)} {name}>"
-        except (Refused, ValueError) as why:  # an image that can't be opened, or a file that is closed
+        except (Refused, ValueError) as why:  # an image that can't be opened, or a closed file
             return f"<Rows: {name}, {why}>"
 
 
@@ -154,7 +154,7 @@ def rows_behind(kind: Kind[T], live: Callable[[], Held], numbers: Any, cursor: c
 
 
 def in_growing_batches(kind: Kind[T], live: Callable[[], Held], given: Sequence[Any] = ()) -> Iterator[T]:
-    """The items of a list of which each call seeks all: so batches double."""
+    """The items of a list whose calls all search from the start: so batches double in size."""
     held, first, cap = live(), 0, BATCH
     life = held.life
     while True:

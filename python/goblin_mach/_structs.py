@@ -1,4 +1,5 @@
-"""The structs of c/include/goblin_mach.h, with its names. A test compares each field's place and size with those that the header states."""
+"""The structs of c/include/goblin_mach.h, with its names. A test compares the offset and the size of each field with those that the
+header asserts."""
 
 from __future__ import annotations
 
@@ -243,7 +244,7 @@ class gm_signature_fault(ctypes.Structure):
 
 
 def _codes(kind: Any) -> str:
-    """What the module `struct` calls the fields of a type, one behind the other."""
+    """The format of the fields of a type, one after the other, for the module `struct`."""
     if issubclass(kind, ctypes.Structure):
         return "".join(_codes(field[1]) for field in kind._fields_)
     if issubclass(kind, ctypes.Array):
@@ -252,7 +253,7 @@ def _codes(kind: Any) -> str:
 
 
 def unpacker(row: Type[ctypes.Structure]) -> struct.Struct:
-    """What takes the rows of this type out of bytes, each as a tuple of its fields: many times as fast as ctypes."""
+    """A function that unpacks rows of this type from bytes, each as a tuple of its fields: many times as fast as ctypes."""
     end = {4: "0I", 8: "0Q"}[ctypes.alignment(row)]
     made = struct.Struct("@" + _codes(row) + end)
     if made.size != ctypes.sizeof(row):

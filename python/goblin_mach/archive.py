@@ -27,10 +27,11 @@ def _bytes_of(name: Union[str, bytes]) -> bytes:
 
 
 class Archive:
-    """The archive that some bytes are, which stay as they are while it is used; `Refused` where they are none, or where its front can't be read."""
+    """The archive in some bytes, which must not change while it is used. Raises `Refused` if they are no archive, or if its start can't
+    be read."""
 
     kind: str
-    """How short names are spelled: `gnu` or `bsd`."""
+    """How short names are written: `gnu` or `bsd`."""
 
     def __init__(self, data: Union[ReadableBuffer, Held]) -> None:
         self._held = data if isinstance(data, Held) else Held(data)
@@ -39,14 +40,14 @@ class Archive:
             raise refused(error)
         self.kind = KINDS[kind.value]
         if self.kind not in ("gnu", "bsd"):
-            self._found(lib.gm_archive_member_named, b"")  # says why these bytes are none
+            self._found(lib.gm_archive_member_named, b"")  # reports why these bytes are no archive
 
     def members(self) -> Rows[Member]:
-        """Its members in order. The last has an `error` where the one behind it can't be read."""
+        """Its members in order. The last has an `error` if the next one can't be read."""
         return Rows(_lists.ARCHIVE_MEMBERS, self._held.live)
 
     def symbols(self) -> Rows[ArchiveSymbol]:
-        """The symbols of its index; none where it has none. The last has an `error` where no more can be read."""
+        """The symbols of its index; none if it has none. The last has an `error` if no more can be read."""
         return Rows(_lists.ARCHIVE_SYMBOLS, self._held.live)
 
     def _found(self, call: Callable[..., Any], name: bytes) -> Optional[Member]:
@@ -56,21 +57,21 @@ class Archive:
         return next(iter(_lists.ARCHIVE_MEMBERS.items_of(held, found))) if found.header else None
 
     def member(self, name: Union[str, bytes]) -> Optional[Member]:
-        """The first member of a name, or None; `Refused` where a header before it can't be read."""
+        """The first member with a name, or None; raises `Refused` if a header before it can't be read."""
         return self._found(lib.gm_archive_member_named, _bytes_of(name))
 
     def defining(self, symbol: Union[str, bytes]) -> Optional[Member]:
-        """The member that defines a symbol, by the index, or None; `Refused` where the index or the member can't be read."""
+        """The member that defines a symbol, by the index, or None; raises `Refused` if the index or the member can't be read."""
         return self._found(lib.gm_archive_find, _bytes_of(symbol))
 
     def image(self, member: Member, mode: int = Mode.STRICT) -> Image:
-        """The image that a member is. One that can't be opened has an `error`."""
+        """The image of a member. One that can't be opened has an `error`."""
         held = self._held.live()
         why = None if member.error is None else Refused(code_of(member.error), member.error)
         return Image._of_part(Held(member.data, held.life), mode, member.offset, None, why)
 
     def images(self, mode: int = Mode.STRICT) -> Iterator[Tuple[Member, Image]]:
-        """The members that are images, each with its image: those that begin as one. Where no more members can be read the last image says why."""
+        """The members that are images (they begin as one), each with its image. If no more members can be read, the last image says why."""
         for member in self.members():
             if member.error is not None or bytes(member.data[:4]) in _IMAGES:
                 yield member, self.image(member, mode)
@@ -88,7 +89,7 @@ class Archive:
     def __getitem__(self, index: slice) -> List[Member]: ...
 
     def __getitem__(self, index: Union[int, str, bytes, slice]) -> Union[Member, List[Member]]:
-        """A member by its number or its name, or some by a slice."""
+        """A member by its index or its name, or some by a slice."""
         if not isinstance(index, (str, bytes)):
             return self.members()[index]
         found = self.member(index)

@@ -1,9 +1,8 @@
-"""Numbers that have names, under the names that Apple's headers give them, without the prefix that each docstring says.
+"""Numbers that have names, under the names of Apple's headers, without the prefix in each docstring.
 
-`LoadCommand(0x19)` is `LoadCommand.SEGMENT_64`, `LoadCommand.SEGMENT_64 == 0x19`, and `LoadCommand(0x99)` is a member too, named after the number. Of
-flags `names` says which are set. The numbers are those of the crates, with which a test compares them (python/enums_check.py), and, where the crates
-don't have them, those of LLVM's BinaryFormat/MachO.h and of the header that is named.
-"""
+`LoadCommand(0x19)` is `LoadCommand.SEGMENT_64`, `LoadCommand.SEGMENT_64 == 0x19`, and `LoadCommand(0x99)` is a member too, named after
+the number. For flags `names` lists those that are set. The numbers are those of the crates, with which a test compares them
+(python/enums_check.py); those that the crates don't have are from LLVM's BinaryFormat/MachO.h and from the header that is named."""
 
 from __future__ import annotations
 
@@ -14,7 +13,7 @@ from ._numbers import Flags, Number
 
 
 class Mode(Number):
-    """GM_: how an image is opened. STRICT refuses what can't be read, LOSSY passes over it."""
+    """GM_: how an image is opened. STRICT refuses what can't be read, LOSSY skips it."""
 
     STRICT = 0
     LOSSY = 1
@@ -54,7 +53,8 @@ class CpuType(Number):
 
 
 class CpuSubtype(Number):
-    """CPU_SUBTYPE_, of mach/machine.h, without the top 8 bits, which are capabilities. Which it is goes by the cpu: see `CPU_SUBTYPES`."""
+    """CPU_SUBTYPE_, of mach/machine.h, without the top 8 bits, which are capabilities. Its meaning depends on the cpu: see
+    `CPU_SUBTYPES`."""
 
 
 class X86Subtype(CpuSubtype):
@@ -278,7 +278,7 @@ class Protection(Flags):
 
     @property
     def letters(self) -> str:
-        """As ls has them: "r-x"."""
+        """As ls prints them: "r-x"."""
         return "".join(letter if int(self) & bit else "-" for letter, bit in (("r", 1), ("w", 2), ("x", 4)))
 
 
@@ -293,7 +293,7 @@ class SegmentFlags(Flags):
 
 
 class SectionType(Number):
-    """S_, of mach-o/loader.h: the low 8 bits of a section's flags. S_4BYTE_LITERALS is LITERALS_4BYTE, and so are its like."""
+    """S_, of mach-o/loader.h: the low 8 bits of a section's flags. S_4BYTE_LITERALS is LITERALS_4BYTE, and similar names likewise."""
 
     REGULAR = 0x0
     ZEROFILL = 0x1
@@ -336,7 +336,7 @@ class SectionAttributes(Flags):
 
 
 class Platform(Number):
-    """PLATFORM_, of mach-o/loader.h: what an LC_BUILD_VERSION says."""
+    """PLATFORM_, of mach-o/loader.h: the platform of an LC_BUILD_VERSION."""
 
     UNKNOWN = 0
     MACOS = 1
@@ -357,7 +357,7 @@ class Platform(Number):
 
 
 class Tool(Number):
-    """TOOL_, of mach-o/loader.h: what an LC_BUILD_VERSION says."""
+    """TOOL_, of mach-o/loader.h: the tools of an LC_BUILD_VERSION."""
 
     CLANG = 1
     SWIFT = 2
@@ -366,7 +366,7 @@ class Tool(Number):
 
 
 class DataKind(Number):
-    """DICE_KIND_, of mach-o/loader.h: what data among code is (LC_DATA_IN_CODE)."""
+    """DICE_KIND_, of mach-o/loader.h: the kind of data in code (LC_DATA_IN_CODE)."""
 
     DATA = 1
     JUMP_TABLE8 = 2
@@ -376,7 +376,7 @@ class DataKind(Number):
 
 
 class SignatureFlags(Flags):
-    """CS_, of kern/cs_blobs.h: what a code directory says of the code."""
+    """CS_, of kern/cs_blobs.h: the flags of a code directory."""
 
     ADHOC = 0x2
     HARD = 0x100
@@ -390,7 +390,7 @@ class SignatureFlags(Flags):
 
 
 class SignatureHash(Number):
-    """CS_HASHTYPE_, of kern/cs_blobs.h: how a code directory hashes."""
+    """CS_HASHTYPE_, of kern/cs_blobs.h: the hash that a code directory uses."""
 
     SHA1 = 1
     SHA256 = 2

@@ -1,4 +1,4 @@
-"""Fat files that are written."""
+"""Writing fat files."""
 
 from __future__ import annotations
 
@@ -23,7 +23,7 @@ _ABI64 = 0x01000000
 
 @readable
 class FatPart(NamedTuple):
-    """An entry that a fat file is to have: its cpu, its bytes, and the power of 2 that its place is a multiple of, at most 15."""
+    """An entry for a fat file to be written: its cpu, its bytes, and the power of 2 that its offset is a multiple of, at most 15."""
 
     cputype: int
     cpusubtype: int
@@ -32,7 +32,7 @@ class FatPart(NamedTuple):
 
     @classmethod
     def of(cls, data: ReadableBuffer) -> FatPart:
-        """The entry that an image or an archive of images becomes, as `machfat create` makes it; `Refused` of what is neither."""
+        """The entry that an image or an archive of images becomes, as for `machfat create`; raises `Refused` for anything else."""
         view = memoryview(data).cast("B")
         if bytes(view[:8]) != b"!<arch>\n":
             cputype, cpusubtype = _cpu(view)
@@ -42,7 +42,7 @@ class FatPart(NamedTuple):
 
 
 def _cpu(view: memoryview) -> Tuple[int, int]:
-    """The cpu of an image's header."""
+    """The cpu in an image's header."""
     order = _ORDERS.get(bytes(view[:4]))
     if order is None:
         raise Refused(ErrorCode.BAD_MAGIC, f"bad magic 0x{bytes(view[:4]).hex()}")
@@ -65,7 +65,7 @@ def _cpu_of_all(archive: Archive) -> Tuple[int, int]:
 
 
 def _row(part: FatPart, offset: int, length: int) -> s.gm_fat_part:
-    """A part as C takes it. A number that has no 32 bits would be cut."""
+    """A part as C takes it. A number of more than 32 bits would be cut, and is refused."""
     for number in (part.cputype, part.cpusubtype, part.align):
         if not 0 <= number < 1 << 32:
             raise ValueError(f"{number:#x} is no number of 32 bits")
@@ -73,8 +73,8 @@ def _row(part: FatPart, offset: int, length: int) -> s.gm_fat_part:
 
 
 def write_fat(parts: Iterable[FatPart], is_64: bool = False) -> bytearray:
-    """The bytes of a fat file of these entries, in their order, each for another cpu: with places of 32 bits, or of 64. `Refused` where two are for one
-    cpu, an alignment is above 15, or a record can't hold a place or a length."""
+    """The bytes of a fat file of these entries, in their order, each for another cpu: with offsets of 32 bits, or of 64. Raises
+    `Refused` if two are for one cpu, an alignment is above 15, or a record can't hold an offset or a length."""
     given = list(parts)
     views = [memoryview(part.data).cast("B") for part in given]
     rows, end = (s.gm_fat_part * len(given))(), 0

@@ -1,4 +1,4 @@
-"""Files, and bytes that are taken as files."""
+"""Files, and bytes that are used as files."""
 
 from __future__ import annotations
 
@@ -32,24 +32,24 @@ def _held(data: Union[ReadableBuffer, Held]) -> Held:
 
 
 def _kind(view: memoryview) -> str:
-    """What bytes are, by what they begin with."""
+    """The kind of some bytes, from how they begin."""
     if view[:8] in (ARCHIVE_MAGIC, THIN_MAGIC):
         return "archive"
     return FAT_KINDS.get(bytes(view[:4]), "image") if len(view) >= 8 else "image"
 
 
 def fat_entries(data: Union[ReadableBuffer, Held]) -> Rows[FatEntry]:
-    """The entries of a fat file, of 32 or of 64 bits; none where the bytes are no fat file."""
+    """The entries of a fat file, of 32 or 64 bits; none if the bytes are no fat file."""
     return Rows(_lists.FAT_ENTRIES, _held(data).live)
 
 
 def container_faults(data: Union[ReadableBuffer, Held]) -> Iterator[LayoutFault]:
-    """The faults of the table of a fat file, of 32 or of 64 bits; none where the bytes are no such file."""
+    """The faults of the table of a fat file, of 32 or 64 bits; none if the bytes are no fat file."""
     return in_growing_batches(_lists.CONTAINER_FAULTS, _held(data).live)
 
 
 def _mapped(path: Any) -> Union[mmap.mmap, bytes]:
-    """The bytes of the file at a path, as they lie there."""
+    """The bytes of the file at a path, mapped."""
     with builtins.open(path, "rb") as file:
         state = os.fstat(file.fileno())
         if not stat.S_ISREG(state.st_mode):
@@ -58,16 +58,17 @@ def _mapped(path: Any) -> Union[mmap.mmap, bytes]:
 
 
 class File(Sequence[Image]):
-    """A mapped file, or bytes: a sequence of its images, each of which is opened when it is asked for: of a fat file those of its entries, archives left
-    out, and of an archive those of its members that are images; `images` has them all. Images and their lists may be used as long as the file is open:
-    behind `close`, or behind the end of a `with`, each raises ValueError. Items that were given stay as they are."""
+    """A mapped file, or bytes: a sequence of its images, each of which is opened when it is requested. For a fat file these are the
+    images of its entries, without archives; for an archive those of its members. `images` returns all of them. Images and their lists
+    may be used while the file is open: after `close`, or after a `with` block, they raise ValueError. Items already returned stay
+    valid."""
 
     def __init__(self, path: StrOrBytesPath, mode: int = Mode.STRICT) -> None:
         self._begin(_mapped(path), path, mode)
 
     def _begin(self, data: ReadableBuffer, name: Optional[StrOrBytesPath], mode: int) -> None:
         self.name = name
-        """The path that it was opened by; None of bytes."""
+        """The path that it was opened by; None for bytes."""
         self._mode, self._life = mode, Life()
         self._held: Optional[Held] = Held(data, self._life)
         self._kept: Optional[Tuple[FatEntry, ...]] = None
@@ -75,7 +76,7 @@ class File(Sequence[Image]):
 
     @property
     def kind(self) -> str:
-        """What it is, by what it begins with: `archive`, `fat`, `fat64`, or else `image`, whether it is one or not."""
+        """Its kind, from how it begins: `archive`, `fat`, `fat64`, or else `image`, whether it is one or not."""
         return _kind(self._whole().view)
 
     @property
@@ -94,7 +95,7 @@ class File(Sequence[Image]):
         return whole.view[entry.offset:end] if end <= whole.len else whole.view[:0]
 
     def _has_image(self, whole: Held, entry: FatEntry) -> bool:
-        """Whether an entry is for an image: it is unless it begins as an archive does."""
+        """Whether an entry is for an image: it is unless it begins as an archive."""
         part = self._part(whole, entry)
         return len(part) < 16 or part[:8] != ARCHIVE_MAGIC
 
@@ -109,7 +110,8 @@ class File(Sequence[Image]):
         return self._kept
 
     def __iter__(self) -> Iterator[Image]:
-        """Its image, or those of a fat file's entries or of an archive's members in order. One that can't be opened is an image with an `error`."""
+        """Its image, or those of a fat file's entries or of an archive's members, in order. One that can't be opened is an image with an
+        `error`."""
         whole = self._whole()
         kind = _kind(whole.view)
         if kind == "image":
@@ -153,7 +155,7 @@ class File(Sequence[Image]):
         return Image(whole, 0, self._mode)
 
     def image(self, arch: Optional[str] = None) -> Image:
-        """The first image, or the first one of an architecture, as "arm64e"; a LookupError where there is none."""
+        """The first image, or the first one of an architecture, for example "arm64e"; raises LookupError if there is none."""
         found: Dict[str, None] = {}
         for image in self:
             if arch is None or image.arch == arch:
@@ -167,13 +169,14 @@ class File(Sequence[Image]):
         return "" if self.name is None else os.fsdecode(self.name)
 
     def _parts(self) -> Iterator[Tuple[str, FatEntry, Held]]:
-        """The entries of a fat file: what each is called, its record, its bytes."""
+        """The entries of a fat file: the name of each, its record, its bytes."""
         whole = self._whole()
         for entry in fat_entries(whole):
             yield f"{self._label}: arch {entry.arch}".lstrip(": "), entry, Held(self._part(whole, entry), self._life)
 
     def archives(self) -> Iterator[Tuple[str, Archive]]:
-        """The archive that it is, or those among a fat file's entries, each with what it is called. `Refused` where the front of one can't be read."""
+        """The archive that it is, or those among a fat file's entries, each with its name. Raises `Refused` if the start of one can't be
+        read."""
         whole = self._whole()
         if _kind(whole.view) == "archive":
             yield self._label, Archive(whole)
@@ -182,8 +185,9 @@ class File(Sequence[Image]):
                 yield label, Archive(part)
 
     def images(self) -> Iterator[Tuple[str, Image]]:
-        """All images within, each with what it is called: `libx.a(member.o)` of a member, `a.out: arch arm64` of an entry of a fat file and
-        `libx.a: arch arm64(member.o)` of a member of an archive among its entries. An entry or a member that can't be opened has an `error`."""
+        """All images in it, each with its name: `libx.a(member.o)` for a member, `a.out: arch arm64` for an entry of a fat file, and
+        `libx.a: arch arm64(member.o)` for a member of an archive among its entries. An entry or a member that can't be opened has an
+        `error`."""
         whole = self._whole()
         kind = _kind(whole.view)
         if kind == "image":
@@ -214,7 +218,7 @@ class File(Sequence[Image]):
         return container_faults(self._whole())
 
     def close(self) -> None:
-        """Closes it. The bytes stay mapped as long as something that was taken of them is held."""
+        """Closes it. The bytes stay mapped as long as an object still uses them."""
         self._life.closed, self._held, self._kept, self._members = True, None, None, None
 
     def __enter__(self) -> File:
@@ -230,17 +234,17 @@ class File(Sequence[Image]):
 
 
 def open(path: Union[StrOrBytesPath, ReadableBuffer], mode: int = Mode.STRICT) -> File:
-    """Maps the file at a path: a str, bytes or a `pathlib.Path`. Anything else that has a buffer, as a bytearray, a memoryview or an mmap, is taken as the
-    bytes of a file (`parse`). Its images are opened one by one as it is gone over. What can't be opened raises `Refused`; an entry of a fat file is an
-    image with that `error`."""
+    """Maps the file at a path: a str, bytes or a `pathlib.Path`. Any other object with a buffer, such as a bytearray, a memoryview or an
+    mmap, is used as the bytes of a file (`parse`). Its images are opened one by one during iteration. What can't be opened raises
+    `Refused`; an entry of a fat file is an image with that `error`."""
     if isinstance(path, (bytearray, memoryview, mmap.mmap)) or not isinstance(path, (str, bytes, int)) and not hasattr(path, "__fspath__"):
         return parse(path, mode)
     return File(path, mode)
 
 
 def parse(data: ReadableBuffer, mode: int = Mode.STRICT) -> File:
-    """Takes bytes as those of a file, without a copy: bytes, a bytearray, a memoryview, an mmap, or anything else that has a buffer. They stay as they are
-    while it is used."""
+    """Uses bytes as those of a file, without a copy: bytes, a bytearray, a memoryview, an mmap, or any other object with a buffer. They
+    must not change while the file is used."""
     if isinstance(data, str) or hasattr(data, "__fspath__"):
         raise TypeError("parse takes bytes; open takes a path")
     file = File.__new__(File)

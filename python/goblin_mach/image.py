@@ -27,26 +27,26 @@ if TYPE_CHECKING:
 
 
 def _bits64(number: int) -> int:
-    """A number as C takes it. One that has no 64 bits would be cut."""
+    """A number as C takes it. One of more than 64 bits would be cut, and is refused."""
     if not 0 <= number < 1 << 64:
         raise ValueError(f"{number:#x} is no number of 64 bits")
     return number
 
 
 class Image:
-    """An image in some bytes, which stay as they are while it is used. `error` is None; of an entry of a fat file that can't be opened it
-    is the `Refused` that says why, its numbers are 0, and each of its lists raises it.
+    """An image in some bytes, which must not change while it is used. `error` is None; for an entry of a fat file that can't be opened it
+    is the `Refused` with the reason, its numbers are 0, and each of its lists raises it.
 
-    Lists are iterators. Those whose items stand at numbers of their own also have `len`, indices and slices (`Rows`); those of exports, fixups, imports,
+    Lists are iterators. Those whose items have indices also have `len`, indices and slices (`Rows`); those of exports, fixups, imports,
     bindings, weak binds, rebases, function starts, slots and faults go on from where they stopped, and have none of these."""
 
     error: Optional[Refused] = None
     offset: int
-    """Where it begins in the bytes that it was opened in."""
+    """Its offset in the bytes that it was opened in."""
     fat_offset: int
-    """Where these bytes begin in their file: 0, or the place of an entry of a fat file."""
+    """The offset of these bytes in their file: 0, or that of an entry of a fat file."""
     entry: int
-    """The address at which it begins to run, or 0."""
+    """The address of its entry point, or 0."""
     cputype: int
     cpusubtype: int
     filetype: int
@@ -74,7 +74,7 @@ class Image:
 
     @classmethod
     def _of_part(cls, part: Held, mode: int, place: int, arch: Optional[str], why: Optional[Refused]) -> Image:
-        """The image of a part of a file, whose bytes these are, or the one that says why it isn't opened."""
+        """The image of a part of a file with these bytes, or one with the reason why it can't be opened."""
         self = cls.__new__(cls)
         try:
             if why is not None:
@@ -89,44 +89,46 @@ class Image:
 
     @classmethod
     def _of_entry(cls, entry: FatEntry, part: Held, mode: int) -> Image:
-        """The image of an entry of a fat file, whose bytes these are, or the one that says why it isn't opened."""
+        """The image of an entry of a fat file with these bytes, or one with the reason why it can't be opened."""
         why = None if entry.error is None else Refused(code_of(entry.error), entry.error)
         return cls._of_part(part, mode, entry.offset, entry.arch, why)
 
     def _live(self) -> Held:
-        """Its bytes, where it was opened and its file is open."""
+        """Its bytes, if it was opened and its file is open."""
         if self.error is not None:
             raise again(self.error)
         return self._held.live()
 
     @property
     def arch(self) -> str:
-        """The name of its architecture, as LLVM's tools have it: "arm64e". Of an entry of a fat file that can't be opened it is what the entry says."""
+        """The name of its architecture in LLVM's tools: "arm64e". For an entry of a fat file that can't be opened it is that of the
+        entry's record."""
         return self._arch
 
     @property
     def cpu_type(self) -> CpuType:
-        """`cputype` by its name."""
+        """`cputype` as an enum."""
         return CpuType.of(self.cputype)
 
     @property
     def cpu_subtype(self) -> CpuSubtype:
-        """`cpusubtype` by its name, without capabilities."""
+        """`cpusubtype` as an enum, without capabilities."""
         return cpu_subtype(self.cputype, self.cpusubtype)
 
     @property
     def file_type(self) -> FileType:
-        """`filetype` by its name."""
+        """`filetype` as an enum."""
         return FileType.of(self.filetype)
 
     @property
     def header_flags(self) -> HeaderFlags:
-        """`flags` by their names."""
+        """`flags` as an enum."""
         return HeaderFlags.of(self.flags)
 
     @property
     def data(self) -> memoryview:
-        """The bytes that it was opened in: of a fat file's entry those of the entry. Places of commands and symbols count from their start."""
+        """The bytes that it was opened in: for a fat file's entry those of the entry. Offsets of commands and symbols count from their
+        start."""
         return self._live().view
 
     def commands(self) -> Rows[Command]:
@@ -154,31 +156,31 @@ class Image:
                     table=lambda: (int(numbers.symbols_at), 16 if self.is_64 else 12, int(numbers.symbols)))
 
     def libraries(self) -> Rows[Library]:
-        """The libraries that it brings in: number k has ordinal k + 1."""
+        """The libraries that it loads: number k has ordinal k + 1."""
         return Rows(_lists.LIBRARIES, self._live, (self._pointer,), lambda: int(self._numbers.libraries))
 
     def run_paths(self) -> Rows[str]:
-        """The paths on which its libraries are sought."""
+        """The paths on which its libraries are searched."""
         return Rows(_lists.RUN_PATHS, self._live, (self._pointer,), lambda: int(self._numbers.run_paths))
 
     def ids(self) -> Rows[str]:
-        """The names by which the image is known as a library; the last one counts."""
+        """The names of the image as a library; the last one counts."""
         return Rows(_lists.IDS, self._live, (self._pointer,))
 
     @property
     def name(self) -> Optional[str]:
-        """The name by which the image is known as a library, if it has one."""
+        """The name of the image as a library, if it has one."""
         name = None
         for name in self.ids():
             pass
         return name
 
     def function_starts(self) -> Iterator[FunctionStart]:
-        """Where its functions begin (LC_FUNCTION_STARTS); the last may be the error that ends them."""
+        """The start addresses of its functions (LC_FUNCTION_STARTS); the last item may be the error that ends them."""
         return rows_behind(_lists.FUNCTION_STARTS_BEHIND, self._live, self._pointer, s.gm_start_cursor())
 
     def data_in_code(self) -> Rows[DataInCode]:
-        """The data among its code (LC_DATA_IN_CODE). An entry that can't be read has an `error`."""
+        """The data in its code (LC_DATA_IN_CODE). An entry that can't be read has an `error`."""
         return Rows(_lists.DATA_IN_CODE, self._live, (self._pointer,), table=lambda: self._table_of(LoadCommand.DATA_IN_CODE, 8, 8, 8))
 
     def indirect_symbols(self) -> Rows[IndirectSymbol]:
@@ -186,7 +188,8 @@ class Image:
         return Rows(_lists.INDIRECT_SYMBOLS, self._live, (self._pointer,), table=lambda: self._table_of(LoadCommand.DYSYMTAB, 56, 4, 1))
 
     def _table_of(self, command: int, place: int, size: int, unit: int) -> Tuple[int, int, int]:
-        """The table that the last command of a number tells of: at a place of it where the records begin, and then how many units they are."""
+        """The table of the last command of a number: at one place it gives the offset of the records, and next to it how many units they
+        are."""
         start = count = 0
         for each in self.commands():
             if each.cmd == command:
@@ -194,29 +197,31 @@ class Image:
         return start, size, count // unit
 
     def symbol_slots(self) -> Iterator[SymbolSlot]:
-        """Its stubs and pointers that stand for symbols, section by section. One that can't be read has an `error`."""
+        """Its stubs and pointers that belong to symbols, section by section. One that can't be read has an `error`."""
         return in_growing_batches(_lists.SLOTS_BY_NUMBER, self._live, (self._pointer,))
 
     def slot_at(self, address: int) -> Optional[SymbolSlot]:
-        """The stub or pointer in which an address lies, or None. One that can't be read raises `Refused`."""
+        """The stub or pointer that holds an address, or None. One that can't be read raises `Refused`."""
         held, found, error = self._live(), s.gm_slot(), s.gm_error()
         if lib.gm_slot_at(held.at, held.len, self._pointer, _bits64(address), ctypes.byref(found), None, ctypes.byref(error)):
             raise refused(error)
         return next(iter(_lists.SLOTS_BY_NUMBER.items_of(held, found))) if found.kind else None
 
     def symbol_provider(self, symbol: Symbol) -> Optional[SymbolProvider]:
-        """Who gives an undefined symbol, as the linker wrote it down, or None where it didn't. An ordinal past the last library is an `error`."""
+        """The provider of an undefined symbol, as the linker recorded it, or None if it didn't. An ordinal past the last library is an
+        `error`."""
         self._live()
         given, found = s.gm_symbol(value=symbol.value, section=symbol.section, desc=symbol.desc, n_type=symbol.n_type), s.gm_provider()
         lib.gm_symbol_provider(self._pointer, ctypes.byref(given), ctypes.byref(found))
         return _lists.provider(found)
 
     def section_at(self, address: int) -> Optional[NumberedSection]:
-        """The first section in which an address lies, or None."""
+        """The first section that holds an address, or None."""
         return self._section(lib.gm_section_at, _bits64(address))
 
     def section_of(self, number: int) -> Optional[NumberedSection]:
-        """The section that `section` of a symbol means, counted from 1 over all segments, or None. One that isn't in the bytes raises `Refused`."""
+        """The section of a symbol's number `section`, counted from 1 over all segments, or None. One that isn't in the bytes raises
+        `Refused`."""
         return self._section(lib.gm_section_of, _bits64(number))
 
     def _section(self, call: Callable[..., Any], by: int) -> Optional[NumberedSection]:
@@ -226,11 +231,11 @@ class Image:
         return _lists.numbered_section(found)
 
     def linker_options(self) -> Rows[LinkerOption]:
-        """Its options for the linker (LC_LINKER_OPTION); the last may be the error that ends them."""
+        """Its linker options (LC_LINKER_OPTION); the last item may be the error that ends them."""
         return Rows(_lists.LINKER_OPTIONS, self._live, (self._pointer,))
 
     def build_tools(self) -> Rows[BuildTool]:
-        """The tools that it was built with (LC_BUILD_VERSION); the last may be the error that ends them."""
+        """The tools that it was built with (LC_BUILD_VERSION); the last item may be the error that ends them."""
         return Rows(_lists.BUILD_TOOLS, self._live, (self._pointer,))
 
     def notes(self) -> Rows[Note]:
@@ -238,50 +243,50 @@ class Image:
         return Rows(_lists.NOTES, self._live, (self._pointer,))
 
     def fixups(self) -> Iterator[Fixup]:
-        """The fixups of its chains (LC_DYLD_CHAINED_FIXUPS); the last may be the error that ends them."""
+        """The fixups of its chains (LC_DYLD_CHAINED_FIXUPS); the last item may be the error that ends them."""
         return rows_behind(_lists.FIXUPS_BEHIND, self._live, self._pointer, s.gm_fixup_cursor())
 
     def imports(self) -> Iterator[Import]:
-        """Its imports by the binds of LC_DYLD_INFO; the last may be the error that ends them."""
+        """Its imports, from the binds of LC_DYLD_INFO; the last item may be the error that ends them."""
         return rows_behind(_lists.IMPORTS_BEHIND, self._live, self._pointer, s.gm_bind_cursor())
 
     def bindings(self) -> Iterator[Binding]:
-        """What dyld binds of it, by opcodes and then by chains; the last may be the error that ends them."""
+        """Its bindings, from opcodes and then from chains; the last item may be the error that ends them."""
         return rows_behind(_lists.BINDINGS_BEHIND, self._live, self._pointer, s.gm_binding_cursor())
 
     def weak_binds(self) -> Iterator[WeakBind]:
-        """What dyld binds weakly of it, by the weak binds of LC_DYLD_INFO; the last may be the error that ends them."""
+        """Its weak binds, from LC_DYLD_INFO; the last item may be the error that ends them."""
         return rows_behind(_lists.WEAK_BINDS_BEHIND, self._live, self._pointer, s.gm_bind_cursor())
 
     def rebases(self) -> Iterator[Rebase]:
-        """What dyld rebases of it, by opcodes and then by chains; the last may be the error that ends them."""
+        """Its rebases, from opcodes and then from chains; the last item may be the error that ends them."""
         return rows_behind(_lists.REBASES_BEHIND, self._live, self._pointer, s.gm_rebase_cursor())
 
     def exports(self) -> Iterator[Export]:
-        """All exports, in the order of the trie. A fault of the trie raises `Refused` behind those that stand before it."""
+        """All exports, in the order of the trie. A fault of the trie raises `Refused` after the exports before it."""
         return _exports.exports(self._live, self._pointer, self._library_names)
 
     def _library_names(self) -> List[str]:
         return [self.name or "self", *(library.name for library in self.libraries())]
 
     def find_export(self, name: str) -> Optional[Export]:
-        """What the image exports a name as, or None."""
+        """The export of a name from the image, or None."""
         return _exports.find_export(self._live(), self._pointer, name)
 
     def exports_are_a_tree(self) -> bool:
-        """Whether all exports can be read, and no two paths of their trie lead to one node: then `exports` gives each once."""
+        """Whether all exports can be read, and no two paths of their trie lead to one node: then `exports` returns each once."""
         code, error = _exports.are_a_tree(self._live(), self._pointer)
         if code == ErrorCode.NO_MEMORY:
             raise refused(error)
         return not code
 
     def layout_faults(self) -> Iterator[LayoutFault]:
-        """What lies where the format and its readers don't allow it, of the file that begins with the image."""
+        """What lies where the format and its readers don't allow it, in the file that begins with the image."""
         return in_growing_batches(_lists.LAYOUT_FAULTS, self._live, (self._pointer,))
 
     @property
     def signature(self) -> Optional[Signature]:
-        """Its code signature, or None where no command brings one. One that can't be read raises `Refused`."""
+        """Its code signature, or None if no command places one. One that can't be read raises `Refused`."""
         held = self._live()
         said = _signature.said_of(held, self._pointer)
         if said is None:
@@ -289,11 +294,11 @@ class Image:
         return Signature(held, said, lambda: _signature.as_signed(self._live(), self._pointer), self.signature_faults)
 
     def signature_faults(self) -> Iterator[SignatureFault]:
-        """What of its signature isn't as it was signed, also where no code directory counts; nothing where there is no signature."""
+        """The faults of its signature, also if no code directory counts; none if there is no signature."""
         return in_growing_batches(_lists.SIGNATURE_FAULTS, self._live, (self._pointer,))
 
     def _place(self) -> Tuple[object, ...]:
-        """Which image it is: two of one place in the same bytes, opened in the same mode, are equal."""
+        """The identity of the image: two at one place in the same bytes, opened in the same mode, are equal."""
         held = self._held
         return held.at, held.len, self.fat_offset, self.offset, self._numbers.is_lossy, self.error is None
 

@@ -1,5 +1,5 @@
-"""What the lists of a file and of its images give. Each item is a tuple with names (`typing.NamedTuple`): numbers are `int`s, as the file has them, and
-the properties say what they mean."""
+"""The items of the lists of a file and of its images. Each item is a tuple with names (`typing.NamedTuple`): numbers are `int`s, as in
+the file, and the properties give their meaning."""
 
 from __future__ import annotations
 
@@ -17,7 +17,7 @@ Item = TypeVar("Item", bound=Type[Any])
 
 
 def _shown(value: object) -> str:
-    """A value in words: numbers in hexadecimal, and of bytes of the file how many they are."""
+    """A value as text: numbers in hexadecimal, and for bytes of the file how many they are."""
     if isinstance(value, int) and not isinstance(value, bool):
         return str(value) if -10 < value < 10 else hex(value)
     return f"<{len(value)} bytes>" if isinstance(value, memoryview) else repr(value)
@@ -28,7 +28,7 @@ def _words(item: Any) -> str:
 
 
 def readable(item: Item) -> Item:
-    """Gives a kind of item a `repr` to be read."""
+    """Gives a kind of item a readable `repr`."""
     setattr(item, "__repr__", _words)
     return item
 
@@ -46,25 +46,25 @@ class FatEntry(NamedTuple):
 
     @property
     def arch(self) -> str:
-        """The name of its architecture, as LLVM's tools have it: "arm64e"."""
+        """The name of its architecture in LLVM's tools: "arm64e"."""
         return arch_name(self.cputype, self.cpusubtype)
 
     @property
     def cpu_type(self) -> CpuType:
-        """`cputype` by its name."""
+        """`cputype` as an enum."""
         return CpuType.of(self.cputype)
 
     @property
     def cpu_subtype(self) -> CpuSubtype:
-        """`cpusubtype` by its name, without capabilities."""
+        """`cpusubtype` as an enum, without capabilities."""
         return cpu_subtype(self.cputype, self.cpusubtype)
 
 
 @readable
 class Member(NamedTuple):
-    """A member of an archive: `data` are its bytes, from place `start` on, and `offset` is the place of its header. What its header says is None where a
-    field is no number. `name` is None where it can't be read, and `name_error` says why. A member with an `error` is none: it says why no more can be
-    read."""
+    """A member of an archive: `data` are its bytes, which begin at `start`, and `offset` is that of its header. A value of its header is
+    None if the field is no number. `name` is None if it can't be read, and `name_error` says why. A member with an `error` is no
+    member: it says why no more can be read."""
 
     name: Optional[str]
     offset: int
@@ -79,13 +79,13 @@ class Member(NamedTuple):
 
     @property
     def label(self) -> str:
-        """Its name, or where its header stands."""
+        """Its name, or the offset of its header."""
         return f"at {self.offset}" if self.name is None else self.name
 
 
 @readable
 class ArchiveSymbol(NamedTuple):
-    """A symbol of an archive's index. `member` is the `offset` of the member that defines it, which isn't tested."""
+    """A symbol of an archive's index. `member` is the `offset` of the member that defines it, which isn't checked."""
 
     name: str
     member: int
@@ -94,7 +94,7 @@ class ArchiveSymbol(NamedTuple):
 
 @readable
 class Command(NamedTuple):
-    """A load command: `size` bytes from `offset` on."""
+    """A load command: `size` bytes at `offset`."""
 
     offset: int
     size: int
@@ -102,13 +102,14 @@ class Command(NamedTuple):
 
     @property
     def load_command(self) -> LoadCommand:
-        """`cmd` by its name."""
+        """`cmd` as an enum."""
         return LoadCommand.of(self.cmd)
 
 
 @readable
 class Segment(NamedTuple):
-    """A segment. `data` are its bytes: all of them, or none where they are not all in the file. `command` is the place of its load command."""
+    """A segment. `data` are its bytes: all of them, or none if they are not all in the file. `command` is the offset of its load
+    command."""
 
     name: bytes
     vmaddr: int
@@ -124,17 +125,17 @@ class Segment(NamedTuple):
 
     @property
     def max_protection(self) -> Protection:
-        """`maxprot` by its bits' names."""
+        """`maxprot` as an enum."""
         return Protection.of(self.maxprot)
 
     @property
     def initial_protection(self) -> Protection:
-        """`initprot` by its bits' names."""
+        """`initprot` as an enum."""
         return Protection.of(self.initprot)
 
     @property
     def segment_flags(self) -> SegmentFlags:
-        """`flags` by their names."""
+        """`flags` as an enum."""
         return SegmentFlags.of(self.flags)
 
 
@@ -156,18 +157,18 @@ class Section(NamedTuple):
 
     @property
     def type(self) -> SectionType:
-        """The low 8 bits of `flags` by their name."""
+        """The low 8 bits of `flags` as an enum."""
         return SectionType.of(self.flags & 0xFF)
 
     @property
     def attributes(self) -> SectionAttributes:
-        """The other bits of `flags` by their names."""
+        """The other bits of `flags` as an enum."""
         return SectionAttributes.of(self.flags & 0xFFFFFF00)
 
 
 @readable
 class Relocation(NamedTuple):
-    """A relocation of a section: at `address`, and the rest in the bits of `info`. Scattered relocations are not told apart."""
+    """A relocation of a section: at `address`, with everything else in the bits of `info`. Scattered relocations are not recognized."""
 
     address: int
     info: int
@@ -175,17 +176,17 @@ class Relocation(NamedTuple):
 
     @property
     def number(self) -> int:
-        """Of a symbol where `is_extern`, and else of a section."""
+        """The number of a symbol if `is_extern`, else of a section."""
         return self.info & 0xFFFFFF
 
     @property
     def is_pcrel(self) -> bool:
-        """Whether it counts from its own address."""
+        """Whether it is relative to its own address."""
         return self.info >> 24 & 1 != 0
 
     @property
     def length(self) -> int:
-        """How many bytes it corrects, as a power of 2."""
+        """How many bytes it changes, as a power of 2."""
         return self.info >> 25 & 3
 
     @property
@@ -195,11 +196,11 @@ class Relocation(NamedTuple):
 
     @property
     def type_number(self) -> int:
-        """Its type as a number, whose name goes by the cpu."""
+        """Its type as a number, whose meaning depends on the cpu."""
         return self.info >> 28 & 15
 
     def type_for(self, cputype: int) -> RelocationType:
-        """Its type by its name, for an image of this `cputype`."""
+        """Its type as an enum, for an image of this `cputype`."""
         return relocation_type(cputype, self.type_number)
 
 
@@ -216,49 +217,49 @@ class Symbol(NamedTuple):
 
     @property
     def type(self) -> SymbolType:
-        """What it is, where it is none for a debugger (`stab`)."""
+        """Its type, if it is no entry for a debugger (`stab`)."""
         return SymbolType.of(self.n_type & 0x0E)
 
     @property
     def stab(self) -> Optional[Stab]:
-        """What it is for a debugger, if it is for one."""
+        """Its type as an entry for a debugger, if it is one."""
         return Stab.of(self.n_type) if self.n_type & 0xE0 else None
 
     @property
     def is_external(self) -> bool:
-        """Whether other images see it (N_EXT)."""
+        """Whether other images can see it (N_EXT)."""
         return self.n_type & 0x01 != 0
 
     @property
     def is_private_external(self) -> bool:
-        """Whether it was external, and is so no more (N_PEXT)."""
+        """Whether it was external, but is private now (N_PEXT)."""
         return self.n_type & 0xF0 == 0x10
 
     @property
     def is_undefined(self) -> bool:
-        """Whether it is to be found elsewhere: it is in no section, and is none for a debugger."""
+        """Whether it is undefined: it is in no section, and is no entry for a debugger."""
         return self.n_type & 0xEE == 0 and self.section == 0
 
     @property
     def description(self) -> SymbolDescription:
-        """The flags of `desc`. Of one that isn't defined the high 8 bits are no flags, but `library_ordinal`."""
+        """The flags of `desc`. For an undefined symbol the high 8 bits are no flags, but `library_ordinal`."""
         return SymbolDescription.of(self.desc & (0xF8 if self.is_undefined else 0xFFF8))
 
     @property
     def reference(self) -> ReferenceType:
-        """How one that isn't defined is used: the low bits of `desc`."""
+        """How an undefined symbol is referred to: the low bits of `desc`."""
         return ReferenceType.of(self.desc & 7)
 
     @property
     def library_ordinal(self) -> Optional[int]:
-        """The library that one that isn't defined comes from: 0 is the image itself, 254 any, 255 the main executable."""
+        """The library of an undefined symbol: 0 is the image itself, 254 any, 255 the main executable."""
         return self.desc >> 8 if self.is_undefined else None
 
 
 @readable
 class Library(NamedTuple):
-    """A library that the image brings in: `kind`, by its command's number, is "required", "weak", "reexport", "upward" or "lazy". How it is
-    used is in the last four, which go by the command's flags where it has some."""
+    """A library that the image loads. `kind` is "required", "weak", "reexport", "upward" or "lazy", by its command. The last four fields
+    say how it is used; they are from the command's flags if it has some."""
 
     ordinal: int
     name: str
@@ -274,7 +275,7 @@ class Library(NamedTuple):
 
 @readable
 class FunctionStart(NamedTuple):
-    """Where a function begins: its address in memory, before sliding."""
+    """The start of a function: its address in memory, before sliding."""
 
     address: int
     error: Optional[str]
@@ -282,7 +283,7 @@ class FunctionStart(NamedTuple):
 
 @readable
 class DataInCode(NamedTuple):
-    """Data among code: `length` bytes, `offset` behind the image's first byte in memory (of an object file behind address 0)."""
+    """Data in code: `length` bytes, `offset` bytes after the image's first byte in memory (in an object file after address 0)."""
 
     offset: int
     length: int
@@ -291,14 +292,14 @@ class DataInCode(NamedTuple):
 
     @property
     def data_kind(self) -> DataKind:
-        """`kind` by its name."""
+        """`kind` as an enum."""
         return DataKind.of(self.kind)
 
 
 @readable
 class IndirectSymbol(NamedTuple):
-    """An entry of the table of indirect symbols: `kind` is "symbol", whose number among `symbols` is `symbol`, or "local", "absolute" or "local
-    absolute", where no symbol says whose a pointer is."""
+    """An entry of the table of indirect symbols. `kind` is "symbol", and `symbol` its index in `symbols`; or "local", "absolute" or
+    "local absolute", if no symbol names the target of a pointer."""
 
     kind: str
     symbol: Optional[int]
@@ -307,16 +308,17 @@ class IndirectSymbol(NamedTuple):
 
 @readable
 class SymbolSlot(NamedTuple):
-    """A stub or a pointer that stands for a symbol: `len` bytes at `address`, in section number `section` of segment number `segment`. `kind` is "pointer",
-    "lazy pointer", "stub", "lazy library pointer" or "thread-local pointer"; `owner` is what entry `index` of the table of indirect symbols says, "symbol",
-    "local", "absolute" or "local absolute"; of a symbol `symbol` is its number and `name` its name."""
+    """A stub or a pointer that belongs to a symbol: `len` bytes at `address`, in section number `section` of segment number `segment`.
+    `kind` is "pointer", "lazy pointer", "stub", "lazy library pointer" or "thread-local pointer". `owner` is the kind of entry
+    `index` of the table of indirect symbols: "symbol", "local", "absolute" or "local absolute"; for a symbol `symbol` is its number
+    and `name` its name."""
 
     address: int
     len: int
     segment: int
     section: int
     kind: str
-    index: int  # type: ignore[assignment]  # of a tuple it would be a method
+    index: int  # type: ignore[assignment]  # in a tuple it would be a method
     owner: str
     symbol: Optional[int]
     name: Optional[str]
@@ -325,7 +327,7 @@ class SymbolSlot(NamedTuple):
 
 @readable
 class SymbolProvider(NamedTuple):
-    """Who gives an undefined symbol, as the linker wrote it down: "library" (by its ordinal), "itself", "program" or "any"."""
+    """The provider of an undefined symbol, as the linker recorded it: "library" (by its ordinal), "itself", "program" or "any"."""
 
     provider: str
     library: int
@@ -334,8 +336,8 @@ class SymbolProvider(NamedTuple):
 
 @readable
 class NumberedSection(NamedTuple):
-    """A section that was sought: number `number` of segment number `segment`. Of pointers and stubs `reserved1` is their place in the table of indirect
-    symbols, and of stubs `reserved2` is how many bytes each has."""
+    """A section that was looked up: number `number` of segment number `segment`. For pointers and stubs `reserved1` is the index of the
+    first in the table of indirect symbols, and for stubs `reserved2` is the size of each."""
 
     segment: int
     number: int
@@ -353,18 +355,18 @@ class NumberedSection(NamedTuple):
 
     @property
     def type(self) -> SectionType:
-        """The low 8 bits of `flags` by their name."""
+        """The low 8 bits of `flags` as an enum."""
         return SectionType.of(self.flags & 0xFF)
 
     @property
     def attributes(self) -> SectionAttributes:
-        """The other bits of `flags` by their names."""
+        """The other bits of `flags` as an enum."""
         return SectionAttributes.of(self.flags & 0xFFFFFF00)
 
 
 @readable
 class LinkerOption(NamedTuple):
-    """An option for the linker, of the load command at `command`. Behind one with an `error` none comes."""
+    """A linker option, from the load command at `command`. None follows one with an `error`."""
 
     text: str
     command: int
@@ -373,7 +375,7 @@ class LinkerOption(NamedTuple):
 
 @readable
 class BuildTool(NamedTuple):
-    """A tool that the image was built with, of the load command at `command`. Behind one with an `error` none comes."""
+    """A tool that the image was built with, from the load command at `command`. None follows one with an `error`."""
 
     tool: int
     version: int
@@ -382,7 +384,7 @@ class BuildTool(NamedTuple):
 
     @property
     def build_tool(self) -> Tool:
-        """`tool` by its name."""
+        """`tool` as an enum."""
         return Tool.of(self.tool)
 
     @property
@@ -393,7 +395,7 @@ class BuildTool(NamedTuple):
 
 @readable
 class Note(NamedTuple):
-    """Bytes of some tool's own, by the load command at `command`."""
+    """Data of some tool, from the load command at `command`."""
 
     owner: str
     data: memoryview
@@ -403,7 +405,7 @@ class Note(NamedTuple):
 
 @readable
 class Export(NamedTuple):
-    """What a name is exported as: `kind` is "address", "re-export" or "stub". Addresses count from the image's start."""
+    """The export of a name: `kind` is "address", "re-export" or "stub". Addresses count from the image's start."""
 
     name: str
     kind: str
@@ -415,12 +417,12 @@ class Export(NamedTuple):
 
     @property
     def export_kind(self) -> ExportKind:
-        """The low 2 bits of `flags` by their name."""
+        """The low 2 bits of `flags` as an enum."""
         return ExportKind.of(self.flags & 3)
 
     @property
     def export_flags(self) -> ExportFlags:
-        """The other bits of `flags` by their names."""
+        """The other bits of `flags` as an enum."""
         return ExportFlags.of(self.flags & ~3)
 
 
@@ -429,11 +431,11 @@ NUMBERED = ("section", "relocations", "slice", "imports", "symbol ranges")
 
 @readable
 class Owner(NamedTuple):
-    """Whose a range or a fault is: a part, the place of its command or record, and its number there, or 0."""
+    """The owner of a range or a fault: a part, the offset of its command or record, and its number there, or 0."""
 
     part: str
     command: int
-    index: int  # type: ignore[assignment]  # of a tuple it would be a method
+    index: int  # type: ignore[assignment]  # in a tuple it would be a method
 
     def __str__(self) -> str:
         number = f" {self.index}" if self.index or self.part in NUMBERED else ""
@@ -442,7 +444,8 @@ class Owner(NamedTuple):
 
 @readable
 class LayoutFault(NamedTuple):
-    """A fault of layout, of the rule with this plain name: what is there and what it breaks, as docs/C.md says of the rule."""
+    """A fault of layout, for the rule with this plain name: what is there and the limit that it breaks. docs/C.md says what these are
+    for each rule."""
 
     rule: str
     owner: Owner

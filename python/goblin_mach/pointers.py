@@ -1,4 +1,4 @@
-"""What the dynamic linker writes into an image's memory, an item each, in the manner of `items`."""
+"""What the dynamic linker writes into an image's memory, one item each, like those of `items`."""
 
 from __future__ import annotations
 
@@ -9,7 +9,8 @@ from .items import readable
 
 @readable
 class Fixup(NamedTuple):
-    """A pointer to be corrected. `kind` is "rebase", "bind" or "number"; `target` of a rebase is an address, `import_number` of a bind counts from 0."""
+    """A pointer that dyld changes. `kind` is "rebase", "bind" or "number"; for a rebase `target` is an address, for a bind
+    `import_number` counts from 0."""
 
     address: int
     segment: int
@@ -27,7 +28,7 @@ class Fixup(NamedTuple):
 
 @readable
 class Import(NamedTuple):
-    """A symbol that the image takes from a library, whose ordinal is `library`: 0 is the image itself. `offset` is a place in the file."""
+    """A symbol that the image takes from a library with ordinal `library`: 0 is the image itself. `offset` is a file offset."""
 
     name: str
     library: int
@@ -58,8 +59,8 @@ class Binding(NamedTuple):
 
 @readable
 class WeakBind(NamedTuple):
-    """A place that takes the definition of a name that all images share, whatever was bound there before; or, where `is_strong`, a name that the image
-    defines itself and not weakly: then it has no place. `offset` is a place in the file."""
+    """A place that takes the definition of a name that all images share, whatever was bound there before; or, if `is_strong`, a name
+    that the image defines itself and not weakly: then it has no place. `offset` is a file offset."""
 
     name: str
     is_strong: bool
@@ -72,8 +73,8 @@ class WeakBind(NamedTuple):
 
 @readable
 class Rebase(NamedTuple):
-    """A place in memory whose number dyld corrects by how far the image was moved: `target` stands there before that. `kind` is "pointer", or of 32 bits
-    in code "absolute32" or "relative32", and "none" of a fault."""
+    """A place in memory whose number dyld adjusts by the slide of the image: `target` is the number before that. `kind` is "pointer", or
+    "absolute32" or "relative32" for 32 bits in code, and "none" for a fault."""
 
     address: int
     segment: int

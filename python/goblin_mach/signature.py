@@ -1,4 +1,4 @@
-"""The code signature of an image: what its code directory says that counts, and what isn't as it was signed."""
+"""The code signature of an image: the code directory that counts, and the faults of the signature."""
 
 from __future__ import annotations
 
@@ -19,7 +19,7 @@ SLOTS = {
     0x1000: "alternate 1", 0x1001: "alternate 2", 0x1002: "alternate 3", 0x1003: "alternate 4", 0x1004: "alternate 5",
     0x10000: "cms", 0x10001: "identification", 0x10002: "ticket",
 }
-"""The names of a signature's slots (`cs_blobs.h`, CSSLOT_), as `machsign` has them."""
+"""The names of a signature's slots (`cs_blobs.h`, CSSLOT_), as in `machsign`."""
 
 
 def slot_name(slot: int) -> str:
@@ -47,8 +47,8 @@ _WORDS: Dict[str, str] = {
 
 @readable
 class SignatureFault(NamedTuple):
-    """Something that isn't as it was signed, of the directory of a slot, or of a blob; `number` is that of the blob or the page, or the special slot.
-    What `found` and `limit` of each kind are, docs/C.md says."""
+    """Something that isn't as it was signed: a fault of the directory at a slot, or of a blob; `number` is that of the blob or the page,
+    or the special slot. docs/C.md says what `found` and `limit` are for each kind."""
 
     kind: str
     slot: int
@@ -64,8 +64,9 @@ class SignatureFault(NamedTuple):
 
 
 class Signature:
-    """What the code directory of a signature says that counts: the system takes this one. A text that can't be read is None, and `errors` says why.
-    Nothing of it says that the image is as it was signed: `is_as_signed()` does, and `faults()` says what isn't. Who signed is not looked at."""
+    """The code directory that counts in a signature: the one that the system takes. A text that can't be read is None, and `errors` says
+    why. None of this says that the image is as it was signed: `is_as_signed()` does, and `faults()` lists what isn't. Who signed is
+    not checked."""
 
     __slots__ = ("_ask", "_faults", "cdhash", "entitlements", "errors", "flags", "hash_type", "identifier", "limit", "page_size", "pages", "team", "version")
 
@@ -73,15 +74,15 @@ class Signature:
     team: Optional[str]
     flags: int
     cdhash: bytes
-    """20 bytes of the directory's hash, by its own kind of hash: by this the system knows the code."""
+    """20 bytes of the directory's hash, by its own hash type: the system knows the code by this."""
     entitlements: Optional[bytes]
-    """The entitlements as they stand in the signature: a property list in XML, where Apple's tools wrote it."""
+    """The entitlements as in the signature: a property list in XML, if Apple's tools wrote it."""
     hash_type: int
     limit: int
-    """So many bytes of the image are covered."""
+    """How many bytes of the image are covered."""
     pages: int
     page_size: Optional[int]
-    """How many bytes a page has; None where there is one of any size."""
+    """How many bytes a page has; None if there is one page of any size."""
     version: int
     errors: Dict[str, str]
     """Which of the texts can't be read, and why."""
@@ -101,33 +102,33 @@ class Signature:
 
     @property
     def signature_flags(self) -> SignatureFlags:
-        """`flags` by their names."""
+        """`flags` as an enum."""
         return SignatureFlags.of(self.flags)
 
     @property
     def hash_kind(self) -> SignatureHash:
-        """`hash_type` by its name."""
+        """`hash_type` as an enum."""
         return SignatureHash.of(self.hash_type)
 
     @property
     def is_ad_hoc(self) -> bool:
-        """Whether it says that it is signed by no one."""
+        """Whether it claims that nobody signed it (ad hoc)."""
         return self.flags & SignatureFlags.ADHOC != 0
 
     @property
     def entitlements_plist(self) -> Optional[Dict[str, Any]]:
-        """The entitlements, parsed by `plistlib`, whose errors are raised; None where there are none."""
+        """The entitlements, parsed by `plistlib`, whose errors are raised; None if there are none."""
         if self.entitlements is None:
             return None
         found: Dict[str, Any] = plistlib.loads(self.entitlements)
         return found
 
     def is_as_signed(self) -> bool:
-        """Whether all is as it was signed: each page, and all that is sealed beside the code."""
+        """Whether everything is as it was signed: each page, and everything else that the signature seals."""
         return self._ask()
 
     def faults(self) -> Iterator[SignatureFault]:
-        """What isn't as it was signed, in order."""
+        """The faults of the signature, in order."""
         return self._faults()
 
     def __repr__(self) -> str:
@@ -143,7 +144,7 @@ def as_signed(held: Held, image: Any) -> bool:
 
 
 def said_of(held: Held, image: Any) -> Optional[s.gm_signature]:
-    """What the signature of an image says, if it has one."""
+    """The signature of an image, if it has one."""
     said, error = s.gm_signature(), s.gm_error()
     if lib.gm_code_signature(held.at, held.len, image, ctypes.byref(said), None, ctypes.byref(error)):
         raise refused(error)

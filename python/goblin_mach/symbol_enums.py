@@ -1,4 +1,4 @@
-"""Numbers of symbols, exports and relocations that have names: see the module `enums`."""
+"""Names for the numbers of symbols, exports and relocations: see the module `enums`."""
 
 from __future__ import annotations
 
@@ -10,7 +10,7 @@ from .enums import CpuType
 
 
 class SymbolType(Number):
-    """N_, of mach-o/nlist.h: the bits 0x0e of a symbol's n_type, where it is none for a debugger."""
+    """N_, of mach-o/nlist.h: the bits 0x0e of a symbol's n_type, if it is no entry for a debugger."""
 
     UNDF = 0x0
     ABS = 0x2
@@ -20,7 +20,7 @@ class SymbolType(Number):
 
 
 class Stab(Number):
-    """N_, of mach-o/stab.h: the n_type of a symbol for a debugger."""
+    """N_, of mach-o/stab.h: the n_type of an entry for a debugger."""
 
     GSYM = 0x20
     FNAME = 0x22
@@ -56,7 +56,7 @@ class Stab(Number):
 
 
 class ReferenceType(Number):
-    """REFERENCE_FLAG_, of mach-o/nlist.h: the low 4 bits of the n_desc of a symbol that isn't defined."""
+    """REFERENCE_FLAG_, of mach-o/nlist.h: the low 4 bits of the n_desc of an undefined symbol."""
 
     UNDEFINED_NON_LAZY = 0
     UNDEFINED_LAZY = 1
@@ -67,8 +67,8 @@ class ReferenceType(Number):
 
 
 class SymbolDescription(Flags):
-    """N_, of mach-o/nlist.h: the bits of a symbol's n_desc that are flags; of N_NO_DEAD_STRIP and N_DESC_DISCARDED, and of N_WEAK_DEF and N_REF_TO_WEAK,
-    the symbol's and the file's kind tell which is meant."""
+    """N_, of mach-o/nlist.h: the bits of a symbol's n_desc that are flags. N_NO_DEAD_STRIP and N_DESC_DISCARDED share a bit, and so do
+    N_WEAK_DEF and N_REF_TO_WEAK: the kinds of the symbol and of the file decide which is meant."""
 
     ARM_THUMB_DEF = 0x8
     REFERENCED_DYNAMICALLY = 0x10
@@ -99,7 +99,7 @@ class ExportFlags(Flags):
 
 
 class RelocationType(Number):
-    """The type of a relocation. Which it is goes by the cpu: see `RELOCATION_TYPES`."""
+    """The type of a relocation. Its meaning depends on the cpu: see `RELOCATION_TYPES`."""
 
 
 class X86_64Relocation(RelocationType):
@@ -193,5 +193,5 @@ RELOCATION_TYPES: Mapping[int, Type[RelocationType]] = MappingProxyType({
 
 
 def relocation_type(cputype: int, number: int) -> RelocationType:
-    """The type of this number of a relocation for a cpu."""
+    """The type of a relocation with this number, for a cpu."""
     return RELOCATION_TYPES.get(cputype, RelocationType).of(number)
