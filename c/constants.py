@@ -1,11 +1,11 @@
 #!/usr/bin/env python3
-"""Writes what the C interface takes from the sources of the library: of c/include/goblin_mach.h the marked parts, which are the constants of the
-format and what is asserted of structs and numbers, and c/names.h, the names of numbers.
+"""Writes what the C interface takes from the sources of the library: the marked parts of c/include/goblin_mach.h (the constants of the
+format, and asserts on structs and numbers), and c/names.h (the names of numbers).
 
   c/constants.py           writes them
-  c/constants.py --check   compares them with the sources, and ends with 1 and a diff where they differ
+  c/constants.py --check   compares them with the sources, and ends with 1 and a diff if they differ
 
-It refuses a constant that is in no group below, and one of MORE that the sources have as well."""
+It refuses a constant that is in no group below, and one of MORE that the sources have, too."""
 import difflib
 import pathlib
 import re
@@ -19,7 +19,7 @@ WIDTHS = {"u8": 1, "u16": 2, "u32": 4, "i32": 4, "u64": 8, "i64": 8, "usize": 8}
 # What the sources have and C doesn't need: the sizes of records, and the opcodes of rebases.
 LEFT_OUT = r"(SIZEOF|REBASE)_\w+"
 
-# The groups of constants, in order: what they are, and their names. A constant is in the first one that it fits.
+# The groups of constants, in order: what they are, and their names. A constant is in the first group that it fits.
 GROUPS = [
     ("the magic numbers: `magic` of a gm_image, and the first four bytes of a fat file", r"(MH|FAT)_(MAGIC|CIGAM)(_64)?"),
     ("cpus: `cputype`", r"CPU_(TYPE|ARCH)_\w+"),
@@ -68,7 +68,7 @@ GROUPS = [
     ("the bits of `flags` of a gm_signature", r"CS_\w+"),
 ]
 
-# What no source of the library has, by the header of the format that has it.
+# What no source of the library has, by the header of the format that defines it.
 MORE = """
 mach/machine.h
 CPU_ARCH_ABI64_32 u32 0x02000000 the bit of a cpu of 64 bits whose addresses have 32
@@ -175,7 +175,7 @@ VM_PROT_WRITE u32 0x2 writing
 VM_PROT_EXECUTE u32 0x4 running
 """
 
-# The numbers of goblin_mach_c that no constant of it names: where each stands in its sources, and its name in C.
+# The numbers of goblin_mach_c without a named constant: where each is in its sources, and its name in C.
 NUMBERS = {
     "archive.rt": [(rf"ArchiveForm::{form} => (\d+),", f"GM_ARCHIVE_{name}")
                    for form, name in (("NoArchive", "NONE"), ("Gnu", "GNU"), ("Bsd", "BSD"), ("Thin", "THIN"))],
@@ -196,8 +196,8 @@ NUMBERS = {
                          ("Unknown", "UNKNOWN"), ("Unsealed", "UNSEALED"), ("Changed", "SPECIAL"), ("Absent", "ABSENT")))],
 }
 
-# The functions of names, each with its argument: the function of the sources whose names it gives, or the constant whose group it
-# names, and what is left out in front of a name.
+# The functions of names, each with its argument: the function in the sources that returns the names, or the constant whose group it names;
+# and the prefix that is left out of a name.
 NAMED = [
     ("const char *gm_command_name(uint32_t cmd)", "cmd_to_str", ""),
     ("const char *gm_file_type_name(uint32_t filetype)", "filetype_to_str", ""),
@@ -217,19 +217,19 @@ def refuse(words):
 
 
 def sources(crate):
-    """The text of each source file of a crate, but for its tests."""
+    """The text of each source file of a crate, except its tests."""
     folder = TOP / "crates" / crate / "src"
     return {path.relative_to(TOP): path.read_text() for path in sorted(folder.rglob("*.rt")) if "tests" not in path.parts}
 
 
 def words_of(comment):
-    """A comment of the sources as it stands in C: one line, with no full stop behind it, and no header of the format."""
+    """A comment of the sources as C has it: one line, without a full stop at the end, and without a header of the format."""
     text = re.sub(r" \(`[^`]*`\)", "", " ".join(line.strip(" /") for line in comment.splitlines())).rstrip(".")
     return text if re.match(r"\w*[A-Z0-9]\b", text) or not text else text[0].lower() + text[1:]
 
 
 def pointer_formats(path, text):
-    """The constants that the sources have as variants: the type, the number and the words of each, by its name."""
+    """The constants that the sources have as variants: the type, the number and the comment of each, by name."""
     rows = re.findall(r"/// `(DYLD_CHAINED_PTR_\w+)`, (\d+): (.*)\n +(\w+),", text)
     called = {variant: name for name, _, _, variant in rows}
     for name, number, words, variant in rows:
@@ -247,7 +247,7 @@ def more():
 
 
 def constants():
-    """The type, the number and the words of each constant, by its name."""
+    """The type, the number and the comment of each constant, by name."""
     found, types = {}, {}
     texts = {path: text for crate in CRATES for path, text in sources(crate).items()}
     for text in texts.values():
@@ -267,7 +267,7 @@ def constants():
 
 
 def grouped(found):
-    """The constants of each group by their numbers."""
+    """The constants of each group, by their numbers."""
     groups = {words: [] for words, _ in GROUPS}
     for name in sorted(found, key=lambda name: int(found[name][1], 0)):
         fits = [words for words, pattern in GROUPS if re.fullmatch(pattern, name)]
@@ -289,7 +289,7 @@ def header_constants(found):
 
 
 def structs():
-    """The structs of the sources that C sees the layout of, by name: the fields of each."""
+    """The structs of the sources whose layout C sees, by name: the fields of each."""
     found = {}
     for crate in ["goblin_mach_c", "mach_fat_writer", *CRATES]:
         for text in sources(crate).values():
@@ -301,7 +301,7 @@ def structs():
 
 
 def laid_out(found, name):
-    """The fields of a struct with place and size of each, its size, and its alignment, as C lays them out."""
+    """The fields of a struct with offset and size of each, its size, and its alignment, as C lays them out."""
     rows, end, most = [], 0, 1
     for field, kind in found[name]:
         array = re.fullmatch(r"\[(\w+); (\d+)\]", kind)
@@ -333,7 +333,7 @@ def header_asserts():
 
 
 def arms(function):
-    """The constants and the names that a function of the sources gives."""
+    """The constants and the names that a function of the sources returns."""
     texts = [text for crate in CRATES for text in sources(crate).values()]
     body = [it for text in texts for it in re.findall(rf"^(?:pub )?fn {function}\(.*?^}}", text, re.M | re.S)]
     rows = re.findall(r"(\w+) =>\s*\"([^\"]*)\",", body[0] if len(body) == 1 else refuse(f"{len(body)} functions are {function}"))
@@ -343,7 +343,7 @@ def arms(function):
 
 
 def names(found):
-    """The functions of names. A constant of MORE is named beside those of its group."""
+    """The functions of names. A constant of MORE is named with those of its group."""
     groups = grouped(found)
     lines = ["/* Written by c/constants.py. The names of numbers, as the sources of the library have them. */"]
     for head, of, left_out in NAMED:

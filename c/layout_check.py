@@ -1,6 +1,6 @@
-"""python3 c/layout_check.py MACHAUDIT COUNT FILE..: damages COUNT copies of each file by a fixed seed, and compares the faults of layout that the
-Python module gives of each copy with those that `machaudit --json` tells: rule, owner and words of the first ten of each rule, and how many
-more there are. It prints how many faults of how many rules agree."""
+"""python3 c/layout_check.py MACHAUDIT COUNT FILE..: damages COUNT copies of each file by a fixed seed, and compares the layout faults of
+each copy in the Python package with those that `machaudit --json` prints: rule, owner and text of the first ten of each rule, and how
+many more there are. It prints how many faults of how many rules agree."""
 
 import collections
 import json
@@ -16,7 +16,7 @@ TOLD = 10
 
 
 def damaged(data, chance):
-    """The bytes with some numbers of the front changed: small ones, ones near the length, and any."""
+    """The bytes with some numbers at the start changed: small ones, ones near the length, and any."""
     data = bytearray(data)
     for _ in range(chance.randrange(4)):
         at = 4 * chance.randrange(max(1, min(len(data), 1200) // 4))
@@ -26,7 +26,7 @@ def damaged(data, chance):
 
 
 def told(faults):
-    """What machaudit tells of faults: of each rule the first ten, and how many more."""
+    """What machaudit prints for faults: for each rule the first ten, and how many more."""
     counts = collections.Counter()
     lines = []
     for f in faults:
@@ -37,7 +37,7 @@ def told(faults):
 
 
 def part_of(parts, name):
-    """What machaudit tells of a part, if it has it."""
+    """What machaudit prints for a part, if there is one."""
     for part in parts:
         if part["part"] == name:
             return [(f["kind"], f["owner"], f["words"]) for f in part["faults"]], part["more"]
@@ -54,7 +54,7 @@ def compare(data, audit, seen):
             mode = goblin_mach.STRICT if image["opens"] == "strictly" else goblin_mach.LOSSY
             pairs.append((told(goblin_mach.Image(file, 0, mode).layout_faults()), part_of(image["parts"], "layout")))
     for found, wanted in pairs:
-        if any(kind == "unreadable" for kind, _, _ in wanted[0]):  # a table that isn't in the file is judged by the library alone
+        if any(kind == "unreadable" for kind, _, _ in wanted[0]):  # only the library judges a table that isn't in the file
             continue
         if found != wanted:
             return f"found {found}\nwanted {wanted}"

@@ -1,7 +1,7 @@
 #!/usr/bin/env python3
-"""c/tables_image.py FOLDER writes two small images that have each list of the C interface: tables.macho of 64 bits, the lowest byte first, and
-tables32.macho of 32 bits, the highest byte first: function starts, data among code, options for the linker, tools, notes, indirect symbols with
-stubs and pointers, rebases and weak binds. No linker writes such an image; what llvm-objdump says of it is what the lists give."""
+"""c/tables_image.py FOLDER writes two small images that have each list of the C interface: tables.macho of 64 bits, little-endian, and
+tables32.macho of 32 bits, big-endian: function starts, data in code, linker options, tools, notes, indirect symbols with stubs and
+pointers, rebases and weak binds. No linker writes such an image; the lists are as llvm-objdump prints them."""
 import struct
 import sys
 
@@ -48,7 +48,7 @@ class Image:
         return rows, names
 
     def build(self, front):
-        """The image, of which so many bytes are header and commands; built once more where they are others."""
+        """The image, with so many bytes of header and commands; built a second time if they turn out different."""
         p, self.commands = self.pointer, []
         text, data = 0x40, 16 * p
         rows, names = self.symbols()

@@ -1,4 +1,5 @@
-"""python3 python/bench.py FILE: what the items of the lists of a file's first image take, in microseconds of processor time, the least of five runs."""
+"""python3 python/bench.py FILE: measures the lists of a file's first image in microseconds of processor time for each item, the least of
+five runs."""
 
 from __future__ import annotations
 
@@ -13,7 +14,7 @@ LISTS = ("commands", "segments", "symbols", "libraries", "exports", "imports", "
 
 
 def run(items: Iterable[object]) -> Tuple[float, int]:
-    """How long it takes to go over some items, and how many they are."""
+    """Returns how long it takes to iterate over some items, and how many they are."""
     begun, count = time.process_time(), 0
     for _ in items:
         count += 1

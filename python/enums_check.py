@@ -1,6 +1,6 @@
-"""python3 python/enums_check.py: compares the package's enums with the constants of the crates, `pub const NAME: T = NUMBER;`, and with those of
-c/include/goblin_mach.h, `#define GM_NAME UINT32_C(NUMBER)`. Each constant whose name begins as those of an enum is to be a member of it, with its number.
-It prints what differs, and needs no library."""
+"""python3 python/enums_check.py: compares the package's enums with the constants of the crates, `pub const NAME: T = NUMBER;`, and with
+those of c/include/goblin_mach.h, `#define GM_NAME UINT32_C(NUMBER)`. Each constant with the prefix of an enum must be a member of it,
+with its number. It prints what differs, and needs no library."""
 
 from __future__ import annotations
 
@@ -25,7 +25,7 @@ class Constant(NamedTuple):
 
 
 class Prefix(NamedTuple):
-    """Constants with names that begin so, of a type if one is said, and of a file of this name if one is said, are members of this enum."""
+    """Constants with this prefix (of this type, if one is given, and in a file of this name, if one is given) are members of this enum."""
 
     prefix: str
     enum: str
@@ -33,7 +33,8 @@ class Prefix(NamedTuple):
     file: str = ""
 
 
-# The first line that fits a constant counts. One with no enum, as a mask or a magic, is none of the package's, and so is one that no line fits.
+# The first line that fits a constant counts. One without an enum, such as a mask or a magic, isn't in the package, nor is one that no line
+# fits.
 PREFIXES = [
     Prefix("GM_OK", ""), Prefix("GM_", "ErrorCode", file="errors.rt"), Prefix("GM_STRICT", "Mode"), Prefix("GM_LOSSY", "Mode"),
     Prefix("LC_REQ_DYLD", ""), Prefix("LC_", "LoadCommand"),
@@ -51,7 +52,7 @@ PREFIXES = [
     Prefix("ARM_THUMB_", "ArmRelocation"), Prefix("ARM64_RELOC_", "Arm64Relocation"), Prefix("PPC_RELOC_", "PowerPcRelocation"),
 ]
 
-# Members that aren't named by what stands behind the prefix.
+# Members that aren't named by what follows the prefix.
 NAMED = {
     "GM_STRICT": "STRICT", "GM_LOSSY": "LOSSY", "REFERENCED_DYNAMICALLY": "REFERENCED_DYNAMICALLY",
     "S_4BYTE_LITERALS": "LITERALS_4BYTE", "S_8BYTE_LITERALS": "LITERALS_8BYTE", "S_16BYTE_LITERALS": "LITERALS_16BYTE",
@@ -61,7 +62,7 @@ NAMED = {
 
 
 def enum_classes() -> Dict[str, Any]:
-    """The enums by name, without the package's own file, which loads the library."""
+    """The enums by name. The package's own file is not imported, because it loads the library."""
     shell = types.ModuleType("goblin_mach_enums")
     shell.__path__ = [os.path.join(HERE, "goblin_mach")]
     sys.modules[shell.__name__] = shell
@@ -78,7 +79,7 @@ def source_files(top: str) -> Iterator[str]:
 
 
 def constants(top: str) -> Tuple[List[Tuple[str, Constant]], List[str]]:
-    """The numbers of the library crates and of the header, by their names, and what can't be read of them."""
+    """The numbers of the library crates and of the header, by name, and what can't be read of them."""
     found: List[Tuple[str, Constant]] = []
     wrong = []
     for path in source_files(top):

@@ -1,4 +1,5 @@
-"""A wheel that carries the library is for the system that the library was built on, and for any Python 3; one without it is for all."""
+"""A wheel that includes the library is for the system that the library was built on, and for any Python 3; one without it is for all
+systems."""
 
 import glob
 import os

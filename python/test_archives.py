@@ -1,4 +1,4 @@
-"""Tests of archives, fat files of 64 bits and fat files that are written. What is expected is worked out by the rules of the format."""
+"""Tests of archives, fat files of 64 bits and written fat files. The expected values are computed by the rules of the format."""
 
 import io
 import itertools
@@ -34,12 +34,13 @@ def indexed():
 
 
 def symdef(order="<"):
-    """BSD's index, with names behind the header."""
+    """BSD's index, with names after the header."""
     table = struct.pack(order + "6I", 16, 0, 112, 3, 112, 8) + b"_a\0_b\0\0\0"
     return MAGIC + header(b"#1/12", 44) + b"__.SYMDEF\0\0\0" + table + header(b"x.o", 2) + b"xy"
 
 
-# Each archive, and of each member its name, the places of its header and of its bytes, and how many these are; or the number of the error behind it.
+# Each archive; for each member its name, the offsets of its header and of its bytes, and how many these are; or the number of the error after
+# it.
 MEMBERS = [
     (MAGIC, []),
     (MAGIC + header(b"a.o/", 1) + b"x\n" + header(b"b.o/", 0), [("a.o", 8, 68, 1), ("b.o", 70, 130, 0)]),
@@ -61,7 +62,7 @@ MEMBERS = [
     (symdef(), [("x.o", 112, 172, 2)]),
 ]
 
-# Each archive, and of each symbol of its index its name and its member, or the number of the error.
+# Each archive; for each symbol of its index its name and its member, or the number of the error.
 SYMBOLS = [
     (MAGIC, []),
     (MAGIC + header(b"a.o/", 0), []),
@@ -200,7 +201,7 @@ def library_of(cpu, kind):
 
 class Writing(made.Case):
     def fat(self, parts, is_64):
-        """The file of some parts, worked out once more."""
+        """The fat file of some parts, computed a second time."""
         width, records, out = (32, b"", b"") if is_64 else (20, b"", b"")
         end = 8 + width * len(parts)
         for part in parts:
@@ -238,7 +239,7 @@ class Writing(made.Case):
 
 
 def write(folder):
-    """Writes each archive of the tables into a folder, and fat files of both widths, for the test in C."""
+    """Writes each archive of the tables to a folder, and fat files of both widths, for the test in C."""
     os.makedirs(folder)
     parts = [FatPart.of(image()), FatPart.of(library_of(ARM64, 0))]
     files = {f"{number:02}.a": data for number, (data, _) in enumerate([*MEMBERS, *SYMBOLS, (library(), [])])}

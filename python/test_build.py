@@ -1,5 +1,6 @@
-"""Tests of what others make of the package: that `mypy --strict` has nothing to say, where it is installed, and that the tools of Python make a wheel
-with the library within, without a network, where build, setuptools and wheel are (Debian: python3-build, python3-setuptools, python3-wheel)."""
+"""Tests with other tools: that `mypy --strict` reports nothing for the package, if it is installed, and that Python's tools build a
+wheel that includes the library, without a network, if build, setuptools and wheel are installed (Debian: python3-build,
+python3-setuptools, python3-wheel)."""
 
 import os
 import shutil
@@ -24,7 +25,8 @@ def run(*words, **more):
 
 
 def python_with(*names):
-    """Returns a Python that has modules of these names, this one or the system's, or None. (In a folder of its own, as build/ is no module.)"""
+    """Returns a Python that has modules of these names, this one or the system's, or None. (It runs in a folder of its own, since build/
+    is no module.)"""
     with tempfile.TemporaryDirectory() as room:
         has = lambda python: shutil.which(python) is not None and run(python, "-c", f"import {', '.join(names)}", cwd=room)[0] == 0
         return next(filter(has, (sys.executable, "/usr/bin/python3")), None)
@@ -63,7 +65,7 @@ class Wheel(unittest.TestCase):
         shutil.copytree(HERE, self.source, ignore=left_out)
 
     def made(self):
-        """The names of the files of a wheel that is made, and its own."""
+        """The names of the files of a wheel that is built, and its own."""
         status, said = run(PYTHON, "-m", "build", "--no-isolation", "--wheel", "--outdir", self.room, self.source, cwd=self.room)
         self.assertEqual(status, 0, said)
         (name,) = (name for name in os.listdir(self.room) if name.endswith(".whl"))

@@ -1,4 +1,4 @@
-"""Tests of numbers that have names. They need no library."""
+"""Tests of numbers with names. They need no library."""
 
 import copy
 import os
@@ -19,7 +19,7 @@ class Names(unittest.TestCase):
         self.assertEqual(enums_check.differences(), [])
 
     def test_a_number_that_differs_is_told(self):
-        """The check itself, on a repository of a file, in which one number is another and one name is new."""
+        """The check itself, on a repository of one file, with a number that differs and a name that is new."""
         with tempfile.TemporaryDirectory() as room:
             os.makedirs(os.path.join(room, "crates/mach_some/src"))
             os.makedirs(os.path.join(room, "c/include"))
@@ -65,7 +65,7 @@ class Names(unittest.TestCase):
 
 class Unknown(unittest.TestCase):
     def each(self):
-        """Each enum that has names, and a number that has none there."""
+        """Each enum that has names, and a number without a name in it."""
         for name, item in sorted(CLASSES.items()):
             if item.__members__:
                 number = 0xFFFFFFFF - 0x12345
@@ -95,7 +95,7 @@ class Unknown(unittest.TestCase):
             for number in range(1000, 2000):
                 item(number)
                 item.of(number)
-            self.assertLessEqual(len(item._value2member_map_) - size, 64)  # before Python 3.11 each bit of a flag is kept once
+            self.assertLessEqual(len(item._value2member_map_) - size, 64)  # before Python 3.11 each bit of a flag is stored once
 
     def test_what_is_no_number_is_refused(self):
         for item, _ in self.each():

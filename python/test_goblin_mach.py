@@ -1,5 +1,5 @@
-"""Tests of the Python module that no other program's lines show: `python3 python/test_goblin_mach.py`, with the library in GOBLIN_MACH.
-`c/check` runs it."""
+"""Tests of the Python package for what no other program's lines show: `python3 python/test_goblin_mach.py`, with the library in
+GOBLIN_MACH. `c/check` runs it."""
 
 import copy
 import itertools
@@ -32,7 +32,7 @@ def segment(name, sections=b"", count=0, size=0x1000):
 
 
 def image(*commands, filetype=DYLIB, behind=b""):
-    """The bytes of an image of 64 bits with these commands, and some bytes behind them."""
+    """The bytes of an image of 64 bits with these commands, and some bytes after them."""
     body = b"".join(commands)
     return struct.pack("<8I", 0xFEEDFACF, CPU, 3, filetype, len(commands), len(body), 0, 0) + body + behind
 
@@ -68,13 +68,13 @@ def with_shared_node():
 
 
 def many_binds():
-    """An image whose binds have no end in a lifetime: one instruction says 2^55 of them. The program prints 2^17 at least."""
+    """An image whose binds take longer than a lifetime: one instruction claims 2^55 of them. The program prints at least 2^17."""
     count = bytes([0x80] * 7 + [0x40])  # 2^55, as ULEB128
     return with_binds(b"\x11\x40_far\0\x51\x70\0" + b"\xc0" + count + b"\0" + bytes(1 << 17))
 
 
 def fat(*entries, count=None):
-    """The bytes of a fat file with these entries, whose header says so many records."""
+    """The bytes of a fat file with these entries, whose header claims so many records."""
     at, records, bodies = 8 + 20 * len(entries), b"", b""
     for entry in entries:
         records += struct.pack(">5I", CPU, 3, at + len(bodies), len(entry), 0)
@@ -315,13 +315,13 @@ def surroundings(**more):
 
 
 def run(words, stdout=subprocess.PIPE, **more):
-    """The program's run."""
+    """A run of the program."""
     return subprocess.run(words_of(words), stdin=subprocess.DEVNULL, stdout=stdout, stderr=subprocess.PIPE, env=surroundings(**more),
                           timeout=SECONDS, check=False)
 
 
 def answers_ctrl_c():
-    """Ctrl-C as a terminal's programs have it, also where the tests run in the background."""
+    """Ctrl-C as for programs on a terminal, even if the tests run in the background."""
     signal.signal(signal.SIGINT, signal.default_int_handler)
 
 
@@ -331,7 +331,7 @@ def ignores_ctrl_c():
 
 class Program(Case):
     def begun(self, words, before):
-        """A program that writes without an end, once it has written a line; and the words of that."""
+        """A program that writes without end, once it has written a line; and the words of that line."""
         program = subprocess.Popen(words, stdin=subprocess.DEVNULL, stdout=subprocess.PIPE, stderr=subprocess.PIPE, env=surroundings(),
                                    preexec_fn=before)
         self.addCleanup(lambda: [program.kill(), program.wait(), program.stdout.close(), program.stderr.close()])

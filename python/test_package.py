@@ -1,5 +1,5 @@
-"""Tests of the package: files and lists as sequences, what may be opened, words of a `repr`, names of architectures, structs, and where the library is
-sought. `python3 -m unittest discover -s python` runs them with the others."""
+"""Tests of the package: files and lists as sequences, what may be opened, the text of a `repr`, names of architectures, structs, and
+where the library is searched. `python3 -m unittest discover -s python` runs them with the others."""
 
 import array
 import ctypes
@@ -90,7 +90,7 @@ class Files(made.Case):
         file = self.several()
         self.assertEqual((file.image(), file.image("arm64"), file.image(arch="arm64e")), (file[0], file[1], file[3]))
         self.assertEqual(file.image("arm64e").cpu_subtype, goblin_mach.Arm64Subtype.ARM64E)
-        bad = file.image("x86_64")  # by its record, since it can't be opened
+        bad = file.image("x86_64")  # by its record, because it can't be opened
         self.assertEqual((bad.error.code, bad.cputype), (2, 0))
         with self.assertRaises(LookupError) as met:
             file.image("armv7")
@@ -225,7 +225,7 @@ class Lists(made.Case):
         self.assertEqual(repr(symbols), "<Rows: symbols, the file is closed>")
 
     def test_of_many_exports(self):
-        """More exports than a batch has, and names longer than the first buffers."""
+        """More exports than a batch holds, and names longer than the first buffers."""
         long = b"n" * 3000
         leaf = [b"\2\0" + bytes([k]) + b"\0" for k in range(3)]
         names = [long + b"%d" % k for k in range(3)]
@@ -320,7 +320,7 @@ class Structs(unittest.TestCase):
                 told[name][field] = (int(at), int(size))
         for name, item in known.items():
             with self.subTest(name):
-                self.assertEqual(ctypes.sizeof(item), int(sizes.get(name, 64)))  # a header of before 0.2.0 doesn't say it of gm_export_room
+                self.assertEqual(ctypes.sizeof(item), int(sizes.get(name, 64)))  # a header older than 0.2.0 doesn't assert it for gm_export_room
                 found = {field: (getattr(item, field).offset, getattr(item, field).size) for field, *_ in item._fields_ if field in told[name]}
                 self.assertEqual(found, told[name])
         self.assertGreater(len([name for name in told if told[name]]), 20)
@@ -352,7 +352,7 @@ class Version(unittest.TestCase):
 
 
 class Loading(made.Case):
-    """Where the library is sought, by programs that print the path of what they loaded."""
+    """Where the library is searched, by programs that print the path of what they loaded."""
 
     def setUp(self):
         super().setUp()
@@ -367,7 +367,7 @@ class Loading(made.Case):
         return path
 
     def loads(self, **more):
-        """What it loads, or the words of its ImportError."""
+        """What it loads, or the text of its ImportError."""
         code = "try:\n    import goblin_mach\n    print(goblin_mach._library.lib._name)\nexcept ImportError as why:\n    print('not:', why)"
         kept = {name: value for name, value in os.environ.items() if name not in ("GOBLIN_MACH", "LD_LIBRARY_PATH")}
         ran = subprocess.run([sys.executable, "-c", code], stdout=subprocess.PIPE, check=True, timeout=made.SECONDS, cwd=self.room,
@@ -412,7 +412,7 @@ def open_lines(path):
 
 
 def _library_file(line):
-    """Whether a line of /proc/self/maps is of the loaded library."""
+    """Whether a line of /proc/self/maps is for the loaded library."""
     return os.path.realpath(line.split()[-1]) == os.path.realpath(_library.lib._name) or os.path.basename(line.split()[-1]).startswith("libgoblin_mach")
 
 

@@ -1,5 +1,5 @@
-"""Tests that each example of the pages is run, and prints what the page says: fenced blocks of Python in docs/PYTHON.md, docs/C.md and both READMEs, at the
-top of the repository. A block of text right behind one is what it prints."""
+"""Tests that each example of the pages runs and prints what the page says: fenced blocks of Python in docs/PYTHON.md, docs/C.md and both
+READMEs, run at the top of the repository. A block of text directly after one is its output."""
 
 import contextlib
 import io
@@ -57,7 +57,7 @@ class Pages(unittest.TestCase):
         self.assertEqual(fields, set())
 
 
-# Names that the page leaves to their table: the subtypes and relocation types of each cpu, and constants of the lists' words.
+# Names that the page leaves to their table: the subtypes and relocation types of each cpu, and constants for the words of lists.
 UNTOLD = {name for name in goblin_mach.__all__ if re.match(r"\w+(Subtype|Relocation)$", name)} | {
     "ERRORS", "NO_MEMORY", "BATCH", "FIXUPS", "PROVIDERS", "REBASES", "KINDS", "INDIRECT", "SLOTS", "EXPORTS", "Mode",
 }

@@ -1,4 +1,4 @@
-"""Tests of signatures: what an image's says, and what isn't as it was signed, of images that are signed here: `c/check` runs it."""
+"""Tests of signatures: what a signature says, and its faults, for images that are signed here. `c/check` runs it."""
 
 import hashlib
 import os
@@ -33,7 +33,7 @@ def blob(magic, content):
 
 
 def directory(image, sealed, flags=2, names=b"id\0ABCDE12345\0"):
-    """A code directory of version 0x20400, SHA-256, pages of 4096, with the identifier `id` and the team behind it."""
+    """A code directory of version 0x20400, SHA-256, pages of 4096, with the identifier `id` and then the team."""
     hashes = b"".join(hashlib.sha256(sealed[k]).digest() if k in sealed else bytes(32) for k in range(max(sealed, default=0), 0, -1))
     pages = [image[at:at + 4096] for at in range(0, CODE, 4096)]
     at = 88 + len(names) + len(hashes)
@@ -51,7 +51,7 @@ def signature_of(*blobs):
 
 
 def signed(entitlements=ENTITLEMENTS, **more):
-    """An image with a signature that has a team and, if some are given, entitlements."""
+    """An image with a signature that has a team and, if they are given, entitlements."""
     others = [] if entitlements is None else [(5, blob(0xFADE7171, entitlements))]
     sealed = dict(others)
     size = len(signature_of((0, directory(code(0), sealed, **more)), *others))

@@ -1,4 +1,4 @@
-"""Tests of the lists that tables of commands, sections and opcodes have, on the two images that c/tables_image.py writes: `c/check` runs it."""
+"""Tests of the lists from tables of commands, sections and opcodes, on the two images that c/tables_image.py writes. `c/check` runs it."""
 
 import os
 import struct
