@@ -20,7 +20,7 @@ abbrev pub provider_row : Option (Result Provider Fault) → gm_provider
 provider_row None = record { library = 0; provider = 0; is_told = 0; code = 0; reserved = 0 }
 provider_row (Some found) = told_provider found
 
--- an image's list of so many libraries, after the image itself; their names don't matter
+-- an image's list of `libraries` libraries, after the image itself; their names don't matter
 abbrev pub nameless : ℕ → List (List ℕ)
 nameless libraries = replicate (libraries + 1) []
 

@@ -63,7 +63,7 @@ fn told(provider: u32, library: u64, code: u32) -> gm_provider
     }
 }
 
-// Returns the provider of an ordinal, in an image of so many libraries.
+// Returns the provider of an ordinal, in an image with `libraries` libraries.
 #[tactic(auto, unfolding(mach_parts::specs::Bindings::provider_of))]
 fn provider_in(libraries: usize, ordinal: u16) -> gm_provider
     ensures { result ≡ provider_row (Some (provider_of (nameless libraries) (bind_ordinal_of ordinal))) }

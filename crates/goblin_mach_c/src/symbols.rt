@@ -215,7 +215,7 @@ pub extern "C" fn gmr_symbols(
     fill(&mut rows, out)
 }
 
-/// Returns a symbol of an image by its number, as C sees it. Whether the image has so many isn't checked.
+/// Returns a symbol of an image by its number, as C sees it. Whether the image has that many isn't checked.
 pub fn symbol_of(bytes: &[u8], image: &gm_image, index: usize) -> gm_symbol
     ensures { result ≡ symbol_row (table_seen bytes.now image.now) index }
 {

@@ -99,7 +99,7 @@ pub record WritesMembers (left : ℕ) (lists : List NamedRows) (old new : Option
 abbrev pub lists_end : (more : Bool) → List ℕ
 lists_end more = codes "\"kind\":\"image\",\"limit_met\":" ++ json_bool more
 
--- the same for lists that claim so many more items past the end of the bytes
+-- the same for lists that claim `past` more items past the end of the bytes
 abbrev pub lists_end_past : (more : Bool) → (past : ℕ) → List ℕ
 lists_end_past more past = lists_end more ++ (codes ",\"past_the_end\":" ++ decimal past)
 
@@ -119,7 +119,7 @@ pub record WritesListMembers (left : ℕ) (lists : List NamedRows) (whole : Bool
   pub members : AreListMembers left lists text whole rest
   pub written : Appends old new text
 
--- The same for lists that claim so many more items past the end of the bytes: it is whole only if there are none.
+-- The same for lists that claim `past` more items past the end of the bytes: it is whole only if there are none.
 pub record AreBegunMembers (left : ℕ) (lists : List NamedRows) (past : ℕ) (text : List ℕ) (whole : Bool) (rest : ℕ) : Type 0 where
   pub front : List ℕ
   pub readable : Bool

@@ -11,7 +11,7 @@ use std::fmt::{Display, Formatter};
 use std::io::Write;
 use std::time::{Clock, Duration};
 
-// For so many seconds nothing is reported.
+// For this many seconds nothing is reported.
 const QUIET: u64 = 2;
 
 // The report that a file of many begins.

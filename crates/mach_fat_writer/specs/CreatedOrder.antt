@@ -24,7 +24,7 @@ abbrev pub fat_rank_cmp : FatRank → FatRank → Ordering
 fat_rank_cmp x y =
     ordering_then (ordering_then (ordering_then (bool_cmp x.0 y.0) (nat_cmp x.1 y.1)) (nat_cmp x.2 y.2)) (nat_cmp x.3 y.3)
 
--- the key, given the index of the first entry of each cputype and alignment, if there is one among so many
+-- the key, given the index of the first entry of each cputype and alignment; `count` if there is none
 abbrev pub fat_rank_by : (ℕ × ℕ → Option ℕ) → ℕ → FatEntryView → FatRank
 fat_rank_by first count e =
     if e.cputype == 0x100_000c then (true, 0, 0, e.cpusubtype)

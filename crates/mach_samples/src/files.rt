@@ -145,7 +145,7 @@ pub fn fat_of_d(alloc: Global, entry: &[u8; 436]) -> Result<Vec<u8>, AllocError>
 pub enum File {
     /// These bytes.
     Of(&'static [u8]),
-    /// The first so many of these bytes.
+    /// A prefix of these bytes, of this length.
     Front(&'static [u8], usize),
     /// A 64-bit little-endian image: its counts, and what follows the header.
     Image(u8, u8, &'static [u8]),
