@@ -1,4 +1,4 @@
--- The bits of a header, one more each time, and their names without a prefix.
+-- The names of a header's flags without their prefix, proved bit by bit.
 use Rattle.std.proofs.Common.{◌≡◌, ◌++◌, ◌∷◌, [], ◌∙◌, ℕ, zero, suc, ◌+◌, ◌*◌, ◌%◌, ◌^◌}
 use Rattle.std.proofs.Common.{◌<◌, List, Option, Some, None, refl, sym, ap, take, drop, add-one, append-nil, arith}
 use Rattle.std.specs.Prelude.{bit_and, bytes_eq, codes, true, false}

@@ -14,11 +14,11 @@ use Rattle.machinfo.specs.declared.word.Word.TheVariants.{Starts, Slots, Indirec
 use Rattle.machinfo.specs.declared.counts.Form.{Form}
 use Rattle.machinfo.specs.declared.counts.Form.TheVariants.{Lines, Members}
 
--- how many items more are claimed past the end of the bytes, where there are some
+-- how many more items the table claims past the end of the bytes, if it claims any
 abbrev pub past_text : ℕ → List ℕ
 past_text past = if past == 0 then [] else codes ", and " ++ (decimal past ++ codes " more past the end")
 
--- how many rows were gone over up to a limit, that there are more, that not all can be read, and how many more are claimed
+-- the count of rows up to the limit, whether there are more, whether some can't be read, and how many more are claimed
 abbrev pub count_text : ℕ → Told → ℕ → List ℕ
 count_text limit told past =
     said_if told.more (codes "more than ") ++ decimal (limit - told.left) ++ said_if (not told.whole) (codes ", not all readable") ++ past_text past
@@ -38,17 +38,18 @@ count_members limit told past =
 abbrev pub count_member : Word → ℕ → Told → ℕ → List ℕ
 count_member word limit told past = codes "\"" ++ (spelling_of word ++ (codes "\":{" ++ (count_members limit told past ++ codes "},")))
 
--- what is told of the count of a list, in a form
+-- the text of a list's count in the given form
 abbrev pub count_told : Form → Word → ℕ → Told → ℕ → List ℕ
 count_told Lines word limit told past = count_line word limit told past
 count_told Members word limit told past = count_member word limit told past
 
--- all rows were gone over, and can be read, and no more are claimed
+-- all rows were counted, all can be read, and no more are claimed
 abbrev pub are_counted_whole : Told → ℕ → Bool
 are_counted_whole told past = (told.whole && not told.more) && (past == 0)
 
--- The text tells for each of these words in order how many rows the image at the front of the bytes has for which it asks, of which no more than a
--- limit were gone over, and how many more it claims past the end of the bytes. It is whole where none has or claims more, and all of them can be read.
+-- The text gives one count for each of these words, in order: how many rows the word's list has in the image at the start of the
+-- bytes, counted up to the limit, and how many more the list claims past the end of the bytes. It is whole if no list has or
+-- claims more, and all rows can be read.
 pub data AreCounts (form : Form) (limit : ℕ) (bytes : List ℕ) : List Word → List ℕ → Bool → Type 0 where
   no_counts : AreCounts form limit bytes [] [] true
   counts_more : (words : List Word) (word : Word) (text : List ℕ) (whole : Bool) (rows : List (Result RowView Fault)) (past : ℕ)

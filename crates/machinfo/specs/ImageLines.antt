@@ -19,9 +19,9 @@ use Rattle.machinfo.specs.States.{state_of_commands, state_lines}
 use Rattle.machinfo.specs.declared.word.Word.{Word}
 use Rattle.machinfo.specs.declared.counts.Form.TheVariants.{Lines, Members}
 
--- The text is the lines of the image at the front of the bytes: one for each row for which the word asks, in order, as many as are left of the
--- limit, and where there are more, or more are claimed past the end of the bytes, a line that says so. It is whole where there are no more, and none is
--- missing. `rest` are left behind it.
+-- The text is the lines of the image at the start of the bytes: one for each row of the word's list, in order, as many as are
+-- left of the limit; and a last line if there are more, or more are claimed past the end of the bytes. It is whole if there are
+-- no more, and each row can be read. Of the limit `rest` are left after it.
 pub record AreImageListLines (word : Word) (limit left : ℕ) (bytes : List ℕ) (text : List ℕ) (whole : Bool) (rest : ℕ) : Type 0 where
   pub opens : Opens bytes 0
   pub rows : List (Result RowView Fault)
@@ -29,9 +29,9 @@ pub record AreImageListLines (word : Word) (limit left : ℕ) (bytes : List ℕ)
   pub has_rows : HasRows word bytes 0 rows past
   pub lines : AreFirstLines (codes "refused") limit left (row_texts rows) (past_name word) past text whole rest
 
--- The text is the members of the image at the front of the bytes: exactly an object for each row for which the word asks, in order, as many as are
--- left of the limit, whether there are more, and how many more are claimed past the end of the bytes. It is whole where there are no more, and none is
--- missing. `rest` are left behind it.
+-- The text is the members of the image at the start of the bytes: exactly one object for each row of the word's list, in order,
+-- as many as are left of the limit; whether there are more; and how many more are claimed past the end of the bytes. It is whole
+-- if there are no more, and each row can be read. Of the limit `rest` are left after it.
 pub record AreImageListMembers (word : Word) (left : ℕ) (bytes : List ℕ) (text : List ℕ) (whole : Bool) (rest : ℕ) : Type 0 where
   pub opens : Opens bytes 0
   pub rows : List (Result RowView Fault)
@@ -39,9 +39,10 @@ pub record AreImageListMembers (word : Word) (left : ℕ) (bytes : List ℕ) (te
   pub has_rows : HasRows word bytes 0 rows past
   pub members : AreBegunMembers left (record { name = spelling_of word; rows = row_objects rows } ∷ []) past text whole rest
 
--- The text is what is said of the image at the front of the bytes: something in front; whether it is signed, and what its code directory says; whether it
--- is encrypted and stripped, and how many symbols it has; and then how many items each list has, gone over up to the limit. It is whole where what is in
--- front is, the signature can be read, no symbols are claimed past the end of the bytes, and the counts are whole. No limit is used up.
+-- The text is the summary of the image at the start of the bytes. Its parts are: some text first; whether the image is signed,
+-- and what its code directory says; whether it is encrypted and stripped, and how many symbols it has; and how many items each
+-- list has, counted up to the limit. It is whole if the first text is whole, the signature can be read, no symbols are claimed
+-- past the end of the bytes, and the counts are whole. It uses up nothing of the limit.
 pub record AreImageSummaryLines (limit left : ℕ) (bytes : List ℕ) (text : List ℕ) (whole : Bool) (rest : ℕ) : Type 0 where
   pub opens : Opens bytes 0
   pub front : List ℕ
@@ -59,12 +60,12 @@ pub record AreImageSummaryLines (limit left : ℕ) (bytes : List ℕ) (text : Li
   pub is_whole : whole ≡ (((front_whole && is_readable there) && ((state_of_commands facts.commands facts.symbols).past == 0)) && counts_whole)
   pub is_rest : rest ≡ left
 
--- what stands behind the counts of an image
+-- what follows the counts of an image
 abbrev pub counts_end : (limit : ℕ) → List ℕ
 counts_end limit = codes "\"limit\":" ++ (decimal limit ++ codes "},\"kind\":\"image\"")
 
--- The text is the members of the image at the front of the bytes: something in front, and then how many items each list has, gone over up to the
--- limit. It is whole where the counts are, and what is in front. No limit is used up.
+-- The text is the members of the image at the start of the bytes: some text first, and then how many items each list has, counted
+-- up to the limit. It is whole if the first text and the counts are whole. It uses up nothing of the limit.
 pub record AreImageSummaryMembers (limit left : ℕ) (bytes : List ℕ) (text : List ℕ) (whole : Bool) (rest : ℕ) : Type 0 where
   pub opens : Opens bytes 0
   pub front : List ℕ

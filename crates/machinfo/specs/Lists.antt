@@ -26,25 +26,25 @@ use Rattle.machinfo.specs.declared.list.ImageList.TheVariants as lists
 use Rattle.machinfo.specs.declared.word.Word.{Word}
 use Rattle.machinfo.specs.declared.word.Word.TheVariants as words
 
--- items as rows, each or why there is none
+-- items as rows; a fault stays in its place
 abbrev pub as_rows : {X : Type 0} → (X → RowView) → List (Result X Fault) → List (Result RowView Fault)
 as_rows row items = map (λ item. item >>= (λ x. Ok (row x))) items
 
--- these are items that are there, as rows
+-- these are the items of a list that `Has` gives, as rows
 abbrev pub AreRowsOf : {X : Type 0} → (X → RowView) → (List (Result X Fault) → Type 0) → List (Result RowView Fault) → Type 0
 AreRowsOf {X} row Has found = (items : List (Result X Fault)) × Has items × (found ≡ as_rows row items)
 
--- libraries are never refused
+-- libraries, as items that can all be read
 abbrev pub libraries_there : List LibraryView → List (Result LibraryView Fault)
 libraries_there libraries = map (λ l. Ok l) libraries
 
--- these are those of a table whose records begin within the bytes, as rows, and how many more it claims
+-- these are the items of a table whose records begin within the bytes, as rows, and `past` more are claimed
 abbrev pub AreBegunRowsOf : {X : Type 0} → (X → RowView) → (List (Result X Fault) → Type 0) → List (Result RowView Fault) → (past : ℕ) → Type 0
 AreBegunRowsOf {X} row Has found past =
     (items : List (Result X Fault)) × Has items × (found ≡ as_rows row (begun_items items)) × (past ≡ length items - length (begun_items items))
 
--- The rows for which a word asks, of the image at a place: one for each item of its list, in order, or in its place the fault for which it can't be
--- told. Of a table they are those that begin within the bytes, and so many more are claimed.
+-- The rows of a word's list, of the image at an offset: one for each item of the list, in order, or the fault in its place if it
+-- can't be read. Of a table they are the rows that begin within the bytes, and `past` more are claimed.
 abbrev pub HasRows : Word → List ℕ → ℕ → List (Result RowView Fault) → (past : ℕ) → Type 0
 HasRows words.Starts bytes o found past = AreRowsOf start_row (HasFunctionStarts bytes o) found × (past ≡ 0)
 HasRows words.Slots bytes o found past = AreRowsOf slot_row (HasSymbolSlots bytes o) found × (past ≡ 0)
@@ -60,7 +60,7 @@ HasRows words.Libraries bytes o found past =
 HasRows words.Rebases bytes o found past = AreRowsOf rebase_row (HasRebases bytes o) found × (past ≡ 0)
 HasRows words.Weak bytes o found past = AreRowsOf weak_row (HasWeakBinds bytes o) found × (past ≡ 0)
 
--- what the items of a word's list are called, of which more may be claimed past the end of the bytes
+-- the name of a word's items, if more of them may be claimed past the end of the bytes
 abbrev pub past_name : Word → List ℕ
 past_name words.Indirect = codes "indirect symbols"
 past_name words.Data = codes "data in code entries"
@@ -85,7 +85,7 @@ list_rows_left (lists.Weak it) = as_rows weak_row (weak_binds_left it)
 list_rows_left (lists.Said it) = map (λ r. Ok r) (said_left it)
 list_rows_left (lists.Paths it) = map (λ path. Ok (path_row path)) (texts (iter_rest it))
 
--- how many rows more it claims, past the end of the bytes, and what they are called
+-- how many more rows a list claims past the end of the bytes, and their name
 abbrev pub list_rows_past : {A : Type 0} → ImageList A → ℕ
 list_rows_past (lists.Indirect it past) = past
 list_rows_past (lists.Data it past) = past

@@ -21,16 +21,16 @@ pub record NumberedNoteView : Type 0 where
 abbrev pub numbered_note : ℕ → ℕ → NoteView → NumberedNoteView
 numbered_note number place note = record { number = number; place = place; note = note }
 
--- the place of the bytes of a note that lies in this range
+-- the offset of the bytes of a note with this range
 abbrev pub place_in_range : Option (ℕ × ℕ) → ℕ
 place_in_range None = 0
 place_in_range (Some range) = range.0
 
--- that of the bytes of a command's note
+-- the offset of the bytes of a command's note
 abbrev pub note_place_of : Command → ℕ
 note_place_of c = place_in_range (note_range c.kind c.values)
 
--- the note of a command of a number, whose bytes lie in this range, if it is one
+-- the note of a command with this number, if it is a note; its bytes are those of the range
 abbrev pub note_in_range : List ℕ → ℕ → Command → Option (ℕ × ℕ) → Option (Result NumberedNoteView Fault)
 note_in_range bytes number c None = None
 note_in_range bytes number c (Some range) = Some (note_at bytes c.offset range.0 range.1 >>= (λ note. Ok (numbered_note number range.0 note)))
@@ -38,17 +38,17 @@ note_in_range bytes number c (Some range) = Some (note_at bytes c.offset range.0
 abbrev pub noted_by : List ℕ → ℕ → Command → Option (Result NumberedNoteView Fault)
 noted_by bytes number c = note_in_range bytes number c (note_range c.kind c.values)
 
--- an item, if there is one, before others
+-- a list, after an item if there is one
 abbrev pub led_by : {X : Type 0} → Option X → List X → List X
 led_by None others = others
 led_by (Some item) others = item ∷ others
 
--- the notes of some commands, the first of which has a number
+-- the notes of some commands, the first of which has this number
 abbrev pub numbered_notes_from : List ℕ → ℕ → List Command → List (Result NumberedNoteView Fault)
 numbered_notes_from bytes number [] = []
 numbered_notes_from bytes number (c ∷ cs) = led_by (noted_by bytes number c) (numbered_notes_from bytes (number + 1) cs)
 
--- these are the notes of the image at a place
+-- these are the notes of the image at an offset
 abbrev pub HasNumberedNotes : List ℕ → ℕ → List (Result NumberedNoteView Fault) → Type 0
 HasNumberedNotes bytes o items = OfFacts bytes o (λ f. items ≡ numbered_notes_from f.bytes 0 f.commands)
 

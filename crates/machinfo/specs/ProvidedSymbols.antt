@@ -1,4 +1,4 @@
--- Who gives the undefined symbols of an image, as the linker wrote it down.
+-- The providers of the undefined symbols of an image, as the linker recorded them.
 use Rattle.std.specs.Prelude.{◌≡◌, ℕ, ◌-◌, List, [], Option, Some, None, option_map, Result, Ok, Err}
 use Rattle.std.specs.List.{filter_map}
 use Rattle.mach_base.specs.declared.error.Error.{Error}
@@ -15,7 +15,7 @@ use Rattle.goblin_mach.specs.ImageSlots.{symbol_provider_of}
 use Rattle.machinfo.specs.declared.providers.Provided.{Provided}
 use Rattle.machinfo.specs.declared.providers.ProvidedSymbols as declared
 
--- a symbol's name, and who gives it
+-- a symbol's name and its provider
 pub record ProvidedView : Type 0 where
   pub name : List ℕ
   pub provider : Provider
@@ -23,22 +23,22 @@ pub record ProvidedView : Type 0 where
 abbrev pub named_provider : List ℕ → Result Provider Fault → Result ProvidedView Fault
 named_provider name provider = provider >>= (λ p. Ok (record { name = name; provider = p }))
 
--- who gives a symbol, if that was written down; or why the symbol or that can't be told
+-- the provider of a symbol, if one is recorded; or the fault if the symbol or its provider can't be read
 abbrev pub provided_by : ℕ → List (List ℕ) → Result (List ℕ × Nlist) Fault → Option (Result ProvidedView Fault)
 provided_by flags libs (Err f) = Some (Err f)
 provided_by flags libs (Ok symbol) = option_map (named_provider symbol.0) (symbol_provider_of flags libs symbol.1)
 
--- those of the symbols of a table whose records begin within the bytes, if there is one
+-- the providers of a table's symbols whose records begin within the bytes; none without a table
 abbrev pub provided_in : ℕ → List (List ℕ) → Option SymbolTable → List (Result ProvidedView Fault)
 provided_in flags libs None = []
 provided_in flags libs (Some table) = filter_map (provided_by flags libs) (symbols_of (begun_of table))
 
--- how many symbols a table claims more
+-- how many symbols a table claims past the end of the bytes
 abbrev pub symbols_past_in : Option SymbolTable → ℕ
 symbols_past_in None = 0
 symbols_past_in (Some table) = table.nsyms - (begun_of table).nsyms
 
--- these are those of the image at a place
+-- these are the providers of the symbols of the image at an offset
 abbrev pub HasProvidedSymbols : List ℕ → ℕ → List (Result ProvidedView Fault) → Type 0
 HasProvidedSymbols bytes o items = OfFacts bytes o (λ f. items ≡ provided_in f.header.flags f.libs f.symbols)
 

@@ -28,7 +28,7 @@ use Rattle.machinfo.specs.declared.said.PlatformSaid.{PlatformSaid}
 abbrev pub start_object : (address : ℕ) → List ℕ
 start_object address = codes "{\"address\":" ++ (decimal address ++ codes "}")
 
--- whose a slot is
+-- the symbol of a slot
 abbrev pub owner_members : SlotOwner → List ℕ
 owner_members (named_slot index name) =
     codes "\"name\":" ++ (json_string name ++ (codes ",\"owner\":\"symbol\",\"symbol\":" ++ decimal index))
@@ -64,7 +64,7 @@ tool_object found =
     codes "{\"command\":"
     ++ (decimal found.0 ++ (codes ",\"tool\":" ++ (decimal found.1.tool ++ (codes ",\"version\":" ++ (decimal found.1.version ++ codes "}")))))
 
--- the number of the command, the place of its bytes, who wrote it, and how many bytes they are
+-- the number of the command, the offset of the note's bytes, its owner, and the number of its bytes
 abbrev pub note_object : NumberedNoteView → List ℕ
 note_object n =
     codes "{\"command\":"
@@ -73,7 +73,7 @@ note_object n =
     ++ (decimal n.place
     ++ (codes ",\"owner\":" ++ (json_string n.note.owner ++ (codes ",\"size\":" ++ (decimal (length n.note.data_bytes) ++ codes "}")))))))
 
--- who gives a symbol
+-- the provider of a symbol
 abbrev pub giver_members : Provider → List ℕ
 giver_members (of_library ordinal path) =
     codes "\"ordinal\":" ++ (decimal ordinal ++ (codes ",\"path\":" ++ (json_string path ++ codes ",\"provider\":\"library\"")))
@@ -106,7 +106,7 @@ library_object l =
     ++ (use_members l.attributes (is_lazy_kind l.kind)
     ++ (codes ",\"name\":" ++ (json_string l.name ++ (codes ",\"ordinal\":" ++ (decimal l.ordinal ++ codes "}")))))))))
 
--- the address, how the pointer is signed, the number that stands there, and what is corrected
+-- the address, how the pointer is signed, the target, and the type of the rebase
 abbrev pub rebased_object : Rebase → List ℕ
 rebased_object r =
     codes "{\"address\":"
@@ -115,7 +115,7 @@ rebased_object r =
     ++ (auth_members r.auth
     ++ (codes ",\"target\":" ++ (decimal r.target ++ (codes ",\"type\":\"" ++ (rebase_type r.kind ++ codes "\"}")))))))
 
--- a place, and what is bound there weakly
+-- an address, and what is bound weakly there
 abbrev pub weak_place_object : Binding → List ℕ
 weak_place_object b =
     codes "{\"addend\":"
@@ -124,12 +124,12 @@ weak_place_object b =
     ++ (decimal b.address
     ++ (codes ",\"is_strong\":false,\"is_weak\":" ++ (json_bool b.is_weak ++ (codes ",\"name\":" ++ (json_string b.name ++ codes "}")))))))
 
--- a name that the image defines itself and not weakly; or a place, and what is bound there
+-- the name of a strong definition of the image's own; or an address, and what is bound weakly there
 abbrev pub weak_bind_object : WeakBind → List ℕ
 weak_bind_object (strong_name name) = codes "{\"is_strong\":true,\"name\":" ++ (json_string name ++ codes "}")
 weak_bind_object (weakly_bound b) = weak_place_object b
 
--- ---- what is said of an image
+-- ---- rows of the summary
 
 abbrev pub sdk_object : ℕ → List ℕ
 sdk_object sdk = if sdk == 0 then codes "null" else codes "\"" ++ (version_text sdk ++ codes "\"")
@@ -157,7 +157,7 @@ object_of (uuid_row uuid) = codes "\"" ++ (uuid_text uuid ++ codes "\"")
 object_of (platform_row platform) = platform_object platform
 object_of (path_row path) = json_string path
 
--- the objects of rows, each or why there is none
+-- the objects of rows; a fault stays in its place
 abbrev pub row_objects : List (Result RowView Fault) → List (Result (List ℕ) Fault)
 row_objects found = map (told_by object_of) found
 

@@ -31,7 +31,7 @@ use Rattle.machinfo.specs.declared.list.ImageList.{ImageList}
 use Rattle.machinfo.specs.declared.row.Row.{Row}
 use Rattle.machinfo.specs.declared.said.PlatformSaid.{PlatformSaid}
 
--- the place from the image's first byte, the size and the kind
+-- the offset from the image's first byte, the length and the kind
 abbrev pub data_text : DataInCodeEntry → List ℕ
 data_text e = hex_text e.offset ++ codes " " ++ decimal e.length ++ codes " " ++ decimal e.kind
 
@@ -49,7 +49,7 @@ option_text found = decimal found.0 ++ codes " " ++ escaped_text found.1
 abbrev pub tool_text : ℕ × BuildToolVersion → List ℕ
 tool_text found = decimal found.0 ++ codes " " ++ decimal found.1.tool ++ codes " " ++ hex_text found.1.version
 
--- the number of the command, who wrote it, the place of its bytes, and how many they are
+-- the number of the command, the note's owner, the offset of its bytes, and their number
 abbrev pub note_row_text : NumberedNoteView → List ℕ
 note_row_text n =
     decimal n.number ++ codes " " ++ escaped_text n.note.owner ++ codes " " ++ hex_text n.place ++ codes " " ++ decimal (length n.note.data_bytes)
@@ -69,7 +69,7 @@ slot_owner_text local_slot = codes "local"
 slot_owner_text absolute_slot = codes "absolute"
 slot_owner_text local_absolute_slot = codes "local absolute"
 
--- the address, what stands there, and whose it is
+-- the address, the kind of slot, and its symbol
 abbrev pub slot_text : Slot → List ℕ
 slot_text s = hex_text s.address ++ codes " " ++ slot_kind_text s.kind ++ codes " " ++ slot_owner_text s.symbol
 
@@ -82,19 +82,19 @@ giver_text main_executable = codes "main-executable"
 giver_text flat = codes "flat"
 giver_text weak_lookup = codes "weak-lookup"
 
--- the symbol's name, and who gives it
+-- the symbol's name, and its provider
 abbrev pub provided_text : ProvidedView → List ℕ
 provided_text p = escaped_text p.name ++ codes " " ++ giver_text p.provider
 
 abbrev pub said_if : Bool → List ℕ → List ℕ
 said_if is_so word = if is_so then word else []
 
--- a library that is to be loaded at its first use (LC_LAZY_LOAD_DYLIB)
+-- a library that is loaded at its first use (LC_LAZY_LOAD_DYLIB)
 abbrev pub is_lazy_kind : LibraryKind → Bool
 is_lazy_kind Lazy = true
 is_lazy_kind _ = false
 
--- how a library is used, `-` where nothing is said
+-- how a library is used, `-` if it has no attribute
 abbrev pub use_text : LibraryAttributes → (is_lazy : Bool) → List ℕ
 use_text a is_lazy =
     said_if a.is_weak (codes " weak") ++ said_if a.is_reexport (codes " reexport") ++ said_if a.is_upward (codes " upward")
@@ -104,7 +104,7 @@ use_text a is_lazy =
 abbrev pub library_row_text : LibraryView → List ℕ
 library_row_text l = escaped_text l.name ++ use_text l.attributes (is_lazy_kind l.kind)
 
--- ---- what dyld rebases and binds weakly
+-- ---- rebases and weak binds
 
 -- the keys of arm64e
 abbrev pub key_word : ℕ → List ℕ
@@ -114,13 +114,13 @@ key_word key =
     else (if key == 2 then codes "DA"
     else codes "DB"))
 
--- how a pointer is signed, if it is: the key, what is mixed in, and whether the pointer's own address is mixed in, too
+-- how a pointer is signed, if it is: the key, the diversity, and whether the pointer's address is mixed in too
 abbrev pub signing_text : Option Auth → List ℕ
 signing_text None = []
 signing_text (Some a) =
     codes " auth:" ++ key_word a.key ++ codes ":" ++ hex_text a.diversity ++ said_if a.is_address_diverse (codes ":address")
 
--- the address, what is corrected, the number that stands there, and how it is signed
+-- the address, the type of the rebase, the target, and how the pointer is signed
 abbrev pub rebase_row_text : Rebase → List ℕ
 rebase_row_text r = hex_text r.address ++ codes " " ++ rebase_type r.kind ++ codes " " ++ hex_text r.target ++ signing_text r.auth
 
@@ -131,12 +131,12 @@ weak_flag is_weak = if is_weak then codes "weak" else codes "-"
 abbrev pub weak_place_text : Binding → List ℕ
 weak_place_text b = hex_text b.address ++ codes " " ++ signed_decimal b.addend ++ codes " " ++ weak_flag b.is_weak ++ codes " " ++ escaped_text b.name
 
--- a name that the image defines itself and not weakly; or a place, and what is bound there
+-- the name of a strong definition of the image's own; or an address, and what is bound weakly there
 abbrev pub weak_row_text : WeakBind → List ℕ
 weak_row_text (strong_name name) = codes "strong " ++ escaped_text name
 weak_row_text (weakly_bound b) = weak_place_text b
 
--- ---- what is said of an image
+-- ---- rows of the summary
 
 -- a version of 16, 8 and 8 bits
 abbrev pub version_text : ℕ → List ℕ
@@ -149,7 +149,7 @@ upper_byte n = padded_integral (format_spec 32 0 4 2 (2 ^ 64 - 1)) false [] (dig
 abbrev pub upper_bytes : List ℕ → List ℕ
 upper_bytes bytes = flat_map upper_byte bytes
 
--- the number of an image in five groups
+-- the UUID of an image, in five groups
 abbrev pub uuid_text : List ℕ → List ℕ
 uuid_text u =
     upper_bytes (take 4 u)
@@ -179,7 +179,7 @@ platform_names =
 abbrev pub platform_name : ℕ → List ℕ
 platform_name number = name_or (codes "unknown") platform_names number
 
--- the version of the kit, if it is said
+-- the version of the SDK, if it is given
 abbrev pub sdk_text : ℕ → List ℕ
 sdk_text sdk = if sdk == 0 then [] else codes ", sdk " ++ version_text sdk
 
@@ -204,7 +204,7 @@ list_row_text (uuid_row uuid) = codes "uuid: " ++ uuid_text uuid
 list_row_text (platform_row platform) = platform_text platform
 list_row_text (path_row path) = codes "run path: " ++ escaped_text path
 
--- the texts of rows, each or why there is none
+-- the texts of rows; a fault stays in its place
 abbrev pub row_texts : List (Result RowView Fault) → List (Result (List ℕ) Fault)
 row_texts found = map (told_by list_row_text) found
 

@@ -34,7 +34,7 @@ pub data RowView : Type 0 where
   library_row : (library : LibraryView) → RowView
   rebase_row : (rebase : Rebase) → RowView
   weak_row : (bind : WeakBind) → RowView
-  -- what is said of an image alone: its number, a platform, and where libraries are looked up
+  -- rows of the summary: the UUID, a platform, and a run path
   uuid_row : (uuid : List ℕ) → RowView
   platform_row : (platform : PlatformSaid) → RowView
   path_row : (path : List ℕ) → RowView

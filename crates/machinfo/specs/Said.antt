@@ -1,4 +1,4 @@
--- What single commands say of an image: its number, and its platforms.
+-- What single commands give for an image: its UUID, and its platforms.
 use Rattle.std.specs.Prelude.{ℕ, List, Option, Some, None, option_map, drop, map}
 use Rattle.std.specs.List.{filter_map}
 use Rattle.mach_base.specs.Record.{Value, number_among, bytes_among}
@@ -11,7 +11,7 @@ use Rattle.machinfo.specs.declared.said.Question.{Question}
 use Rattle.machinfo.specs.declared.said.Question.TheVariants.{Uuid, Platform}
 use Rattle.machinfo.specs.declared.said.SaidCommands.{SaidCommands}
 
--- the number of the image (struct uuid_command)
+-- the UUID of the image (struct uuid_command)
 abbrev pub uuid_of : Kind → List Value → Option (List ℕ)
 uuid_of uuid values = Some (bytes_among values 2)
 uuid_of _ values = None
@@ -23,7 +23,8 @@ uuid_by c = uuid_of c.kind c.values
 abbrev pub least_of : (platform : ℕ) → List Value → Option PlatformSaid
 least_of platform values = Some (record { platform = platform; least = number_among values 2; sdk = number_among values 3 })
 
--- the platform that a command names (struct build_version_command, or by the number of the command)
+-- the platform that a command names (struct build_version_command), or that follows from the kind of the command
+-- (LC_VERSION_MIN_)
 abbrev pub platform_of : Kind → List Value → Option PlatformSaid
 platform_of build_version values =
     Some (record { platform = number_among values 2; least = number_among values 3; sdk = number_among values 4 })
@@ -36,7 +37,7 @@ platform_of _ values = None
 abbrev pub platform_by : Command → Option PlatformSaid
 platform_by c = platform_of c.kind c.values
 
--- what a command answers, if it does
+-- the answer of a command to a question, if it has one
 abbrev pub said_of_it : Question → Command → Option RowView
 said_of_it Uuid c = option_map uuid_row (uuid_by c)
 said_of_it Platform c = option_map platform_row (platform_by c)
@@ -45,6 +46,6 @@ said_of_it Platform c = option_map platform_row (platform_by c)
 abbrev pub said_within : Question → List Command → List RowView
 said_within question cs = filter_map (said_of_it question) cs
 
--- those that are left
+-- the answers that are left
 abbrev pub said_left : SaidCommands → List RowView
 said_left it = said_within it.question (map command_of (drop it.number it.commands.now))

@@ -22,14 +22,14 @@ abbrev pub field_text : List ℕ → List ℕ
 field_text [] = codes "-"
 field_text (b ∷ bs) = escaped_bytes (b ∷ bs)
 
--- what is allowed: reading, writing and running (VM_PROT_)
+-- the initial protection: reading, writing and execution (VM_PROT_)
 abbrev pub right_text : ℕ → (bit : ℕ) → List ℕ → List ℕ
 right_text rights bit letter = if bit_and rights bit == 0 then codes "-" else letter
 
 abbrev pub rights_text : ℕ → List ℕ
 rights_text rights = right_text rights 1 (codes "r") ++ right_text rights 2 (codes "w") ++ right_text rights 4 (codes "x")
 
--- the name, the address, the size in memory, and what is allowed at first
+-- the name, the address, the size in memory, and the initial protection
 abbrev pub segment_said_line : SegmentView → List ℕ
 segment_said_line s =
     codes "segment: " ++ field_text (run_at s.command.segname 0) ++ codes " " ++ hex_text s.command.vmaddr ++ codes " " ++ hex_text s.command.vmsize
@@ -43,11 +43,11 @@ section_said_text s = codes "section: " ++ field_text (run_at s.sectname 0) ++ c
 abbrev pub without_data : List (Result (Section × List ℕ) Fault) → List (Result Section Fault)
 without_data found = map (λ item. item >>= (λ s. Ok s.0)) found
 
--- the texts of sections, each or why it can't be read
+-- the texts of sections; a fault stays in its place
 abbrev pub section_texts : List (Result (Section × List ℕ) Fault) → List (Result (List ℕ) Fault)
 section_texts found = map (told_by section_said_text) (without_data found)
 
--- how many sections a segment claims more than begin within the bytes
+-- how many sections a segment claims past the end of the bytes
 abbrev pub sections_past_the_end : SegmentView → ℕ
 sections_past_the_end s = length (sections_of s) - length (begun_items (sections_of s))
 

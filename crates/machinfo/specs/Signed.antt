@@ -1,4 +1,4 @@
--- The lines that say whether an image is signed, and what its code directory that counts says.
+-- The lines that print whether an image is signed, and what the code directory says that is used.
 use Rattle.std.specs.Prelude.{◌≡◌, ◌==◌, ◌&&◌, ℕ, List, ◌++◌, codes, Bool, true, false, bit_and, if◌then◌else◌, Option, Some, None, Result, Ok, Err}
 use Rattle.std.specs.Io.KnownBytes.{Appends}
 use Rattle.std.specs.Option.{option_map}
@@ -13,15 +13,15 @@ use Rattle.mach_signature.specs.declared.directory.CodeDirectory.{CodeDirectory}
 use Rattle.mach_cli.specs.Flags.{code_flags, worded_flags_text}
 use Rattle.mach_cli.specs.SignatureNames.{name_text}
 
--- that it is signed, and ad hoc where the flag of that is set (`cs_blobs.h`, CS_ADHOC)
+-- the image is signed, and ad hoc if that flag is set (`cs_blobs.h`, CS_ADHOC)
 abbrev pub signed_line : (flags : ℕ) → List ℕ
 signed_line flags = if bit_and flags 2 == 0 then codes "signed: yes\n" else codes "signed: yes, ad hoc\n"
 
--- a name, if there is one
+-- a line of a label and a name, if there is one
 abbrev pub said_name : (label : List ℕ) → Result (Option (List ℕ)) Fault → List ℕ
 said_name label name = label ++ (codes ": " ++ (name_text name ++ codes "\n"))
 
--- the flags and their words
+-- the flags, as a number and in words
 abbrev pub signature_flags_line : (flags : ℕ) → List ℕ
 signature_flags_line flags = codes "signature flags: " ++ (worded_flags_text code_flags flags ++ codes "\n")
 
@@ -30,25 +30,25 @@ directory_said d =
     signed_line d.head.flags
     ++ (said_name (codes "identifier") (identifier_of d) ++ (said_name (codes "team") (team_of d) ++ signature_flags_line d.head.flags))
 
--- an answer in words: that there is no signature, what the directory says, or why that can't be told
+-- the text of an answer: there is no signature, or what the directory says, or the error
 abbrev pub signature_answer_text : Result (Option CodeDirectory) Error → List ℕ
 signature_answer_text (Ok None) = codes "signed: no\n"
 signature_answer_text (Ok (Some d)) = directory_said (directory_view d)
 signature_answer_text (Err e) = codes "signed: refused: " ++ (words_of e ++ codes "\n")
 
--- whether it can be read, and so can its names
+-- whether the directory and its names can be read, or there is none
 abbrev pub is_readable : Result (Option Directory) Fault → Bool
 is_readable (Ok None) = true
 is_readable (Ok (Some d)) = is_ok (identifier_of d) && is_ok (team_of d)
 is_readable (Err f) = false
 
--- The text says what is there, or has the words of an error that reports why it can't be told.
+-- The text is that of an answer which reads as `there`: the directory, or an error that reports its fault.
 pub record AreSignatureSaid (there : Result (Option Directory) Fault) (text : List ℕ) : Type 0 where
   pub answer : Result (Option CodeDirectory) Error
   pub reads : Reads (option_map directory_view) answer there
   pub is_text : text ≡ signature_answer_text answer
 
--- What was written is such lines.
+-- These lines were written.
 pub record WritesSignedLines (there : Result (Option Directory) Fault) (old new : Option (List ℕ)) : Type 0 where
   pub text : List ℕ
   pub lines : AreSignatureSaid there text

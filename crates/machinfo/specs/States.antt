@@ -20,16 +20,17 @@ is_encrypting_by _ values = false
 abbrev pub is_encrypting : Command → Bool
 is_encrypting c = is_encrypting_by c.kind c.values
 
--- A symbol that `strip` takes away: one that isn't external (N_EXT), and each entry for a debugger but N_OPT, which stripped images have.
+-- A symbol that `strip` removes: one that isn't external (N_EXT), or a debugging entry other than N_OPT, which stripped images
+-- have.
 abbrev pub is_local_symbol : Nlist → Bool
 is_local_symbol s = if is_stab s then not (s.n_type == 0x3c) else bit_and s.n_type 1 == 0
 
--- such a symbol, where it can be read
+-- such a symbol, if it can be read
 abbrev pub is_local_item : Result (List ℕ × Nlist) Fault → Bool
 is_local_item (Ok found) = is_local_symbol found.1
 is_local_item (Err f) = false
 
--- An image is stripped where none of its symbols is one that `strip` takes away: those of its table whose records begin within the bytes.
+-- An image is stripped if none of the symbols of its table whose records begin within the bytes is one that `strip` removes.
 abbrev pub state_of_commands : List Command → Option SymbolTable → State
 state_of_commands cs None = record { is_encrypted = list_any is_encrypting cs; is_stripped = true; symbols = 0; past = 0 }
 state_of_commands cs (Some t) = record {
@@ -42,7 +43,7 @@ state_of_commands cs (Some t) = record {
 abbrev pub yes_or_no : Bool → List ℕ
 yes_or_no is_so = if is_so then codes "yes" else codes "no"
 
--- what is said of it
+-- the lines of this state
 abbrev pub state_lines : State → List ℕ
 state_lines s =
     (codes "encrypted: " ++ (yes_or_no s.is_encrypted ++ codes "\n"))

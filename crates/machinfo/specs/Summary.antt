@@ -1,4 +1,4 @@
--- What is said of an image before its counts, but for its signature and its state.
+-- The summary of an image before its counts, but for its signature and its state.
 use Rattle.std.specs.Prelude.{◌≡◌, ◌==◌, ◌&&◌, ◌^◌, ℕ, List, [], ◌∷◌, ◌++◌, codes, map, take, drop, bit_and, bytes_eq, Bool, Option, Some, None}
 use Rattle.std.specs.Prelude.{Result, Ok, if◌then◌else◌}
 use Rattle.std.specs.Fmt.{decimal}
@@ -21,7 +21,7 @@ use Rattle.machinfo.specs.declared.summary.SummaryLines.{SummaryLines}
 
 -- ---- the header
 
--- the first cpu of these numbers
+-- the name of the first row with these numbers
 abbrev pub cpu_named : List ArchRow → (cputype kind : ℕ) → Option (List ℕ)
 cpu_named [] cputype kind = None
 cpu_named (row ∷ rows) cputype kind = if cputype == row.cputype && kind == row.cpusubtype then Some row.name else cpu_named rows cputype kind
@@ -37,25 +37,25 @@ cpu_line cputype cpusubtype = cpu_in_words (cpu_named arch_rows cputype (kind_of
 abbrev pub kind_lines : Header → List ℕ
 kind_lines h = (codes "kind: " ++ (filetype_name h.filetype ++ codes "\n")) ++ cpu_line h.cputype h.cpusubtype
 
--- the name as a library, if there is one
+-- the name as a library, if the image has one
 abbrev pub own_name_line : Option (List ℕ) → List ℕ
 own_name_line None = []
 own_name_line (Some name) = codes "name: " ++ (escaped_text name ++ codes "\n")
 
--- where it begins to run, if that is known
+-- the entry point, if it is known
 abbrev pub entry_point_line : ℕ → List ℕ
 entry_point_line entry = if entry == 0 then [] else codes "entry: " ++ (hex_text entry ++ codes "\n")
 
--- a name without its prefix (MH_), if it has it
+-- a name without its prefix `MH_`, if it has that prefix
 abbrev pub flag_short_name : List ℕ → Option (List ℕ)
 flag_short_name name = if bytes_eq (take 3 name) (codes "MH_") then Some (drop 3 name) else None
 
--- the name of a bit, or its number
+-- the name of a bit, or its number if it has none
 abbrev pub flag_said : ℕ → Option (List ℕ) → List ℕ
 flag_said flag None = hex_text flag
 flag_said flag (Some name) = name
 
--- the same of one that may be set
+-- the same, nothing if the bit is not set
 abbrev pub flag_word : ℕ → List ℕ
 flag_word flag = if flag == 0 then [] else codes " " ++ flag_said flag (flag_short_name (flag_name flag))
 
@@ -64,7 +64,7 @@ flags_line flags = codes "flags:" ++ (flat_map (λ bit. flag_word (bit_and flags
 
 -- ---- lists
 
--- a row as it is said of an image: of a tool and of a library with versions
+-- the text of a row in the summary: tools and libraries have their versions
 abbrev pub summary_text : RowView → List ℕ
 summary_text (tool_row found) = codes "tool: " ++ decimal found.1.tool ++ codes " " ++ version_text found.1.version
 summary_text (library_row l) =
@@ -74,8 +74,8 @@ summary_text row = list_row_text row
 abbrev pub summary_texts : List (Result RowView Fault) → List (Result (List ℕ) Fault)
 summary_texts found = map (told_by summary_text) found
 
--- What was written is a line for each of these rows in order, no more than the limit, and a line where there are more. It is whole where there are none, and
--- all can be read.
+-- A line was written for each of these rows in order, up to the limit, and a line if there are more. It is whole if there are no
+-- more, and all can be read.
 pub record WritesSaid (word : List ℕ) (limit : ℕ) (rows : List (Result RowView Fault)) (name : List ℕ) (past : ℕ) (whole : Bool) (old new : Option (List ℕ))
     : Type 0 where
   pub text : List ℕ

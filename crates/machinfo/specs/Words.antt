@@ -1,4 +1,4 @@
--- The words that ask for a list.
+-- The words that select a list.
 use Rattle.std.specs.Prelude.{ℕ, List, [], ◌∷◌, codes, Option, Some, None, bytes_eq, if◌then◌else◌}
 use Rattle.machinfo.specs.declared.word.Word.{Word}
 use Rattle.machinfo.specs.declared.word.Word.TheVariants.{Starts, Slots, Indirect, Data, Options, Tools, Notes, Providers, Libraries, Rebases, Weak}
@@ -23,7 +23,7 @@ list_words =
     ∷ record { spelling = codes "weak"; word = Weak }
     ∷ []
 
--- the first word of a spelling
+-- the first word with a spelling
 abbrev pub word_among : List SpelledWord → List ℕ → Option Word
 word_among [] text = None
 word_among (w ∷ others) text = if bytes_eq text w.spelling then Some w.word else word_among others text

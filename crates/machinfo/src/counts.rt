@@ -18,16 +18,16 @@ use std::fmt::{Display, Formatter};
 use std::io::Write;
 use std::{fmt, io};
 
-/// How counts are told.
+/// The form in which counts are written.
 #[derive(Clone, Copy)]
 pub enum Form {
-    /// A line each.
+    /// One line for each list.
     Lines,
-    /// As members of an object, each with a comma behind it.
+    /// Members of an object, each with a comma after it.
     Members,
 }
 
-/// How many items more a list claims, whose records begin past the end of the bytes, where it does.
+/// How many more items a list claims whose records begin past the end of the bytes; nothing if it claims none.
 #[derive(Clone, Copy)]
 pub struct PastText(pub usize);
 
@@ -43,7 +43,7 @@ impl Display for PastText {
     }
 }
 
-// How many rows a list has, of which no more than a limit were gone over, and how many more it claims.
+// How many rows a list has, counted up to a limit, and how many more it claims.
 #[derive(Clone, Copy)]
 struct CountText {
     limit: usize,
@@ -85,8 +85,9 @@ impl Display for CountMembers {
     }
 }
 
-/// Prints for each of these words how many items the list of an image has for which it asks, and answers whether all of them can be read, and none has
-/// more than the limit, or more past the end of the bytes.
+/// Prints how many items the list of each of these words has, counted up to the limit.
+///
+/// Returns whether all items can be read, and no list has more than the limit or claims more past the end of the bytes.
 pub fn print_counts<A: Allocator, O: Write>(
     form: Form,
     words: &[Word],
@@ -104,7 +105,7 @@ pub fn print_counts<A: Allocator, O: Write>(
     Ok(whole)
 }
 
-// Prints how many items a list has, and answers whether all can be read, and there are no more.
+// Prints how many items a list has, and returns whether all can be read and there are no more.
 fn print_count<A: Allocator, O: Write>(
     form: Form,
     word: Word,
@@ -123,7 +124,7 @@ fn print_count<A: Allocator, O: Write>(
     Ok(told.whole & !told.more & (past == 0))
 }
 
-// Writes what is known of a list that was gone over.
+// Writes the count of a list.
 fn write_count<O: Write>(
     form: Form,
     word: Word,

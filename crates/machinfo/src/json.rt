@@ -60,7 +60,7 @@ impl Shows for ObjectsOf<'_> {
     }
 }
 
-// What the images of a file are, as members, with at most `limit` items of a list counted.
+// The summaries of the images of a file, as members, with at most `limit` items of a list counted.
 #[derive(Clone, Copy)]
 struct MembersOf<'a> {
     file: &'a str,
@@ -99,15 +99,15 @@ impl Shows for MembersOf<'_> {
     }
 }
 
-// Writes what stands behind the counts.
+// Writes what follows the counts.
 fn end_counts<O: Write>(limit: usize, out: &mut O) -> io::Result<()>
     ensures { OnOk result (Appends (O.contents out.old) (O.contents out.new) (counts_end limit)) }
 {
     write!(out, "\"limit\":{limit}}},\"kind\":\"image\"")
 }
 
-/// Writes of a file as `run_list` does, but as JSON, an object of the file on a line: with an object for each row, and for each image whether it has
-/// more of them than are left of the limit.
+/// Writes of a file what `run_list` prints, as JSON: one object on one line. It has an object for each row, and for each image
+/// whether it has more rows than are left of the limit.
 pub fn write_list<A: Allocator + Clone, W: Write + Drop, B: Allocator, E: Write>(
     alloc: A,
     word: Word,
@@ -130,7 +130,7 @@ pub fn write_list<A: Allocator + Clone, W: Write + Drop, B: Allocator, E: Write>
     mach_cli::json::run::run(&objects, file, cpu, limit, &alloc, bytes, out, err)
 }
 
-/// Writes of a file as `run_summary` does, but as JSON, an object of the file on a line.
+/// Writes of a file what `run_summary` prints, as JSON: one object on one line.
 pub fn write_summary<A: Allocator + Clone, W: Write + Drop, B: Allocator, E: Write>(
     alloc: A,
     cpu: Cpu,

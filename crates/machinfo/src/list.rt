@@ -29,7 +29,8 @@ use std::io;
 use std::io::Write;
 use std::slice::Iter;
 
-/// What is left of a list of an image: of a table the rows that begin within its bytes, and how many more it claims.
+/// What is left of a list of an image. Of a table these are the rows that begin within the bytes, and the number of those claimed
+/// past their end.
 #[derive(Drop)]
 pub enum ImageList<'a, 'b, A: Allocator> {
     Starts(FunctionStartIterator<'a>),
@@ -47,7 +48,7 @@ pub enum ImageList<'a, 'b, A: Allocator> {
     Paths(Iter<'b, &'a str>),
 }
 
-// Those of the indirect symbols that begin within the bytes, and how many more there are to be.
+// Returns the indirect symbols that begin within the bytes, and how many more are claimed.
 fn begun_indirect(list: IndirectSymbolIterator<'_>) -> (IndirectSymbolIterator<'_>, usize)
     ensures left { indirect_left result.0 ≡ begun_items (indirect_left list.entry) }
     ensures past { result.1 ≡ length (indirect_left list.entry) - length (begun_items (indirect_left list.entry)) }
@@ -57,7 +58,7 @@ fn begun_indirect(list: IndirectSymbolIterator<'_>) -> (IndirectSymbolIterator<'
     (begun, past)
 }
 
-// Those of the entries of data among code that begin within the bytes, and how many more there are to be.
+// Returns the entries of data in code that begin within the bytes, and how many more are claimed.
 fn begun_data(list: DataInCodeIterator<'_>) -> (DataInCodeIterator<'_>, usize)
     ensures left { data_in_code_left result.0 ≡ begun_items (data_in_code_left list.entry) }
     ensures past { result.1 ≡ length (data_in_code_left list.entry) - length (begun_items (data_in_code_left list.entry)) }
@@ -68,7 +69,7 @@ fn begun_data(list: DataInCodeIterator<'_>) -> (DataInCodeIterator<'_>, usize)
 }
 
 impl<'a, 'b, A: Allocator> ImageList<'a, 'b, A> {
-    /// The list of an image for which a word asks.
+    /// Returns the list of an image that a word selects.
     pub fn of(word: Word, image: &'b MachO<'a, A>) -> Self
         ensures rows { (bytes : List ℕ) (o : ℕ) → IsImage bytes o image.now → HasRows word bytes o (list_rows_left result) (list_rows_past result) }
         ensures name { rows_name_of result ≡ past_name word }
@@ -94,7 +95,7 @@ impl<'a, 'b, A: Allocator> ImageList<'a, 'b, A> {
         }
     }
 
-    /// What the commands of an image answer.
+    /// Returns the answers of an image's commands to a question.
     pub fn said(question: Question, image: &'b MachO<'a, A>) -> Self
         ensures left { list_rows_left result ≡ map (λ r. Ok r) (said_within question (commands_held image.now)) }
         ensures past { list_rows_past result ≡ 0 }
@@ -102,7 +103,7 @@ impl<'a, 'b, A: Allocator> ImageList<'a, 'b, A> {
         ImageList::Said(SaidCommands::of(question, image))
     }
 
-    /// The paths on which an image has its libraries looked up.
+    /// Returns the run paths of an image.
     pub fn run_paths(image: &'b MachO<'a, A>) -> Self
         ensures left { list_rows_left result ≡ map (λ path. Ok (path_row path)) (texts image.now.rpaths.items) }
         ensures past { list_rows_past result ≡ 0 }
@@ -110,7 +111,7 @@ impl<'a, 'b, A: Allocator> ImageList<'a, 'b, A> {
         ImageList::Paths(image.rpaths.iter())
     }
 
-    /// The next row, or why it can't be told.
+    /// Returns the next row, or the error if it can't be read.
     pub fn take_next(&mut self) -> Option<Result<Row<'a>>>
         ensures { YieldsFirstBy list_row_read list_rows_left self.old result self.new }
     {
@@ -161,7 +162,7 @@ impl<'a, 'b, A: Allocator> ImageList<'a, 'b, A> {
         }
     }
 
-    /// How many rows more the whole list claims, whose records begin past the end of the bytes.
+    /// Returns how many more rows the whole list claims, whose records begin past the end of the bytes.
     pub fn past_rows(&self) -> usize
         ensures { result ≡ list_rows_past self.now }
     {
@@ -172,7 +173,7 @@ impl<'a, 'b, A: Allocator> ImageList<'a, 'b, A> {
         }
     }
 
-    /// What those are called.
+    /// Returns the name of those rows.
     pub fn rows_name(&self) -> &'static str
         ensures { result.now ≡ rows_name_of self.now }
     {

@@ -1,8 +1,11 @@
-//! Prints what a Mach-O image is, how it is signed, and how many items its lists have; or with a word one list of what it says, a line an item:
-//! its function starts, stubs and pointers, indirect symbols, data among code,
-//! options for the linker, tools, notes, providers of symbols, libraries, rebases or weak binds; of a fat file that of each entry, or of those for
-//! one cpu, under a line that says which. Of a file it prints at most as many rows as `--limit` says, and behind those of an image that
-//! has more, a line that says so. A row that can't be told is a line that says why. With `--json` it writes an object a file on a line in their place.
+//! Prints a summary of a Mach-O image: what it is, how it is signed, and how many items its lists have.
+//!
+//! With a word it prints one list instead, an item a line: function starts, stubs and pointers, indirect symbols, data in code,
+//! linker options, tools, notes, providers of symbols, libraries, rebases or weak binds. Of a fat file it prints that of each
+//! entry, or of the entries for one cpu, under a line that says which.
+//!
+//! It prints at most as many rows of a file as `--limit` says, and a line after those of an image that has more. A row that can't
+//! be read is a line with the error. With `--json` it writes one object for each file instead, on a line.
 #![tactic(auto)]
 
 // The summary of an image.
@@ -75,7 +78,7 @@ fn main(rt: HostRuntime) -> ExitCode {
     })
 }
 
-// Does what the words ask for.
+// Runs the program with its words.
 fn start(rt: &HostRuntime) -> Result<u8, u8> {
     let words = PROGRAM.words(rt)?;
     let Ok((is_json, words)) = take_json(rt.alloc(), words) else {
@@ -85,19 +88,19 @@ fn start(rt: &HostRuntime) -> Result<u8, u8> {
     answer(rt, is_json, &call)
 }
 
-// Does what a call asks for.
+// Runs a parsed call.
 fn answer(rt: &HostRuntime, is_json: bool, call: &Call<'_, Global>) -> Result<u8, u8> {
     let limit = call.limit.unwrap_or(DEFAULT_LIMIT);
     show_files(rt, is_json, call.cpu, limit, &call.words, &call.others)
 }
 
-// The list for which the first of some words asks, if it does.
+// Returns the list that the first word selects, if it does.
 fn word_of(words: &[&str]) -> Option<Word> {
     let first = words.first()?;
     Word::named(first)
 }
 
-// What is shown of each file: a list, or what its images are, in lines or as objects.
+// What is shown of each file: a list or the summary, as lines or as objects.
 #[derive(Clone, Copy)]
 struct Shown {
     is_json: bool,
@@ -121,7 +124,7 @@ impl<W: Write + Drop, B: Allocator> ShowsFile<BufWriter<W, B>> for Shown {
     }
 }
 
-// Shows of files in order what the images are that are asked for, or where a word stands before them the list for which it asks, and answers the worst
+// Shows the selected images of files in order: their summaries, or the list that the first word selects. Returns the worst
 // status.
 fn show_files(
     rt: &HostRuntime,

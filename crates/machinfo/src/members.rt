@@ -1,4 +1,4 @@
-//! The members of the object of an image that say what it is, before those of its counts.
+//! The members of an image's object that say what it is, before those of its counts.
 
 ghost use Rattle.machinfo.specs.Lists.{list_rows_past, rows_name_of};
 ghost use Rattle.std.specs.Prelude.{OnOk};
@@ -25,7 +25,7 @@ use std::alloc::Allocator;
 use std::io;
 use std::io::Write;
 
-// What is left of a list of an image, whose rows are objects in what is said of it.
+// What is left of a list of an image, whose rows are objects of the summary.
 #[derive(Drop)]
 struct SummaryObjects<'a, 'b, A: Allocator>(ImageList<'a, 'b, A>);
 
@@ -69,8 +69,10 @@ impl<'a, A: Allocator> Listing for SummaryObjects<'a, '_, A> {
     }
 }
 
-/// Writes the members of an image but those of its counts and its kind, each with a comma after it, and of each list the rows up to the limit. Answers
-/// whether all is told and can be read.
+/// Writes the members of an image but for its counts and its kind, each with a comma after it, and of each list the rows up to
+/// the limit.
+///
+/// Returns whether everything was written and can be read.
 pub fn write_front<A: Allocator, O: Write>(
     image: &MachO<'_, A>,
     limit: usize,
@@ -114,7 +116,7 @@ fn write_lists<A: Allocator, O: Write>(
     Ok(then(then(used, segments), then(tools, uuids)))
 }
 
-// Writes a list as a member of this name.
+// Writes a list as a member with this name.
 fn write_list<A: Allocator, O: Write>(
     name: &str,
     list: ImageList<'_, '_, A>,
@@ -127,7 +129,7 @@ fn write_list<A: Allocator, O: Write>(
     Ok(told)
 }
 
-// Writes the cpu, the entry, the kind of the file, and the name as a library.
+// Writes the cpu, the entry point, the kind of the file, and the name as a library.
 fn write_header<O: Write>(
     header: &Header,
     name: Option<&str>,
@@ -150,7 +152,7 @@ fn write_header<O: Write>(
     )
 }
 
-// Writes the names of the bits of a header.
+// Writes the names of the header's flags.
 fn write_flags<O: Write>(flags: u32, out: &mut O) -> io::Result<()>
     ensures { OnOk result (WritesSome (O.contents out.old) (O.contents out.new)) }
 {
@@ -162,7 +164,7 @@ fn write_flags<O: Write>(flags: u32, out: &mut O) -> io::Result<()>
     write!(out, "],")
 }
 
-// Writes the name of a bit, or its number, if it is set, and answers whether the next one is the first.
+// Writes the name of a bit, or its number, if it is set. Returns whether the next one is the first.
 #[tactic(auto, using(crate::proofs::Some::nothing))]
 fn write_flag<O: Write>(flag: u32, is_first: bool, out: &mut O) -> io::Result<bool>
     ensures { OnOk result (WritesSome (O.contents out.old) (O.contents out.new)) }
@@ -187,7 +189,8 @@ fn write_bit<O: Write>(flag: u32, out: &mut O) -> io::Result<()>
     }
 }
 
-// Writes what the code directory says, if the image is signed; a name that can't be read is none. Answers whether all can be read.
+// Writes what the code directory says, if the image is signed; a name that can't be read is left out. Returns whether all can be
+// read.
 fn write_signature<A: Allocator, O: Write>(image: &MachO<'_, A>, out: &mut O) -> io::Result<bool>
     ensures { OnOk result (WritesSome (O.contents out.old) (O.contents out.new)) }
 {

@@ -11,21 +11,21 @@ use goblin_mach::load_command::{CommandVariant, LoadCommand};
 use goblin_mach::{MachO, Note, NoteIterator, Result};
 use std::alloc::Allocator;
 
-/// A note, with where it comes from.
+/// A note, and where it comes from.
 #[derive(Clone, Copy)]
 pub struct NumberedNote<'a> {
     /// The number of its command.
     pub number: usize,
-    /// The place of its bytes in the file.
+    /// The offset of its bytes in the file.
     pub place: u64,
-    /// What it is.
+    /// The note itself.
     pub note: Note<'a>,
 }
 
 /// The notes of the commands from a number on.
 #[derive(Clone, Copy)]
 pub struct NumberedNotes<'a, 'b> {
-    /// What the commands stand in.
+    /// The bytes that hold the commands.
     pub bytes: &'a [u8],
     /// The commands.
     pub commands: &'b [LoadCommand],
@@ -33,7 +33,7 @@ pub struct NumberedNotes<'a, 'b> {
     pub number: usize,
 }
 
-// The place of the bytes that a command brings, 0 where it is no note.
+// Returns the offset of the bytes of a command's note, 0 if it is no note.
 fn place_of(command: &LoadCommand) -> u64
     ensures { result ≡ note_place_of (command_of command.now) }
 {
@@ -43,7 +43,7 @@ fn place_of(command: &LoadCommand) -> u64
     }
 }
 
-// The note of a command of a number, if it is one.
+// Returns the note of the command with this number, if it is one.
 fn noted_by<'a>(
     bytes: &'a [u8],
     number: usize,
@@ -65,7 +65,7 @@ fn noted_by<'a>(
 }
 
 impl<'a, 'b> NumberedNotes<'a, 'b> {
-    /// Those of an image.
+    /// Returns the notes of an image.
     pub fn of<A: Allocator>(image: &'b MachO<'a, A>) -> Self
         ensures { notes_numbered_left result ≡ numbered_notes_from (bytes_held image.now) 0 (commands_held image.now) }
     {
@@ -76,7 +76,7 @@ impl<'a, 'b> NumberedNotes<'a, 'b> {
         }
     }
 
-    /// The next note, or why it can't be read.
+    /// Returns the next note, or the error if it can't be read.
     pub fn take_next(&mut self) -> Option<Result<NumberedNote<'a>>>
         ensures { YieldsFirstBy numbered_note_read notes_numbered_left self.old result self.new }
     {

@@ -29,7 +29,7 @@ use std::fmt::{Display, Formatter};
 use std::io::Write;
 use std::{fmt, io};
 
-// Whose a slot is.
+// The symbol of a slot.
 #[derive(Clone, Copy)]
 struct OwnerMembers<'a>(SlotSymbol<'a>);
 
@@ -49,7 +49,7 @@ impl Display for OwnerMembers<'_> {
     }
 }
 
-// A slot: its address, what stands there, how many bytes it has, and whose it is.
+// A slot: its address, its kind, its length in bytes, and its symbol.
 #[derive(Clone, Copy)]
 struct SlotObject<'a>(SymbolSlot<'a>);
 
@@ -86,7 +86,7 @@ impl Display for IndirectObject {
     }
 }
 
-// An entry of data among code.
+// An entry of data in code.
 #[derive(Clone, Copy)]
 struct DataObject(DataInCodeEntry);
 
@@ -106,7 +106,7 @@ impl Display for DataObject {
     }
 }
 
-// An option for the linker, with the number of its command.
+// A linker option, with the number of its command.
 #[derive(Clone, Copy)]
 struct OptionObject<'a>(usize, &'a str);
 
@@ -136,7 +136,7 @@ impl Display for ToolObject {
     }
 }
 
-// A note: the number of its command, where its bytes are, its owner, and how many they are.
+// A note: the number of its command, the offset of its bytes, its owner, and the number of its bytes.
 #[derive(Clone, Copy)]
 struct NoteObject<'a>(NumberedNote<'a>);
 
@@ -158,7 +158,7 @@ impl Display for NoteObject<'_> {
     }
 }
 
-// Who gives a symbol.
+// The provider of a symbol.
 #[derive(Clone, Copy)]
 struct GiverMembers<'a>(Provider<'a>);
 
@@ -182,7 +182,7 @@ impl Display for GiverMembers<'_> {
     }
 }
 
-// A symbol, and who gives it.
+// A symbol, and its provider.
 #[derive(Clone, Copy)]
 struct ProvidedObject<'a>(Provided<'a>);
 
@@ -196,7 +196,7 @@ impl Display for ProvidedObject<'_> {
     }
 }
 
-// How a library is used, and whether it is to be loaded at its first use.
+// How a library is used, and whether it is loaded at its first use.
 #[derive(Clone, Copy)]
 struct UseMembers(LibraryAttributes, bool);
 
@@ -239,7 +239,7 @@ impl Display for LibraryObject<'_> {
     }
 }
 
-// A rebase: its address, how the pointer is signed, the number that stands there, and what is corrected.
+// A rebase: its address, how the pointer is signed, the target, and its type.
 #[derive(Clone, Copy)]
 struct RebaseObject(Rebase);
 
@@ -261,7 +261,7 @@ impl Display for RebaseObject {
     }
 }
 
-// A place, and what is bound there weakly.
+// An address, and what is bound weakly there.
 #[derive(Clone, Copy)]
 struct WeakPlaceObject<'a>(Binding<'a>);
 
@@ -304,7 +304,7 @@ impl Display for WeakObject<'_> {
     }
 }
 
-// The version of the kit of a platform, if it is said.
+// The version of a platform's SDK, if it is given.
 #[derive(Clone, Copy)]
 struct SdkObject(u32);
 

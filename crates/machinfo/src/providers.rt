@@ -1,4 +1,4 @@
-//! Who gives the undefined symbols of an image.
+//! The providers of an image's undefined symbols.
 
 ghost use Rattle.std.specs.Prelude.{◌≡◌};
 ghost use Rattle.std.specs.Iterator.{YieldsFirstBy};
@@ -10,24 +10,24 @@ use goblin_mach::symbols::SymbolIterator;
 use goblin_mach::{MachO, Provider, Result};
 use std::alloc::Allocator;
 
-/// A symbol, with who gives it.
+/// A symbol, and its provider.
 #[derive(Clone, Copy)]
 pub struct Provided<'a> {
     pub name: &'a str,
     pub provider: Provider<'a>,
 }
 
-/// The symbols of an image of which the linker wrote down who gives them, from one on: those whose records begin within the bytes.
+/// The symbols of an image whose provider the linker recorded, from one on; only those whose records begin within the bytes.
 #[derive(Drop)]
 pub struct ProvidedSymbols<'a, 'b, A: Allocator> {
     pub image: &'b MachO<'a, A>,
     pub symbols: SymbolIterator<'a>,
-    /// How many more the table is said to have.
+    /// How many more symbols the table claims.
     pub past: usize,
 }
 
 impl<'a, 'b, A: Allocator> ProvidedSymbols<'a, 'b, A> {
-    /// Those of an image.
+    /// Returns the symbols of an image that have a provider.
     pub fn of(image: &'b MachO<'a, A>) -> Self
         ensures left { provided_left result ≡ provided_in image.now.header.flags (texts image.now.libs.items) (symbol_table_held image.now) }
         ensures past { result.past ≡ symbols_past_in (symbol_table_held image.now) }
@@ -47,7 +47,7 @@ impl<'a, 'b, A: Allocator> ProvidedSymbols<'a, 'b, A> {
         }
     }
 
-    /// The next of them, or why it can't be told.
+    /// Returns the next symbol with its provider, or the error if either can't be read.
     pub fn take_next(&mut self) -> Option<Result<Provided<'a>>>
         ensures { YieldsFirstBy provided_read provided_left self.old result self.new }
     {

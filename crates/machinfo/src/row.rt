@@ -103,7 +103,7 @@ impl Display for Row<'_> {
     }
 }
 
-/// Each row of a list, each row of what is said of an image and each section is one line, whatever the names of the file hold.
+/// Each row of a list, each row of the summary and each section is one line, whatever the names in the file hold.
 pub fn rows_are_lines()
     ensures row { (row : RowView) → IsOneLine (list_row_text row ++ codes "\n") }
     ensures said { (row : RowView) → IsOneLine (summary_text row ++ codes "\n") }

@@ -1,4 +1,4 @@
-//! What the program shows of an image and of a file, and its exit status.
+//! What the program prints of an image and of a file, and its exit status.
 
 ghost use Rattle.std.specs.Prelude.{◌≡◌, ◌≤◌, [], codes};
 ghost use Rattle.std.specs.Io.Buffered.{writer_buffer, writer_contents};
@@ -22,7 +22,7 @@ use std::io::{BufWriter, Write};
 /// The program's name.
 pub const NAME: &str = "machinfo";
 
-/// How many rows of a file are told, where no other limit is given.
+/// How many rows of a file are printed if no limit is given.
 pub const DEFAULT_LIMIT: usize = 10_000_000;
 
 /// The lists that are counted.
@@ -74,7 +74,7 @@ impl Shows for ListOf<'_> {
     }
 }
 
-// What is said of the images of a file, with at most `limit` items of a list counted.
+// The summaries of the images of a file, with at most `limit` items of a list counted.
 #[derive(Clone, Copy)]
 struct SummaryOf<'a> {
     file: &'a str,
@@ -114,10 +114,12 @@ impl Shows for SummaryOf<'_> {
     }
 }
 
-/// Says of the images of a file that are asked for what they are, how they are signed, and how many items each of their lists has, of which it goes over
-/// `limit` at most, and answers the exit status: 0 where nothing was refused; 1 where the file or an entry of a fat one was, or memory, and then `err` has a
-/// line that says why, or where an item can't be read, or a list has more than the limit; 2 or 141 where a write fails. But for that nothing is left in
-/// the buffer.
+/// Prints the summaries of a file's selected images: what each is, how it is signed, and how many items each of its lists has,
+/// counted up to `limit`.
+///
+/// Returns the exit status. It is 0 if nothing was refused. It is 1 if the file, an entry of a fat file or an allocation was
+/// refused, and then `err` has a line that says why; or if an item can't be read, or a list has more items than the limit. It is
+/// 2 or 141 if a write fails. Unless a write fails, nothing is left in the buffer.
 pub fn run_summary<A: Allocator + Clone, W: Write + Drop, B: Allocator, E: Write>(
     alloc: A,
     cpu: Cpu,
@@ -145,10 +147,12 @@ pub fn run_summary<A: Allocator + Clone, W: Write + Drop, B: Allocator, E: Write
     )
 }
 
-/// Shows the list for which a word asks of the images of a file that are asked for, of all these together at most `limit` rows, and answers the exit
-/// status: 0 where nothing was refused; 1 where the file or an entry of a fat one was, or memory, and then `err` has a line that says why,
-/// or where a row can't be told, and then its line says why, or where an image has more of them than are left of the limit, and then a line
-/// behind them says so; 2 or 141 where a write fails. But for that nothing is left in the buffer.
+/// Prints the list that a word selects of a file's selected images, at most `limit` rows of all images together.
+///
+/// Returns the exit status. It is 0 if nothing was refused. It is 1 if the file, an entry of a fat file or an allocation was
+/// refused, and then `err` has a line that says why; or if a row can't be read, and then its line says why; or if an image has
+/// more rows than are left of the limit, and then a line after them says so. It is 2 or 141 if a write fails. Unless a write
+/// fails, nothing is left in the buffer.
 pub fn run_list<A: Allocator + Clone, W: Write + Drop, B: Allocator, E: Write>(
     alloc: A,
     word: Word,

@@ -1,4 +1,4 @@
-//! What single commands say of an image: its number, and its platforms.
+//! What single commands give for an image: its UUID, and its platforms.
 
 ghost use Rattle.std.specs.Prelude.{◌≡◌, option_map};
 ghost use Rattle.std.specs.Iterator.{YieldsFirstBy};
@@ -15,27 +15,27 @@ use goblin_mach::load_command::{
 };
 use std::alloc::Allocator;
 
-/// A platform that a command names, the oldest version of its system, and the version of the kit that the image was built with.
+/// A platform that a command names, its oldest system version, and the version of the SDK that the image was built with.
 #[derive(Clone, Copy)]
 pub struct PlatformSaid {
-    /// Its number.
+    /// The number of the platform (`mach-o/loader.h`, `PLATFORM_`).
     pub platform: u32,
-    /// The oldest version of its system that the image takes.
+    /// The oldest system version that the image supports.
     pub least: u32,
-    /// The version of the kit, or 0.
+    /// The version of the SDK, or 0.
     pub sdk: u32,
 }
 
-/// What is asked of each command.
+/// A question to each command.
 #[derive(Clone, Copy)]
 pub enum Question {
-    /// The number of the image.
+    /// What is the UUID of the image?
     Uuid,
-    /// A platform.
+    /// Which platform does it name?
     Platform,
 }
 
-// A platform with the versions of a command.
+// Returns a platform with the versions of a command.
 fn platform_of(platform: u32, least: u32, sdk: u32) -> Option<PlatformSaid>
     ensures { result ≡ Some (record { platform = platform; least = least; sdk = sdk }) }
 {
@@ -46,7 +46,7 @@ fn platform_of(platform: u32, least: u32, sdk: u32) -> Option<PlatformSaid>
     })
 }
 
-// The platform that a command names, if it names one.
+// Returns the platform that a command names, if it names one.
 fn platform_by(command: &LoadCommand) -> Option<PlatformSaid>
     ensures { result ≡ platform_by (command_of command.now) }
 {
@@ -60,7 +60,7 @@ fn platform_by(command: &LoadCommand) -> Option<PlatformSaid>
     }
 }
 
-// The number of the image that a command names, if it names one.
+// Returns the UUID that a command gives, if it gives one.
 fn uuid_by(command: &LoadCommand) -> Option<[u8; 16]>
     ensures { result ≡ defined.uuid_by (command_of command.now) }
 {
@@ -70,7 +70,7 @@ fn uuid_by(command: &LoadCommand) -> Option<[u8; 16]>
     }
 }
 
-// What a command answers, if it does.
+// Returns the answer of a command to a question, if it has one.
 fn said_of_it<'a>(question: Question, command: &LoadCommand) -> Option<Row<'a>>
     ensures { option_map list_row_view result ≡ defined.said_of_it question (command_of command.now) }
 {
@@ -80,10 +80,10 @@ fn said_of_it<'a>(question: Question, command: &LoadCommand) -> Option<Row<'a>>
     }
 }
 
-/// What the commands answer from a number on.
+/// The answers of the commands from a number on.
 #[derive(Clone, Copy)]
 pub struct SaidCommands<'b> {
-    /// What is asked of them.
+    /// The question.
     pub question: Question,
     /// The commands.
     pub commands: &'b [LoadCommand],
@@ -92,7 +92,7 @@ pub struct SaidCommands<'b> {
 }
 
 impl<'b> SaidCommands<'b> {
-    /// What those of an image answer.
+    /// Returns the answers of an image's commands.
     pub fn of<A: Allocator>(question: Question, image: &'b MachO<'_, A>) -> Self
         ensures { said_left result ≡ said_within question (commands_held image.now) }
     {
@@ -103,7 +103,7 @@ impl<'b> SaidCommands<'b> {
         }
     }
 
-    /// The next answer.
+    /// Returns the next answer.
     pub fn take_next<'a>(&mut self) -> Option<Row<'a>>
         ensures { YieldsFirstBy list_row_view said_left self.old result self.new }
     {

@@ -26,7 +26,7 @@ use std::fmt::{Display, Formatter};
 use std::io::Write;
 use std::{fmt, io};
 
-// What is allowed of a segment.
+// The protection of a segment.
 #[derive(Clone, Copy)]
 struct RightsText(u32);
 
@@ -41,7 +41,7 @@ impl Display for RightsText {
     }
 }
 
-// How many bytes are before the first zero.
+// Returns how many bytes are before the first zero.
 fn name_len(field: &[u8]) -> usize
     ensures value { result ≡ position_or_len is_zero field.now }
     ensures within { result ≤ length field.now }
@@ -49,14 +49,14 @@ fn name_len(field: &[u8]) -> usize
     memchr(0, field).unwrap_or(field.len())
 }
 
-// The name in a field: the bytes before the first zero.
+// Returns the name in a field: the bytes before the first zero.
 fn name_in(field: &[u8]) -> &[u8]
     ensures { result.now ≡ run_at field.now 0 }
 {
     &field[..name_len(field)]
 }
 
-// A name, `-` where it is empty.
+// A name, `-` if it is empty.
 #[derive(Clone, Copy)]
 struct NameText<'a>(&'a [u8]);
 
@@ -72,7 +72,7 @@ impl Display for NameText<'_> {
     }
 }
 
-// What is left of the sections of a segment whose records begin within the bytes, and how many more it claims.
+// The sections that are left of a segment, those whose records begin within the bytes, and how many more it claims.
 #[derive(Drop)]
 struct SectionList<'a> {
     sections: SectionIterator<'a>,
@@ -80,7 +80,7 @@ struct SectionList<'a> {
 }
 
 impl<'a> SectionList<'a> {
-    // Those of a segment.
+    // Returns the sections of a segment.
     fn of(segment: &Segment<'a>) -> Self
         ensures left { sections_left result.sections ≡ begun_items (sections_of (segment_view segment.now)) }
         ensures past { result.past ≡ sections_past_the_end (segment_view segment.now) }
@@ -91,7 +91,7 @@ impl<'a> SectionList<'a> {
         SectionList { sections, past }
     }
 
-    // The next section, or why it can't be read.
+    // Returns the next section, or the error if it can't be read.
     fn take_next(&mut self) -> Option<Result<Section>>
         ensures { YieldsFirstBy (read_as (λ s. s)) sections_named self.old result self.new }
     {
@@ -137,8 +137,10 @@ impl Listing for SectionList<'_> {
     }
 }
 
-/// Prints the lines of segments, at most as many as a limit, and under each those of its sections, at most as many together. Answers whether there
-/// are no more, all can be read, and no section begins past the end.
+/// Prints the line of each segment, and under it the lines of its sections: at most `limit` segments, and at most `limit`
+/// sections in all.
+///
+/// Returns whether there are no more, all can be read, and no section begins past the end of the bytes.
 pub fn print_segments<O: Write>(
     segments: &[Segment<'_>],
     limit: usize,
@@ -171,7 +173,7 @@ fn print_segment<O: Write>(segment: &Segment<'_>, out: &mut O) -> io::Result<()>
     writeln!(out, "segment: {name} 0x{address:x} 0x{size:x} {rights}")
 }
 
-// A name, or `null` where it is no text.
+// A name, or `null` if it is no text.
 #[derive(Clone, Copy)]
 pub struct TextOrNull<'a>(pub Option<&'a str>);
 
@@ -189,7 +191,7 @@ impl Display for TextOrNull<'_> {
     }
 }
 
-// The name of a section, if it is text.
+// Returns the name of a section, if it is text.
 fn section_name(section: &Section) -> Option<&str>
     ensures { text_in result ≡ result_ok (text_at section.now.sectname 0) }
 {
@@ -241,7 +243,7 @@ impl Listing for SectionObjects<'_> {
     }
 }
 
-/// Writes segments as a member, with others after it: as many as `print_segments` prints, each with its sections.
+/// Writes segments as a member that others follow: as many as `print_segments` prints, each with its sections.
 pub fn write_segments<O: Write>(
     segments: &[Segment<'_>],
     limit: usize,
@@ -264,7 +266,7 @@ pub fn write_segments<O: Write>(
     Ok(told)
 }
 
-// Writes the object of a segment, with its sections, no more than a limit.
+// Writes the object of a segment with its sections, up to the limit.
 fn write_segment<O: Write>(
     segment: &Segment<'_>,
     is_first: bool,

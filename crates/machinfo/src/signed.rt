@@ -19,7 +19,8 @@ use std::alloc::Allocator;
 use std::io;
 use std::io::Write;
 
-/// Prints whether an image is signed, and what the code directory says that counts; or why it can't be told. Answers whether all can be read.
+/// Prints whether an image is signed, and what the code directory says that is used; or the error. Returns whether all can be
+/// read.
 pub fn print_signed<A: Allocator, O: Write>(image: &MachO<'_, A>, out: &mut O) -> io::Result<bool>
     ensures { IfOk result (λ whole. let there = image_directory (bytes_held image.now) (commands_held image.now) in
         (whole ≡ is_readable there) × WritesSignedLines there (O.contents out.old) (O.contents out.new)) }
@@ -40,7 +41,7 @@ pub fn is_readable(answer: &goblin_mach::Result<Option<CodeDirectory<'_>>>) -> b
     }
 }
 
-// Prints an answer in words.
+// Prints an answer.
 fn print_answer<O: Write>(
     answer: &goblin_mach::Result<Option<CodeDirectory<'_>>>,
     out: &mut O,
@@ -54,7 +55,7 @@ fn print_answer<O: Write>(
     }
 }
 
-// Prints why a signature can't be read.
+// Prints the error of a signature that can't be read.
 fn print_refused<O: Write>(error: &Error, out: &mut O) -> io::Result<()>
     ensures { OnOk result (Appends (O.contents out.old) (O.contents out.new) (codes "signed: refused: " ++ (words_of error.now ++ codes "\n"))) }
 {
@@ -72,7 +73,7 @@ fn print_directory<O: Write>(directory: &CodeDirectory<'_>, out: &mut O) -> io::
     print_flags(directory.head.flags, out)
 }
 
-/// Whether flags say that a signature is ad hoc, with no one's name under it.
+/// Whether the flags say that a signature is ad hoc, made without an identity.
 pub fn is_ad_hoc(flags: u32) -> bool
     ensures { result ≡ not (bit_and flags 2 == 0) }
 {
@@ -106,7 +107,7 @@ fn print_team<O: Write>(directory: &CodeDirectory<'_>, out: &mut O) -> io::Resul
     print_said("team", directory.team(), out)
 }
 
-// Prints the line of a name.
+// Prints the line of a label and a name.
 fn print_said<O: Write>(
     label: &str,
     name: goblin_mach::Result<Option<&str>>,

@@ -26,11 +26,11 @@ pub struct State {
     pub is_stripped: bool,
     /// How many symbols begin within the bytes.
     pub symbols: usize,
-    /// How many more the table is said to have.
+    /// How many more the table claims.
     pub past: usize,
 }
 
-// Whether a command says that something is encrypted.
+// Whether a command says that a part of the image is encrypted.
 fn is_encrypting(command: &LoadCommand) -> bool
     ensures { result ≡ is_encrypting (command_of command.now) }
 {
@@ -52,7 +52,7 @@ fn is_encrypted(commands: &[LoadCommand]) -> bool
     is_encrypted
 }
 
-// Whether a symbol is one that `strip` takes away.
+// Whether a symbol is one that `strip` removes.
 fn is_local_symbol(symbol: &Nlist) -> bool
     ensures { result ≡ is_local_symbol symbol.now }
 {
@@ -78,7 +78,7 @@ fn has_local(table: &Symbols<'_>) -> bool
     false
 }
 
-/// That of an image.
+/// Returns the state of an image.
 pub fn state_of<A: Allocator>(image: &MachO<'_, A>) -> State
     ensures { result ≡ state_of_commands (commands_held image.now) (symbol_table_held image.now) }
 {
@@ -102,7 +102,7 @@ pub fn state_of<A: Allocator>(image: &MachO<'_, A>) -> State
     }
 }
 
-/// Prints what is said of it.
+/// Prints a state.
 pub fn print_state<O: Write>(state: State, out: &mut O) -> io::Result<()>
     ensures { OnOk result (Appends (O.contents out.old) (O.contents out.new) (state_lines state)) }
 {
@@ -115,7 +115,7 @@ pub fn print_state<O: Write>(state: State, out: &mut O) -> io::Result<()>
     writeln!(out, "symbols: {symbols}{past}")
 }
 
-// A word.
+// Returns `yes` or `no`.
 fn yes_or_no(is_so: bool) -> &'static str
     ensures { result.now ≡ yes_or_no is_so }
 {

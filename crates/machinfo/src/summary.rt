@@ -1,4 +1,4 @@
-//! What is said of an image before its counts, but for its signature and its state.
+//! The summary of an image before its counts, but for its signature and its state.
 
 ghost use Rattle.std.specs.Prelude.{◌≡◌, IfOk, OnOk};
 ghost use Rattle.std.specs.Io.KnownBytes.{Appends};
@@ -26,7 +26,7 @@ use std::alloc::Allocator;
 use std::io;
 use std::io::Write;
 
-// What is left of a list of an image, whose rows are lines of what is said of it.
+// What is left of a list of an image, whose rows are lines of the summary.
 #[derive(Drop)]
 struct SummaryLines<'a, 'b, A: Allocator>(ImageList<'a, 'b, A>);
 
@@ -73,7 +73,8 @@ impl<'a, A: Allocator> Listing for SummaryLines<'a, '_, A> {
     }
 }
 
-/// Prints the lines of an image before those of its signature, each list up to the limit, and answers whether all is told and can be read.
+/// Prints the lines of an image before those of its signature, each list up to the limit. Returns whether all was printed and can
+/// be read.
 pub fn print_front<A: Allocator, O: Write>(
     image: &MachO<'_, A>,
     limit: usize,
@@ -91,7 +92,7 @@ pub fn print_front<A: Allocator, O: Write>(
     Ok(said & segments & used)
 }
 
-// Prints the numbers, the platforms and the tools of an image, and answers whether all are told and can be read.
+// Prints the UUIDs, the platforms and the tools of an image. Returns whether all were printed and can be read.
 fn print_said<A: Allocator, O: Write>(
     image: &MachO<'_, A>,
     limit: usize,
@@ -108,7 +109,7 @@ fn print_said<A: Allocator, O: Write>(
     Ok(uuids & platforms & tools)
 }
 
-// Prints the libraries of an image and its run paths, and answers whether all are told.
+// Prints the libraries of an image and its run paths. Returns whether all were printed.
 fn print_used<A: Allocator, O: Write>(
     image: &MachO<'_, A>,
     limit: usize,
@@ -123,7 +124,7 @@ fn print_used<A: Allocator, O: Write>(
     Ok(libraries & paths)
 }
 
-// Prints a line for each row of a list, up to a limit, and answers whether it has no more, and all can be read.
+// Prints a line for each row of a list, up to a limit. Returns whether it has no more, and all can be read.
 fn print_list<A: Allocator, O: Write>(
     list: ImageList<'_, '_, A>,
     word: &str,
@@ -160,7 +161,7 @@ fn print_cpu<O: Write>(cputype: u32, cpusubtype: u32, out: &mut O) -> io::Result
     }
 }
 
-/// The name of the cpu of a number and a kind, if it has one.
+/// Returns the name of the cpu with this number and kind, if it has one.
 pub fn cpu_name(cputype: u32, kind: u32) -> Option<&'static str>
     ensures { text_in result ≡ cpu_named arch_rows cputype kind }
 {
@@ -200,7 +201,7 @@ fn print_image_name<O: Write>(name: Option<&str>, out: &mut O) -> io::Result<()>
     }
 }
 
-// Prints where it begins to run, if that is known.
+// Prints the entry point, if it is known.
 fn print_entry<O: Write>(entry: u64, out: &mut O) -> io::Result<()>
     ensures { OnOk result (Appends (O.contents out.old) (O.contents out.new) (entry_point_line entry)) }
 {
@@ -210,7 +211,7 @@ fn print_entry<O: Write>(entry: u64, out: &mut O) -> io::Result<()>
     writeln!(out, "entry: 0x{entry:x}")
 }
 
-// Prints the names of the bits of a header.
+// Prints the names of the header's flags.
 fn print_flags<O: Write>(flags: u32, out: &mut O) -> io::Result<()>
     ensures { OnOk result (Appends (O.contents out.old) (O.contents out.new) (flags_line flags)) }
 {
@@ -234,7 +235,7 @@ fn print_flag<O: Write>(flag: u32, out: &mut O) -> io::Result<()>
     }
 }
 
-/// The name of a bit of a header without its prefix, if it has one.
+/// Returns the name of a bit of the header's flags without its prefix, if it has one.
 pub fn flag_short_name(flag: u32) -> Option<&'static str>
     ensures { text_in result ≡ flag_short_name (flag_name flag) }
 {

@@ -32,7 +32,7 @@ use mach_cli::{Escaped, rebase_type};
 use std::fmt;
 use std::fmt::{Display, Formatter, Write};
 
-/// An entry of data among code: its place from the image's first byte, its size and its kind.
+/// An entry of data in code: its offset from the image's first byte, its length and its kind.
 #[derive(Clone, Copy)]
 pub struct DataText(pub DataInCodeEntry);
 
@@ -66,7 +66,7 @@ impl Display for IndirectText {
     }
 }
 
-/// An option for the linker, behind the number of its command.
+/// A linker option, after the number of its command.
 #[derive(Clone, Copy)]
 pub struct OptionText<'a>(pub usize, pub &'a str);
 
@@ -80,7 +80,7 @@ impl Display for OptionText<'_> {
     }
 }
 
-/// A tool and its version, behind the number of its command.
+/// A tool and its version, after the number of its command.
 #[derive(Clone, Copy)]
 pub struct ToolText(pub usize, pub BuildToolVersion);
 
@@ -93,7 +93,7 @@ impl Display for ToolText {
     }
 }
 
-/// A note: the number of its command, its owner, and where its bytes are and how many.
+/// A note: the number of its command, its owner, the offset of its bytes, and their number.
 #[derive(Clone, Copy)]
 pub struct NoteText<'a>(pub NumberedNote<'a>);
 
@@ -112,7 +112,7 @@ impl Display for NoteText<'_> {
     }
 }
 
-/// What stands in a slot.
+/// Returns the words for a kind of slot.
 pub fn kind_text(kind: SlotKind) -> &'static str
     ensures { result.now ≡ slot_kind_text kind }
 {
@@ -125,7 +125,7 @@ pub fn kind_text(kind: SlotKind) -> &'static str
     }
 }
 
-// Whose a slot is.
+// The symbol of a slot.
 #[derive(Clone, Copy)]
 struct OwnerText<'a>(SlotSymbol<'a>);
 
@@ -145,7 +145,7 @@ impl Display for OwnerText<'_> {
     }
 }
 
-/// A slot: its address, what stands there, and whose it is.
+/// A slot: its address, its kind, and its symbol.
 #[derive(Clone, Copy)]
 pub struct SlotText<'a>(pub SymbolSlot<'a>);
 
@@ -160,7 +160,7 @@ impl Display for SlotText<'_> {
     }
 }
 
-// Who gives a symbol.
+// The provider of a symbol.
 #[derive(Clone, Copy)]
 struct GiverText<'a>(Provider<'a>);
 
@@ -178,7 +178,7 @@ impl Display for GiverText<'_> {
     }
 }
 
-/// A symbol, and who gives it.
+/// A symbol, and its provider.
 #[derive(Clone, Copy)]
 pub struct ProvidedText<'a>(pub Provided<'a>);
 
@@ -192,14 +192,14 @@ impl Display for ProvidedText<'_> {
     }
 }
 
-/// A word, where something is so.
+/// Returns a word if something is so, and nothing otherwise.
 pub fn said_if(is_so: bool, word: &'static str) -> &'static str
     ensures { result.now ≡ said_if is_so word.now }
 {
     if is_so { word } else { "" }
 }
 
-/// Whether a library is to be loaded at its first use.
+/// Whether a library is loaded at its first use.
 pub fn is_lazy_kind(kind: LibraryKind) -> bool
     ensures { result ≡ is_lazy_kind kind }
 {
@@ -238,7 +238,7 @@ impl Display for LibraryText<'_> {
     }
 }
 
-// The key of a signed pointer.
+// Returns the name of the key of a signed pointer.
 fn key_word(key: u8) -> &'static str
     ensures { result.now ≡ key_word key }
 {
@@ -270,7 +270,7 @@ impl Display for SigningText {
     }
 }
 
-/// A rebase: its address, what is corrected, the number that stands there, and how it is signed.
+/// A rebase: its address, its type, the target, and how the pointer is signed.
 #[derive(Clone, Copy)]
 pub struct RebaseText(pub Rebase);
 
@@ -289,14 +289,14 @@ impl Display for RebaseText {
     }
 }
 
-// Whether a symbol may be missing.
+// Returns the word for whether a symbol may be missing.
 fn weak_flag(is_weak: bool) -> &'static str
     ensures { result.now ≡ weak_flag is_weak }
 {
     if is_weak { "weak" } else { "-" }
 }
 
-// A place, and what is bound there weakly.
+// An address, and what is bound weakly there.
 #[derive(Clone, Copy)]
 struct WeakPlaceText<'a>(Binding<'a>);
 
@@ -325,7 +325,7 @@ impl Display for VersionText {
     }
 }
 
-// Bytes as hexadecimal digits of upper case.
+// Bytes as upper-case hexadecimal digits.
 #[derive(Clone, Copy)]
 struct UpperBytes<'a>(&'a [u8]);
 
@@ -337,7 +337,7 @@ impl Display for UpperBytes<'_> {
     }
 }
 
-// Writes bytes so.
+// Writes bytes as upper-case hexadecimal digits.
 fn write_upper<W: Write>(f: &mut Formatter<W>, bytes: &[u8]) -> fmt::Result
     ensures { WritesOnOk W.write_str_gives f.old result (upper_bytes bytes.now) f.new }
 {
@@ -347,7 +347,7 @@ fn write_upper<W: Write>(f: &mut Formatter<W>, bytes: &[u8]) -> fmt::Result
     Ok(())
 }
 
-/// The number of an image, in five groups.
+/// The UUID of an image, in five groups.
 #[derive(Clone, Copy)]
 pub struct UuidText<'a>(pub &'a [u8; 16]);
 
@@ -365,7 +365,7 @@ impl Display for UuidText<'_> {
     }
 }
 
-/// The name of a platform by its number.
+/// Returns the name of a platform by its number.
 pub fn platform_name(number: u32) -> &'static str
     ensures { result.now ≡ platform_name number }
 {
@@ -386,7 +386,7 @@ pub fn platform_name(number: u32) -> &'static str
     }
 }
 
-// The version of the kit, if it is said.
+// The version of the SDK, if it is given.
 #[derive(Clone, Copy)]
 struct SdkText(u32);
 
@@ -402,7 +402,7 @@ impl Display for SdkText {
     }
 }
 
-/// A platform, the oldest version of its system, and the version of the kit.
+/// A platform, its oldest system version, and the version of the SDK.
 #[derive(Clone, Copy)]
 pub struct PlatformText(pub PlatformSaid);
 
@@ -416,7 +416,7 @@ impl Display for PlatformText {
     }
 }
 
-/// A row of the weak binds: a name of the image's own, or a place and what is bound there.
+/// A row of the weak binds: the name of a strong definition of the image's own, or an address and what is bound weakly there.
 #[derive(Clone, Copy)]
 pub struct WeakText<'a>(pub WeakBind<'a>);
 

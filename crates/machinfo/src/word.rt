@@ -1,9 +1,9 @@
-//! The words that ask for a list.
+//! The words that select a list.
 
 ghost use Rattle.std.specs.Prelude.{◌≡◌};
 ghost use Rattle.machinfo.specs.Words.{spelling_of, word_named};
 
-/// What is to be listed of an image.
+/// A list of an image.
 #[derive(Clone, Copy, PartialEq)]
 pub enum Word {
     /// The addresses of its functions.
@@ -12,26 +12,26 @@ pub enum Word {
     Slots,
     /// Its indirect symbols.
     Indirect,
-    /// Its data among code.
+    /// Its data in code.
     Data,
-    /// Its options for the linker.
+    /// Its linker options.
     Options,
     /// The tools that it was built with.
     Tools,
     /// Its notes.
     Notes,
-    /// Who gives its undefined symbols.
+    /// The providers of its undefined symbols.
     Providers,
     /// Its libraries.
     Libraries,
-    /// What is rebased of it.
+    /// Its rebases.
     Rebases,
-    /// What is bound weakly of it.
+    /// Its weak binds.
     Weak,
 }
 
 impl Word {
-    /// The word that a text is, if it is one.
+    /// Returns the word with this spelling, if there is one.
     pub fn named(text: &str) -> Option<Word>
         ensures { result ≡ word_named text.now }
     {
@@ -51,7 +51,7 @@ impl Word {
         }
     }
 
-    /// The text that it is.
+    /// Returns the spelling of the word.
     pub fn name(self) -> &'static str
         ensures { result.now ≡ spelling_of self }
     {
