@@ -1,4 +1,4 @@
--- The entries of a fat file that are for a cpu, gone over in order.
+-- The entries of a fat file that are for a cpu, audited in order.
 use Rattle.std.proofs.Common.{◌≡◌, ◌∙◌, ◌⊎◌, ◌<◌, ◌≤◌, ◌+◌, ℕ, List, length, get_or, inl, inr, leb, max, true, false}
 use Rattle.std.proofs.Common.{sym, ap, subst, arith}
 use Rattle.std.proofs.lemmas.Option.{slice_get-get_or, get_or_from_slice_get}
@@ -19,7 +19,7 @@ one_of : (m n k : ℕ) → k ≡ max m n → (k ≡ m) ⊎ (k ≡ n)
 one_of m n k is = by_size m n k is (leb_tells m n)
 
 module _ (cpu : Cpu) (limit : ℕ) (bytes : List ℕ) (archs : List FatArch) where
-  -- the first i were gone over, and this is the worst status
+  -- the first i were audited, and this is the worst status
   pub record GoesOver (i worst : ℕ) : Type 0 where
     pub bound : worst ≤ 1
     pub sound : worst ≡ 0 → SoundBefore cpu bytes archs i
@@ -36,7 +36,7 @@ module _ (cpu : Cpu) (limit : ℕ) (bytes : List ℕ) (archs : List FatArch) whe
   by_order k i below (inl h) = inr (omega (arith, below, h.1))
   by_order k i below (inr h) = inl h.1
 
-  -- what holds of the first i, and of the next if it is asked for, holds of one more
+  -- what holds of the first i, and of the next if it is selected, holds of one more
   sound_more : (i : ℕ) (d : FatArch) → SoundBefore cpu bytes archs i
       → (is_asked cpu (get_or archs i d) ≡ true → IsSound (part_of bytes (get_or archs i d).offset (get_or archs i d).size))
       → SoundBefore cpu bytes archs (i + 1)
@@ -48,7 +48,7 @@ module _ (cpu : Cpu) (limit : ℕ) (bytes : List ℕ) (archs : List FatArch) whe
           let this : get_or archs i d ≡ arch = ap (λ (n : ℕ). get_or archs n d) (sym same) ∙ get_or_from_slice_get archs k arch d is in
           subst (λ (a : FatArch). IsSound (part_of bytes a.offset a.size)) this (here (ap (is_asked cpu) this ∙ asked))
 
-  -- the next isn't asked for
+  -- the next isn't selected
   pub passed : (i worst : ℕ) (d : FatArch) → is_asked cpu (get_or archs i d) ≡ false → GoesOver i worst → GoesOver (i + 1) worst
   passed i worst d other goes = record {
     bound = goes.bound;
@@ -56,7 +56,7 @@ module _ (cpu : Cpu) (limit : ℕ) (bytes : List ℕ) (archs : List FatArch) whe
     failing = goes.failing;
   }
 
-  -- the next is, and has a status of its own
+  -- the next is selected, and has a status of its own
   pub audited : (i worst status next : ℕ) (d : FatArch) → i < length archs → is_asked cpu (get_or archs i d) ≡ true → status ≤ 1
       → (status ≡ 0 → IsSound (part_of bytes (get_or archs i d).offset (get_or archs i d).size))
       → (status ≡ 1 → IsFailing limit (part_of bytes (get_or archs i d).offset (get_or archs i d).size))

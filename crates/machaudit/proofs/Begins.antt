@@ -14,7 +14,7 @@ use Rattle.mach_parts.specs.Symbols.{SymbolTable, begun_of, symbol_at, symbols_o
 use Rattle.goblin_mach.specs.Subjects.{symbols_in}
 use Rattle.machaudit.specs.Told.{more_than, symbols_beyond}
 
--- Of all items of a list these begin within the bytes, and so many more there are, of which one can't be read.
+-- Of all items of a list these begin within the bytes; there are `past` more, one of which can't be read.
 pub record Begins {X : Type 0} (all begun : List (Result X Fault)) (past : ℕ) : Type 0 where
   pub whole : past ≡ 0 → begun ≡ all
   pub broken : 0 < past → list_all is_ok all ≡ true → ⊥
@@ -28,7 +28,7 @@ begun_whole (item ∷ items) all = by_test (is_past_the_end item) (λ fewer. beg
     by_test true others all = absurd (omega (arith, all))
     by_test false others all = ap (λ rest. item ∷ rest) (others (omega (arith, all)))
 
--- those of one list
+-- the items of one list
 pub items_begin : {X : Type 0} (items : List (Result X Fault)) → Begins items (begun_items items) (more_than (begun_items items) items)
 items_begin items = record {
   whole = λ none. begun_whole items (omega (arith, none));
@@ -43,7 +43,7 @@ right_of : (a b : Bool) → (a && b) ≡ true → b ≡ true
 right_of true b both = both
 right_of false b both = absurd (false≢true both)
 
--- and those of several
+-- the items of several lists
 pub each_begins : {Y X : Type 0} (all begun : Y → List (Result X Fault)) (past : Y → ℕ) → ((y : Y) → Begins (all y) (begun y) (past y)) → (ys : List Y)
     → Begins (flat_map all ys) (flat_map begun ys) (sum_by past ys)
 each_begins all begun past one [] = record { whole = λ none. refl; broken = λ some ok. omega (arith, some) }
@@ -81,7 +81,7 @@ bad_within (x ∷ items) (suc k) item is bad = and_right (is_ok x) (list_all is_
 abbrev pub NoneIsPast : Type 0
 NoneIsPast = (t : SymbolTable) (k : ℕ) → length t.bytes < 2 ^ 64 → (begun_of t).nsyms ≤ k → k < t.nsyms → is_ok (symbol_at t k) ≡ false
 
--- a table that says that it has more symbols than begin within the bytes has one that can't be read
+-- a table that claims more symbols than begin within the bytes has one that can't be read
 pub table_broken : NoneIsPast → (t : SymbolTable) → length t.bytes < 2 ^ 64 → (begun_of t).nsyms < t.nsyms → list_all is_ok (symbols_of t) ≡ true → ⊥
 table_broken law t few past ok =
     let k = (begun_of t).nsyms in
@@ -91,7 +91,7 @@ table_broken law t few past ok =
 pub count_past : (t : SymbolTable) → symbols_beyond (Some t) ≡ t.nsyms - (begun_of t).nsyms
 count_past t = omega (arith, length-items_from (symbol_at t) 0 t.nsyms, length-items_from (symbol_at (begun_of t)) 0 (begun_of t).nsyms)
 
--- those of a table, if there is one
+-- the symbols of a table, if there is one
 pub symbols_begin : (table : Option SymbolTable) → (0 < symbols_beyond table → list_all is_ok (symbols_in table) ≡ true → ⊥)
     → Begins (symbols_in table) (symbols_in (option_map begun_of table)) (symbols_beyond table)
 symbols_begin None broken = record { whole = λ none. refl; broken = broken }

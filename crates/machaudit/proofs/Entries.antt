@@ -1,4 +1,4 @@
--- Files that are sound, and what opens of them.
+-- Files that are sound, and what they open as.
 use Rattle.std.proofs.Common.{◌++◌, below_more, nat_lt, length, ◌≡◌, ◌<◌, ◌≤◌, ◌+◌, ◌∙◌, ◌∷◌, [], ℕ, zero, suc, Bool, true, false, List}
 use Rattle.std.proofs.Common.{Result, Ok, Err, refl, sym, ap, subst, arith, inl, inr}
 use Rattle.std.proofs.Math.Dec.{eqb-suc-zero}
@@ -46,7 +46,7 @@ pub sound_entries : (bytes : List ℕ) → IsSound bytes → (entries : List (Re
 sound_entries bytes (sound.one_image s) = (Ok (image bytes) ∷ [], entries_of_image bytes s.opens)
 sound_entries bytes (sound.fat_file file fat is table s) = (entries_of file, fat_table file fat is s.table)
 
--- a file that is refused isn't sound
+-- a refused file isn't sound
 pub refused_judged : (limit : ℕ) (bytes : List ℕ) (e : Error) → Stands (MachFault ImageFault bytes) e → IsTold e
     → Judges (IsSound bytes) (IsLong limit bytes) Faulty
 refused_judged limit bytes e stands told = faulty_judged (λ s.
@@ -66,7 +66,7 @@ image_judged limit bytes v opens j = judged_as v (λ s. sound.one_image s) back 
     back (sound.one_image s) = s
     back (sound.fat_file file fat is table s) = absurd (no_fat bytes opens fat)
 
--- a long list is one of an image that opens
+-- a long list belongs to an image that opens
 long_opens : (limit : ℕ) (bytes : List ℕ) → HasLongList limit bytes → LossyOpens bytes 0
 long_opens limit bytes (sound.of_sections items has l) = (has.ctx, has.cs, has.opens)
 long_opens limit bytes (sound.of_relocations items has l) = (has.ctx, has.cs, has.opens)
@@ -150,7 +150,7 @@ entries_more limit file n es e before here =
     longer (inl l) = let less = l.1 in (l.0, omega (arith, less), l.2)
     longer (inr l) = (n, omega arith, l)
 
--- a fat file whose table can be read, of which n entries were gone over
+-- a fat file whose table can be read, of which n entries were audited
 pub fat_file_judged : (limit : ℕ) (file : FatFile) (archs : List FatArch) (n : ℕ) (cut : Bool) (v : Verdict) → arches_in file ≡ Ok archs
     → AreGoneOver Any limit file.bytes archs n → cut ≡ nat_lt n file.narches → Judges (AllSound file n) (SomeLong limit file n) v
     → Judges (IsSoundFat file) (IsLongFat limit file) (if file.narches == 0 then Faulty else verdict_of_both (if cut then Unended else Sound) v)
@@ -206,7 +206,7 @@ no_table_judged file e fails told = faulty_judged (λ s. not_both (arches_in fil
     fault_by (errors.BufferTooShort n what) h t = h
     fault_by (errors.Memory a) h t = absurd t
 
--- the same beside the faults of its table
+-- the same, with the faults of its table
 pub refused_table_judged : {S L : Type 0} (v : Verdict) (file : FatFile) (e : Error) → FailsAs e (arches_in file) → IsTold e
     → Judges (S × IsSoundFat file) L (verdict_of_both v Faulty)
 refused_table_judged {S = S} {L = L} v file e fails told =

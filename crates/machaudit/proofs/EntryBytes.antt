@@ -28,7 +28,7 @@ use Rattle.machaudit.specs.Report.{named_bytes}
 
 -- ---- the magic of an entry
 
--- the number of the first four bytes is that of these alone
+-- the number of the first four bytes depends on these alone
 front_number : (n : ℕ) (bytes : List ℕ) → 4 ≤ length bytes → number Big 4 (take (suc (suc (suc (suc n)))) bytes) ≡ number Big 4 bytes
 front_number n [] room = absurd (omega (arith, room))
 front_number n (a ∷ []) room = absurd (omega (arith, room))
@@ -65,7 +65,7 @@ chosen_image true true found ctx front bytes r b f = absurd (true≢false b)
 chosen_image true false None ctx front bytes r b f = absurd (cc)
 chosen_image true false (Some c) ctx front bytes r b f = refl
 
--- bytes that open in lossy mode are those of an image
+-- bytes that open in lossy mode are those of an image entry
 pub image_entry : (bytes : List ℕ) → LossyOpens bytes 0 → fat_entry_of bytes ≡ Ok (image bytes)
 image_entry bytes opens =
     let room = opens.2.header.room in
@@ -85,7 +85,7 @@ same_slice true hints.Archive bytes slice is = absurd (cc)
 same_slice true (hints.MachFat n) bytes slice is = absurd (cc)
 same_slice true (hints.Unknown n) bytes slice is = absurd (cc)
 
--- an image's bytes are those that it was found in
+-- the bytes of an image entry are those that it was found in
 pub same_bytes : (bytes slice : List ℕ) → fat_entry_of bytes ≡ Ok (image slice) → bytes ≡ slice
 same_bytes bytes slice is = same_slice (nat_le 16 (length bytes)) (hint_in (take 16 bytes)) bytes slice is
 
@@ -145,7 +145,7 @@ record_there : (found : Option FatArch) (record_is : Result FatArch Fault) → o
 record_there None r is = absurd (cc)
 record_there (Some arch) r is = (arch, refl, cc)
 
--- the entry of a record that is there, below the count
+-- the entry of a record that is there, with an index below the count
 entry_of_record : (file : FatFile) (k : ℕ) (arch : FatArch) → k < file.narches → arch_at file.bytes k ≡ Ok arch
     → entry_at file k ≡ fat_entry_of (part_of file.bytes arch.offset arch.size)
 entry_of_record file k arch inside is =
@@ -153,7 +153,7 @@ entry_of_record file k arch inside is =
     (lt-ltb k file.narches inside)
     ∙ ap (λ (r : Result FatArch Fault). r >>= λ a. fat_entry_of (part_of file.bytes a.offset a.size)) is
 
--- what its record names of the file is the entry
+-- the entry is the bytes of the file that its record names
 pub named_entry : (file : FatFile) (k : ℕ) (xs : List FatArch) → k < file.narches → arches_in file ≡ Ok xs
     → fat_entry_of (named_bytes file.bytes (slice_get xs k)) ≡ entry_at file k
 named_entry file k xs inside is =

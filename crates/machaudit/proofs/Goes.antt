@@ -1,4 +1,4 @@
--- A count that goes over a list, item by item.
+-- A count that visits a list, item by item.
 use Rattle.std.proofs.Common.{◌≡◌, ◌<◌, ◌≤◌, ◌+◌, ◌-◌, ◌^◌, arith, min, take, drop, length, get_or, ◌++◌, ◌∷◌, [], ◌∙◌, ℕ, List, map, refl, sym, ap}
 use Rattle.std.proofs.Common.{subst, inl, inr, Option, Result, Ok, Err}
 use Rattle.std.specs.Prelude.{IsTrue, option_map}
@@ -30,7 +30,7 @@ use Rattle.machaudit.specs.declared.report.Place.TheVariants as places
 use Rattle.machaudit.specs.declared.tally.Tally.{Tally}
 use Rattle.machaudit.proofs.Told.{met_rest}
 
--- of all of a list these are left, where n were met behind some
+-- of all items these are left; the n visited ones came after the items `before`
 pub record Goes {A X : Type 0} (limit : ℕ) (place : ℕ → Place) (before : List (Option FaultAt)) (all left : List (Result X Fault)) (n : ℕ)
     (t : Tally A) : Type 0 where
   pub done : List (Option FaultAt)
@@ -42,13 +42,13 @@ pub record Goes {A X : Type 0} (limit : ℕ) (place : ℕ → Place) (before : L
 abbrev pub Takes : {A : Type 0} → Option FaultAt → Tally A → Tally A → Type 0
 Takes item old new = (limit : ℕ) (items : List (Option FaultAt)) → HasMet limit items old → HasMet limit (items ++ item ∷ []) new
 
--- what an answer tells is what its item is told by
+-- the error of an answer is the fault of its item
 pub err_told : {X Y : Type 0} (view : X → Y) (place : Place) (item : Result X Error)
     → option_map (λ e. (place, fault_of e)) (result_err item) ≡ fault_read_at place (read_as view item)
 err_told view place (Ok x) = refl
 err_told view place (Err e) = refl
 
--- the fault told of an import, and of a binding
+-- the fault of an import, and that of a binding
 pub import_told : (place : Place) (item : Result Import Error)
     → option_map (λ e. (place, fault_of e)) (result_err item) ≡ fault_read_at place (import_read item)
 import_told place (Ok x) = refl
@@ -81,7 +81,7 @@ module _ {A X : Type 0} (limit : ℕ) (place : ℕ → Place) (before : List (Op
         count = omega (arith, goes.count, next, length-append goes.done one);
       }
 
-  -- where some of the limit was left, a number more can be counted
+  -- if some of the limit is left, one more can be counted
   pub goes_small : (left : List (Result X Fault)) (n : ℕ) (t : Tally A) → Goes limit place before all left n t → 1 ≤ t.left → n + 1 < 2 ^ 64
   goes_small left n t goes some = omega (arith, goes.met.small, goes.met.left, some, goes.count, length-append before goes.done)
 
@@ -114,7 +114,7 @@ each_append part n (x ∷ xs) ys =
     ap (λ rest. part n x ++ rest) (each_append part (n + 1) xs ys ∙ ap (λ (m : ℕ). faults_each part (n + 1) xs ++ faults_each part m ys) same)
     ∙ sym (append_assoc (part n x) (faults_each part (n + 1) xs) (faults_each part (n + length (x ∷ xs)) ys))
 
--- of all of a list these are left, where those of n were met behind some
+-- of all lists these are left; those of the n visited ones came after the items `before`
 pub record GoesEach {A X : Type 0} (limit : ℕ) (part : ℕ → X → List (Option FaultAt)) (before : List (Option FaultAt)) (all left : List X) (n : ℕ)
     (t : Tally A) : Type 0 where
   pub done : List (Option FaultAt)
@@ -149,7 +149,7 @@ module _ {A X : Type 0} (limit : ℕ) (part : ℕ → X → List (Option FaultAt
       let same = goes.same ∙ ap (λ (xs : List X). goes.done ++ faults_each part n xs) over ∙ append-nil goes.done in
       subst (λ (xs : List (Option FaultAt)). HasMet limit (before ++ xs) t) (sym same) goes.met
 
--- ---- a sum that goes over a list, and stays at the greatest number where it is more than that
+-- ---- a sum over a list, which stays at the greatest number if it exceeds that
 
 pub past_more : {V : Type 0} (f : V → ℕ) (left rest : List V) (x : V) (past new total : ℕ) → left ≡ x ∷ rest → new ≡ min (past + f x) (2 ^ 64 - 1)
     → min (past + sum_by f left) (2 ^ 64 - 1) ≡ total → min (new + sum_by f rest) (2 ^ 64 - 1) ≡ total
@@ -165,7 +165,7 @@ pub one_past_more : {S V : Type 0} (view : S → V) (f : V → ℕ) (xs : List S
 one_past_more view f xs i d past new total less is before =
     past_more f (map view (drop i xs)) (map view (drop (i + 1) xs)) (view (get_or xs i d)) past new total (at_drop_more (map view) xs i d less) is before
 
--- what is told of one part more
+-- the faults of one more part
 pub one_part_more : {S V : Type 0} (view : S → V) (part : ℕ → V → List (Option FaultAt)) (xs : List S) (i : ℕ) (d : S) → i < length xs
     → faults_each part 0 (map view (take (i + 1) xs)) ≡ faults_each part 0 (map view (take i xs)) ++ part i (view (get_or xs i d))
 one_part_more view part xs i d less =
@@ -192,14 +192,14 @@ from_append place n (x ∷ xs) ys =
     ap (λ rest. fault_read_at (place n) x ∷ rest) (from_append place (n + 1) xs ys
     ∙ ap (λ (m : ℕ). faults_from place (n + 1) xs ++ faults_from place m ys) same)
 
--- one item more of an end of a list
+-- one more item at the end of a list
 pub from_more : {X : Type 0} (place : ℕ → Place) (n : ℕ) (xs : List (Result X Fault)) (x : Result X Fault) → length xs ≡ n
     → faults_from place 0 (xs ++ x ∷ []) ≡ faults_from place 0 xs ++ fault_read_at (place n) x ∷ []
 from_more place n xs x count =
     let same : 0 + length xs ≡ n = omega (arith, count) in
     from_append place 0 xs (x ∷ []) ∙ ap (λ (m : ℕ). faults_from place 0 xs ++ fault_read_at (place m) x ∷ []) same
 
--- ---- exports, of which each that is given is there
+-- ---- exports, each of which can be read
 
 abbrev pub as_item : Entry → Result Entry Fault
 as_item x = Ok x
@@ -210,7 +210,7 @@ entries_ok found = map as_item found
 pub ok_more : (found : List Entry) (x : Entry) → entries_ok (found ++ x ∷ []) ≡ entries_ok found ++ Ok x ∷ []
 ok_more found x = map-append as_item found (x ∷ [])
 
--- a count of exports, and one item more
+-- a count of exports, and one more item
 pub export_more : {A : Type 0} (limit n : ℕ) (found : List Entry) (item : Result Entry Fault) (told : Option FaultAt) (t u : Tally A)
     → HasMet limit (faults_from places.Export 0 (entries_ok found)) t → length found ≡ n → told ≡ fault_read_at (places.Export n) item → Takes told t u
     → HasMet limit (faults_from places.Export 0 (entries_ok found ++ item ∷ [])) u
@@ -233,14 +233,14 @@ export_small limit n found t met count some =
       length-map found as_item,
     )
 
--- where a count of them was cut, there are more
+-- if a count of them was cut, there are more
 pub export_long : {A : Type 0} (limit : ℕ) (found : List Entry) (t : Tally A) → HasMet limit (faults_from places.Export 0 (entries_ok found)) t
     → IsTrue t.part.cut → limit < length found
 export_long limit found t met cut =
     let long = ltb-true limit (length (faults_from places.Export 0 (entries_ok found))) (sym met.tells.cut ∙ cut) in
     omega (arith, long, length_from places.Export 0 (entries_ok found), length-map found as_item)
 
--- what a walk has given, where that is more than the limit
+-- what a walk has given, if that is more than the limit
 pub given_more : {A : Type 0} (limit : ℕ) (t : TrieRange) (libs : List (List ℕ)) (found : List Entry) (w : ExportWalk A) → HasGiven t libs found w
     → limit < length found → AreExportItems limit t libs (entries_ok found)
 given_more limit t libs found w h long = elim h.3 [
@@ -252,7 +252,7 @@ given_more limit t libs found w h long = elim h.3 [
   | inr over ↦ all_exports found (listed_there w.walker.source t libs h.0 h.1 over.1)
 ]
 
--- the fault of an error that is no want of memory
+-- the fault of an error that is no refused allocation
 pub stands_of : (P : Fault → Type 0) (e : Error) → IsTold e → Stands P e → P (fault_of e)
 stands_of P (errors.Malformed msg) is h = h
 stands_of P (errors.BadMagic n) is h = h

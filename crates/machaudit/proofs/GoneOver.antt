@@ -1,4 +1,4 @@
--- Entries of a fat file that lie over each other.
+-- Entries of a fat file that overlap.
 use Rattle.std.proofs.Common.{◌≡◌, ◌<◌, ◌≤◌, ◌+◌, ◌∙◌, ℕ, List, length, take, get_or, ap, arith, take_all}
 use Rattle.std.proofs.lemmas.List.{take_more}
 use Rattle.std.proofs.lemmas.List.Sums.{sum_by_push, sum_by-take-le}
@@ -11,12 +11,12 @@ module _ (cpu : Cpu) (bytes : List ℕ) (archs : List FatArch) where
       → asked_bytes cpu bytes (take (i + 1) archs) ≡ asked_bytes cpu bytes (take i archs) + asked_len cpu bytes (get_or archs i d)
   bytes_more i d less = ap (asked_bytes cpu bytes) (take_more archs i d less) ∙ sum_by_push (asked_len cpu bytes) (take i archs) (get_or archs i d)
 
-  -- where not all of them are gone over, though the limit is not met, they are overlaid
+  -- if not all of them are audited, though the limit is not reached, they are overlaid
   pub overlaid_by : (limit n : ℕ) → AreGoneOver cpu limit bytes archs n → n < length archs → n < limit → AreOverlaid cpu bytes archs
   overlaid_by limit n gone more under =
       let past = gone.met (omega (arith, more, under)) in
       omega (arith, past, sum_by-take-le (asked_len cpu bytes) archs (n + 1))
 
-  -- and where all are, they aren't
+  -- if all are audited, they aren't overlaid
   pub not_overlaid : (limit n : ℕ) → AreGoneOver cpu limit bytes archs n → length archs ≤ n → AreOverlaid cpu bytes archs → ⊥
   not_overlaid limit n gone all overlaid = omega (arith, gone.room, ap (asked_bytes cpu bytes) (take_all n archs all), overlaid)

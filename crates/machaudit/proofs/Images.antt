@@ -1,4 +1,4 @@
--- What is told of the parts of an image, and whether it is sound.
+-- The reports of an image's parts, and whether it is sound.
 use Rattle.std.proofs.Common.{◌≡◌, ◌<◌, ◌≤◌, ◌-◌, ◌^◌, ◌++◌, ◌∙◌, ℕ, zero, suc, Bool, true, false, List, [], ◌∷◌, map, min, length, Option, Some, None}
 use Rattle.std.proofs.Common.{Result, Ok, Err}
 use Rattle.std.proofs.Common.{refl, sym, ap, subst, arith, inl, inr}
@@ -67,7 +67,7 @@ judged_list limit items faults q same tells =
     part_judged q (told_sound limit items faults same q tells) (told_faulty limit items faults same q tells) (told_long limit items faults same q tells)
     (λ none whole. told_short limit items faults same q tells whole)
 
--- and one on records, of which some begin within the bytes
+-- a verdict on records, some of which begin within the bytes
 pub judged_records : {A X : Type 0} (limit : ℕ) (all begun : List (Result X Fault)) (past : ℕ) (faults : List (Option FaultAt)) (r : Records A)
     → Begins all begun past → map plain faults ≡ faults_in begun → TellsRecords limit faults past r
     → Judges (IsTrue (are_all_ok all)) (limit < length all) (verdict_of_records r)
@@ -91,7 +91,7 @@ pub judged_one : {A X : Type 0} (limit : ℕ) (Has : List (Result X Fault) → T
     → Judges ((found : List (Result X Fault)) × Has found × IsTrue (are_all_ok found)) (LongOf limit Has) (verdict_of q)
 judged_one limit Has items faults q has one same tells = judged_only limit Has items (verdict_of q) has one (judged_list limit items faults q same tells)
 
--- imports that are all there, and their list
+-- imports that can all be read, and their list
 all_oks : {X : Type 0} (items : List (Result X Fault)) → list_all is_ok items ≡ true → (list : List X) × (items ≡ map Ok list)
 all_oks [] all = ([], refl)
 all_oks (Ok x ∷ items) all = let rest = all_oks items all in (x ∷ rest.0, ap (λ xs. Ok x ∷ xs) rest.1)
@@ -133,7 +133,7 @@ no_list : (t : Option TrieRange) (libs : List (List ℕ)) (f : Fault) (list : Li
 no_list None libs f list law fault lists = walked_fault None libs f fault
 no_list (Some t) libs f list law fault lists = law t libs f list fault lists
 
--- what is beside something that is never so
+-- the right side of a choice whose left side never holds
 besides : {L : Type 0} → ⊥ ⊎ L → L
 besides (inl no_way) = absurd no_way
 besides (inr l) = l
@@ -186,7 +186,7 @@ within_front : {X : Type 0} (found list rest : List X) → list ≡ found ++ res
 within_front found list rest is = omega (arith, ap length is, length-append found rest)
 
 module _ (limit : ℕ) (t : TrieRange) (libs : List (List ℕ)) where
-  -- where they have a list, no more are met
+  -- if they have a list, no more are met
   items_within : (list : List trie.Entry) (others : List (Result trie.Entry Fault)) → FaultyHasNoList → ListsExports t libs list
       → AreExportItems limit t libs others → length others ≤ length list
   items_within list _ law lists (all_exports other is) =
@@ -202,7 +202,7 @@ module _ (limit : ℕ) (t : TrieRange) (libs : List (List ℕ)) where
     short items tells whole =
         ltb-false limit (length items) (sym (cut_is limit items (faults_from places.Export 0 items) (plain_from places.Export 0 items) q tells) ∙ whole)
 
-    -- all were met, and each is there
+    -- all were met, and each can be read
     list_met : (items : List (Result trie.Entry Fault)) → AreExportItems limit t libs items → TellsOf limit (faults_from places.Export 0 items) q
         → q.faults ≡ 0 → q.cut ≡ false → (list : List trie.Entry) × ListsExports t libs list × (length list ≤ limit)
     list_met _ (all_exports list lists) tells none whole =
@@ -215,7 +215,7 @@ module _ (limit : ℕ) (t : TrieRange) (libs : List (List ℕ)) where
         let items = map as_item found in
         absurd (omega (arith, long, length-map found as_item, short items tells whole))
 
-    -- a fault that is told stands in the trie
+    -- a reported fault holds of the trie
     fault_met : (items : List (Result trie.Entry Fault)) → AreExportItems limit t libs items → TellsOf limit (faults_from places.Export 0 items) q
         → 0 < q.faults → (f : Fault) × ExportsFault t libs f
     fault_met _ (all_exports list lists) tells some =

@@ -1,4 +1,4 @@
--- Why a file as a whole is refused, by what is told of it.
+-- The error for which a whole file is refused, by its report.
 use Rattle.std.proofs.Common.{◌≡◌, ℕ, List, Option, Some, None, Ok}
 use Rattle.mach_base.specs.declared.error.Error.{Error}
 use Rattle.goblin_mach.specs.FatFile.{FatFile, fat_file_in}

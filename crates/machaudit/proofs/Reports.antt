@@ -1,4 +1,4 @@
--- What is told of a file, from what is told of its lists.
+-- The report of a file, from the reports of its lists.
 use Rattle.std.proofs.Common.{◌≡◌, ◌+◌, ◌++◌, ◌∷◌, ◌∙◌, [], ℕ, zero, suc, List, Some, Result, Ok, Err, refl, sym, ap, subst, arith, inr}
 use Rattle.std.specs.List.{AllZip}
 use Rattle.std.specs.Prelude.{option_map}
@@ -86,14 +86,14 @@ not_lossy bytes only opens =
     let room = opens.2.header.room in
     fat-excludes_image bytes (only (record { magic = omega (arith, room); file = inr opens })) opens
 
--- what lossy mode tells of some bytes that don't open strictly
+-- the report in lossy mode of bytes that don't open strictly
 pub refused_told : {A : Type 0} (limit : ℕ) (bytes : List ℕ) (e : Error) (r : ImageReport A) → reason_of r ≡ Some e → IsTold e
     → Stands (MachFault ImageFault bytes) e → TellsLossily limit bytes r → IsImageReport limit bytes r
 refused_told limit bytes e (images.Opens parts) is told stands tells = absurd tells
 refused_told limit bytes e (images.OpensLossily x parts) is told stands tells = let same = same_some is in rw same (told, stands, tells)
 refused_told limit bytes e (images.Refused x) is told stands tells = let same = same_some is in rw same (told, stands, not_lossy bytes tells)
 
--- lossy mode opens the bytes of which it tells the parts
+-- lossy mode opens the bytes whose parts it reports
 told_opens : {A : Type 0} (limit : ℕ) (bytes : List ℕ) (parts : Parts A) → TellsImage limit bytes parts → LossyOpens bytes 0
 told_opens limit bytes parts tells = let has = tells.sections.1 in (has.ctx, has.cs, has.opens)
 
@@ -116,7 +116,7 @@ refused_for limit bytes f e (images.OpensLossily x parts) none is told fault tel
     absurd (cc)
 refused_for limit bytes f e (images.Refused x) none is told fault tells = let same = same_some is in rw same (told, fault)
 
--- an entry that doesn't open strictly, and what lossy mode tells of its bytes
+-- an entry that doesn't open strictly, and the report of its bytes in lossy mode
 pub entry_refused : {A : Type 0} (limit : ℕ) (bytes : List ℕ) (entry : Result FatEntry Fault) (e : Error) (r : ImageReport A) → fat_entry_of bytes ≡ entry
     → reason_of r ≡ Some e → IsTold e → Stands (FatEntryFault entry) e → TellsLossily limit bytes r → IsEntryReport limit entry (entries.Image r)
 entry_refused limit bytes (Ok (archive slice)) e r here is told stands tells =
@@ -141,7 +141,7 @@ pub archive_told : (A B : Type 0) (limit : ℕ) (entry : Result FatEntry Fault) 
 archive_told A B limit entry (archive slice) bytes is opened = rw is tt
 archive_told A B limit entry (image slice) bytes is opened = absurd opened
 
--- one entry more
+-- one more entry
 items_from-last : {A : Type 0} (item : ℕ → A) (first count : ℕ) → items_from item first (count + 1) ≡ items_from item first count ++ item (first + count) ∷ []
 items_from-last item first zero =
     let same : first ≡ first + 0 = omega arith in

@@ -1,4 +1,4 @@
--- What is told of a signature, and whether it is sound.
+-- The report of a signature, and whether it is sound.
 use Rattle.std.proofs.Common.{◌≡◌, ◌-◌, ◌^◌, ◌∙◌, ◌∷◌, [], ℕ, zero, suc, List, length, min, Option, Some, None, Result, Ok, Err, refl, sym, ap, arith, inl, inr}
 use Rattle.std.specs.Prelude.{◌⊎◌, ◌==◌, if◌then◌else◌}
 use Rattle.std.proofs.Math.Dec.{eqb-suc-zero}
@@ -18,11 +18,11 @@ use Rattle.machaudit.specs.declared.report.SignatureReport.{SignatureReport}
 use Rattle.machaudit.specs.declared.report.SignatureReport.TheVariants.{Unsigned, Unreadable, Signed}
 use Rattle.machaudit.specs.declared.verdict.Verdict.TheVariants.{Sound, Faulty}
 
--- what is told of an image's signature
+-- the faults of an image's signature
 abbrev Found : Type 0
 Found = Result (Option (List SignatureFaultSeen)) Fault
 
--- nothing is told of it
+-- nothing is reported of it: there is no signature, or it has no faults
 abbrev IsUntold : Found → Type 0
 IsUntold there = (there ≡ Ok None) ⊎ (there ≡ Ok (Some []))
 
@@ -39,7 +39,7 @@ no_faults (Ok faults) none = cc
 no_faults (Err f) none = cc
 
 module _ (bytes : List ℕ) (cs : List Command) (segments : List SegmentView) where
-  -- where none is found none is placed
+  -- if there is no signature, no command names one
   unplaced : (place : Option (ℕ × ℕ)) → faults_there bytes place segments ≡ Ok None → place ≡ None
   unplaced None none = refl
   unplaced (Some place) none = absurd (no_faults (faults_in bytes place.0 place.1 (plist_of bytes segments)) none)

@@ -1,4 +1,4 @@
--- One item more, and what is told then; what follows of a list from what is told of it.
+-- The report after one more item; what follows of a list from its report.
 use Rattle.std.proofs.Common.{◌≡◌, ◌<◌, ◌≤◌, ◌+◌, ◌-◌, ◌^◌, ◌++◌, ◌∷◌, [], ◌∙◌, subst, ℕ, zero, suc, true, false, List, map, take, length, refl}
 use Rattle.std.proofs.Common.{sym, ap, arith, Option, Some, None, Result, Ok, Err}
 use Rattle.std.specs.Prelude.{is_ok, IsTrue, nat_lt}
@@ -14,24 +14,24 @@ use Rattle.machaudit.specs.declared.tally.Tally.{Tally}
 
 -- ---- the first items
 
--- the first n of one more item, where they were fewer
+-- the first n with one more item, if they were fewer
 pub take_one_more : {X : Type 0} (n : ℕ) (xs : List X) (x : X) → length xs < n → take n (xs ++ x ∷ []) ≡ take n xs ++ x ∷ []
 take_one_more n xs x less =
     take_all n (xs ++ x ∷ []) (omega (arith, length-append xs (x ∷ []), less)) ∙ ap (λ front. front ++ x ∷ []) (sym (take_all n xs (omega (arith, less))))
 
--- they are as many faults as items at most
+-- there are at most as many faults as items
 pub few_faults : (items : List (Option FaultAt)) → length (faults_of items) ≤ length items
 few_faults [] = omega arith
 few_faults (None ∷ items) = omega (arith, few_faults items)
 few_faults (Some f ∷ items) = omega (arith, few_faults items)
 
--- ---- a count that takes one item more
+-- ---- a count that takes one more item
 
--- where some of the limit is left, the items so far are within it
+-- if some of the limit is left, the items so far are within it
 pub within : {A : Type 0} (limit : ℕ) (items : List (Option FaultAt)) (t : Tally A) → HasMet limit items t → 1 ≤ t.left → length items < limit
 within limit items t met some = omega (arith, met.left, some)
 
--- and one fault more can be counted
+-- one more fault can be counted
 pub countable : {A : Type 0} (limit : ℕ) (items : List (Option FaultAt)) (t : Tally A) → HasMet limit items t → 1 ≤ t.left
     → length (faults_of (take limit items)) + 1 < 2 ^ 64
 countable limit items t met some =
@@ -39,7 +39,7 @@ countable limit items t met some =
     let all = take_all limit items (omega (arith, less)) in
     rw all (omega (arith, few_faults items, less, met.small))
 
--- the faults of one item more
+-- the faults with one more item
 pub faults_one_more : (limit : ℕ) (items : List (Option FaultAt)) (item : Option FaultAt) → length items < limit
     → faults_of (take limit (items ++ item ∷ [])) ≡ faults_of (take limit items) ++ faults_of (item ∷ [])
 faults_one_more limit items item less =
@@ -64,7 +64,7 @@ met_one_more limit items item t p met some tells same =
       };
     }
 
--- behind the limit nothing more is told
+-- past the limit nothing more is reported
 pub met_rest : {A : Type 0} (limit : ℕ) (items rest : List (Option FaultAt)) (t : Tally A) → HasMet limit items t → IsTrue t.part.cut
     → HasMet limit (items ++ rest) t
 met_rest limit items rest t met cut =
@@ -80,7 +80,7 @@ met_rest limit items rest t met cut =
 
 -- ---- the faults without their places
 
--- why an item can't be read, if it can't
+-- the fault of an item, if it can't be read
 abbrev pub fault_in : {X : Type 0} → Result X Fault → Option Fault
 fault_in (Ok x) = None
 fault_in (Err f) = Some f
@@ -116,16 +116,16 @@ count_plain (suc n) [] = refl
 count_plain (suc n) (None ∷ faults) = count_plain n faults
 count_plain (suc n) (Some f ∷ faults) = omega (arith, count_plain n faults)
 
--- ---- what follows from what is told
+-- ---- what follows from a report
 
--- none of some items, of which each is there, is a fault
+-- if all items can be read, none of the first ones is a fault
 pub none_told : {X : Type 0} (n : ℕ) (items : List (Result X Fault)) → list_all is_ok items ≡ true → length (stand (take n (faults_in items))) ≡ 0
 none_told zero items all = refl
 none_told (suc n) [] all = refl
 none_told (suc n) (Ok x ∷ items) all = none_told n items all
 none_told (suc n) (Err f ∷ items) all = absurd (false≢true all)
 
--- and where none is told, each is there
+-- if no fault is reported, each can be read
 all_there : {X : Type 0} (items : List (Result X Fault)) → length (stand (faults_in items)) ≡ 0 → list_all is_ok items ≡ true
 all_there [] none = refl
 all_there (Ok x ∷ items) none = all_there items none

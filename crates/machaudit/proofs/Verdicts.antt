@@ -7,7 +7,7 @@ use Rattle.machaudit.specs.declared.report.Part.{Part}
 use Rattle.machaudit.specs.declared.verdict.Verdict.TheVariants.{Sound, Unended, Faulty}
 use Rattle.machaudit.specs.declared.verdict.Verdict.{Verdict}
 
--- verdicts by number, since no two are one
+-- verdicts as numbers, no two of which are equal
 abbrev pub number : Verdict → ℕ
 number Sound = 0
 number Unended = 1
@@ -37,7 +37,7 @@ unended_judged long = record {
   unended = λ _. long;
 }
 
--- a verdict on a part, by how many faults it tells and whether it was cut
+-- a verdict on a part, by how many faults it reports and whether it was cut
 pub part_judged : {A S L : Type 0} (p : Part A) → (p.faults ≡ 0 → p.cut ≡ false → S) → (0 < p.faults → S → ⊥) → (IsTrue p.cut → L)
     → (p.faults ≡ 0 → p.cut ≡ false → L → ⊥) → Judges S L (verdict_of p)
 part_judged p sound faulty long short = by_number p.faults p.cut sound faulty long short

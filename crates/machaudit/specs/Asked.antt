@@ -1,4 +1,4 @@
--- What of a file is audited, by the cpu that is asked for.
+-- What of a file is audited, given the selected cpu.
 use Rattle.std.specs.Prelude.{◌≡◌, ◌<◌, ◌⊎◌, ℕ, List, length, true, false, Some, slice_get}
 use Rattle.mach_base.specs.Answer.{Stands}
 use Rattle.mach_base.specs.declared.error.Error.{Error}
@@ -15,23 +15,23 @@ use Rattle.machaudit.specs.Sound.{IsSound, IsLong}
 use Rattle.machaudit.specs.declared.selection.Asked.{Asked}
 use Rattle.machaudit.specs.declared.selection.Asked.TheVariants.{Whole, Other, Entries}
 
--- All of a file is asked for: each image is; it is one image that is; or it doesn't open, or its table can't be read.
+-- The whole file is selected: any cpu is; or it is one image for the cpu; or it doesn't open, or its table can't be read.
 pub data AsksWhole (cpu : Cpu) (bytes : List ℕ) : Type 0 where
   of_any : cpu ≡ Any → AsksWhole cpu bytes
   of_image : IsTaken cpu bytes true → AsksWhole cpu bytes
   of_refused : (e : Error) → Stands (ViewFault bytes) e → AsksWhole cpu bytes
 
--- what of it is asked for
+-- what of the file is selected
 abbrev pub IsAskedFor : {A : Type 0} → Cpu → List ℕ → Asked A → Type 0
 IsAskedFor cpu bytes Whole = AsksWhole cpu bytes
 IsAskedFor cpu bytes Other = IsTaken cpu bytes false
 IsAskedFor cpu bytes (Entries archs) = (file : FatFile) × IsFatTable bytes file archs.items
 
--- Bytes are no sound file, or have a list of more than `limit` items.
+-- The bytes are no sound file, or have a list of more than `limit` items.
 abbrev pub IsFailing : ℕ → List ℕ → Type 0
 IsFailing limit bytes = (IsSound bytes → ⊥) ⊎ IsLong limit bytes
 
--- Of the first n records each that is for the cpu names bytes that are a sound file.
+-- Of the first n records, each that is for the cpu names bytes that are a sound file.
 abbrev pub SoundBefore : Cpu → List ℕ → List FatArch → ℕ → Type 0
 SoundBefore cpu bytes archs n =
     (k : ℕ) (arch : FatArch) → k < n → slice_get archs k ≡ Some arch → is_asked cpu arch ≡ true → IsSound (part_of bytes arch.offset arch.size)
@@ -47,13 +47,15 @@ pub record EntriesFail (cpu : Cpu) (limit : ℕ) (bytes : List ℕ) (archs : Lis
   pub asked : is_asked cpu arch ≡ true
   pub fails : IsFailing limit (part_of bytes arch.offset arch.size)
 
--- What is asked for is a sound file; or the file is a fat one that has an entry for the cpu, and the bytes of each such entry are a sound file.
+-- The whole file is selected and sound; or it is a fat file that has an entry for the cpu, and the bytes of each such entry are a
+-- sound file.
 pub data IsSoundFor (cpu : Cpu) (bytes : List ℕ) : Type 0 where
   sound_file : AsksWhole cpu bytes → IsSound bytes → IsSoundFor cpu bytes
   sound_entries : (file : FatFile) (archs : List FatArch) → IsFatTable bytes file archs → misses cpu archs ≡ false → EntriesSound cpu bytes archs
       → IsSoundFor cpu bytes
 
--- It is none, or one of these entries isn't, or a list has more than `limit` items, or these entries have together more bytes than the file.
+-- The whole file is selected and fails; or the bytes of an entry for the cpu fail; or the entries for the cpu have more bytes
+-- together than the file. Bytes fail if they are no sound file, or have a list of more than `limit` items.
 pub data FailsFor (cpu : Cpu) (limit : ℕ) (bytes : List ℕ) : Type 0 where
   failing_file : AsksWhole cpu bytes → IsFailing limit bytes → FailsFor cpu limit bytes
   failing_entry : (file : FatFile) (archs : List FatArch) → IsFatTable bytes file archs → EntriesFail cpu limit bytes archs → FailsFor cpu limit bytes

@@ -1,4 +1,4 @@
--- What is said of a file that is none of Mach-O's.
+-- The line about a file that is not Mach-O.
 use Rattle.std.specs.Prelude.{◌≡◌, ℕ, List, [], codes, Option, Some, None, Ok, IsOk}
 use Rattle.std.specs.Io.KnownBytes.{Appends}
 use Rattle.mach_base.specs.Answer.{Stands, FailsAs}
@@ -18,28 +18,29 @@ use Rattle.machaudit.specs.declared.report.ImageReport.TheVariants as images
 use Rattle.machaudit.specs.declared.report.Report.{Report}
 use Rattle.machaudit.specs.declared.report.Report.TheVariants.{Image, Fat}
 
--- why an image is refused, if it is: it opens in no mode
+-- the error of an image that opens in no mode
 abbrev pub image_refusal : {A : Type 0} → ImageReport A → Option Error
 image_refusal (images.Opens parts) = None
 image_refusal (images.OpensLossily e parts) = None
 image_refusal (images.Refused e) = Some e
 
--- why a file as a whole is refused, if it is: its image is, or it is a fat file whose table can't be read
+-- the error for which a whole file is refused, if it is: that of its image, or that of a fat file's table that can't be read
 abbrev pub refusal_in : {A : Type 0} → Report A → Option Error
 refusal_in (Image r) = image_refusal r
 refusal_in (Fat r) = r.table
 
--- the line that says what kind of file it is, if it is of one
+-- the line with the kind of a file, if the kind is known
 abbrev pub kind_said : (file : List ℕ) → Option Foreign → List ℕ
 kind_said file None = []
 kind_said file (Some kind) = complaint (names_text (codes "machaudit") file) (foreign_words kind)
 
--- what is said of a file, by why it is refused: its kind, where it is none of Mach-O's
+-- the line about a file by the error that refuses it: its kind, if it is not Mach-O
 abbrev pub foreign_said : (file bytes : List ℕ) → Option Error → List ℕ
 foreign_said file bytes None = []
 foreign_said file bytes (Some e) = kind_said file (refused_kind bytes e)
 
--- Why a file as a whole is refused, if it is: no image opens in any mode, and it is no fat file whose table can be read.
+-- The error for which a whole file is refused, if it is: no image opens in any mode, and it is no fat file whose table can be
+-- read.
 pub data IsWholeRefusal (bytes : List ℕ) : Option Error → Type 0 where
   opens : Opens bytes 0 → IsWholeRefusal bytes None
   opens_lossily : (segments : List SegmentView) → HasSegments bytes 0 segments → IsWholeRefusal bytes None
@@ -48,7 +49,7 @@ pub data IsWholeRefusal (bytes : List ℕ) : Option Error → Type 0 where
   unread_table : (file : FatFile) (e : Error) → HasFatMagic bytes → fat_file_in bytes ≡ Ok file → IsTold e → FailsAs e (arches_in file)
       → IsWholeRefusal bytes (Some e)
 
--- This was said of a file.
+-- The line about a file was written.
 pub record SaysForeign (file bytes : List ℕ) (err_old err_new : Option (List ℕ)) : Type 0 where
   pub refusal : Option Error
   pub is_refusal : IsWholeRefusal bytes refusal

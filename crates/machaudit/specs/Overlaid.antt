@@ -1,4 +1,4 @@
--- Entries of a fat file that lie over each other: they are gone over as long as they have together no more bytes than the file.
+-- Entries of a fat file that overlap. They are audited as long as they have no more bytes together than the file.
 use Rattle.std.specs.Prelude.{◌<◌, ◌≤◌, ◌+◌, ℕ, List, length, take, min, if◌then◌else◌}
 use Rattle.std.specs.List.{sum_by}
 use Rattle.mach_parts.specs.Fat.{part_of}
@@ -6,19 +6,19 @@ use Rattle.mach_parts.specs.declared.fat.FatArch.{FatArch}
 use Rattle.mach_cli.specs.Cpus.{is_asked}
 use Rattle.mach_cli.specs.declared.cpu.Cpu.{Cpu}
 
--- how many bytes of the file the record of an entry names, if it is for the cpu
+-- how many bytes of the file a record names, if it is for the cpu
 abbrev pub asked_len : Cpu → List ℕ → FatArch → ℕ
 asked_len cpu bytes arch = if is_asked cpu arch then length (part_of bytes arch.offset arch.size) else 0
 
--- how many bytes the records for the cpu name together
+-- how many bytes the records for the cpu name in total
 abbrev pub asked_bytes : Cpu → List ℕ → List FatArch → ℕ
 asked_bytes cpu bytes archs = sum_by (asked_len cpu bytes) archs
 
--- they name more bytes than the file has
+-- in total they name more bytes than the file has
 abbrev pub AreOverlaid : Cpu → List ℕ → List FatArch → Type 0
 AreOverlaid cpu bytes archs = length bytes < asked_bytes cpu bytes archs
 
--- The first n are gone over: `limit` of them at most, and no more than have together as many bytes as the file; and one of both is met, or there are no more.
+-- The first n are audited: n is the greatest number up to `limit` for which these have no more bytes together than the file.
 pub record AreGoneOver (cpu : Cpu) (limit : ℕ) (bytes : List ℕ) (archs : List FatArch) (n : ℕ) : Type 0 where
   pub few : n ≤ min limit (length archs)
   pub room : asked_bytes cpu bytes (take n archs) ≤ length bytes

@@ -10,6 +10,6 @@ verdict_words Sound = codes "sound"
 verdict_words Unended = codes "not sound: limit met"
 verdict_words Faulty = codes "not sound"
 
--- its line: its name, and whether it is sound
+-- the line of a file: its name, and whether it is sound
 abbrev pub quiet_line : (name : List ℕ) → Verdict → List ℕ
 quiet_line name verdict = escaped_text name ++ (codes ": " ++ (verdict_words verdict ++ codes "\n"))

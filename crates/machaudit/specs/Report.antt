@@ -1,4 +1,4 @@
--- What is told of a file: which items of its lists can't be read, by their numbers.
+-- The report of a file: which items of its lists can't be read, by their numbers.
 use Rattle.std.specs.Prelude.{◌≡◌, ℕ, List, [], false, Result, Ok, Err, IsOk, Option, Some, None, length, nat_lt}
 use Rattle.std.specs.List.{AllZip}
 use Rattle.mach_base.specs.Answer.{Stands, FailsAs}
@@ -41,9 +41,9 @@ use Rattle.machaudit.specs.declared.report.Place.TheVariants as places
 use Rattle.machaudit.specs.declared.report.Report.TheVariants as reports
 use Rattle.machaudit.specs.declared.report.Report.{Report}
 
--- Each part tells what can't be read of the first `limit` items of its list, and exactly whether the list has more. Of records only those that begin within
--- the bytes are items, and it is told how many more there are said to be. The part of the signature tells all that isn't as it was signed, and the layout
--- its faults.
+-- Each part reports what can't be read of the first `limit` items of its list, and exactly whether the list has more. Of records
+-- only those that begin within the bytes are items, and the part reports how many more are claimed. The part of the signature
+-- reports all that differs from what was signed, and the layout reports its faults.
 pub record TellsImage {A : Type 0} (limit : ℕ) (bytes : List ℕ) (p : Parts A) : Type 0 where
   pub sections : (segments : List SegmentView) × HasSegments bytes 0 segments
       × TellsRecords limit (section_faults_told segments) (sections_beyond segments) p.sections
@@ -58,33 +58,34 @@ pub record TellsImage {A : Type 0} (limit : ℕ) (bytes : List ℕ) (p : Parts A
   pub signature : (there : Result (Option (List SignatureFaultSeen)) Fault) × HasSignatureFaults bytes 0 there × TellsSignature there p.signature
   pub layout : HasLayoutFaults bytes p.layout.items
 
--- What is told of some bytes as an image: of what opens strictly, its parts; of what doesn't, a fault that stands; and the parts that lossy mode reads,
--- exactly where it opens them. Of no list more items are gone over than there are bytes.
+-- The report of some bytes as an image. If they open strictly, it has the parts of the image. Otherwise it has a fault that holds
+-- of them, and the parts that lossy mode reads, exactly if lossy mode opens them. No list has more items visited than there are
+-- bytes.
 abbrev pub IsImageReport : {A : Type 0} → ℕ → List ℕ → ImageReport A → Type 0
 IsImageReport limit bytes (images.Opens parts) = Opens bytes 0 × TellsImage (most_items limit bytes) bytes parts
 IsImageReport limit bytes (images.OpensLossily e parts) = IsTold e × Stands (MachFault ImageFault bytes) e × TellsImage (most_items limit bytes) bytes parts
 IsImageReport limit bytes (images.Refused e) = IsTold e × Stands (MachFault ImageFault bytes) e × ¬ (LossyOpens bytes 0)
 
--- why some bytes don't open strictly as an image, if they don't
+-- the error for which some bytes don't open strictly as an image, if they don't
 abbrev pub reason_of : {A : Type 0} → ImageReport A → Option Error
 reason_of (images.Opens parts) = None
 reason_of (images.OpensLossily e parts) = Some e
 reason_of (images.Refused e) = Some e
 
--- what is told of some bytes by lossy mode: where they open as an image, its parts
+-- the report of some bytes in lossy mode: the parts, if they open as an image
 abbrev pub TellsLossily : {A : Type 0} → ℕ → List ℕ → ImageReport A → Type 0
 TellsLossily limit bytes (images.Opens parts) = ⊥
 TellsLossily limit bytes (images.OpensLossily e parts) = TellsImage (most_items limit bytes) bytes parts
 TellsLossily limit bytes (images.Refused e) = MachOpens LossyOpens bytes → HasFatMagic bytes
 
--- it is told as refused, and for this fault
+-- it is reported as refused, for this fault
 abbrev pub IsRefusedFor : {A : Type 0} → Fault → ImageReport A → Type 0
 IsRefusedFor f (images.Opens parts) = ⊥
 IsRefusedFor f (images.OpensLossily e parts) = ⊥
 IsRefusedFor f (images.Refused e) = IsTold e × (fault_of e ≡ f)
 
--- What is told of an entry of a fat file: of an archive that it is one; of an image what is told of its bytes as a file of their own; and of what is
--- neither, that it is refused for that fault.
+-- The report of an entry of a fat file. An archive is reported as one, an image has the report of its bytes as a file of their
+-- own, and any other entry is refused for its fault.
 abbrev pub IsEntryReport : {A : Type 0} → ℕ → Result FatEntry Fault → EntryReport A → Type 0
 IsEntryReport limit (Ok (archive bytes)) entries.Archive = Unit {0}
 IsEntryReport limit (Ok (archive bytes)) (entries.Image r) = ⊥
@@ -93,13 +94,13 @@ IsEntryReport limit (Ok (image bytes)) (entries.Image r) = IsImageReport limit b
 IsEntryReport limit (Err f) entries.Archive = ⊥
 IsEntryReport limit (Err f) (entries.Image r) = IsRefusedFor f r
 
--- the bytes that the record of an entry names in a file, if there is a record; else none
+-- the bytes of a file that the record of an entry names; none without a record
 abbrev pub named_bytes : List ℕ → Option FatArch → List ℕ
 named_bytes bytes None = []
 named_bytes bytes (Some arch) = part_of bytes arch.offset arch.size
 
--- What is told of a fat file whose table can be read: the faults of the table; each of the first `limit` entries, in order, as long as they have together no
--- more bytes than the file; and exactly whether there are more.
+-- The report of a fat file whose table can be read: the faults of the table; each of the first `limit` entries, in order, as long
+-- as they have no more bytes together than the file; and exactly whether there are more.
 pub record TellsEntries {A : Type 0} (limit : ℕ) (bytes : List ℕ) (file : FatFile) (r : FatReport A) : Type 0 where
   pub readable : IsOk (arches_in file)
   pub container : AreContainerFaults arch_form_32 bytes r.container.items
@@ -107,7 +108,7 @@ pub record TellsEntries {A : Type 0} (limit : ℕ) (bytes : List ℕ) (file : Fa
   pub entries : AllZip (IsEntryReport limit) (items_from (entry_at file) 0 (length r.entries.items)) r.entries.items
   pub cut : r.cut ≡ nat_lt (length r.entries.items) file.narches
 
--- and of one whose table can't be read: why it can't, and nothing else
+-- the report of a fat file whose table can't be read: the error, and nothing else
 pub record TellsNoEntries {A : Type 0} (file : FatFile) (r : FatReport A) (e : Error) : Type 0 where
   pub told : IsTold e
   pub fails : FailsAs e (arches_in file)
@@ -115,17 +116,17 @@ pub record TellsNoEntries {A : Type 0} (file : FatFile) (r : FatReport A) (e : E
   pub entries : r.entries.items ≡ []
   pub cut : r.cut ≡ false
 
--- the same by why its table can't be read, if it can't
+-- the report of a fat file, by the error of its table if the table can't be read
 abbrev pub TellsTable : {A : Type 0} → ℕ → List ℕ → FatFile → FatReport A → Option Error → Type 0
 TellsTable limit bytes file r None = TellsEntries limit bytes file r
 TellsTable limit bytes file r (Some e) = TellsNoEntries file r e
 
--- What is told of a fat file, and how many entries its header says.
+-- The report of a fat file, and the number of entries in its header.
 pub record IsFatReport {A : Type 0} (limit : ℕ) (bytes : List ℕ) (file : FatFile) (r : FatReport A) : Type 0 where
   pub count : r.count ≡ file.narches
   pub table : TellsTable limit bytes file r r.table
 
--- What is told of a file.
+-- The report of a file.
 abbrev pub IsFileReport : {A : Type 0} → ℕ → List ℕ → Report A → Type 0
 IsFileReport limit bytes (reports.Image r) = IsImageReport limit bytes r
 IsFileReport limit bytes (reports.Fat r) = (file : FatFile) × HasFatMagic bytes × (fat_file_in bytes ≡ Ok file) × IsFatReport limit bytes file r

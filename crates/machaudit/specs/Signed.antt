@@ -1,4 +1,4 @@
--- What is told of the signature of an image.
+-- The report of an image's signature.
 use Rattle.std.specs.Prelude.{◌≡◌, ◌-◌, ◌^◌, List, map, take, length, min, Option, Some, None, Result, Ok, Err}
 use Rattle.mach_base.specs.Fault.{Fault, fault_of}
 use Rattle.mach_signature.specs.AsSigned.{SignatureFaultSeen}
@@ -8,12 +8,12 @@ use Rattle.machaudit.specs.declared.report.SignaturePart.{SignaturePart}
 use Rattle.machaudit.specs.declared.report.SignatureReport.{SignatureReport}
 use Rattle.machaudit.specs.declared.report.SignatureReport.TheVariants.{Unsigned, Unreadable, Signed}
 
--- A part tells the first ten of these faults, and how many they are, or the greatest number where they are more than that.
+-- A part reports the first ten of these faults, and their number, or the greatest number if there are more than that.
 pub record TellsSignatureFaults {A : Type 0} (faults : List SignatureFaultSeen) (p : SignaturePart A) : Type 0 where
   pub told : map signature_fault_view p.told.items ≡ take 10 faults
   pub count : p.faults ≡ min (length faults) (2 ^ 64 - 1)
 
--- What is told of a signature: that there is none; why it can't be read; or its faults.
+-- The report of a signature: there is none; it can't be read; or its faults.
 abbrev pub TellsSignature : {A : Type 0} → Result (Option (List SignatureFaultSeen)) Fault → SignatureReport A → Type 0
 TellsSignature there Unsigned = there ≡ Ok None
 TellsSignature there (Unreadable e) = IsTold e × (there ≡ Err (fault_of e))

@@ -30,20 +30,20 @@ use Rattle.goblin_mach.specs.Image.{Opens}
 use Rattle.goblin_mach.specs.File.{HasFatMagic}
 use Rattle.goblin_mach.specs.Subjects.{lossy_segments_in, libs_in, trie_in, trie_or_empty}
 
--- whether every item of a list is there, and none is a fault
+-- whether no item of a list is a fault
 abbrev pub are_all_ok : {X : Type 0} → List (Result X Fault) → Bool
 are_all_ok items = list_all is_ok items
 
--- the sections of some segments, one after the other, each with its data or why it isn't there
+-- the sections of some segments, one after the other, each with its data or its fault
 abbrev pub all_sections : List SegmentView → List (Result (Section × List ℕ) Fault)
 all_sections segments = flat_map sections_of segments
 
--- the relocations of a section that is there
+-- the relocations of a section that can be read
 abbrev pub relocations_by : Ctx → List ℕ → Result (Section × List ℕ) Fault → List (Result RelocationInfo Fault)
 relocations_by ctx bytes (Ok found) = relocations_at ctx.le bytes found.0.reloff found.0.nreloc
 relocations_by ctx bytes (Err f) = []
 
--- those of all sections of some segments, one after the other
+-- the relocations of all sections of some segments, one after the other
 abbrev pub all_relocations : Ctx → List ℕ → List SegmentView → List (Result RelocationInfo Fault)
 all_relocations ctx bytes segments = flat_map (λ s. flat_map (relocations_by ctx bytes) (sections_of s)) segments
 
@@ -51,39 +51,40 @@ all_relocations ctx bytes segments = flat_map (λ s. flat_map (relocations_by ct
 abbrev pub HasAllRelocations : List ℕ → ℕ → List (Result RelocationInfo Fault) → Type 0
 HasAllRelocations bytes o items = OfImage bytes o (λ ctx cs. items ≡ all_relocations ctx bytes (lossy_segments_in ctx bytes cs))
 
--- These exports are met first in a walk of a trie from this root on, by nodes of which no two are one.
+-- A walk of a trie from this root meets these exports first, through nodes that are all different.
 pub record WalkMeets (t : trie.Trie) (root : ℕ) (found : List trie.Entry) : Type 0 where
   pub nodes : ℕ
   pub left : List Ahead
   pub read : Unfolds t root nodes found left
   pub once : AreReadOnce t root nodes
 
--- What is met of the exports of a trie, up to more than `limit`: all of them; or those before the fault for which a walk of it ends, and that fault; or
--- more than `limit` that a walk meets first.
+-- The exports that are met in a trie, up to more than `limit`: all of them; or those before the fault at which its walk ends, and
+-- that fault; or more than `limit` that a walk meets first.
 pub data AreExportItems (limit : ℕ) (t : TrieRange) (libs : List (List ℕ)) : List (Result trie.Entry Fault) → Type 0 where
   all_exports : (list : List trie.Entry) → ListsExports t libs list → AreExportItems limit t libs (map Ok list)
   up_to_fault : (found : List trie.Entry) (f : Fault) → ExportsEnd t libs found f → ExportsFault t libs f
       → AreExportItems limit t libs (map Ok found ++ Err f ∷ [])
   past_limit : (found : List trie.Entry) → WalkMeets (trie_there t libs) t.from found → limit < length found → AreExportItems limit t libs (map Ok found)
 
--- what is met of the exports of an image
+-- the exports that are met in an image
 abbrev pub HasExportItems : ℕ → List ℕ → ℕ → List (Result trie.Entry Fault) → Type 0
 HasExportItems limit bytes o items = OfImage bytes o (λ ctx cs. AreExportItems limit (trie_or_empty (trie_in bytes cs)) (libs_in bytes cs) items)
 
--- No command of an image brings a signature, or the image is as it was signed.
+-- No command of an image names a signature, or the image is as it was signed.
 pub data IsSoundlySigned (bytes : List ℕ) (cs : List Command) (segments : List SegmentView) : Type 0 where
   unsigned : signature_place_in cs ≡ None → IsSoundlySigned bytes cs segments
   as_signed : IsImageAsSigned bytes cs segments → IsSoundlySigned bytes cs segments
 
--- so it is with the image at a place
+-- the same of the image at an offset
 abbrev pub HasSoundSignature : List ℕ → ℕ → Type 0
 HasSoundSignature bytes o = OfImage bytes o (λ ctx cs. IsSoundlySigned bytes cs (lossy_segments_in ctx bytes cs))
 
--- The image at 0 opens strictly, so that its segments have their data; its layout has no fault; it has no signature, or is as it was signed; the sections of
--- all its segments, all its relocations and all its symbols can be read; its exports and its imports have lists; and all fixups of its chains are there, and
--- all that dyld binds of it by the opcodes of the non-lazy and the lazy range and by chains. That its layout has no fault says, too, that its rebases by
--- opcodes, its weak binds and its function starts can be read to their ends (`AreListFaults`), and that no data in code share bytes with the entry before or
--- lie in front of what may be executed or behind it. Nothing is said of who signed it.
+-- The image at 0 is sound. It opens strictly, so that its segments have their data. Its layout has no fault. It has no signature,
+-- or is as it was signed. The sections of all its segments, all its relocations and all its symbols can be read. Its exports and
+-- its imports have lists. All fixups of its chains can be read, and all bindings, those of the opcodes of the non-lazy and the
+-- lazy range and those of the chains. That its layout has no fault also says that its rebases by opcodes, its weak binds and its
+-- function starts can be read to their ends (`AreListFaults`), and that no entry of data in code shares bytes with the entry
+-- before, or lies before or after what may be executed. Nothing is said of who signed it.
 pub record IsSoundImage (bytes : List ℕ) : Type 0 where
   pub opens : Opens bytes 0
   pub layout : HasLayoutFaults bytes []
@@ -96,8 +97,8 @@ pub record IsSoundImage (bytes : List ℕ) : Type 0 where
   pub fixups : (items : List (Result Fixup Fault)) × HasFixups bytes 0 items × IsTrue (are_all_ok items)
   pub bindings : (items : List (Result Binding Fault)) × HasBindings bytes 0 items × IsTrue (are_all_ok items)
 
--- A list of the image at 0 has more than `limit` items: one of those of its sections, its relocations, and so on. The items of a list count with the
--- fault that ends it.
+-- A list of the image at 0 has more than `limit` items: its sections, its relocations, and so on. The fault that ends a list
+-- counts as an item.
 pub data HasLongList (limit : ℕ) (bytes : List ℕ) : Type 0 where
   of_sections : (segments : List SegmentView) → HasSegments bytes 0 segments → limit < length (all_sections segments) → HasLongList limit bytes
   of_relocations : (items : List (Result RelocationInfo Fault)) → HasAllRelocations bytes 0 items → limit < length items → HasLongList limit bytes
@@ -125,13 +126,14 @@ pub record IsSoundFat (file : FatFile) : Type 0 where
   pub table : IsOk (arches_in file)
   pub entries : (k : ℕ) → k < file.narches → IsSoundEntry (entry_at file k)
 
--- a fat file has more than `limit` entries, or these have together more bytes than the file, or one of them has a list of more items
+-- a fat file has more than `limit` entries, or they have more bytes together than the file, or one of them has a list of more
+-- items
 pub data IsLongFat (limit : ℕ) (file : FatFile) : Type 0 where
   of_entries : limit < file.narches → IsLongFat limit file
   of_overlaid : (archs : List FatArch) → arches_in file ≡ Ok archs → AreOverlaid Any file.bytes archs → IsLongFat limit file
   of_entry : (k : ℕ) → k < file.narches → IsLongEntry limit (entry_at file k) → IsLongFat limit file
 
--- The file is an image that is sound, or a fat file that is, whose table has no fault.
+-- The file is a sound image, or a sound fat file whose table has no fault.
 pub data IsSound (bytes : List ℕ) : Type 0 where
   one_image : IsSoundImage bytes → IsSound bytes
   fat_file : (file : FatFile) → HasFatMagic bytes → fat_file_in bytes ≡ Ok file → AreContainerFaults arch_form_32 bytes [] → IsSoundFat file → IsSound bytes

@@ -1,4 +1,4 @@
--- What is told of a list: of its first items those that can't be read, each by its place.
+-- The report of a list: those of its first items that can't be read, each with its place.
 use Rattle.std.specs.Prelude.{◌≡◌, ◌<◌, ◌+◌, ◌-◌, ◌^◌, ◌++◌, ◌∷◌, ℕ, Bool, false, true, List, [], map, take, length, Option, Some, None, Result, Ok, Err}
 use Rattle.std.specs.Prelude.{min, nat_lt, option_map}
 use Rattle.std.specs.List.{filter_map, sum_by}
@@ -20,34 +20,34 @@ use Rattle.machaudit.specs.declared.report.Place.TheVariants as places
 use Rattle.machaudit.specs.declared.report.Records.{Records}
 use Rattle.machaudit.specs.declared.tally.Tally.{Tally}
 
--- where an item stands that can't be read, and why it can't
+-- the place of an item that can't be read, and its fault
 abbrev pub FaultAt : Type 0
 FaultAt = Place × Fault
 
--- that of an item at a place, if it can't be read
+-- the fault of an item and its place, if it can't be read
 abbrev pub fault_read_at : {X : Type 0} → Place → Result X Fault → Option FaultAt
 fault_read_at place (Ok x) = None
 fault_read_at place (Err f) = Some (place, f)
 
--- that of each item, where the first has this number
+-- the faults of items, the first of which has this number
 abbrev pub faults_from : {X : Type 0} → (ℕ → Place) → ℕ → List (Result X Fault) → List (Option FaultAt)
 faults_from place n [] = []
 faults_from place n (item ∷ items) = fault_read_at (place n) item ∷ faults_from place (n + 1) items
 
--- those of several lists, where the first has this number
+-- the faults of several lists, the first of which has this number
 abbrev pub faults_each : {X : Type 0} → (ℕ → X → List (Option FaultAt)) → ℕ → List X → List (Option FaultAt)
 faults_each part n [] = []
 faults_each part n (x ∷ xs) = part n x ++ faults_each part (n + 1) xs
 
--- how many more there are than the first of them
+-- how many more items the whole list has than its first ones
 abbrev pub more_than : {X : Type 0} → (first all : List X) → ℕ
 more_than first all = length all - length first
 
--- those of the sections of all segments that begin within the bytes
+-- the faults of the sections of all segments, of those that begin within the bytes
 abbrev pub section_faults_told : List SegmentView → List (Option FaultAt)
 section_faults_told segments = faults_each (λ n s. faults_from (places.Section n) 0 (begun_items (sections_of s))) 0 segments
 
--- how many more sections the segments say that they have
+-- how many more sections the segments claim
 abbrev pub sections_beyond : List SegmentView → ℕ
 sections_beyond segments = sum_by (λ s. more_than (begun_items (sections_of s)) (sections_of s)) segments
 
@@ -55,67 +55,67 @@ sections_beyond segments = sum_by (λ s. more_than (begun_items (sections_of s))
 abbrev pub begun_relocations : Ctx → List ℕ → Result (Section × List ℕ) Fault → List (Result RelocationInfo Fault)
 begun_relocations ctx bytes s = begun_items (relocations_by ctx bytes s)
 
--- those of the relocations of the sections of a segment
+-- the faults of the relocations of a segment's sections
 abbrev pub relocation_faults_by : {S : Type 0} → (S → List (Result RelocationInfo Fault)) → ℕ → List S → List (Option FaultAt)
 relocation_faults_by relocations n sections = faults_each (λ k s. faults_from (places.Relocation n k) 0 (relocations s)) 0 sections
 
--- and of all segments, of the relocations that begin within the bytes
+-- the faults of the relocations of all segments, of those that begin within the bytes
 abbrev pub relocation_faults : Ctx → List ℕ → List SegmentView → List (Option FaultAt)
 relocation_faults ctx bytes segments = faults_each (λ n s. relocation_faults_by (begun_relocations ctx bytes) n (sections_of s)) 0 segments
 
--- how many more relocations a section says that it has
+-- how many more relocations a section claims
 abbrev pub relocations_past_of : Ctx → List ℕ → Result (Section × List ℕ) Fault → ℕ
 relocations_past_of ctx bytes s = more_than (begun_relocations ctx bytes s) (relocations_by ctx bytes s)
 
--- and the sections of all segments
+-- how many more the sections of all segments claim
 abbrev pub relocations_past : Ctx → List ℕ → List SegmentView → ℕ
 relocations_past ctx bytes segments = sum_by (λ s. sum_by (relocations_past_of ctx bytes) (sections_of s)) segments
 
--- those of the symbols of a table, if there is one, that begin within the bytes
+-- the faults of the symbols of a table, if there is one, of those that begin within the bytes
 abbrev pub symbols_unread : Option SymbolTable → List (Option FaultAt)
 symbols_unread table = faults_from places.Symbol 0 (symbols_in (option_map begun_of table))
 
--- how many more symbols the table says that it has
+-- how many more symbols the table claims
 abbrev pub symbols_beyond : Option SymbolTable → ℕ
 symbols_beyond table = more_than (symbols_in (option_map begun_of table)) (symbols_in table)
 
--- the faults that stand, in order
+-- the faults among these items, in order
 abbrev pub faults_of : List (Option FaultAt) → List FaultAt
 faults_of items = filter_map (λ item. item) items
 
--- the fault that is told
+-- the place and the fault of a finding
 abbrev pub fault_told : Finding → FaultAt
 fault_told finding = (finding.place, fault_of finding.error)
 
--- A part tells the first ten of these faults, and how many they are.
+-- A part reports the first ten of these faults, and their number.
 pub record TellsFirstFaults {A : Type 0} (faults : List FaultAt) (p : Part A) : Type 0 where
   pub told : map fault_told p.told.items ≡ take 10 faults
   pub count : p.faults ≡ length faults
 
--- A part tells what can't be read among the first `limit` items, and whether there are more items than that.
+-- A part reports what can't be read among the first `limit` items, and whether there are more items than that.
 pub record TellsOf {A : Type 0} (limit : ℕ) (items : List (Option FaultAt)) (p : Part A) : Type 0 where
   pub faults : TellsFirstFaults (faults_of (take limit items)) p
   pub cut : p.cut ≡ nat_lt limit (length items)
 
--- What is told of records: what can't be read of those that begin within the bytes, and how many more there are said to be, or the greatest number where
--- they are more than that.
+-- The report of records: what can't be read of those that begin within the bytes, and how many more are claimed, or the greatest
+-- number if there are more than that.
 pub record TellsRecords {A : Type 0} (limit : ℕ) (items : List (Option FaultAt)) (more : ℕ) (r : Records A) : Type 0 where
   pub begun : TellsOf limit items r.begun
   pub past : r.past ≡ min more (2 ^ 64 - 1)
 
--- A count has met these items, of which at most `limit` are gone over.
+-- A count has met these items, and visits at most `limit` of them.
 pub record HasMet {A : Type 0} (limit : ℕ) (items : List (Option FaultAt)) (t : Tally A) : Type 0 where
   pub small : limit < 2 ^ 64
   pub left : t.left ≡ limit - length items
   pub tells : TellsOf limit items t.part
 
--- A part tells of the exports of a trie: of those that were met before it had more than `limit`.
+-- A part reports the exports of a trie, those that were met before there were more than `limit`.
 pub record TellsOfTrie {A : Type 0} (limit : ℕ) (t : TrieRange) (libs : List (List ℕ)) (p : Part A) : Type 0 where
   pub items : List (Result trie.Entry Fault)
   pub met : AreExportItems limit t libs items
   pub tells : TellsOf limit (faults_from places.Export 0 items) p
 
--- What is told of the relocations: that they were not read, where the sections have a fault or too many items; else the relocations.
+-- The report of the relocations. They are not read if the sections have a fault or too many items.
 abbrev pub TellsRelocations : {A : Type 0} → ℕ → (items : List (Option FaultAt)) → (more : ℕ) → (clean : Bool) → Option (Records A) → Type 0
 TellsRelocations limit items more clean None = clean ≡ false
 TellsRelocations limit items more clean (Some r) = (clean ≡ true) × TellsRecords limit items more r

@@ -1,4 +1,4 @@
--- Whether a file is sound, by what is said of it.
+-- Whether a file is sound, by its report.
 use Rattle.std.specs.Prelude.{◌≡◌, ◌==◌, ◌||◌, ◌&&◌, ℕ, Bool, not, List, [], ◌∷◌, Option, Some, None, is_some, if◌then◌else◌}
 use Rattle.mach_layout.specs.declared.fault.LayoutFault.{LayoutFault}
 use Rattle.machaudit.specs.declared.report.EntryReport.TheVariants as entries
@@ -16,7 +16,7 @@ use Rattle.machaudit.specs.declared.report.SignatureReport.TheVariants as signat
 use Rattle.machaudit.specs.declared.verdict.Verdict.TheVariants.{Sound, Unended, Faulty}
 use Rattle.machaudit.specs.declared.verdict.Verdict.{Verdict}
 
--- that of two parts together: a fault counts before a limit, and a limit before soundness
+-- the verdict on two parts: a fault counts before a limit, and a limit before soundness
 abbrev pub verdict_of_both : Verdict → Verdict → Verdict
 verdict_of_both Faulty w = Faulty
 verdict_of_both Unended Faulty = Faulty
@@ -24,72 +24,72 @@ verdict_of_both Unended Unended = Unended
 verdict_of_both Unended Sound = Unended
 verdict_of_both Sound w = w
 
--- all items of a part were gone over, and each can be read
+-- all items of a part were visited, and each can be read
 abbrev pub is_clean : {A : Type 0} → Part A → Bool
 is_clean p = (p.faults == 0) && not p.cut
 
--- that of a part: it has faults, it was not gone over to its end, or neither
+-- the verdict on a part: it has faults, it was not visited to its end, or neither
 abbrev pub verdict_of : {A : Type 0} → Part A → Verdict
 verdict_of p = if p.faults == 0 then (if p.cut then Unended else Sound) else Faulty
 
--- none of some records is past the end of the bytes, and all items were gone over, and each can be read
+-- no record is past the end of the bytes, all items were visited, and each can be read
 abbrev pub are_clean : {A : Type 0} → Records A → Bool
 are_clean r = (r.past == 0) && is_clean r.begun
 
--- that of records: some are past the end of the bytes, or that of the others
+-- the verdict on records: faulty if some are past the end of the bytes, else that on the others
 abbrev pub verdict_of_records : {A : Type 0} → Records A → Verdict
 verdict_of_records r = if r.past == 0 then verdict_of r.begun else Faulty
 
--- that of the sections and the relocations, which are not read where a section can't be
+-- the verdict on the sections and the relocations; the relocations are not read if a section can't be
 abbrev pub verdict_of_read : {A : Type 0} → Records A → Option (Records A) → Verdict
 verdict_of_read sections None = verdict_of_records sections
 verdict_of_read sections (Some relocations) = verdict_of_both (verdict_of_records sections) (verdict_of_records relocations)
 
--- that of faults of layout
+-- the verdict on faults of layout
 abbrev pub verdict_of_layout : List LayoutFault → Verdict
 verdict_of_layout [] = Sound
 verdict_of_layout (f ∷ fs) = Faulty
 
--- that of a signature: it has faults or can't be read, or neither
+-- the verdict on a signature: faulty if it has faults or can't be read
 abbrev pub verdict_of_signature : {A : Type 0} → SignatureReport A → Verdict
 verdict_of_signature signatures.Unsigned = Sound
 verdict_of_signature (signatures.Unreadable e) = Faulty
 verdict_of_signature (signatures.Signed p) = if p.faults == 0 then Sound else Faulty
 
--- that of all parts
+-- the verdict on all parts
 abbrev pub verdict_of_parts : {A : Type 0} → Parts A → Verdict
 verdict_of_parts p =
     verdict_of_both (verdict_of_both (verdict_of_layout p.layout.items) (verdict_of_signature p.signature))
     (verdict_of_both (verdict_of_read p.sections p.relocations) (verdict_of_both (verdict_of_records p.symbols)
     (verdict_of_both (verdict_of p.exports) (verdict_of_both (verdict_of p.imports) (verdict_of_both (verdict_of p.fixups) (verdict_of p.bindings))))))
 
--- that of an image: one that doesn't open strictly is faulty
+-- the verdict on an image: faulty if it doesn't open strictly
 abbrev pub verdict_of_image : {A : Type 0} → ImageReport A → Verdict
 verdict_of_image (images.Opens parts) = verdict_of_parts parts
 verdict_of_image (images.OpensLossily e parts) = Faulty
 verdict_of_image (images.Refused e) = Faulty
 
--- that of an entry of a fat file
+-- the verdict on an entry of a fat file
 abbrev pub verdict_of_entry : {A : Type 0} → EntryReport A → Verdict
 verdict_of_entry entries.Archive = Sound
 verdict_of_entry (entries.Image image) = verdict_of_image image
 
--- that of entries together
+-- the verdict on some entries
 abbrev pub verdict_of_entries : {A : Type 0} → List (EntryReport A) → Verdict
 verdict_of_entries [] = Sound
 verdict_of_entries (e ∷ es) = verdict_of_both (verdict_of_entry e) (verdict_of_entries es)
 
--- that of the entries of a fat file: one whose table can't be read is faulty, and one without entries
+-- the verdict on the entries of a fat file: faulty if its table can't be read, or it has no entries
 abbrev pub verdict_of_table : {A : Type 0} → FatReport A → Verdict
 verdict_of_table f =
     if is_some f.table || (f.count == 0) then Faulty
     else verdict_of_both (if f.cut then Unended else Sound) (verdict_of_entries f.entries.items)
 
--- that of a fat file
+-- the verdict on a fat file
 abbrev pub verdict_of_fat : {A : Type 0} → FatReport A → Verdict
 verdict_of_fat f = verdict_of_both (verdict_of_layout f.container.items) (verdict_of_table f)
 
--- that of a file
+-- the verdict on a file
 abbrev pub verdict_of_report : {A : Type 0} → Report A → Verdict
 verdict_of_report (reports.Image image) = verdict_of_image image
 verdict_of_report (reports.Fat fat) = verdict_of_fat fat
@@ -100,8 +100,9 @@ status_of Sound = 0
 status_of Unended = 1
 status_of Faulty = 1
 
--- A verdict on something that is sound or not, and in which a list is too long to be gone over or not: sound exactly where it is, and no list
--- is so long; else faulty only where it isn't, and unended only where there is such a list.
+-- A verdict on something that may be sound, and may have a list that is too long to be visited to its end. It is sound exactly if
+-- the thing is sound and no list is so long. Otherwise it is faulty only if the thing isn't sound, and unended only if there is
+-- such a list.
 pub record Judges (IsSound IsLong : Type 0) (v : Verdict) : Type 0 where
   pub sound : v ≡ Sound → IsSound
   pub whole : v ≡ Sound → IsLong → ⊥

@@ -1,4 +1,4 @@
-//! What is wrong with a file, image by image and part by part.
+//! Finds what is wrong with a file, image by image and part by part.
 
 ghost use Rattle.std.specs.Prelude.{◌≡◌, ◌<◌, ℕ, List, [], map, Result, Option, Some, IfOk, IfErr, slice_get};
 ghost use Rattle.mach_base.specs.Answer.{Stands};
@@ -38,7 +38,7 @@ use mach_cli::{Cpu, most_items};
 use mach_layout::{LayoutFault, container_faults};
 use std::alloc::Allocator;
 
-// The relocations of all sections, where these were gone over to their end and each can be read.
+// Audits the relocations of all sections, if these were visited to their end and each can be read.
 fn audit_relocated<A: Allocator + Clone>(
     alloc: A,
     bytes: &[u8],
@@ -58,7 +58,7 @@ fn audit_relocated<A: Allocator + Clone>(
     Ok(Some(part))
 }
 
-// The faults of the layout of an image.
+// Returns the faults of an image's layout.
 fn audit_layout<A: Allocator, B: Allocator + Clone>(
     alloc: B,
     image: &MachO<'_, A>,
@@ -72,7 +72,7 @@ fn audit_layout<A: Allocator, B: Allocator + Clone>(
     }
 }
 
-// The faults of the table of a fat file.
+// Returns the faults of a fat file's table.
 fn audit_container<A: Allocator + Clone>(
     alloc: A,
     bytes: &[u8],
@@ -86,7 +86,7 @@ fn audit_container<A: Allocator + Clone>(
     }
 }
 
-// All parts of an image that opened. Of no list more items are gone over than it has bytes.
+// Audits all parts of an image that opened. Of each list it visits no more items than the image has bytes.
 fn audit_parts<A: Allocator, B: Allocator + Clone>(
     alloc: &B,
     image: &MachO<'_, A>,
@@ -130,8 +130,8 @@ fn audit_parts<A: Allocator, B: Allocator + Clone>(
     })
 }
 
-// What can be read in lossy mode of bytes that were refused for an error. Where lossy mode refuses them,
-// too, nothing more is told.
+// Audits what lossy mode can read of bytes that were refused for an error. If lossy mode refuses them too, only the error is
+// reported.
 fn audit_refused<A: Allocator + Clone>(
     alloc: &A,
     bytes: &[u8],
@@ -153,7 +153,7 @@ fn audit_refused<A: Allocator + Clone>(
     }
 }
 
-// An entry of a fat file, which is to stand in these bytes.
+// Audits an entry of a fat file, which lies in these bytes.
 fn audit_entry<A: Allocator + Clone>(
     alloc: &A,
     container: &MultiArch<'_, A>,
@@ -181,7 +181,7 @@ fn audit_entry<A: Allocator + Clone>(
     }
 }
 
-// The bytes that the record of an entry names, if it has one; else none.
+// Returns the bytes that the record of an entry names; none without a record.
 fn named_bytes<'a>(bytes: &'a [u8], arches: &[FatArch], index: usize) -> &'a [u8]
     ensures { result.now ≡ named_bytes bytes.now (slice_get arches.now index) }
 {
@@ -191,7 +191,8 @@ fn named_bytes<'a>(bytes: &'a [u8], arches: &[FatArch], index: usize) -> &'a [u8
     }
 }
 
-// A fat file: its table, and then its entries, as long as they have together no more bytes than the file. Where the table can't be read none is gone over.
+// Audits a fat file: its table, and then its entries, as long as they have no more bytes together than the file. If the table
+// can't be read, no entry is audited.
 fn audit_fat<A: Allocator + Clone>(
     alloc: &A,
     container: &MultiArch<'_, A>,
@@ -232,8 +233,8 @@ fn audit_fat<A: Allocator + Clone>(
     })
 }
 
-/// What is said of a file. Of each list at most `limit` items are gone over, and of a list of an image no more than the image has bytes; of the faults of a
-/// part the first ten are told.
+/// Audits a file and returns its report. Of each list it visits at most `limit` items, and of a list of an image no more than the
+/// image has bytes. Of the faults of a part it keeps the first ten.
 pub fn audit<A: Allocator + Clone>(
     alloc: &A,
     bytes: &[u8],

@@ -1,4 +1,4 @@
-//! An audit as JSON: one object a file. docs/AUDIT.md has its form.
+//! An audit as JSON: one object for each file. docs/PROGRAMS.md describes its form.
 
 ghost use Rattle.std.specs.Prelude.{◌≡◌};
 
@@ -17,7 +17,7 @@ use serde_json::{Value, json};
 use std::alloc::{AllocError, Allocator, Global};
 use std::io::Write;
 
-// A fault: what kind it is, where it stands, whose it is, and its words.
+// Builds a fault: its kind, its place, its owner, and its message.
 fn fault_value(
     alloc: Global,
     kind: &str,
@@ -28,7 +28,7 @@ fn fault_value(
     json!(in alloc; {"kind": kind, "place": place, "owner": owner, "words": words})
 }
 
-// Why something can't be read.
+// Builds the error of something that can't be read.
 fn error_value(
     alloc: Global,
     owner: &str,
@@ -39,19 +39,19 @@ fn error_value(
     fault_value(alloc, "unreadable", place, owner, words.as_str())
 }
 
-// How much of a part isn't among the faults that are told.
+// What of a part isn't among its reported faults.
 #[derive(Clone, Copy)]
 struct Untold {
     // How many more faults there are.
     more: usize,
-    // How many more records there are said to be, past the end of the bytes.
+    // How many more records are claimed, past the end of the bytes.
     past: usize,
-    // Whether the limit was met.
+    // Whether the limit was reached.
     cut: bool,
 }
 
 impl Untold {
-    // So many more faults, and nothing else.
+    // Returns so many more faults, and nothing else.
     fn faults(more: usize) -> Untold {
         Untold {
             more,
@@ -61,7 +61,7 @@ impl Untold {
     }
 }
 
-// A part with its faults, and what isn't among them.
+// Builds a part with its faults, and what isn't among them.
 fn part_value(
     alloc: Global,
     name: &str,
@@ -77,7 +77,7 @@ fn part_value(
     })
 }
 
-// The faults that are told of a part.
+// Builds the reported faults of a part.
 fn findings(alloc: Global, name: &str, told: &[Finding]) -> Result<Vec<Value>, AllocError> {
     let mut faults = Vec::new(alloc);
     for finding in told {
@@ -88,7 +88,7 @@ fn findings(alloc: Global, name: &str, told: &[Finding]) -> Result<Vec<Value>, A
     Ok(faults)
 }
 
-// Adds a part of an image, of which so many records are past the end of the bytes.
+// Adds a part of an image, with the number of its records past the end of the bytes.
 fn add_part<A: Allocator>(
     alloc: Global,
     values: &mut Vec<Value>,
@@ -107,7 +107,7 @@ fn add_part<A: Allocator>(
     Ok(())
 }
 
-// Adds a part of an image that is records.
+// Adds a part of an image that consists of records.
 fn add_records<A: Allocator>(
     alloc: Global,
     values: &mut Vec<Value>,
@@ -117,7 +117,7 @@ fn add_records<A: Allocator>(
     add_part(alloc, values, name, &records.begun, records.past)
 }
 
-// Adds a part that an error alone is said of, if one is.
+// Adds a part with an error alone, if there is one.
 fn add_refusal(
     alloc: Global,
     values: &mut Vec<Value>,
@@ -132,7 +132,7 @@ fn add_refusal(
     Ok(())
 }
 
-// A fault of layout.
+// Builds a fault of layout.
 fn layout_value(alloc: Global, fault: LayoutFault) -> Result<Value, AllocError> {
     let place = format!(in alloc; "0x{:x}", fault.owner.command)?;
     let owner = format!(in alloc; "{}", fault.owner)?;
@@ -146,7 +146,7 @@ fn layout_value(alloc: Global, fault: LayoutFault) -> Result<Value, AllocError> 
     )
 }
 
-// Adds a part whose faults are those of layout, of each rule the first ten.
+// Adds a part whose faults are those of layout, the first ten of each rule.
 fn add_layout(
     alloc: Global,
     values: &mut Vec<Value>,
@@ -165,7 +165,7 @@ fn add_layout(
     Ok(())
 }
 
-// Whose a fault of a signature is: the directory of a slot, or the signature itself.
+// Returns the owner of a signature's fault: the directory of a slot, or the signature itself.
 fn signature_owner(alloc: Global, slot: Option<u32>) -> Result<String, AllocError> {
     match slot {
         Some(slot) => {
@@ -176,7 +176,7 @@ fn signature_owner(alloc: Global, slot: Option<u32>) -> Result<String, AllocErro
     }
 }
 
-// A fault of a signature.
+// Builds a fault of a signature.
 fn signature_value(alloc: Global, fault: &SignatureFault) -> Result<Value, AllocError> {
     let said = said_of(fault);
     let place = said.place;
@@ -222,7 +222,7 @@ fn add_signature<A: Allocator>(
     }
 }
 
-// Adds all parts of an image. Relocations that were not read are left out, and so is a signature that isn't there.
+// Adds all parts of an image, but for relocations that were not read and a missing signature.
 fn add_parts<A: Allocator>(
     alloc: Global,
     values: &mut Vec<Value>,
@@ -241,7 +241,7 @@ fn add_parts<A: Allocator>(
     add_layout(alloc, values, "layout", parts.layout.as_slice())
 }
 
-// An image: how it opens, and its parts.
+// Builds an image: how it opens, and its parts.
 fn image_value<A: Allocator>(alloc: Global, image: &ImageReport<A>) -> Result<Value, AllocError> {
     let mut values = Vec::new(alloc);
     let opens = match image {
@@ -264,7 +264,7 @@ fn image_value<A: Allocator>(alloc: Global, image: &ImageReport<A>) -> Result<Va
     json!(in alloc; {"kind": "image", "opens": opens, "parts": parts})
 }
 
-// An entry of a fat file.
+// Builds an entry of a fat file.
 fn entry_value<A: Allocator>(alloc: Global, entry: &EntryReport<A>) -> Result<Value, AllocError> {
     match entry {
         EntryReport::Archive => json!(in alloc; {"kind": "archive"}),
@@ -272,7 +272,7 @@ fn entry_value<A: Allocator>(alloc: Global, entry: &EntryReport<A>) -> Result<Va
     }
 }
 
-// The images of a file: its entries, or itself.
+// Builds the images of a file: its entries, or itself.
 fn images<A: Allocator>(alloc: Global, report: &Report<A>) -> Result<Vec<Value>, AllocError> {
     let mut values = Vec::new(alloc);
     match report {
@@ -286,7 +286,7 @@ fn images<A: Allocator>(alloc: Global, report: &Report<A>) -> Result<Vec<Value>,
     Ok(values)
 }
 
-// The parts of a fat file's table.
+// Builds the parts of a fat file's table.
 fn container<A: Allocator>(alloc: Global, fat: &FatReport<A>) -> Result<Vec<Value>, AllocError> {
     let mut values = Vec::new(alloc);
     match &fat.table {
@@ -306,7 +306,7 @@ fn container<A: Allocator>(alloc: Global, fat: &FatReport<A>) -> Result<Vec<Valu
     Ok(values)
 }
 
-/// Prints the object of a file on a line: its name, whether it is sound, what it is, and what is said of its images.
+/// Prints the object of a file on a line: its name, whether it is sound, what it is, and its images.
 pub fn print_object<A: Allocator, O: Write>(
     alloc: Global,
     name: &str,

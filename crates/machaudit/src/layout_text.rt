@@ -1,4 +1,4 @@
-//! Faults of layout, of each rule the first ten.
+//! Faults of layout, the first ten of each rule.
 
 use crate::tally::MOST_TOLD;
 use mach_layout::{LayoutFault, Rule};
@@ -12,12 +12,12 @@ pub struct Counts {
 }
 
 impl Counts {
-    /// None yet.
+    /// Returns counts of zero.
     pub fn new() -> Counts {
         Counts { counts: [0; 64] }
     }
 
-    /// Counts one more of a rule, and answers whether it is one of the first ten.
+    /// Counts one more fault of a rule, and returns whether it is one of the first ten.
     pub fn is_told(&mut self, rule: Rule) -> bool {
         let Some(count) = self.counts.get_mut(rule as usize) else {
             return true;
@@ -26,7 +26,7 @@ impl Counts {
         *count <= MOST_TOLD
     }
 
-    /// How many of a rule were not told; they are asked for once.
+    /// Returns how many faults of a rule were not printed; call it once for each rule.
     pub fn more(&mut self, rule: Rule) -> usize {
         let Some(count) = self.counts.get_mut(rule as usize) else {
             return 0;
@@ -37,7 +37,7 @@ impl Counts {
     }
 }
 
-/// Prints faults of layout, of each rule the first ten.
+/// Prints faults of layout, the first ten of each rule.
 pub fn print_layout<O: Write>(name: &str, faults: &[LayoutFault], out: &mut O) -> io::Result<()> {
     let mut counts = Counts::new();
     'faults: for fault in faults {

@@ -1,4 +1,4 @@
-//! The lists of an image, one item at a time. None is kept.
+//! Audits the lists of an image, one item at a time. No item is kept.
 
 ghost use Rattle.std.specs.Prelude.{◌++◌, ◌-◌, ◌<◌, ◌^◌, ℕ, List, Option, IfOk, IfErr, IsTrue, OnOk, map, min, option_map, ◌≡◌};
 ghost use Rattle.std.specs.List.{sum_by};
@@ -28,7 +28,7 @@ use goblin_mach::{BindingIterator, Ctx, FixupIterator, MachO};
 use mach_parts::laws::symbols_past_the_end;
 use std::alloc::Allocator;
 
-/// The sections of all segments, `limit` of those at most that begin within the bytes.
+/// Audits the sections of all segments that begin within the bytes, at most `limit`.
 pub fn audit_sections<A: Allocator>(
     alloc: A,
     segments: &[Segment<'_>],
@@ -51,7 +51,7 @@ pub fn audit_sections<A: Allocator>(
     Ok(Records { begun, past })
 }
 
-// Adds the sections of a segment, which has this number.
+// Adds the sections of the segment with this number.
 fn add_sections<A: Allocator>(
     segment: usize,
     sections: SectionIterator<'_>,
@@ -71,7 +71,7 @@ fn add_sections<A: Allocator>(
     Ok(())
 }
 
-/// The relocations of all sections, `limit` of those at most that begin within the bytes.
+/// Audits the relocations of all sections that begin within the bytes, at most `limit`.
 pub fn audit_relocations<A: Allocator>(
     alloc: A,
     bytes: &[u8],
@@ -95,7 +95,8 @@ pub fn audit_relocations<A: Allocator>(
     Ok(Records { begun, past })
 }
 
-// How many more relocations some sections say that they have than begin within the bytes; the greatest number, where they are more than that.
+// Returns how many relocations some sections claim that don't begin within the bytes, or the greatest number if there are more
+// than that.
 fn relocations_past(bytes: &[u8], ctx: Ctx, sections: SectionIterator<'_>) -> usize
     ensures { result ≡ min (sum_by (relocations_past_of ctx bytes.now) (sections_left sections.entry)) (2 ^ 64 - 1) }
 {
@@ -106,7 +107,7 @@ fn relocations_past(bytes: &[u8], ctx: Ctx, sections: SectionIterator<'_>) -> us
     past
 }
 
-// How many more relocations a section says that it has.
+// Returns how many more relocations a section claims.
 fn relocations_past_of(
     bytes: &[u8],
     ctx: Ctx,
@@ -121,7 +122,7 @@ fn relocations_past_of(
     relocations.len().saturating_sub(relocations.begun().len())
 }
 
-// Adds the relocations of the sections of a segment, which has this number.
+// Adds the relocations of the sections of the segment with this number.
 fn add_relocations<A: Allocator>(
     bytes: &[u8],
     ctx: Ctx,
@@ -141,7 +142,7 @@ fn add_relocations<A: Allocator>(
     Ok(())
 }
 
-// Adds the relocations of a section, if it can be read; it has these numbers.
+// Adds the relocations of the section with these numbers, if it can be read.
 fn add_relocations_by<A: Allocator>(
     bytes: &[u8],
     ctx: Ctx,
@@ -186,7 +187,7 @@ fn add_relocations_of<A: Allocator>(
     Ok(())
 }
 
-/// The exports of the trie, `limit` of them at most, up to the first fault.
+/// Audits the exports of the trie, at most `limit`, up to the first fault.
 pub fn audit_exports<A: Allocator, B: Allocator + Clone>(
     alloc: B,
     image: &MachO<'_, A>,
@@ -218,7 +219,7 @@ pub fn audit_exports<A: Allocator, B: Allocator + Clone>(
     Ok(tally.part())
 }
 
-/// The symbols, `limit` of those at most that begin within the bytes.
+/// Audits the symbols that begin within the bytes, at most `limit`.
 pub fn audit_symbols<A: Allocator, B: Allocator>(
     alloc: B,
     image: &MachO<'_, A>,
@@ -243,7 +244,7 @@ pub fn audit_symbols<A: Allocator, B: Allocator>(
     }
 }
 
-// The symbols of a table, `limit` of them at most.
+// Adds the symbols of a table, at most `limit`.
 fn audit_table<A: Allocator>(
     alloc: A,
     symbols: SymbolIterator<'_>,
@@ -263,7 +264,7 @@ fn audit_table<A: Allocator>(
     Ok(tally.part())
 }
 
-/// The imports of the opcodes, `limit` of them at most, up to the first fault.
+/// Audits the imports of the opcodes, at most `limit`, up to the first fault.
 pub fn audit_imports<A: Allocator>(
     alloc: A,
     imports: BindIterator<'_, '_>,
@@ -283,7 +284,7 @@ pub fn audit_imports<A: Allocator>(
     Ok(tally.part())
 }
 
-/// The fixups of the chains, `limit` of them at most, up to the first fault.
+/// Audits the fixups of the chains, at most `limit`, up to the first fault.
 pub fn audit_fixups<A: Allocator>(
     alloc: A,
     fixups: FixupIterator<'_, '_>,
@@ -303,7 +304,7 @@ pub fn audit_fixups<A: Allocator>(
     Ok(tally.part())
 }
 
-/// What dyld binds, by opcodes and by chains, `limit` bindings at most, up to the first fault.
+/// Audits the bindings of the opcodes and the chains, at most `limit`, up to the first fault.
 pub fn audit_bindings<A: Allocator>(
     alloc: A,
     bindings: BindingIterator<'_, '_>,

@@ -1,7 +1,7 @@
-//! Says what is wrong with Mach-O files: whether each opens, and each part of it that can't be read or lies where it can't.
+//! Reports what is wrong with Mach-O files: whether each opens, and each part of it that can't be read or lies where it must not.
 #![tactic(auto)]
 
-// The audit of a file: whether it opens, and each part that can't be read or lies where it can't.
+// The audit of a file: whether it opens, and each part that can't be read or lies where it must not.
 mod audit;
 mod lists;
 mod overlaid;
@@ -56,7 +56,7 @@ fn main(rt: HostRuntime) -> ExitCode {
     })
 }
 
-// Does what the words ask for; the error is the exit status where nothing was audited, or where a write failed.
+// Runs the program with its words. The error is the exit status if nothing was audited, or if a write failed.
 fn start(rt: &HostRuntime) -> Result<u8, u8> {
     let words = PROGRAM.words(rt)?;
     let Ok((format, words)) = take_format(rt.alloc(), words) else {
@@ -66,7 +66,7 @@ fn start(rt: &HostRuntime) -> Result<u8, u8> {
     audit_files(rt, format, &call)
 }
 
-// Audits of the files of a call in order what is for its cpu, and answers the worst status.
+// Audits what is for the call's cpu of its files in order, and returns the worst status.
 fn audit_files(
     rt: &HostRuntime,
     format: Format,
@@ -100,7 +100,7 @@ fn audit_files(
     shown.show(rt, &audits, files, others, &mut lines)
 }
 
-// The name of the only file of a call; empty, where there may be several.
+// Returns the name of the only file of a call; empty if there may be several.
 fn only_of(alloc: Global, are_several: bool, files: &[&str]) -> Result<String, AllocError> {
     let mut only = String::new(alloc);
     if !are_several {
@@ -111,12 +111,12 @@ fn only_of(alloc: Global, are_several: bool, files: &[&str]) -> Result<String, A
     Ok(only)
 }
 
-// What is shown of each file: a report of what is for a cpu.
+// What is shown of each file: a report of what is for the cpu.
 #[derive(Drop)]
 struct Audits {
     cpu: Cpu,
     options: Options,
-    // The only file of the call, whose report has no heading; empty, where there may be several.
+    // The only file of the call, whose report has no heading; empty if there may be several.
     only: String,
 }
 

@@ -1,4 +1,4 @@
-//! What the words of a call ask for, beside what all programs know.
+//! The options of a call, beside those that all programs know.
 
 use mach_cli::{Word, takes_word};
 use std::alloc::{AllocError, Allocator};
@@ -8,9 +8,9 @@ use std::alloc::{AllocError, Allocator};
 pub enum Format {
     /// Line by line.
     Text,
-    /// One line a file.
+    /// One line for each file.
     Quiet,
-    /// One JSON object a file, on a line.
+    /// One JSON object for each file, on a line.
     Json,
 }
 
@@ -19,14 +19,14 @@ pub enum Format {
 pub struct Options {
     /// The form of the reports.
     pub format: Format,
-    /// How many items of one list are gone over at most.
+    /// How many items of one list are visited at most.
     pub limit: usize,
 }
 
-/// So many items of one list are gone over where no other limit is given.
+/// How many items of one list are visited if no other limit is given.
 pub const DEFAULT_LIMIT: usize = 10_000_000;
 
-// The form that a word asks for, if it asks for one.
+// Returns the form that a word selects, if it selects one.
 fn format_of(word: &str) -> Option<Format> {
     match word {
         "--quiet" => Some(Format::Quiet),
@@ -35,8 +35,8 @@ fn format_of(word: &str) -> Option<Format> {
     }
 }
 
-/// The form that the words of a call ask for last, and all other words, in order. The first word is the program's name; a word after `--`, or after an option
-/// that takes one, asks for no form.
+/// Returns the form that the words of a call select last, and all other words, in order. The first word is the program's name. A
+/// word after `--`, or after an option that takes one, selects no form.
 pub fn take_format<A: Allocator>(
     alloc: A,
     words: Vec<Word>,

@@ -1,4 +1,4 @@
-//! Entries of a fat file that lie over each other.
+//! Entries of a fat file that overlap.
 
 ghost use Rattle.std.specs.Prelude.{◌≡◌};
 ghost use Rattle.machaudit.specs.Overlaid.{AreGoneOver, asked_len};
@@ -6,8 +6,8 @@ ghost use Rattle.machaudit.specs.Overlaid.{AreGoneOver, asked_len};
 use goblin_mach::fat::FatArch;
 use mach_cli::Cpu;
 
-/// How many of the first entries of a fat file are gone over: `limit` at most, and no more than have together as many bytes as the file. Entries for another
-/// cpu have none.
+/// Returns how many of the first entries of a fat file are audited: at most `limit`, as long as they have no more bytes together
+/// than the file. The bytes of entries for another cpu don't count.
 pub fn entries_within(cpu: Cpu, limit: usize, bytes: &[u8], archs: &[FatArch]) -> usize
     ensures { AreGoneOver cpu limit bytes.now archs.now result }
 {
@@ -22,7 +22,7 @@ pub fn entries_within(cpu: Cpu, limit: usize, bytes: &[u8], archs: &[FatArch]) -
     end
 }
 
-// How many bytes of the file the record of an entry names, if it is for the cpu.
+// Returns how many bytes of the file a record names, if it is for the cpu.
 fn asked_len(cpu: Cpu, bytes: &[u8], arch: &FatArch) -> usize
     ensures { result ≡ asked_len cpu bytes.now arch.now }
 {

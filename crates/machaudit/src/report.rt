@@ -1,4 +1,4 @@
-//! What an audit says of a file.
+//! The report of a file.
 
 ghost use Rattle.std.specs.Prelude.{◌≡◌, option_copied, IfOk, IfErr, IsOk};
 ghost use Rattle.machaudit.specs.Foreign.{refusal_in};
@@ -11,12 +11,12 @@ use mach_signature::SignatureFault;
 use std::alloc::{AllocError, AllocFailed, Allocator, Global};
 use std::{fmt, io};
 
-/// Why an audit was not ended.
+/// Why an audit did not end.
 #[derive(Clone, Copy, Debug)]
 pub enum Failure {
-    /// Memory was refused.
+    /// An allocation was refused.
     Memory,
-    /// A line was not written.
+    /// A write failed.
     Unwritten,
 }
 
@@ -53,7 +53,7 @@ impl From<io::Error> for Failure {
     }
 }
 
-/// An error that is no want of memory.
+/// Returns an error unchanged, unless it is a refused allocation.
 pub fn no_memory(error: Error) -> Result<Error, Failure>
     ensures told { IfOk result (λ e. (e ≡ error) × IsTold e) }
     ensures memory { IfErr result (λ failure. failure ≡ failures.Memory) }
@@ -65,7 +65,7 @@ pub fn no_memory(error: Error) -> Result<Error, Failure>
     }
 }
 
-/// Where an item stands that can't be read.
+/// The place of an item that can't be read.
 #[derive(Clone, Copy, Debug)]
 pub enum Place {
     /// A section of a segment, both by their numbers.
@@ -94,68 +94,68 @@ pub enum Place {
 /// An item that can't be read.
 #[derive(Drop)]
 pub struct Finding {
-    /// Where it stands.
+    /// Where it is.
     pub place: Place,
-    /// Why it can't be read.
+    /// The error.
     pub error: Error,
 }
 
-/// What is said of the lists of one part of an image.
+/// The report of the lists of one part of an image.
 #[derive(Drop)]
 pub struct Part<A: Allocator = Global> {
     /// The first items that can't be read, ten at most.
     pub told: Vec<Finding, A>,
-    /// How many can't be read of those that were gone over.
+    /// How many of the visited items can't be read.
     pub faults: usize,
-    /// Whether there are more items than are gone over.
+    /// Whether there are more items than were visited.
     pub cut: bool,
 }
 
-/// What is said of records that stand one after the other.
+/// The report of records that lie one after the other.
 #[derive(Drop)]
 pub struct Records<A: Allocator = Global> {
-    /// What is said of those that begin within the bytes.
+    /// The report of those that begin within the bytes.
     pub begun: Part<A>,
-    /// How many more there are said to be, past the end of the bytes; the greatest number, where they are more than that.
+    /// How many more are claimed, past the end of the bytes; the greatest number if there are more than that.
     pub past: usize,
 }
 
-/// What is said of a signature that can be read.
+/// The report of a signature that can be read.
 #[derive(Drop)]
 pub struct SignaturePart<A: Allocator = Global> {
-    /// The first things that aren't as they were signed, ten at most.
+    /// The first things that differ from what was signed, ten at most.
     pub told: Vec<SignatureFault, A>,
-    /// How many there are; the greatest number, where there are more than that.
+    /// How many there are; the greatest number if there are more than that.
     pub faults: usize,
 }
 
-/// What is said of the signature of an image.
+/// The report of an image's signature.
 #[derive(Drop)]
 pub enum SignatureReport<A: Allocator = Global> {
-    /// No command brings one.
+    /// No command names a signature.
     Unsigned,
-    /// It can't be read, for this reason.
+    /// It can't be read, for this error.
     Unreadable(Error),
-    /// It can be read, and this of it isn't as it was signed.
+    /// It can be read; this differs from what was signed.
     Signed(SignaturePart<A>),
 }
 
-/// What is said of an image that opened, part by part.
+/// The report of an image that opened, part by part.
 #[derive(Drop)]
 pub struct Parts<A: Allocator = Global> {
     /// The sections of all segments.
     pub sections: Records<A>,
-    /// The relocations of all sections; none where a section can't be read.
+    /// The relocations of all sections; none if a section can't be read.
     pub relocations: Option<Records<A>>,
     /// The symbols.
     pub symbols: Records<A>,
     /// The exports of the trie.
     pub exports: Part<A>,
-    /// The imports of the opcodes, as a linker lists them.
+    /// The imports of the opcodes, in the order in which a linker lists them.
     pub imports: Part<A>,
     /// The fixups of the chains.
     pub fixups: Part<A>,
-    /// What dyld binds, by opcodes and by chains.
+    /// The bindings of the opcodes and the chains.
     pub bindings: Part<A>,
     /// The signature.
     pub signature: SignatureReport<A>,
@@ -163,18 +163,18 @@ pub struct Parts<A: Allocator = Global> {
     pub layout: Vec<LayoutFault, A>,
 }
 
-/// What is said of an image.
+/// The report of an image.
 #[derive(Drop)]
 pub enum ImageReport<A: Allocator = Global> {
     /// It opens.
     Opens(Parts<A>),
-    /// It opens in lossy mode alone, for this reason.
+    /// It opens in lossy mode only, for this error.
     OpensLossily(Error, Parts<A>),
-    /// It doesn't open, for this reason.
+    /// It doesn't open, for this error.
     Refused(Error),
 }
 
-/// What is said of an entry of a fat file.
+/// The report of an entry of a fat file.
 #[derive(Drop)]
 pub enum EntryReport<A: Allocator = Global> {
     /// It is an archive.
@@ -183,22 +183,22 @@ pub enum EntryReport<A: Allocator = Global> {
     Image(ImageReport<A>),
 }
 
-/// What is said of a fat file.
+/// The report of a fat file.
 #[derive(Drop)]
 pub struct FatReport<A: Allocator = Global> {
-    /// How many entries its header says.
+    /// The number of entries in its header.
     pub count: usize,
-    /// Why its table can't be read, if it can't.
+    /// The error of its table, if it can't be read.
     pub table: Option<Error>,
-    /// The faults of its table, where this can be read.
+    /// The faults of its table, if it can be read.
     pub container: Vec<LayoutFault, A>,
-    /// What is said of its entries, in order.
+    /// The reports of its entries, in order.
     pub entries: Vec<EntryReport<A>, A>,
-    /// Whether it has more entries than are gone over.
+    /// Whether it has more entries than were audited.
     pub cut: bool,
 }
 
-/// What is said of a file.
+/// The report of a file.
 #[derive(Drop)]
 pub enum Report<A: Allocator = Global> {
     /// It is an image, or nothing that opens.
@@ -208,7 +208,8 @@ pub enum Report<A: Allocator = Global> {
 }
 
 impl<A: Allocator> Report<A> {
-    /// Why the file as a whole is refused, if it is: it opens in no mode, or is a fat file whose table can't be read.
+    /// Returns the error for which the whole file is refused, if it is: it opens in no mode, or is a fat file whose table can't
+    /// be read.
     pub fn refusal(&self) -> Option<&Error>
         ensures { option_copied result ≡ refusal_in self.now }
     {

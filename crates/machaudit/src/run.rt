@@ -34,13 +34,15 @@ pub struct Call<'a> {
     pub options: Options,
     /// The file's name.
     pub name: &'a str,
-    /// Whether its name is printed before its lines.
+    /// Whether the name is printed before the lines.
     pub heading: bool,
 }
 
-/// Audits the bytes of a file, prints the report, and answers the exit status: 0 where the file is sound, and none of its lists
-/// is longer than the limit; 1 where it is not, or one is. What is printed has left the buffer then: with `--quiet` one line, which says the same. Of a file
-/// that doesn't open, and is none of Mach-O's, `err` has a line that says what it is.
+/// Audits the bytes of a file, prints the report, and returns the exit status.
+///
+/// It is 0 if the file is sound and none of its lists is longer than the limit, else 1. All that is printed has left the buffer
+/// then. With `--quiet` it is one line, which says the same as the status. If the file doesn't open and is not Mach-O, `err` has
+/// a line with its kind.
 pub fn run<A: Allocator + Clone, W: Write + Drop, B: Allocator, E: Write>(
     alloc: &A,
     json: Global,
@@ -67,7 +69,7 @@ pub fn run<A: Allocator + Clone, W: Write + Drop, B: Allocator, E: Write>(
     Ok(status(report.verdict()))
 }
 
-// Says what a file is, where it is refused as a whole, and is none of Mach-O's.
+// Prints the kind of a file, if it is refused as a whole and is not Mach-O.
 fn say_refusal<A: Allocator, E: Write>(
     file: &str,
     bytes: &[u8],
@@ -82,7 +84,7 @@ fn say_refusal<A: Allocator, E: Write>(
     }
 }
 
-// Says what a file is that is refused for an error, where it is none of Mach-O's.
+// Prints the kind of a file that is refused for an error, if it is not Mach-O.
 fn say_foreign<E: Write>(file: &str, bytes: &[u8], error: &Error, err: &mut E) -> io::Result<()>
     ensures { OnOk result (Appends (E.contents err.old) (E.contents err.new) (kind_said file.now (refused_kind bytes.now error.now))) }
 {
@@ -96,7 +98,7 @@ fn say_foreign<E: Write>(file: &str, bytes: &[u8], error: &Error, err: &mut E) -
     writeln!(err, "{names}: {kind}")
 }
 
-// The exit status of a verdict.
+// Returns the exit status of a verdict.
 fn status(verdict: Verdict) -> u8
     ensures { result ≡ status_of verdict }
 {
@@ -106,7 +108,7 @@ fn status(verdict: Verdict) -> u8
     }
 }
 
-// Prints the report of a file, and sees to it that it is written.
+// Prints the report of a file and flushes it.
 fn write_report<A: Allocator, W: Write + Drop, B: Allocator>(
     json: Global,
     call: Call<'_>,

@@ -1,4 +1,4 @@
-//! What of a file is audited, by the cpu that is asked for.
+//! What of a file is audited, given the selected cpu.
 
 ghost use Rattle.std.specs.Prelude.{◌≡◌, ◌≤◌, ◌⊎◌, List, ℕ, IfOk, Ok};
 ghost use Rattle.goblin_mach.specs.FatFile.{fat_file_in, file_held};
@@ -16,20 +16,23 @@ use mach_cli::{Cpu, Failure, Names};
 use std::alloc::{AllocError, Allocator, Global};
 use std::io::{BufWriter, Write};
 
-// What of a file is asked for.
+// What of a file is selected.
 #[derive(Drop)]
 enum Asked<A: Allocator> {
     // All of it.
     Whole,
     // Nothing: it is an image for another cpu.
     Other,
-    // Entries of the fat file that it is, which has these records.
+    // Entries of a fat file with these records.
     Entries(Vec<FatArch, A>),
 }
 
-/// Audits of a file what is asked for by its cpu, prints the reports, and answers the worst exit status: the file, where each image is asked for, where it is
-/// one image that is, or where it doesn't open; else each entry for the cpu, as a file of its own, under the file's name and its index. 0 where each is
-/// sound, and none of its lists is longer than the limit; 1 where one is not, or one is; and where nothing is for the cpu, and `err` has a line that says so.
+/// Audits the selected images of a file, prints the reports, and returns the worst exit status.
+///
+/// The file is audited as a whole if any cpu is selected, if it is one image for the cpu, or if it doesn't open. Otherwise each
+/// entry for the cpu is audited as a file of its own, under the file's name and its index. The status is 0 if each is sound and
+/// none of its lists is longer than the limit. It is 1 if one isn't sound or has a longer list; and also if nothing is for the
+/// cpu, and then `err` has a line that says so.
 pub fn run_for<A: Allocator + Clone, W: Write + Drop, B: Allocator, E: Write>(
     alloc: &A,
     json: Global,
@@ -55,7 +58,7 @@ pub fn run_for<A: Allocator + Clone, W: Write + Drop, B: Allocator, E: Write>(
     }
 }
 
-// What of a file is asked for.
+// Returns what of a file is selected.
 fn asked_of<A: Allocator + Clone>(alloc: &A, cpu: Cpu, bytes: &[u8]) -> Result<Asked<A>, Failure>
     ensures { IfOk result (IsAskedFor cpu bytes.now) }
 {
@@ -70,7 +73,7 @@ fn asked_of<A: Allocator + Clone>(alloc: &A, cpu: Cpu, bytes: &[u8]) -> Result<A
     }
 }
 
-// What of an image is asked for.
+// Returns what of an image is selected.
 fn asked_image<A: Allocator>(cpu: Cpu, image: &MachO<'_, A>) -> Asked<A>
     ensures { (bytes : List ℕ) → IsImage bytes 0 image.now → IsAskedFor cpu bytes result }
 {
@@ -81,7 +84,7 @@ fn asked_image<A: Allocator>(cpu: Cpu, image: &MachO<'_, A>) -> Asked<A>
     }
 }
 
-// What of a fat file is asked for: where its table can't be read all of it is told.
+// Returns what of a fat file is selected: all of it, if its table can't be read.
 fn asked_entries<A: Allocator + Clone>(
     cpu: Cpu,
     container: &MultiArch<'_, A>,
@@ -95,7 +98,8 @@ fn asked_entries<A: Allocator + Clone>(
     }
 }
 
-// Audits the entries of these records that are for a cpu, as long as they have together no more bytes than the file, and answers the worst status.
+// Audits the entries for a cpu among these records, as long as they have no more bytes together than the file, and returns the
+// worst status.
 fn run_within<A: Allocator + Clone, W: Write + Drop, B: Allocator, E: Write>(
     alloc: &A,
     json: Global,
@@ -118,7 +122,7 @@ fn run_within<A: Allocator + Clone, W: Write + Drop, B: Allocator, E: Write>(
     Ok(status)
 }
 
-// Says that the last entries of a file are left out, and answers the exit status.
+// Reports that the last entries of a file are left out, and returns the exit status.
 fn left_out<E: Write>(file: &str, count: usize, err: &mut E) -> u8
     ensures { result ≡ 1 }
 {
@@ -133,7 +137,7 @@ fn left_out<E: Write>(file: &str, count: usize, err: &mut E) -> u8
     1
 }
 
-// Audits the entries of these records that are for a cpu, and answers the worst status.
+// Audits the entries for a cpu among these records, and returns the worst status.
 fn run_entries<A: Allocator + Clone, W: Write + Drop, B: Allocator, E: Write>(
     alloc: &A,
     json: Global,
@@ -158,7 +162,7 @@ fn run_entries<A: Allocator + Clone, W: Write + Drop, B: Allocator, E: Write>(
     Ok(worst)
 }
 
-// The status of an entry, which is audited as a file of its own.
+// Audits an entry as a file of its own, and returns its status.
 fn run_entry<A: Allocator + Clone, W: Write + Drop, B: Allocator, E: Write>(
     alloc: &A,
     json: Global,
@@ -181,12 +185,12 @@ fn run_entry<A: Allocator + Clone, W: Write + Drop, B: Allocator, E: Write>(
     run(alloc, json, call, entry, out, err)
 }
 
-// What an entry of a file is called.
+// Returns the name of a file's entry.
 fn entry_name(alloc: Global, file: &str, index: usize) -> Result<String, AllocError> {
     format!(in alloc; "{file}: arch {index}")
 }
 
-// Says that nothing of a file is for a cpu, and answers the exit status.
+// Reports that nothing of a file is for a cpu, and returns the exit status.
 fn missed<E: Write>(file: &str, words: &str, cpu: Cpu, err: &mut E) -> u8
     ensures { result ≡ 1 }
 {

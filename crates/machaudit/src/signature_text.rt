@@ -1,4 +1,4 @@
-//! The signature of an image in words.
+//! The text of an image's signature.
 
 use crate::report::{SignaturePart, SignatureReport};
 use goblin_mach::describe;
@@ -7,7 +7,7 @@ use std::alloc::Allocator;
 use std::io::Write;
 use std::{fmt, io};
 
-/// What of a signature a fault is of.
+/// The place of a fault in a signature.
 #[derive(Clone, Copy)]
 pub enum SignaturePlace {
     /// All of it.
@@ -16,7 +16,7 @@ pub enum SignaturePlace {
     Blob(u32),
     /// The page of this number.
     Page(u32),
-    /// What this special slot seals.
+    /// What this special slot covers.
     Special(u32),
 }
 
@@ -34,16 +34,16 @@ impl fmt::Display for SignaturePlace {
     }
 }
 
-/// A fault of a signature, as JSON tells it: its kind, whose it is, and where it stands.
+/// A fault of a signature as JSON has it: its kind, its owner, and its place.
 #[derive(Clone, Copy)]
 pub struct SignatureSaid {
     pub kind: &'static str,
-    /// The slot of the directory that it is of, if it is one's.
+    /// The slot of the directory that has the fault, if a directory has it.
     pub slot: Option<u32>,
     pub place: SignaturePlace,
 }
 
-/// How JSON tells a fault.
+/// Returns a fault as JSON has it.
 pub fn said_of(fault: &SignatureFault) -> SignatureSaid {
     match fault {
         SignatureFault::Blob { index, error: _ } => SignatureSaid {
@@ -70,7 +70,7 @@ pub fn said_of(fault: &SignatureFault) -> SignatureSaid {
     }
 }
 
-// How a fault of the directory of a slot is told.
+// Returns a fault of the directory of a slot as JSON has it.
 fn said_of_directory(slot: u32, fault: &DirectoryFault) -> SignatureSaid {
     let (kind, place) = match fault {
         DirectoryFault::Identifier(_) | DirectoryFault::Team(_) => {
@@ -90,7 +90,7 @@ fn said_of_directory(slot: u32, fault: &DirectoryFault) -> SignatureSaid {
     }
 }
 
-// The kind and the place of a fault of the code.
+// Returns the kind and the place of a fault of the code.
 fn code_said(fault: CodeFault) -> (&'static str, SignaturePlace) {
     match fault {
         CodeFault::Scattered { place: _ } => ("scattered", SignaturePlace::Whole),
@@ -104,7 +104,7 @@ fn code_said(fault: CodeFault) -> (&'static str, SignaturePlace) {
     }
 }
 
-// Those of a fault of a special slot.
+// Returns the kind and the place of a fault of a special slot.
 fn special_said(fault: SpecialFault) -> (&'static str, SignaturePlace) {
     match fault {
         SpecialFault::Unknown { slot } => ("unknown", SignaturePlace::Special(slot)),
@@ -114,7 +114,7 @@ fn special_said(fault: SpecialFault) -> (&'static str, SignaturePlace) {
     }
 }
 
-/// Prints what is said of the signature of an image.
+/// Prints the report of an image's signature.
 pub fn print_signature<A: Allocator, O: Write>(
     signature: &SignatureReport<A>,
     out: &mut O,

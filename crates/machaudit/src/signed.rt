@@ -1,4 +1,4 @@
-//! The signature of an image, and what isn't as it was signed, one fault at a time. Ten are kept.
+//! Audits the signature of an image: what differs from what was signed, one fault at a time. Ten are kept.
 
 ghost use Rattle.std.specs.Prelude.{◌≡◌, ◌++◌, ◌∷◌, [], List, IfOk, IfErr, OnOk};
 ghost use Rattle.goblin_mach.specs.OpenImage.{bytes_held, commands_held, segments_held};
@@ -15,7 +15,7 @@ use mach_signature::image::signature_faults;
 use mach_signature::{SignatureFault, SignatureFaults};
 use std::alloc::Allocator;
 
-/// The signature of an image: that there is none, why it can't be read, or what isn't as it was signed.
+/// Audits the signature of an image: there is none, it can't be read, or these things differ from what was signed.
 pub fn audit_signature<A: Allocator, B: Allocator>(
     alloc: B,
     image: &MachO<'_, A>,
@@ -36,7 +36,7 @@ pub fn audit_signature<A: Allocator, B: Allocator>(
     }
 }
 
-// All faults of a signature.
+// Audits all faults of a signature.
 fn audit_signed<A: Allocator>(
     alloc: A,
     faults: SignatureFaults<'_>,
@@ -54,7 +54,7 @@ fn audit_signed<A: Allocator>(
     Ok(part)
 }
 
-// Notes a fault: tells it, where it is one of the first.
+// Counts a fault, and keeps it if it is one of the first ten.
 fn note<A: Allocator>(part: &mut SignaturePart<A>, fault: SignatureFault) -> Result<(), Failure>
     ensures told { OnOk result ((faults : List SignatureFaultSeen) → TellsSignatureFaults faults part.old
         → TellsSignatureFaults (faults ++ signature_fault_view fault ∷ []) part.new) }

@@ -9,10 +9,10 @@ use crate::report::{Failure, Finding, Part, Place};
 use goblin_mach::Error;
 use std::alloc::Allocator;
 
-/// So many faults of one part, or of one rule, are told; the others are counted.
+/// How many faults of one part, or of one rule, are reported; the others are only counted.
 pub const MOST_TOLD: usize = 10;
 
-/// What was met so far of the lists of one part.
+/// What was met so far in the lists of one part.
 #[derive(Drop)]
 pub struct Tally<A: Allocator> {
     part: Part<A>,
@@ -20,7 +20,7 @@ pub struct Tally<A: Allocator> {
 }
 
 impl<A: Allocator> Tally<A> {
-    /// A count of nothing yet, of at most `limit` items.
+    /// Returns an empty count, of at most `limit` items.
     pub fn new(alloc: A, limit: usize) -> Tally<A>
         ensures { HasMet limit [] result }
     {
@@ -34,8 +34,8 @@ impl<A: Allocator> Tally<A> {
         }
     }
 
-    /// Takes one item more, by why it can't be read, if it can't, and answers whether to go on: not where this is one more
-    /// than the limit. Want of memory is no fault of an item.
+    /// Counts one more item, with its error if it can't be read. Returns whether to go on: false if this is one item more than
+    /// the limit. A refused allocation is no fault of an item.
     pub fn take(&mut self, place: Place, error: Option<Error>) -> Result<bool, Failure>
         ensures met { OnOk result ((limit : ℕ) (items : List (Option FaultAt)) → HasMet limit items self.old
             → HasMet limit (items ++ option_map (λ e. (place, fault_of e)) error ∷ []) self.new) }
@@ -54,7 +54,7 @@ impl<A: Allocator> Tally<A> {
         Ok(true)
     }
 
-    /// What is said of the part.
+    /// Returns the report of the part.
     pub fn part(self) -> Part<A>
         ensures { result ≡ self.part }
     {
@@ -62,7 +62,7 @@ impl<A: Allocator> Tally<A> {
     }
 }
 
-// Notes a fault: tells it, where it is one of the first.
+// Counts a fault, and keeps it if it is one of the first ten.
 fn note<A: Allocator>(part: &mut Part<A>, place: Place, error: Error) -> Result<(), Failure>
     ensures told { OnOk result ((faults : List FaultAt) → length faults + 1 < 2 ^ 64 → TellsFirstFaults faults part.old
         → TellsFirstFaults (faults ++ (place, fault_of error) ∷ []) part.new) }

@@ -49,7 +49,7 @@ impl fmt::Display for Verdict {
     }
 }
 
-// Prints the faults that are told of a part.
+// Prints the reported faults of a part.
 fn print_findings<O: Write>(name: &str, told: &[Finding], out: &mut O) -> io::Result<()> {
     'told: for finding in told {
         let place = finding.place;
@@ -58,7 +58,7 @@ fn print_findings<O: Write>(name: &str, told: &[Finding], out: &mut O) -> io::Re
     Ok(())
 }
 
-// Prints what is said of a part.
+// Prints the report of a part.
 fn print_part<A: Allocator, O: Write>(name: &str, part: &Part<A>, out: &mut O) -> io::Result<()> {
     if part.is_clean() {
         return writeln!(out, "  {name}: ok");
@@ -74,7 +74,7 @@ fn print_part<A: Allocator, O: Write>(name: &str, part: &Part<A>, out: &mut O) -
     Ok(())
 }
 
-// Prints what is said of records, and how many more there are said to be.
+// Prints the report of records, and how many more are claimed.
 fn print_records<A: Allocator, O: Write>(
     name: &str,
     records: &Records<A>,
@@ -90,7 +90,7 @@ fn print_records<A: Allocator, O: Write>(
     Ok(())
 }
 
-// Prints what is said of all parts.
+// Prints the report of all parts.
 fn print_parts<A: Allocator, O: Write>(parts: &Parts<A>, out: &mut O) -> io::Result<()> {
     print_records("sections", &parts.sections, out)?;
     match &parts.relocations {
@@ -106,12 +106,12 @@ fn print_parts<A: Allocator, O: Write>(parts: &Parts<A>, out: &mut O) -> io::Res
     print_layout("layout", parts.layout.as_slice(), out)
 }
 
-// Prints why something doesn't open.
+// Prints the error of something that doesn't open.
 fn print_refusal<O: Write>(part: &str, error: &Error, out: &mut O) -> io::Result<()> {
     writeln!(out, "  {part}: {}", describe(error))
 }
 
-// Prints what is said of an image.
+// Prints the report of an image.
 fn print_image<A: Allocator, O: Write>(image: &ImageReport<A>, out: &mut O) -> io::Result<()> {
     match image {
         ImageReport::Opens(parts) => {
@@ -127,7 +127,7 @@ fn print_image<A: Allocator, O: Write>(image: &ImageReport<A>, out: &mut O) -> i
     }
 }
 
-// Prints what is said of an entry of a fat file, which has this number.
+// Prints the report of the fat file's entry with this number.
 fn print_entry<A: Allocator, O: Write>(
     index: usize,
     entry: &EntryReport<A>,
@@ -140,7 +140,7 @@ fn print_entry<A: Allocator, O: Write>(
     }
 }
 
-// Prints what is said of a fat file.
+// Prints the report of a fat file.
 fn print_fat<A: Allocator, O: Write>(fat: &FatReport<A>, out: &mut O) -> io::Result<()> {
     writeln!(out, "fat file of {}", fat.count)?;
     match &fat.table {
@@ -159,7 +159,7 @@ fn print_fat<A: Allocator, O: Write>(fat: &FatReport<A>, out: &mut O) -> io::Res
     Ok(())
 }
 
-/// Prints what is said of a file, and whether it is sound.
+/// Prints the report of a file, and whether it is sound.
 pub fn print_report<A: Allocator, O: Write>(report: &Report<A>, out: &mut O) -> io::Result<()> {
     match report {
         Report::Image(image) => {

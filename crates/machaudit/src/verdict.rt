@@ -1,4 +1,4 @@
-//! Whether a file is sound by what is said of it.
+//! Whether a file is sound, by its report.
 
 ghost use Rattle.std.specs.Prelude.{◌≡◌};
 ghost use Rattle.machaudit.specs.Verdicts.{verdict_of_both, verdict_of, verdict_of_read, verdict_of_entries, is_clean, verdict_of_parts, verdict_of_image};
@@ -14,16 +14,16 @@ use std::alloc::Allocator;
 /// Whether a file is sound.
 #[derive(Clone, Copy, Debug, PartialEq)]
 pub enum Verdict {
-    /// It is: no fault was found, and all of it was gone over.
+    /// It is: no fault was found, and all of it was visited.
     Sound,
-    /// It has more items than are gone over, and among these no fault was found.
+    /// It has more items than were visited, and no fault was found among those.
     Unended,
     /// It has faults.
     Faulty,
 }
 
 impl Verdict {
-    // That of two parts together: a fault counts before a limit.
+    // Returns the verdict on two parts: a fault counts before a limit.
     fn and(self, other: Verdict) -> Verdict
         ensures { result ≡ verdict_of_both self other }
     {
@@ -36,14 +36,14 @@ impl Verdict {
 }
 
 impl<A: Allocator> Part<A> {
-    /// Whether all items of the part were gone over, and each can be read.
+    /// Whether all items of the part were visited, and each can be read.
     pub fn is_clean(&self) -> bool
         ensures { result ≡ is_clean self.now }
     {
         self.faults == 0 && !self.cut
     }
 
-    // Whether the part is sound.
+    // Returns the verdict on the part.
     fn verdict(&self) -> Verdict
         ensures { result ≡ verdict_of self.now }
     {
@@ -58,14 +58,14 @@ impl<A: Allocator> Part<A> {
 }
 
 impl<A: Allocator> Records<A> {
-    /// Whether none is past the end of the bytes, and all items were gone over, and each can be read.
+    /// Whether none is past the end of the bytes, all items were visited, and each can be read.
     pub fn is_clean(&self) -> bool
         ensures { result ≡ are_clean self.now }
     {
         self.past == 0 && self.begun.is_clean()
     }
 
-    // Whether the records are sound.
+    // Returns the verdict on the records.
     fn verdict(&self) -> Verdict
         ensures { result ≡ verdict_of_records self.now }
     {
@@ -78,7 +78,7 @@ impl<A: Allocator> Records<A> {
 }
 
 impl<A: Allocator> SignatureReport<A> {
-    // Whether the signature is sound: it is where there is none.
+    // Returns the verdict on the signature: sound if there is none.
     fn verdict(&self) -> Verdict
         ensures { result ≡ verdict_of_signature self.now }
     {
@@ -97,7 +97,7 @@ impl<A: Allocator> SignatureReport<A> {
 }
 
 impl<A: Allocator> Parts<A> {
-    // Whether all parts are sound. Relocations that were not read follow from the sections.
+    // Returns the verdict on all parts. If the relocations were not read, the sections decide.
     fn verdict(&self) -> Verdict
         ensures { result ≡ verdict_of_parts self.now }
     {
@@ -114,7 +114,7 @@ impl<A: Allocator> Parts<A> {
             .and(readable)
     }
 
-    // Whether the sections and the relocations are sound.
+    // Returns the verdict on the sections and the relocations.
     fn read_verdict(&self) -> Verdict
         ensures { result ≡ verdict_of_read self.now.sections self.now.relocations }
     {
@@ -126,7 +126,7 @@ impl<A: Allocator> Parts<A> {
 }
 
 impl<A: Allocator> ImageReport<A> {
-    // Whether the image is sound.
+    // Returns the verdict on the image.
     fn verdict(&self) -> Verdict
         ensures { result ≡ verdict_of_image self.now }
     {
@@ -138,7 +138,7 @@ impl<A: Allocator> ImageReport<A> {
 }
 
 impl<A: Allocator> EntryReport<A> {
-    // Whether the entry is sound.
+    // Returns the verdict on the entry.
     fn verdict(&self) -> Verdict
         ensures { result ≡ verdict_of_entry self.now }
     {
@@ -150,14 +150,14 @@ impl<A: Allocator> EntryReport<A> {
 }
 
 impl<A: Allocator> FatReport<A> {
-    // Whether the fat file is sound.
+    // Returns the verdict on the fat file.
     fn verdict(&self) -> Verdict
         ensures { result ≡ verdict_of_fat self.now }
     {
         layout_verdict(self.container.as_slice()).and(self.table_verdict())
     }
 
-    // Whether its table can be read, it has entries, and these are sound.
+    // Returns the verdict on the table and the entries: faulty if the table can't be read, or it has no entries.
     fn table_verdict(&self) -> Verdict
         ensures { result ≡ verdict_of_table self.now }
     {
@@ -173,7 +173,7 @@ impl<A: Allocator> FatReport<A> {
     }
 }
 
-// Whether faults of layout are none.
+// Returns the verdict on faults of layout.
 fn layout_verdict(faults: &[LayoutFault]) -> Verdict
     ensures { result ≡ verdict_of_layout faults.now }
 {
@@ -183,7 +183,7 @@ fn layout_verdict(faults: &[LayoutFault]) -> Verdict
     }
 }
 
-// Whether some entries are sound together.
+// Returns the verdict on some entries.
 fn entries_verdict<A: Allocator>(entries: &[EntryReport<A>]) -> Verdict
     ensures { result ≡ verdict_of_entries entries.now }
 {
@@ -195,7 +195,7 @@ fn entries_verdict<A: Allocator>(entries: &[EntryReport<A>]) -> Verdict
 }
 
 impl<A: Allocator> Report<A> {
-    /// Whether the file is sound.
+    /// Returns the verdict on the file.
     pub fn verdict(&self) -> Verdict
         ensures { result ≡ verdict_of_report self.now }
     {

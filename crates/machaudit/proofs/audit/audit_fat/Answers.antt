@@ -25,7 +25,7 @@ returns-in-Err-clause-judged g c =
 pub loop-index-init : goal.loop-index-init
 loop-index-init g c = rw c.new-entries.ensures.items ((λ _. tt), no_entries_judged c.args.limit (file_held c.args.container.now), refl)
 
--- the entries that are gone over, by the file's own bytes and records
+-- the entries that are audited, by the file's own bytes and records
 gone_over : (file : FatFile) (limit most : ℕ) (bytes : List ℕ) (archs xs : List FatArch) → bytes ≡ file.bytes → archs ≡ xs
     → AreGoneOver Any limit bytes archs most → AreGoneOver Any limit file.bytes xs most
 gone_over file limit most bytes archs xs same_bytes same gone =
