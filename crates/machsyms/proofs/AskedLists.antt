@@ -1,4 +1,4 @@
--- The symbols that are asked for.
+-- The selected symbols.
 use Rattle.std.proofs.Common.{◌≡◌, ◌∷◌, ◌∙◌, ℕ, List, Bool, true, false, cond, Result, ap}
 use Rattle.std.specs.List.{filter}
 use Rattle.mach_base.specs.Fault.{Fault}
@@ -7,13 +7,13 @@ use Rattle.machsyms.specs.Asked.{takes}
 use Rattle.machsyms.specs.declared.selection.Asked.{Asked}
 
 module _ (a : Asked) where
-  -- one that isn't
+  -- the next symbol isn't selected
   pub asked_skips : (symbols : List (Result (List ℕ × Nlist) Fault)) (x : Result (List ℕ × Nlist) Fault) (rest : List (Result (List ℕ × Nlist) Fault))
       → symbols ≡ x ∷ rest → takes a x ≡ false → filter (takes a) symbols ≡ filter (takes a) rest
   asked_skips symbols x rest is off =
       ap (filter (takes a)) is ∙ ap (λ (b : Bool). cond b (x ∷ filter (takes a) rest) (filter (takes a) rest)) off
 
-  -- one that is
+  -- the next symbol is selected
   pub asked_takes : (symbols : List (Result (List ℕ × Nlist) Fault)) (x : Result (List ℕ × Nlist) Fault) (rest : List (Result (List ℕ × Nlist) Fault))
       → symbols ≡ x ∷ rest → takes a x ≡ true → filter (takes a) symbols ≡ x ∷ filter (takes a) rest
   asked_takes symbols x rest is on =

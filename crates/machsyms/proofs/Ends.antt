@@ -1,4 +1,4 @@
--- A text without an end, and the parts around a byte.
+-- A text without a suffix, and the parts around a byte.
 use Rattle.std.proofs.Common.{◌≡◌, ◌++◌, ◌∙◌, [], ℕ, ◌+◌, ◌-◌, ◌≤◌, ◌<◌, List, Option, Bool, true, false, length, take, drop, get_or, refl, sym, ap, arith}
 use Rattle.std.proofs.lemmas.Bool.{cond-true, cond-false, ne_eqb, eq-eqb}
 use Rattle.std.proofs.lemmas.List.{take-append-drop, get_or-drop, length-drop}
@@ -19,7 +19,7 @@ never_so : (b : Bool) → (b ≡ true → ⊥) → b ≡ false
 never_so true never = absurd (never refl)
 never_so false never = refl
 
--- what `strip_suffix` says
+-- what `strip_suffix` returns
 pub end_cut : (end text : List ℕ) (r : Option (Bor (List ℕ)))
     → MatchOption r (FindsTextSuffix end text None) (λ x. StripsSuffix (FindsTextSuffix end) text x.now)
     → option_map (λ x. x.now) r ≡ cut_end end text
@@ -38,7 +38,7 @@ end_cut end text (Some x) h =
     let back : drop k text ≡ end = ap (drop k) split ∙ ap (λ n. drop n (front ++ end)) (sym long) ∙ drop-append_seam front end in
     ap (λ t. Some t) there ∙ sym (cond-true (bytes_eq (drop k text) end) (Some front) None ((bytes_eq-Decides (drop k text) end).1 back))
 
--- what `rsplit_once` says of a byte that is a character
+-- what `rsplit_once` returns for a byte that is a character
 module _ (c : ℕ) (text : List ℕ) (low : c < 128) where
   pub no_parts : RFindsChar c text None → (part_behind c text ≡ text) × (part_before c text ≡ [])
   no_parts none =

@@ -9,7 +9,7 @@ use Rattle.machsyms.specs.declared.selection.SortedBy.{SortedBy}
 use Rattle.machsyms.specs.declared.order.SortKey.{SortKey}
 
 module _ (by : SortedBy) (t : SymbolTable) where
-  -- those of the symbols from a number on
+  -- the keys of the symbols from a number on
   abbrev pub keys_behind : ℕ → List SymbolKey
   keys_behind i = items_from (λ k. symbol_key_of by k (symbol_at t k)) i (t.nsyms - i)
 

@@ -30,7 +30,7 @@ use Rattle.machsyms.specs.declared.selection.Form.TheVariants.{Letters, Names, H
 
 -- ---- letters
 
--- a character of ASCII that is no control character
+-- an ASCII character that is no control character
 abbrev IsLetter : ℕ → Type 0
 IsLetter c = (0x20 ≤ c) × (c < 0x7f)
 
@@ -98,7 +98,7 @@ no_feed-symbol_letter xs s =
     no_feed-letter (symbol_letter (map letter_of xs) s)
     (letter-if _ _ _ (letter-type xs s) (letter-upper (type_letter (map letter_of xs) s) (letter-type xs s)))
 
--- ---- entries for a debugger
+-- ---- debugging entries
 
 no_feed-repeat : (n : ℕ) (text : List ℕ) → has_no_feed text ≡ true → has_no_feed (repeat n text) ≡ true
 no_feed-repeat zero text h = refl
@@ -108,7 +108,7 @@ no_feed-cons : (b : ℕ) (text : List ℕ) → has_no_feed (b ∷ text) ≡ true
 no_feed-cons b text h = elim (b == 0x0a) as (λ (t : Bool). (not t && list_all (λ c. not (c == 0x0a)) text) ≡ true
     → ((not t && true) ≡ true) × (list_all (λ c. not (c == 0x0a)) text ≡ true)) [ true ↦ λ e. cc | false ↦ λ e. (refl, e) ] h
 
--- of the first characters of a text
+-- the first characters of a text have no line feed
 no_feed-take_chars : (n : ℕ) (text : List ℕ) → has_no_feed text ≡ true → has_no_feed (take_chars n text) ≡ true
 unfolding take_chars
 no_feed-take_chars n [] h = refl
@@ -122,7 +122,7 @@ no_feed-take_chars n (b ∷ text) h =
 no_feed-space : has_no_feed (encode_utf8 32) ≡ true
 no_feed-space = no_feed-letter 32 (omega arith, omega arith)
 
--- of a text with blanks before it
+-- a text with leading blanks has no line feed
 no_feed-right : (width : ℕ) (text : List ℕ) → has_no_feed text ≡ true → has_no_feed (right width text) ≡ true
 unfolding padded
 no_feed-right width text h =

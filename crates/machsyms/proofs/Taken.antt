@@ -1,4 +1,4 @@
--- Sections, of which no more are kept than a symbol can name.
+-- Sections, no more of which are kept than a symbol can name.
 use Rattle.std.proofs.Common.{◌≡◌, ◌++◌, ◌∷◌, [], ◌∙◌, ℕ, ◌+◌, zero, suc, ◌≤◌, ◌<◌, List, Option, length, take, drop, get_or, refl, sym, ap, map, arith}
 use Rattle.std.proofs.lemmas.List.{append_assoc, take_all, take-append-le, map-append, at_drop_more}
 use Rattle.std.specs.List.{flat_map}
@@ -7,7 +7,7 @@ use Rattle.mach_parts.specs.declared.segment.Segment.{Segment}
 use Rattle.mach_parts.specs.declared.segment.section.Section.{Section}
 use Rattle.machsyms.specs.Letters.{item_section}
 
--- what was cut off before doesn't come back
+-- taking n again after appending to the first n
 pub take-take_append : {A : Type 0} (n : ℕ) (xs ys : List A) → take n (take n xs ++ ys) ≡ take n (xs ++ ys)
 take-take_append zero xs ys = refl
 take-take_append (suc n) [] ys = refl
@@ -18,7 +18,7 @@ length-take-bound zero xs = omega arith
 length-take-bound (suc n) [] = omega arith
 length-take-bound (suc n) (x ∷ xs) = omega (arith, length-take-bound n xs)
 
--- of a full list nothing is added
+-- nothing is added to a full list
 pub take-full : {A : Type 0} (n : ℕ) (xs ys : List A) → length xs ≤ n → n ≤ length xs → take n (xs ++ ys) ≡ xs
 take-full n xs ys few full = take-append-le n xs ys full ∙ take_all n xs few
 
@@ -26,7 +26,7 @@ take-full n xs ys few full = take-append-le n xs ys full ∙ take_all n xs few
 abbrev pub sections_with : List (Option Section) → List Segment → List (Option Section)
 sections_with front left = take 255 (front ++ map item_section (flat_map sections_of (map segment_view left)))
 
--- those of one more segment
+-- the sections of one more segment
 pub sections-more : (segments : List Segment) (i : ℕ) (d : Segment) (old new : List (Option Section)) → i < length segments
     → new ≡ take 255 (old ++ map item_section (sections_of (segment_view (get_or segments i d))))
     → sections_with new (drop (i + 1) segments) ≡ sections_with old (drop i segments)

@@ -19,7 +19,7 @@ pub ok_more : {X E : Type 0} (P Q : X → Type 0) (r : Result X E) → ((x : X) 
 ok_more P Q (Ok x) more p = more x p
 ok_more P Q (Err e) more p = p
 
--- no line of no symbols
+-- there are no lines of no symbols
 pub no_symbols : (word name : List ℕ) (limit left : ℕ) (known : Option (List ℕ)) → WritesFirstLines word limit left [] name 0 true left known known
 no_symbols word name limit left known =
     let over : nat_lt left 0 ≡ false = le-ltb left 0 (omega arith) in
@@ -39,7 +39,7 @@ no_symbols word name limit left known =
       written = Appends-none known;
     }
 
--- the members of one list, and what is said of those past the end
+-- the members of one list, and the number of items past the end
 pub list_and_past : (left : ℕ) (l : NamedRows) (past : ℕ) (t : Told) (whole : Bool) (rest : ℕ) (old middle new : Option (List ℕ))
     → WritesMember l.name left l.rows old middle t → (whole ≡ ((t.whole && not t.more) && (past == 0))) × (rest ≡ t.left)
     × Appends middle new (lists_end_past t.more past) → WritesSymbolMembers left (l ∷ []) past whole rest old new

@@ -1,4 +1,4 @@
--- Which symbols are asked for (`mach-o/nlist.h`).
+-- Which symbols are selected (`mach-o/nlist.h`).
 use Rattle.std.specs.Prelude.{◌==◌, ℕ, List, Bool, true, false, not, ◌&&◌, ◌||◌, Result, Ok, Err, if◌then◌else◌}
 use Rattle.mach_base.specs.Fault.{Fault}
 use Rattle.mach_parts.specs.Symbols.{type_of, is_stab}
@@ -6,15 +6,15 @@ use Rattle.mach_parts.specs.declared.symbols.nlist.Nlist.{Nlist}
 use Rattle.machsyms.specs.Letters.{is_local}
 use Rattle.machsyms.specs.declared.selection.Asked.{Asked}
 
--- another image defines it: of type N_UNDF, known outside the image, and without a value
+-- another image defines it: of type N_UNDF, external, and without a value
 abbrev pub is_elsewhere : Nlist → Bool
 is_elsewhere s =
     if is_stab s then false
     else (if is_local s then false
     else (type_of s.n_type == 0) && (s.n_value == 0))
 
--- Entries for a debugger are asked for by a word of their own; the others leave out what isn't known outside the image, what the image
--- defines, and what it doesn't.
+-- Debugging entries have an option of their own. The other options leave out symbols that aren't external, that the image
+-- defines, or that it doesn't.
 abbrev pub takes_symbol : Asked → Nlist → Bool
 takes_symbol a s =
     (a.has_stabs || not (is_stab s))
@@ -22,7 +22,7 @@ takes_symbol a s =
     && ((not a.is_undefined || is_elsewhere s)
     && (not a.is_defined || not (is_elsewhere s))))
 
--- one that can't be read is always asked for
+-- a symbol that can't be read is always selected
 abbrev pub takes : Asked → Result (List ℕ × Nlist) Fault → Bool
 takes a (Ok found) = takes_symbol a found.1
 takes a (Err f) = true

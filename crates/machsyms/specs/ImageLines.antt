@@ -1,4 +1,4 @@
--- The lines that the program shows of an image.
+-- The lines that the program prints of an image.
 use Rattle.std.specs.Prelude.{◌≡◌, ℕ, List, [], codes, Bool, Option, Some, None, IsTrue, ◌↔◌}
 use Rattle.mach_base.specs.declared.context.Container.TheVariants.{Big}
 use Rattle.mach_parts.specs.Symbols.{SymbolTable, begun_of}
@@ -12,16 +12,16 @@ use Rattle.machsyms.specs.declared.selection.Asked.{Asked}
 use Rattle.machsyms.specs.declared.selection.Sorting.{Sorting}
 use Rattle.machsyms.specs.declared.order.SortKey.{SortKey}
 
--- These are the keys of the symbols that a table has within the bytes, in an order that sorts them; none are where they stay as they stand.
+-- These are the keys of the table's symbols within the bytes, sorted; there are none if the symbols stay in table order.
 abbrev pub AreImageKeys : Option Sorting → Option SymbolTable → List SortKey → Type 0
 AreImageKeys None table keys = keys ≡ []
 AreImageKeys (Some sorting) None keys = keys ≡ []
 AreImageKeys (Some sorting) (Some t) keys = AreKeysInOrder sorting (begun_of t) keys
 
--- The text is the lines of the image at the front of the bytes: one for each symbol that is asked for of those of its table whose records begin
--- within the bytes, in the order that is asked for, with the letters of its sections; of these the first ones, as many as are left of the limit, and
--- where there are more, a line that says so; and one for all whose records don't. It is whole where there are none of these, no more than are left, and
--- none that can't be read. `rest` are left behind it.
+-- The text is the lines of the image at the start of the bytes. It has a line for each selected symbol of its table whose record
+-- begins within the bytes, in the selected order, with the letters of its sections: the first ones, as many as are left of the
+-- limit. A line follows if there are more, and one for all symbols whose records don't begin within the bytes. It is whole if
+-- there are none of these, no more than are left, and none that can't be read. Of the limit `rest` are left after it.
 pub record AreImageSymbolLines (a : Asked) (limit left : ℕ) (bytes : List ℕ) (text : List ℕ) (whole : Bool) (rest : ℕ) : Type 0 where
   pub opens : Opens bytes 0
   pub facts : Facts

@@ -32,24 +32,24 @@ symbol_object name s =
     ++ (decimal s.n_value
     ++ codes "}")))))))))
 
--- that of a symbol, or why it can't be read
+-- the object of a symbol, or the fault if it can't be read
 abbrev pub symbol_told : Result (List ℕ × Nlist) Fault → Result (List ℕ) Fault
 symbol_told symbol = told_by (λ found. symbol_object found.0 found.1) symbol
 
--- the list of those of the symbols that are asked for, with the name of its member
+-- the list of the selected symbols, with the name of its member
 abbrev pub symbol_members : Asked → List (Result (List ℕ × Nlist) Fault) → List NamedRows
 symbol_members a symbols = record { name = codes "symbols"; rows = map symbol_told (filter (takes a) symbols) } ∷ []
 
--- Such members were written.
+-- These members were written.
 pub record WritesSymbolMembers (left : ℕ) (lists : List NamedRows) (past : ℕ) (whole : Bool) (rest : ℕ) (old new : Option (List ℕ)) : Type 0 where
   pub text : List ℕ
   pub members : AreBegunMembers left lists past text whole rest
   pub written : Appends old new text
 
--- The text is the members of the image at the front of the bytes: exactly an object for each symbol that is asked for of those of its table whose
--- records begin within the bytes, in the order that is asked for; of these the first ones, as many as are left of the limit, whether there are more, and
--- how many symbols' records don't begin there. It is whole where there are none of these, no more than are left, and none that can't be read. `rest` are
--- left behind it.
+-- The text is the members of the image at the start of the bytes. It has exactly one object for each selected symbol of its table
+-- whose record begins within the bytes, in the selected order: the first ones, as many as are left of the limit; whether there
+-- are more; and how many symbols' records don't begin there. It is whole if there are none of these, no more than are left, and
+-- none that can't be read. Of the limit `rest` are left after it.
 pub record AreImageSymbolMembers (a : Asked) (left : ℕ) (bytes : List ℕ) (text : List ℕ) (whole : Bool) (rest : ℕ) : Type 0 where
   pub opens : Opens bytes 0
   pub facts : Facts

@@ -1,4 +1,4 @@
--- What the words of a call say, as those of `nm`.
+-- What the options of a call select, as those of `nm` do.
 use Rattle.std.specs.Prelude.{◌==◌, ℕ, List, codes, Bool, true, false, Option, Some, None, if◌then◌else◌}
 use Rattle.std.specs.Borrow.{Bor}
 use Rattle.machsyms.specs.Letters.{letter}
@@ -8,7 +8,7 @@ use Rattle.machsyms.specs.declared.selection.Form.TheVariants as forms
 use Rattle.machsyms.specs.declared.selection.SortedBy.TheVariants as sorted
 use Rattle.machsyms.specs.declared.words.Letters.{Letters}
 
--- what letters say with one more, and whether it says something
+-- the letters with one more, and whether it is a known one
 abbrev pub letter_taken : Letters → ℕ → Letters × Bool
 letter_taken l c =
     if c == letter (codes "a") then (record l { asked = record l.asked { has_stabs = true } }, true)
@@ -25,7 +25,7 @@ letter_taken l c =
     else (if c == letter (codes "o") then (record l { has_file = true }, true)
     else (l, false))))))))))))
 
--- the form of lines: of undefined symbols the names alone, where no letter says otherwise
+-- the form of lines: of undefined symbols the names alone, unless a letter selects another form
 abbrev pub form_of_letters : Form → (is_undefined is_hexadecimal : Bool) → Form
 form_of_letters forms.Letters true is_hexadecimal = forms.Names
 form_of_letters forms.Letters false is_hexadecimal = if is_hexadecimal then forms.Hexadecimal else forms.Letters
@@ -33,7 +33,7 @@ form_of_letters forms.Words is_undefined is_hexadecimal = if is_hexadecimal then
 form_of_letters forms.Names is_undefined is_hexadecimal = forms.Names
 form_of_letters forms.Hexadecimal is_undefined is_hexadecimal = forms.Hexadecimal
 
--- what letters ask for of a file: no order, where one says so
+-- what letters select of a file; no order if a letter says so
 abbrev pub asked_by : Letters → (is_raw : Bool) → Bor (List ℕ) → Asked
 asked_by l is_raw file = record l.asked {
   sorting = if l.is_plain then None else Some l.sorting;
@@ -42,7 +42,7 @@ asked_by l is_raw file = record l.asked {
   is_raw = is_raw;
 }
 
--- all symbols as they are in the table, where there are no letters
+-- all symbols in table order, if there are no letters
 abbrev pub asked_of : Option Letters → (is_raw : Bool) → Bor (List ℕ) → Asked
 asked_of None is_raw file = record {
   has_stabs = true;

@@ -1,4 +1,4 @@
--- The letters by which `nm` tells what a symbol is (`mach-o/nlist.h`).
+-- The letters that `nm` prints for what a symbol is (`mach-o/nlist.h`).
 use Rattle.std.specs.Prelude.{◌==◌, ℕ, zero, suc, List, codes, take, map, slice_index, slice_get, bit_and, unwrap_or, Bool, false, ◌&&◌, Option, Some, None}
 use Rattle.std.specs.Prelude.{Result, Ok, Err}
 use Rattle.std.specs.Option.{option_flatten}
@@ -33,7 +33,7 @@ section_letter s =
     else (if is_called (codes "__DATA") (codes "__bss") s then letter (codes "b")
     else letter (codes "s")))
 
--- the sections over all segments, as many as a symbol can name: MAX_SECT. None stands for one that can't be read.
+-- the sections of all segments, as many as a symbol can name (MAX_SECT); None is one that can't be read
 abbrev pub item_section : Result (Section × List ℕ) Fault → Option Section
 item_section (Ok found) = Some found.0
 item_section (Err f) = None
@@ -41,12 +41,12 @@ item_section (Err f) = None
 abbrev pub named_sections : List SegmentView → List (Option Section)
 named_sections segments = take 255 (map item_section (flat_map sections_of segments))
 
--- the section of a number, counted from 1, if it is among these and can be read
+-- the section with a number, counted from 1, if it is among these and can be read
 abbrev pub section_by : List (Option Section) → ℕ → Option Section
 section_by sections zero = None
 section_by sections (suc index) = option_flatten (slice_get sections index)
 
--- one that can't be read has the letter of any other
+-- a section that can't be read has the letter of any other
 abbrev pub letter_of : Option Section → ℕ
 letter_of None = letter (codes "s")
 letter_of (Some s) = section_letter s
@@ -59,11 +59,11 @@ abbrev pub letter_at : List ℕ → ℕ → ℕ
 letter_at sections zero = letter (codes "s")
 letter_at sections (suc index) = unwrap_or (slice_get sections index) (letter (codes "s"))
 
--- not known outside the image: the bit N_EXT is 0
+-- not external: the bit N_EXT is 0
 abbrev pub is_local : Nlist → Bool
 is_local s = bit_and s.n_type 0x1 == 0
 
--- the letter of a type: N_UNDF is undefined, or common where it has a value; N_ABS, N_INDR, N_SECT
+-- the letter of a type: N_UNDF is undefined, or common if it has a value; N_ABS, N_INDR, N_SECT
 abbrev pub type_letter : List ℕ → Nlist → ℕ
 type_letter sections s =
     let kind = type_of s.n_type in
@@ -73,6 +73,6 @@ type_letter sections s =
     else (if kind == 0xe then letter_at sections s.n_sect
     else letter (codes "?"))))
 
--- the letter of a symbol: a capital where it is known outside the image
+-- the letter of a symbol, a capital if it is external
 abbrev pub symbol_letter : List ℕ → Nlist → ℕ
 symbol_letter sections s = if is_local s then type_letter sections s else to_ascii_uppercase (type_letter sections s)

@@ -1,4 +1,4 @@
--- The lines that are printed of symbols, as `nm` prints them.
+-- The lines of symbols, as `nm` prints them.
 use Rattle.std.specs.Prelude.{◌==◌, ℕ, ◌-◌, ◌^◌, List, [], ◌++◌, codes, map, Bool, true, false, Option, Some, None, Result}
 use Rattle.std.specs.Prelude.{if◌then◌else◌}
 use Rattle.std.specs.Char.{encode_utf8}
@@ -18,19 +18,19 @@ use Rattle.machsyms.specs.declared.selection.Asked.{Asked}
 use Rattle.machsyms.specs.declared.selection.Form.{Form}
 use Rattle.machsyms.specs.declared.selection.Form.TheVariants.{Letters, Names, Hexadecimal, Words}
 
--- a number in `width` hexadecimal digits, zeros before it
+-- a number in `width` hexadecimal digits, with leading zeros
 abbrev pub padded_hex : ℕ → ℕ → List ℕ
 padded_hex width n = padded_integral (format_spec 32 0 4 width (2 ^ 64 - 1)) false [] (digits 16 false n)
 
--- a text with blanks before it, up to a width
+-- a text with leading blanks, up to a width
 abbrev pub right : ℕ → List ℕ → List ℕ
 right width text = padded (format_spec 32 3 0 width (2 ^ 64 - 1)) text
 
--- the value that is printed, if any is
+-- the value that is printed, if one is
 abbrev pub value_shown : Nlist → Option ℕ
 value_shown s = if is_elsewhere s then None else Some s.n_value
 
--- a value in 16 digits, or 8 in a 32-bit image; as many blanks for none
+-- a value in 16 digits, or 8 in a 32-bit image; as many blanks if there is none
 abbrev pub value_text : (is_64 : Bool) → Option ℕ → List ℕ
 value_text true (Some value) = padded_hex 16 value
 value_text false (Some value) = padded_hex 8 value
@@ -42,57 +42,57 @@ abbrev pub stab_text : ℕ → Option (List ℕ) → List ℕ
 stab_text n_type (Some name) = right 5 name
 stab_text n_type None = codes "   " ++ padded_hex 2 n_type
 
--- what the symbol is: its letter, or of an entry for a debugger the section's number, the flags and the type
+-- what the symbol is: its letter, or for a debugging entry the section's number, the flags and the type
 abbrev pub kind_text : List ℕ → Nlist → List ℕ
 kind_text sections s =
     if is_stab s then codes "- " ++ padded_hex 2 s.n_sect ++ codes " " ++ padded_hex 4 s.n_desc ++ codes " " ++ stab_text s.n_type (stab_name s.n_type)
     else encode_utf8 (symbol_letter sections s)
 
--- a symbol with its name as it is printed, over the letters of sections
+-- a symbol with its name as it is printed, given the letters of sections
 abbrev pub letter_text : (is_64 : Bool) → (letters name : List ℕ) → Nlist → List ℕ
 letter_text is_64 letters name s = value_text is_64 (value_shown s) ++ codes " " ++ kind_text letters s ++ codes " " ++ name
 
--- a symbol in words; an entry for a debugger as it is shown elsewhere
+-- a symbol in words; a debugging entry as in the other forms
 abbrev pub words_text : (is_raw : Bool) → SymbolSetting → List ℕ → Nlist → List ℕ
 words_text is_raw w name s =
     if is_stab s then letter_text w.is_64 w.letters (name_shown is_raw name) s
     else value_text w.is_64 (value_shown s) ++ codes " " ++ symbol_described is_raw w name s
 
--- the fields of its record but the value: type, section, flags, and the place of its name
+-- the fields of its record but the value: type, section, flags, and the offset of its name
 abbrev pub fields_text : Nlist → List ℕ
 fields_text s =
     padded_hex 2 s.n_type ++ codes " " ++ padded_hex 2 s.n_sect ++ codes " " ++ padded_hex 4 s.n_desc ++ codes " " ++ padded_hex 8 s.n_strx
 
--- a symbol in the form that is asked for, with names on one line or as they are
+-- a symbol in the selected form, with its name escaped or as it is
 abbrev pub form_text : Form → (is_raw : Bool) → SymbolSetting → List ℕ → Nlist → List ℕ
 form_text Letters is_raw w name s = letter_text w.is_64 w.letters (name_shown is_raw name) s
 form_text Words is_raw w name s = words_text is_raw w name s
 form_text Names is_raw w name s = name_shown is_raw name
 form_text Hexadecimal is_raw w name s = value_text w.is_64 (Some s.n_value) ++ codes " " ++ fields_text s ++ codes " " ++ name_shown is_raw name
 
--- the name of the file before a line, if it is asked for
+-- the name of the file before a line, if it is selected
 abbrev pub file_text : (is_raw : Bool) → Option (Bor (List ℕ)) → List ℕ
 file_text is_raw None = []
 file_text is_raw (Some file) = name_shown is_raw file.now ++ codes ": "
 
--- what is printed of a symbol with its name
+-- the line of a symbol with its name
 abbrev pub line_text : Asked → SymbolSetting → List ℕ × Nlist → List ℕ
 line_text a w found = file_text a.is_raw a.file ++ form_text a.form a.is_raw w found.0 found.1
 
--- the word before the reason why a symbol can't be read
+-- the word before the error of a symbol that can't be read
 abbrev pub unreadable_word : Asked → List ℕ
 unreadable_word a = file_text a.is_raw a.file ++ codes "unreadable"
 
--- the lines of the symbols that are asked for, each or why there is none
+-- the lines of the selected symbols; a fault stays in its place
 abbrev pub asked_lines : Asked → SymbolSetting → List (Result (List ℕ × Nlist) Fault) → List (Result (List ℕ) Fault)
 asked_lines a w symbols = map (told_by (line_text a w)) (filter (takes a) symbols)
 
--- how many symbols of a table have no byte of their record within the bytes
+-- how many symbols of a table have records that don't begin within the bytes
 abbrev pub past_the_end : Option SymbolTable → ℕ
 past_the_end None = 0
 past_the_end (Some t) = t.nsyms - (begun_of t).nsyms
 
--- The symbols of a table whose records begin within the bytes, as a list goes over those of a table.
+-- The symbols of a table whose records begin within the bytes, as `list` lists the symbols of a table.
 abbrev pub symbols_over : (SymbolTable → List (Result (List ℕ × Nlist) Fault)) → Option SymbolTable → List (Result (List ℕ × Nlist) Fault)
 symbols_over list None = []
 symbols_over list (Some t) = list (begun_of t)

@@ -1,4 +1,4 @@
--- What is left of the symbols that are asked for.
+-- What is left of the selected symbols.
 use Rattle.std.specs.Prelude.{ℕ, List, drop, map, Result}
 use Rattle.std.specs.List.{filter}
 use Rattle.mach_base.specs.Fault.{Fault}
@@ -25,7 +25,7 @@ abbrev pub source_left : Source → List (Result (List ℕ × Nlist) Fault)
 source_left (Table symbols) = symbols_left symbols
 source_left (Keys keyed) = keyed_left keyed
 
--- those that are left
+-- the selected symbols that are left
 abbrev pub asked_left : AskedSymbols → List (Result (List ℕ × Nlist) Fault)
 asked_left s = filter (takes s.asked) (source_left s.source)
 
@@ -33,18 +33,18 @@ asked_left s = filter (takes s.asked) (source_left s.source)
 abbrev pub symbol_objects_left : AskedSymbols → List (Result (List ℕ) Fault)
 symbol_objects_left s = map symbol_told (asked_left s)
 
--- the object of a symbol that is there
+-- the object of a symbol that can be read
 abbrev pub symbol_row_text : SymbolRow → List ℕ
 symbol_row_text row = symbol_object row.name.now row.symbol
 
--- the lines of those that are left
+-- the lines of the symbols that are left
 abbrev pub lines_left : {A : Type 0} → SymbolLines A → List (Result (List ℕ) Fault)
 lines_left l = map (told_by (line_text l.asked (setting_view l.setting.now))) (asked_left l.symbols)
 
--- how many symbols more begin past the end
+-- how many more symbols begin past the end of the bytes
 abbrev pub lines_past : {A : Type 0} → SymbolLines A → ℕ
 lines_past l = l.past
 
--- the line of a symbol that is there
+-- the line of a symbol that can be read
 abbrev pub symbol_line_text : {A : Type 0} → SymbolText A → List ℕ
 symbol_line_text t = line_text t.asked (setting_view t.setting.now) (t.name.now, t.symbol)

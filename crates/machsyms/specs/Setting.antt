@@ -1,4 +1,4 @@
--- What the lines of symbols tell of their image.
+-- What the lines of symbols need of their image.
 use Rattle.std.specs.Prelude.{ℕ, List, Bool, Option}
 use Rattle.mach_base.specs.Text.{texts}
 use Rattle.mach_parts.specs.declared.segment.section.Section.{Section}
@@ -19,7 +19,7 @@ pub record SymbolSetting : Type 0 where
   pub flags : ℕ
   pub libs : List (List ℕ)
 
--- that of an image of either width, by what is told of it
+-- the setting of an image of either width, from its facts
 abbrev pub setting_of : (is_64 : Bool) → Facts → SymbolSetting
 setting_of is_64 f =
     record {
@@ -42,7 +42,7 @@ setting_view s =
       libs = texts s.image.now.libs.items;
     }
 
--- what is said in words of a symbol of this name
+-- the words for a symbol of this name
 abbrev pub symbol_described : (is_raw : Bool) → SymbolSetting → List ℕ → Nlist → List ℕ
 symbol_described is_raw w name s =
     symbol_words is_raw (section_by w.sections s.n_sect) w.filetype name (origin_said is_raw s.n_desc (symbol_provider_of w.flags w.libs s)) s

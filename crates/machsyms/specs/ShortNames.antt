@@ -1,13 +1,13 @@
--- The short name of a library, as `nm -m` guesses it from the path by which the library is known.
+-- The short name of a library, as `nm -m` guesses it from the library's path.
 use Rattle.std.specs.Prelude.{◌==◌, ◌&&◌, ◌||◌, ℕ, ◌-◌, List, [], codes, take, drop, length, Bool, false, not, Option, Some, None, if◌then◌else◌}
 use Rattle.std.specs.List.{suffix_len}
 use Rattle.std.specs.Str.{bytes_eq}
 
--- a text without this end, if it has it
+-- a text without this suffix, if it has it
 abbrev pub cut_end : (end text : List ℕ) → Option (List ℕ)
 cut_end end text = if bytes_eq (drop (length text - length end) text) end then Some (take (length text - length end) text) else None
 
--- What stands behind the last byte c of a text: all of it where it has none. And what stands before that byte: then nothing.
+-- The part of a text after its last byte c: all of it if it has none. And the part before that byte: then empty.
 abbrev pub is_other : (c : ℕ) → ℕ → Bool
 is_other c byte = not (byte == c)
 
@@ -24,7 +24,7 @@ last_part path = part_behind 0x2f path
 abbrev pub folder_part : List ℕ → List ℕ
 folder_part path = part_before 0x2f path
 
--- a name without the end that says for what it was built
+-- a name without the suffix of its build variant
 abbrev pub without_either : Option (List ℕ) → Option (List ℕ) → List ℕ → List ℕ
 without_either (Some front) other name = front
 without_either None (Some front) name = front
@@ -47,32 +47,32 @@ in_framework base folder =
     is_framework base (last_part folder)
     || (bytes_eq (last_part (folder_part folder)) (codes "Versions") && is_framework base (last_part (folder_part (folder_part folder))))
 
--- a name without the letter of a version behind its last dot: libFoo.A
+-- a name without the version letter after its last dot: libFoo.A
 abbrev pub unversioned : List ℕ → List ℕ
 unversioned name =
     if (length (part_behind 0x2e name) == 1) && not (length (part_before 0x2e name) == 0) then part_before 0x2e name
     else name
 
--- a text, or another where it is empty
+-- a text, or another if it is empty
 abbrev pub or_if_empty : (text other : List ℕ) → List ℕ
 or_if_empty text other = if length text == 0 then other else text
 
--- of libFoo.A.dylib, libFoo_debug.A.dylib or libFoo.A_debug.dylib, whose path without `.dylib` this is
+-- the name of libFoo.A.dylib, libFoo_debug.A.dylib or libFoo.A_debug.dylib; `stem` is the path without `.dylib`
 abbrev pub dylib_name : List ℕ → List ℕ
 dylib_name stem = unversioned (or_if_empty (unsuffixed (last_part (unversioned stem))) (last_part (unversioned stem)))
 
--- of a file by the path without `.dylib` or `.qtx`, if it ends so
+-- the name of a file, given its path without `.dylib` or without `.qtx`, if it ends so
 abbrev pub guessed_file : Option (List ℕ) → Option (List ℕ) → List ℕ
 guessed_file (Some stem) other = dylib_name stem
 guessed_file None (Some stem) = unversioned (last_part stem)
 guessed_file None None = []
 
--- of a framework or of a file
+-- the name of a framework or of a file
 abbrev pub guessed_name : List ℕ → List ℕ
 guessed_name path =
     if in_framework (unsuffixed (last_part path)) (folder_part path) then unsuffixed (last_part path)
     else guessed_file (cut_end (codes ".dylib") path) (cut_end (codes ".qtx") path)
 
--- the whole path where nothing is guessed
+-- the whole path if nothing is guessed
 abbrev pub short_library_name : List ℕ → List ℕ
 short_library_name path = or_if_empty (guessed_name path) path

@@ -1,4 +1,4 @@
--- The names by which `nm` shows entries for a debugger (`mach-o/stab.h`).
+-- The names that `nm` prints for debugging entries (`mach-o/stab.h`).
 use Rattle.std.specs.Prelude.{◌==◌, ℕ, List, [], ◌∷◌, codes, Option, Some, None, if◌then◌else◌}
 use Rattle.mach_base.specs.Named.{Named}
 

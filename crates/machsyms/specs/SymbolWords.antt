@@ -1,4 +1,4 @@
--- What `nm -m` says of a symbol (`mach-o/nlist.h`).
+-- The words of `nm -m` for a symbol (`mach-o/nlist.h`).
 use Rattle.std.specs.Prelude.{◌==◌, ◌&&◌, ◌||◌, ℕ, ◌/◌, List, [], ◌++◌, codes, bit_and, Bool, not, Option, Some, None, option_map, Result, Ok, Err}
 use Rattle.std.specs.Prelude.{if◌then◌else◌}
 use Rattle.std.specs.Fmt.{decimal}
@@ -18,7 +18,7 @@ use Rattle.machsyms.specs.declared.nm.origin.Origin.TheVariants.{Unsaid, Executa
 abbrev pub has_bits : (mask n : ℕ) → Bool
 has_bits mask n = not (bit_and n mask == 0)
 
--- words, where something is so
+-- words, if something is so
 abbrev pub marked : Bool → List ℕ → List ℕ
 marked is_so words = if is_so then words else []
 
@@ -30,14 +30,14 @@ undefined_words desc =
     else (if bit_and desc 7 == 5 then codes "(undefined [private lazy bound]) "
     else codes "(undefined) "))
 
--- how a common symbol is aligned, if that is said (GET_COMM_ALIGN)
+-- how a common symbol is aligned, if that is given (GET_COMM_ALIGN)
 abbrev pub common_alignment : (desc : ℕ) → ℕ
 common_alignment desc = bit_and (desc / 256) 15
 
 abbrev pub alignment_text : ℕ → List ℕ
 alignment_text n = if n == 0 then [] else codes "(alignment 2^" ++ (decimal n ++ codes ") ")
 
--- a name, or a mark where it can't be read
+-- a name, or a mark if it can't be read
 abbrev pub name_or_mark : Result (List ℕ) Fault → List ℕ
 name_or_mark (Ok name) = name
 name_or_mark (Err f) = codes "?"
@@ -58,7 +58,7 @@ kind_words is_raw section s =
     else (if kind == 0xe then codes "(" ++ (section_text is_raw section ++ codes ") ")
     else codes "(?) ")))
 
--- who knows it: N_EXT and N_PEXT of its type, N_WEAK_REF and N_WEAK_DEF of its flags
+-- its scope: N_EXT and N_PEXT of its type, N_WEAK_REF and N_WEAK_DEF of its flags
 abbrev pub local_words : Nlist → List ℕ
 local_words s = if has_bits 0x10 s.n_type then codes "non-external (was a private external) " else codes "non-external "
 
@@ -77,12 +77,12 @@ reach_words s =
     else (if has_bits 0x10 s.n_type then private_words s
     else external_words s)
 
--- one that is known outside may be found by its name while the program runs (REFERENCED_DYNAMICALLY)
+-- an external symbol that may be looked up by name at run time (REFERENCED_DYNAMICALLY)
 abbrev pub is_referenced : Nlist → Bool
 is_referenced s = has_bits 0x1 s.n_type && has_bits 0x10 s.n_desc
 
--- Flags of an object file's symbols: N_NO_DEAD_STRIP; N_SYMBOL_RESOLVER, N_ALT_ENTRY and N_COLD_FUNC of one that is defined. And of any:
--- N_ARM_THUMB_DEF.
+-- Flags of an object file's symbols: N_NO_DEAD_STRIP, and unless its type is N_UNDF N_SYMBOL_RESOLVER, N_ALT_ENTRY and
+-- N_COLD_FUNC. And of any file's symbols: N_ARM_THUMB_DEF.
 abbrev pub defined_mark : (filetype : ℕ) → Nlist → (mask : ℕ) → Bool
 defined_mark filetype s mask = filetype == 1 && (not (type_of s.n_type == 0x0) && has_bits mask s.n_desc)
 
@@ -94,7 +94,7 @@ mark_words filetype s =
     ++ (marked (defined_mark filetype s 0x400) (codes "[cold func] ")
     ++ marked (has_bits 0x8 s.n_desc) (codes "[Thumb] "))))
 
--- Which library gives a symbol, if the linker wrote it down: nothing of the image itself.
+-- The library that provides a symbol, if the linker recorded one; nothing for the image itself and for a weak lookup.
 abbrev pub giver_said : (is_raw : Bool) → (desc : ℕ) → Result Provider Fault → List ℕ
 giver_said is_raw desc (Ok (of_library ordinal path)) = codes " (from " ++ (name_shown is_raw (short_library_name path) ++ codes ")")
 giver_said is_raw desc (Ok itself) = []
@@ -107,7 +107,7 @@ abbrev pub origin_said : (is_raw : Bool) → (desc : ℕ) → Option (Result Pro
 origin_said is_raw desc None = []
 origin_said is_raw desc (Some giver) = giver_said is_raw desc giver
 
--- the same by what the code keeps of it
+-- the same, by what the code keeps of it
 abbrev pub origin_text : (is_raw : Bool) → Origin → List ℕ
 origin_text is_raw Unsaid = []
 origin_text is_raw Executable = codes " (from executable)"
@@ -115,7 +115,7 @@ origin_text is_raw Lookup = codes " (dynamically looked up)"
 origin_text is_raw (Library path) = codes " (from " ++ (name_shown is_raw (short_library_name path.now) ++ codes ")")
 origin_text is_raw (BadOrdinal ordinal) = codes " (from bad library ordinal " ++ (decimal ordinal ++ codes ")")
 
--- what is said of a symbol of this name
+-- the words for a symbol of this name
 abbrev pub symbol_words : (is_raw : Bool) → Option Section → (filetype : ℕ) → (name origin : List ℕ) → Nlist → List ℕ
 symbol_words is_raw section filetype name origin s =
     kind_words is_raw section s

@@ -17,7 +17,7 @@ use mach_cli::{Cpu, Failure, Heading, Names, Outcome, Shows, most_items};
 use std::alloc::Allocator;
 use std::io::{BufWriter, Write};
 
-// What is asked for of the symbols of the images of a file, as objects.
+// The selected symbols of the images of a file, as objects.
 #[derive(Clone, Copy)]
 struct ObjectsOf<'a> {
     file: &'a str,
@@ -51,9 +51,9 @@ impl Shows for ObjectsOf<'_> {
     }
 }
 
-/// Writes of a file as `run` does, but as JSON, an object of the file on a line: with an object for each symbol that is asked for, in the order
-/// that is asked for, whether there are more than are left of the limit, and how many are past the end. The form and the name of the file before
-/// each line have no part in it.
+/// Writes of a file what `run` prints, as JSON: one object on one line. It has an object for each selected symbol, in the
+/// selected order; whether there are more than are left of the limit; and how many are past the end. The form of lines and the
+/// name of the file before them don't affect it.
 pub fn run_json<A: Allocator + Clone, W: Write + Drop, B: Allocator, E: Write>(
     alloc: A,
     cpu: Cpu,

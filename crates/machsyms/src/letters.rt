@@ -1,4 +1,4 @@
-//! The letters by which `nm` tells what a symbol is.
+//! The letters that `nm` prints for what a symbol is.
 
 ghost use Rattle.std.specs.Prelude.{◌≡◌, ◌++◌, ◌≤◌, length, take, map, OnOk, IfOk};
 ghost use Rattle.mach_base.specs.Items.{read_as};
@@ -14,7 +14,7 @@ use goblin_mach::segment::{Section, SectionData, Segment};
 use goblin_mach::symbols::{MAX_SECT, N_ABS, N_EXT, N_INDR, N_SECT, N_UNDF, Nlist};
 use std::alloc::{AllocError, Allocator};
 
-/// The sections of the segments that the image holds, over all segments in order, as many as a symbol can name; none stands for one that can't be read.
+/// Returns the sections of all segments of the image in order, as many as a symbol can name; `None` is one that can't be read.
 pub fn named_sections<A: Allocator, B: Allocator>(
     alloc: B,
     image: &MachO<'_, A>,
@@ -24,7 +24,7 @@ pub fn named_sections<A: Allocator, B: Allocator>(
     sections_held(alloc, image.segments.as_slice())
 }
 
-// The sections of some segments.
+// Returns the sections of some segments.
 fn sections_held<B: Allocator>(
     alloc: B,
     segments: &[Segment<'_>],
@@ -55,7 +55,7 @@ fn add_sections<B: Allocator>(
     Ok(())
 }
 
-// A section, if it can be read.
+// Returns a section, if it can be read.
 fn item_section(item: goblin_mach::Result<(Section, SectionData<'_>)>) -> Option<Section>
     ensures { result ≡ item_section (section_read item.entry) }
 {
@@ -65,7 +65,7 @@ fn item_section(item: goblin_mach::Result<(Section, SectionData<'_>)>) -> Option
     }
 }
 
-/// A letter for each of some sections.
+/// Returns a letter for each section.
 pub fn section_letters<B: Allocator>(
     alloc: B,
     sections: &[Option<Section>],
@@ -79,7 +79,7 @@ pub fn section_letters<B: Allocator>(
     Ok(letters)
 }
 
-// The letter of a section that may be unreadable.
+// Returns the letter of a section that may be unreadable.
 fn letter_of(section: &Option<Section>) -> char
     ensures { result ≡ letter_of section.now }
 {
@@ -89,7 +89,7 @@ fn letter_of(section: &Option<Section>) -> char
     }
 }
 
-/// The section of a number, counted from 1, if it is among these and can be read.
+/// Returns the section with a number, counted from 1, if it is among these and can be read.
 pub fn section_by(number: usize, sections: &[Option<Section>]) -> Option<&Section>
     ensures { section_seen result ≡ section_by sections.now number }
 {
@@ -102,7 +102,7 @@ pub fn section_by(number: usize, sections: &[Option<Section>]) -> Option<&Sectio
     }
 }
 
-// The letter of a section.
+// Returns the letter of a section.
 fn section_letter(section: &Section) -> char
     ensures { result ≡ section_letter section.now }
 {
@@ -134,7 +134,7 @@ fn is_name(name: goblin_mach::Result<&str>, wanted: &str) -> bool
     }
 }
 
-/// The letter of a symbol, over the letters of the image's sections.
+/// Returns the letter of a symbol, given the letters of the image's sections.
 pub fn symbol_letter(symbol: &Nlist, sections: &[char]) -> char
     ensures { result ≡ symbol_letter sections.now symbol.now }
 {
@@ -146,7 +146,7 @@ pub fn symbol_letter(symbol: &Nlist, sections: &[char]) -> char
     }
 }
 
-// The letter of a symbol's type.
+// Returns the letter of a symbol's type.
 fn type_letter(symbol: &Nlist, sections: &[char]) -> char
     ensures { result ≡ type_letter sections.now symbol.now }
 {
@@ -161,7 +161,7 @@ fn type_letter(symbol: &Nlist, sections: &[char]) -> char
     }
 }
 
-// The letter of a section by its number, counted from 1.
+// Returns the letter of a section by its number, counted from 1.
 fn letter_at(number: usize, sections: &[char]) -> char
     ensures { result ≡ letter_at sections.now number }
 {

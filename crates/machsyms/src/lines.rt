@@ -1,4 +1,4 @@
-//! The lines of the symbols that are asked for, one at a time.
+//! The lines of the selected symbols, one at a time.
 
 ghost use Rattle.std.specs.Prelude.{◌≡◌, codes, OnOk};
 ghost use Rattle.std.specs.Io.KnownBytes.{Appends};
@@ -19,7 +19,7 @@ use std::alloc::Allocator;
 use std::io;
 use std::io::Write;
 
-/// The lines of the symbols of a table that are asked for, from one on.
+/// The lines of a table's selected symbols, from one on.
 #[derive(Drop)]
 pub struct SymbolLines<'c, 's, 'k, 'b, 'a, A: Allocator> {
     asked: Asked<'s>,
@@ -29,7 +29,7 @@ pub struct SymbolLines<'c, 's, 'k, 'b, 'a, A: Allocator> {
 }
 
 impl<'c, 's, 'k, 'b, 'a, A: Allocator> SymbolLines<'c, 's, 'k, 'b, 'a, A> {
-    /// Those of a table, as they stand there or by the keys, where so many symbols more begin past the end.
+    /// Returns the lines of a table, in table order or by the keys; `past` more symbols begin past the end of the bytes.
     pub fn of(
         asked: Asked<'s>,
         setting: &'c Setting<'b, 'a, A>,

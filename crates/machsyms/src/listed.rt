@@ -1,4 +1,4 @@
-//! The symbols that are asked for, one at a time.
+//! The selected symbols, one at a time.
 
 ghost use Rattle.std.specs.Prelude.{◌≡◌, Some, OnOk};
 ghost use Rattle.std.specs.Io.KnownBytes.{Appends};
@@ -28,7 +28,7 @@ struct KeyedSymbols<'k, 'a> {
 }
 
 impl<'a> KeyedSymbols<'_, 'a> {
-    // The next symbol.
+    // Returns the next symbol.
     fn take_next(&mut self) -> Option<goblin_mach::Result<(&'a str, Nlist)>>
         ensures { YieldsFirstBy symbol_read keyed_left self.old result self.new }
     {
@@ -43,7 +43,7 @@ impl<'a> KeyedSymbols<'_, 'a> {
     }
 }
 
-// The symbols of a table, as they stand there or by their keys.
+// The symbols of a table, in table order or by their keys.
 #[derive(Drop)]
 enum Source<'k, 'a> {
     Table(SymbolIterator<'a>),
@@ -51,7 +51,7 @@ enum Source<'k, 'a> {
 }
 
 impl<'k, 'a> Source<'k, 'a> {
-    // Those of a table in the order that is asked for.
+    // Returns the symbols of a table in the selected order.
     fn of(sorting: Option<Sorting>, keys: &'k [SortKey<'a>], table: &'k Symbols<'a>) -> Self
         ensures { source_left result ≡ gone_over sorting keys.now (table_of table.now) }
     {
@@ -65,7 +65,7 @@ impl<'k, 'a> Source<'k, 'a> {
         }
     }
 
-    // The next symbol.
+    // Returns the next symbol.
     fn take_next(&mut self) -> Option<goblin_mach::Result<(&'a str, Nlist)>>
         ensures { YieldsFirstBy symbol_read source_left self.old result self.new }
     {
@@ -102,7 +102,7 @@ impl Display for SymbolRow<'_> {
     }
 }
 
-// A symbol with its name, as it was answered.
+// Returns a symbol with its name, or its error.
 fn row_of<'a>(answer: goblin_mach::Result<(&'a str, Nlist)>) -> goblin_mach::Result<SymbolRow<'a>>
     ensures { read_as symbol_row_text result ≡ symbol_told (symbol_read answer.entry) }
 {
@@ -112,7 +112,7 @@ fn row_of<'a>(answer: goblin_mach::Result<(&'a str, Nlist)>) -> goblin_mach::Res
     }
 }
 
-/// The symbols of a table that are asked for, from one on.
+/// The selected symbols of a table, from one on.
 #[derive(Drop)]
 pub struct AskedSymbols<'s, 'k, 'a> {
     asked: Asked<'s>,
@@ -120,7 +120,7 @@ pub struct AskedSymbols<'s, 'k, 'a> {
 }
 
 impl<'s, 'k, 'a> AskedSymbols<'s, 'k, 'a> {
-    /// Those of a table, as they stand there or by the keys.
+    /// Returns the symbols of a table, in table order or by the keys.
     pub fn of(asked: Asked<'s>, keys: &'k [SortKey<'a>], table: &'k Symbols<'a>) -> Self
         ensures { asked_left result ≡ filter (takes asked.entry) (gone_over asked.entry.sorting keys.now (table_of table.now)) }
     {
@@ -130,7 +130,7 @@ impl<'s, 'k, 'a> AskedSymbols<'s, 'k, 'a> {
         }
     }
 
-    /// The next one.
+    /// Returns the next selected symbol.
     pub fn take_next(&mut self) -> Option<goblin_mach::Result<(&'a str, Nlist)>>
         ensures { YieldsFirstBy symbol_read asked_left self.old result self.new }
     {

@@ -1,20 +1,21 @@
-//! Prints the symbols of a Mach-O file, a line each, as `nm -a -p` does: the value, a letter for what the
-//! symbol is, and its name; of a fat file those of each entry, or of those for one cpu, under a line that says which.
-//! Words of `nm` ask for some of them, for another order, and for lines in another form. With `--json` it writes an object a file on a line in their place.
+//! Prints the symbols of a Mach-O file, a line each, as `nm -a -p` does: the value, a letter for what the symbol is, and its
+//! name. Of a fat file it prints those of each entry, or of the entries for one cpu, under a line that says which. Options of
+//! `nm` select some of the symbols, another order, or another form of lines. With `--json` it writes one object for each file
+//! instead, on a line.
 //!
-//! Where a line differs from those of `llvm-nm`:
-//! - each symbol has a line, and one whose record or name can't be read has a line that says why; there
-//!   a name that is out of the bytes is `bad string index`, and one that is not UTF-8 is printed as it is;
-//! - an entry for a debugger is printed as one whatever its other bits are; there one with the bits of
-//!   `N_ABS` is an absolute symbol, as `N_FNAME` is, and one with the bit `N_EXT` may be an undefined one;
-//! - a symbol that stands for another has its value, the place of the other's name; there it has blanks,
-//!   and the other's name behind its own;
-//! - `__text` of `__TEXT_EXEC`, in an extension of the kernel, is a section like others;
-//! - of an image without symbols nothing is printed, on neither output;
-//! - files that `llvm-nm` refuses as malformed are printed wherever the library opens them.
+//! Its lines differ from those of `llvm-nm`:
+//! - Each symbol has a line, and one whose record or name can't be read has a line with the error. `llvm-nm` prints `bad string
+//!   index` for a name outside the bytes, and a name that is not UTF-8 as it is.
+//! - A debugging entry is printed as one whatever its other bits are. In `llvm-nm` one with the bits of `N_ABS`, as `N_FNAME`, is
+//!   an absolute symbol, and one with the bit `N_EXT` may be undefined.
+//! - An indirect symbol (`N_INDR`) has its value, the offset of the other symbol's name. `llvm-nm` prints blanks, and the other
+//!   name after its own.
+//! - `__text` of `__TEXT_EXEC`, in a kernel extension, is a section like others.
+//! - Nothing is printed of an image without symbols, on neither output.
+//! - Files that `llvm-nm` refuses as malformed are printed if the library opens them.
 #![tactic(auto)]
 
-// Which symbols are requested and shown, and how.
+// Which symbols are selected and shown, and how.
 mod json;
 mod laws;
 mod letters;
@@ -31,7 +32,7 @@ mod stabs;
 mod text;
 mod words;
 
-// What `nm -m` says of a symbol in words.
+// The words of `nm -m` for a symbol.
 mod nm;
 
 use json::run_json;
@@ -80,7 +81,7 @@ fn main(rt: HostRuntime) -> ExitCode {
     })
 }
 
-// Does what the words ask for.
+// Runs the program with its words.
 fn start(rt: &HostRuntime) -> Result<u8, u8> {
     let words = PROGRAM.words(rt)?;
     let Ok((is_json, words)) = take_json(rt.alloc(), words) else {
@@ -100,7 +101,7 @@ fn start(rt: &HostRuntime) -> Result<u8, u8> {
     show_files(rt, symbols, &call)
 }
 
-// What is shown of each file: lines in some letters, or objects.
+// What is shown of each file: lines by some letters, or objects.
 #[derive(Clone, Copy)]
 struct Symbols {
     cpu: Cpu,
@@ -129,7 +130,7 @@ impl<W: Write + Drop, B: Allocator> ShowsFile<BufWriter<W, B>> for Symbols {
     }
 }
 
-// Shows of files in order the images that are asked for, and answers the worst status.
+// Shows the selected images of files in order, and returns the worst status.
 fn show_files(rt: &HostRuntime, symbols: Symbols, call: &Call<'_, Global>) -> Result<u8, u8> {
     let (files, others) = (&call.words, &call.others);
     if files.is_empty() && others.is_empty() {

@@ -14,9 +14,9 @@ use mach_cli::{Outcome, print_empty, print_end_past, print_member};
 use std::io;
 use std::io::Write;
 
-/// Writes the members of an image with the symbols of a table, if there is one: exactly an object for each that is asked for, as they stand there or by
-/// the keys, also for one that can't be read; of these the first `left`, whether there are more, and how many begin past the end. Answers whether all
-/// were written and can be read, and how many more may be.
+/// Writes the members of an image with the symbols of its table, if it has one. They have exactly one object for each selected
+/// symbol, also for one that can't be read, in table order or by the keys: the first `left`; whether there are more; and how many
+/// begin past the end. Returns whether all were written and can be read, and how many more may be.
 pub fn write_members<'a, O: Write>(
     asked: &Asked<'_>,
     keys: &[SortKey<'a>],
@@ -34,7 +34,7 @@ pub fn write_members<'a, O: Write>(
     }
 }
 
-// Writes those of a table.
+// Writes the members of a table.
 fn write_table<'a, O: Write>(
     asked: &Asked<'_>,
     keys: &[SortKey<'a>],
@@ -53,7 +53,7 @@ fn write_table<'a, O: Write>(
     print_end_past(told, past, out)
 }
 
-// Writes those of an image without a table.
+// Writes the members of an image without a table.
 fn write_none<O: Write>(
     asked: &Asked<'_>,
     keys: &[SortKey<'_>],

@@ -4,7 +4,7 @@ use mach_cli::Escaped;
 use std::fmt;
 use std::fmt::{Display, Formatter, Write};
 
-/// A name as it is printed: on one line, or as it is, where that is asked for.
+/// A name as it is printed: escaped, or as it is if that is selected.
 #[derive(Clone, Copy)]
 pub struct NameText<'a> {
     pub name: &'a str,

@@ -1,4 +1,4 @@
-//! What `nm -m` says of a symbol: what it is, who knows it, and which library gives it.
+//! The words of `nm -m` for a symbol: what it is, its scope, and the library that provides it.
 
 pub mod library;
 pub mod origin;

@@ -9,10 +9,10 @@ use goblin_mach::symbols::{Nlist, Symbols};
 use std::alloc::{AllocError, Allocator};
 use std::cmp::Reverse;
 
-// What a symbol stands by: of two the first difference counts.
+// The rank of a symbol: of two symbols the first difference decides.
 type Rank<'a> = (u8, u64, &'a str, u64);
 
-/// A symbol of a table, and what it stands by.
+/// A symbol of a table, and its rank.
 #[derive(Clone, Copy)]
 pub struct SortKey<'a> {
     pub rank: Rank<'a>,
@@ -20,7 +20,7 @@ pub struct SortKey<'a> {
     pub index: usize,
 }
 
-// The key of the symbol of a number. One that can't be read stands behind all others.
+// Returns the key of the symbol with this number. One that can't be read comes after all others.
 fn key_of<'a>(
     by: SortedBy,
     index: usize,
@@ -40,7 +40,7 @@ fn key_of<'a>(
     SortKey { rank, index }
 }
 
-// The keys of the symbols of a table, as they stand there.
+// Returns the keys of a table's symbols, in table order.
 fn keys_of<'a, A: Allocator>(
     alloc: A,
     by: SortedBy,
@@ -55,7 +55,7 @@ fn keys_of<'a, A: Allocator>(
     Ok(keys)
 }
 
-// Sorts keys. Those of one rank stay as they stand.
+// Sorts keys. Those of equal rank keep their order.
 fn sort_keys<A: Allocator>(
     keys: &mut Vec<SortKey<'_>, A>,
     is_reversed: bool,
@@ -70,7 +70,7 @@ fn sort_keys<A: Allocator>(
     Ok(())
 }
 
-/// The symbols of a table, by their keys, in the order that is asked for.
+/// Returns the keys of a table's symbols, in the selected order.
 pub fn keys_in_order<'a, A: Allocator>(
     alloc: A,
     sorting: Sorting,

@@ -18,7 +18,7 @@ use std::alloc::{AllocError, Allocator};
 use std::io;
 use std::io::Write;
 
-/// The word before the reason why a symbol can't be read.
+/// Returns the word before the error of a symbol that can't be read.
 pub fn unreadable_word<A: Allocator>(alloc: A, asked: &Asked<'_>) -> Result<String<A>, AllocError>
     ensures { IfOk result (λ word. string_bytes word ≡ unreadable_word asked.now) }
 {
@@ -29,9 +29,12 @@ pub fn unreadable_word<A: Allocator>(alloc: A, asked: &Asked<'_>) -> Result<Stri
     format!(in alloc; "{file}unreadable")
 }
 
-/// Prints the symbols of a table, if there is one: exactly a line for each that is asked for, as they stand there or by the keys, also for one
-/// that can't be read, behind a word. It prints the first `left` of them, and where there are more, a line that says that `limit` are told; and one line
-/// for all whose records begin past the end. Answers whether there are none of these, all were printed and can be read, and how many lines are left.
+/// Prints the symbols of a table, if there is one: exactly a line for each selected symbol, in table order or by the keys; one
+/// that can't be read has a line with the error, after a word.
+///
+/// It prints the first `left` of them; if there are more, a line that says that `limit` are printed; and one line for all whose
+/// records begin past the end. Returns whether there are none of these and all were printed and can be read, and how many lines
+/// are left.
 pub fn print_symbols<A: Allocator, O: Write>(
     asked: &Asked<'_>,
     setting: &Setting<'_, '_, A>,

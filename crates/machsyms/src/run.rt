@@ -1,4 +1,4 @@
-//! What the program shows of an image and of a file, and its exit status.
+//! What the program prints of an image and of a file, and its exit status.
 
 ghost use Rattle.std.specs.Prelude.{◌≡◌, ◌≤◌, [], codes, option_map, IfOk};
 ghost use Rattle.std.specs.Io.Buffered.{writer_buffer, writer_contents};
@@ -23,7 +23,7 @@ use std::io::{BufWriter, Write};
 /// The program's name.
 pub const NAME: &str = "machsyms";
 
-// What is asked for of the symbols of the images of a file, `limit` lines at most.
+// The selected symbols of the images of a file, at most `limit` lines.
 #[derive(Clone, Copy)]
 struct SymbolsOf<'a> {
     file: &'a str,
@@ -71,7 +71,7 @@ impl Shows for SymbolsOf<'_> {
     }
 }
 
-/// The keys of the symbols of a table, if there is one, in the order that is asked for; none where they stay as they stand there.
+/// Returns the keys of a table's symbols in the selected order, if there is a table; none if the symbols stay in table order.
 pub fn keys_of_image<'a, A: Allocator>(
     alloc: A,
     sorting: Option<Sorting>,
@@ -88,10 +88,12 @@ pub fn keys_of_image<'a, A: Allocator>(
     }
 }
 
-/// Shows what is asked for of the symbols of the images of a file that are asked for, at most `limit` lines and no more than the file has bytes, and
-/// answers the exit status: 0 where nothing was refused, each symbol can be read, and all are told; 1 where the file or an entry of a fat one was refused,
-/// or memory, and then `err` has a line that says why, or where a symbol can't be read, and then its line says why, or where there are more than the limit
-/// or a table goes past the end of the bytes, and then a line says so; 2 or 141 where a write fails, and but for that nothing is left in the buffer.
+/// Prints the selected symbols of a file's selected images, at most `limit` lines and no more than the file has bytes.
+///
+/// Returns the exit status. It is 0 if nothing was refused, each symbol can be read, and all are printed. It is 1 if the file, an
+/// entry of a fat file or an allocation was refused, and then `err` has a line that says why; or if a symbol can't be read, and
+/// then its line says why; or if there are more than the limit or a table extends past the end of the bytes, and then a line says
+/// so. It is 2 or 141 if a write fails. Unless a write fails, nothing is left in the buffer.
 pub fn run<A: Allocator + Clone, W: Write + Drop, B: Allocator, E: Write>(
     alloc: A,
     cpu: Cpu,

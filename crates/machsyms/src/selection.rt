@@ -1,4 +1,4 @@
-//! Which symbols are asked for, in which order, and in which form.
+//! Which symbols are selected, in which order, and in which form.
 
 ghost use Rattle.std.specs.Prelude.{◌≡◌};
 ghost use Rattle.mach_parts.specs.SymbolViews.{symbol_read};
@@ -11,15 +11,15 @@ use goblin_mach::symbols::{N_EXT, N_UNDF, Nlist};
 pub enum SortedBy {
     /// By name, and then by value.
     Name,
-    /// Those that another image defines first; then by value, and then by name.
+    /// The symbols that another image defines first; then by value, and then by name.
     Address,
 }
 
-/// How symbols are sorted. Those of which this says nothing stay as they stand in the table.
+/// How symbols are sorted. Symbols of equal rank stay in table order.
 #[derive(Clone, Copy)]
 pub struct Sorting {
     pub by: SortedBy,
-    /// From the last one on.
+    /// Descending.
     pub is_reversed: bool,
 }
 
@@ -32,32 +32,32 @@ pub enum Form {
     Names,
     /// The fields of the record in hexadecimal, and the name.
     Hexadecimal,
-    /// The value, what is said of it in words, and the name.
+    /// The value, a description in words, and the name.
     Words,
 }
 
-/// What is asked for of the symbols of an image.
+/// Which symbols of an image are selected, and how they are printed.
 #[derive(Clone, Copy)]
 pub struct Asked<'a> {
-    /// Entries for a debugger, too.
+    /// Debugging entries, too.
     pub has_stabs: bool,
-    /// Only those that are known outside the image.
+    /// Only external symbols.
     pub is_external: bool,
-    /// Only those that another image defines.
+    /// Only symbols that another image defines.
     pub is_undefined: bool,
-    /// Only those that no other image defines.
+    /// Only symbols that no other image defines.
     pub is_defined: bool,
-    /// How they are sorted; where that isn't given, they stand as in the table.
+    /// How they are sorted; in table order if this is `None`.
     pub sorting: Option<Sorting>,
     pub form: Form,
     /// The name of the file before each line.
     pub file: Option<&'a str>,
-    /// Names as they are.
+    /// Names as they are, not escaped.
     pub is_raw: bool,
 }
 
 impl Asked<'_> {
-    /// All symbols as they stand, entries for a debugger among them.
+    /// All symbols in table order, debugging entries included.
     pub const ALL: Asked<'static> = Asked {
         has_stabs: true,
         is_external: false,
@@ -69,7 +69,7 @@ impl Asked<'_> {
         is_raw: false,
     };
 
-    /// Whether a symbol is asked for. One that can't be read always is.
+    /// Whether a symbol is selected. One that can't be read always is.
     pub fn takes(&self, answer: &goblin_mach::Result<(&str, Nlist)>) -> bool
         ensures { result ≡ takes self.now (symbol_read answer.now) }
     {
@@ -83,7 +83,7 @@ impl Asked<'_> {
     }
 }
 
-/// Whether another image defines a symbol: it is known outside of this one, has the type N_UNDF, and no value.
+/// Whether another image defines a symbol: it is external, has the type N_UNDF, and no value.
 pub fn is_elsewhere(symbol: &Nlist) -> bool
     ensures { result ≡ is_elsewhere symbol.now }
 {

@@ -1,4 +1,4 @@
-//! What the lines of symbols tell of their image.
+//! What the lines of symbols need of their image.
 
 ghost use Rattle.std.specs.Prelude.{◌≡◌};
 ghost use Rattle.goblin_mach.specs.ImageFacts.{facts_held};
@@ -14,7 +14,7 @@ use goblin_mach::segment::Section;
 use goblin_mach::symbols::Nlist;
 use std::alloc::Allocator;
 
-/// What the lines of symbols tell of their image.
+/// What the lines of symbols need of their image.
 #[derive(Drop)]
 pub struct Setting<'b, 'a, A: Allocator> {
     /// A letter for each of its sections.
@@ -25,7 +25,7 @@ pub struct Setting<'b, 'a, A: Allocator> {
 }
 
 impl<'b, 'a, A: Allocator> Setting<'b, 'a, A> {
-    /// That of an image with these sections, which have these letters.
+    /// Returns the setting of an image with these sections and their letters.
     pub fn new(
         image: &'b MachO<'a, A>,
         sections: &'b [Option<Section>],
@@ -41,7 +41,7 @@ impl<'b, 'a, A: Allocator> Setting<'b, 'a, A> {
         }
     }
 
-    /// What is said of a symbol of this name in words, with names as they are or on one line.
+    /// Returns the words for a symbol of this name, with names as they are or escaped.
     pub fn words<'c>(&'c self, is_raw: bool, name: &'c str, symbol: &'c Nlist) -> SymbolWords<'c>
         ensures { words_shown result ≡ symbol_described is_raw (setting_view self.now) name.now symbol.now }
     {

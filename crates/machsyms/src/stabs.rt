@@ -1,4 +1,4 @@
-//! The names by which `nm` shows entries for a debugger.
+//! The names that `nm` prints for debugging entries.
 
 ghost use Rattle.std.specs.Prelude.{◌≡◌, option_map};
 ghost use Rattle.machsyms.specs.Stabs.{stab_name};
@@ -9,7 +9,7 @@ use goblin_mach::symbols::{
     N_PSYM, N_RBRAC, N_RSYM, N_SLINE, N_SO, N_SOL, N_SSYM, N_STSYM, N_VERSION,
 };
 
-/// The name of a type of entry, if it has one.
+/// Returns the name of a type of debugging entry, if it has one.
 pub fn stab_name(n_type: u8) -> Option<&'static str>
     ensures { option_map (λ name. name.now) result ≡ stab_name n_type }
 {

@@ -15,7 +15,7 @@ use std::alloc::Allocator;
 use std::fmt;
 use std::fmt::{Display, Formatter, Write};
 
-/// The name of the file before a line, if it is asked for.
+/// The name of the file before a line, if it is selected.
 #[derive(Clone, Copy)]
 pub struct FileText<'a> {
     pub file: Option<&'a str>,
@@ -37,7 +37,7 @@ impl<'a> Display for FileText<'a> {
     }
 }
 
-/// A symbol as it is printed, in the form that is asked for.
+/// A symbol as it is printed, in the selected form.
 #[derive(Drop)]
 pub struct SymbolText<'c, 's, 'b, 'a, A: Allocator> {
     pub asked: Asked<'s>,
@@ -172,7 +172,7 @@ impl<'a> Display for FieldsText<'a> {
     }
 }
 
-// The value that is printed of a symbol; none where another image defines it.
+// Returns the value that is printed of a symbol; none if another image defines it.
 fn value_shown(symbol: &Nlist) -> Option<u64>
     ensures { result ≡ value_shown symbol.now }
 {
@@ -203,7 +203,7 @@ impl Display for ValueText {
     }
 }
 
-// What a symbol is: its letter, or what it tells a debugger.
+// What a symbol is: its letter, or the fields of a debugging entry.
 #[derive(Clone, Copy)]
 struct KindText<'a> {
     sections: &'a [char],
@@ -229,7 +229,7 @@ impl<'a> Display for KindText<'a> {
     }
 }
 
-// The name of a type of entry for a debugger, or its number.
+// The name of a type of debugging entry, or its number.
 #[derive(Clone, Copy)]
 struct StabText {
     n_type: u8,

@@ -1,4 +1,4 @@
-//! The words of a call that say what is asked for, as those of `nm`.
+//! The options of a call that select symbols, as those of `nm`.
 
 ghost use Rattle.std.specs.Prelude.{◌≡◌};
 ghost use Rattle.machsyms.specs.LetterWords as defined;
@@ -7,7 +7,7 @@ use crate::selection::{Asked, Form, SortedBy, Sorting};
 use mach_cli::{Word, takes_word};
 use std::alloc::{AllocError, Allocator};
 
-/// What the letters of such words say.
+/// What the letters of a call's options say.
 #[derive(Clone, Copy)]
 pub struct Letters {
     asked: Asked<'static>,
@@ -18,7 +18,7 @@ pub struct Letters {
 }
 
 impl Letters {
-    // Of a call that has such words, before the first of them.
+    // The letters of a call that has such options, before the first of them.
     const NONE: Letters = Letters {
         asked: Asked {
             has_stabs: false,
@@ -33,7 +33,7 @@ impl Letters {
         has_file: false,
     };
 
-    // Takes a letter, and answers whether it says something.
+    // Takes a letter, and returns whether it is known.
     fn take(&mut self, letter: char) -> bool
         ensures { (self.new, result) ≡ defined.letter_taken self.old letter }
     {
@@ -54,7 +54,7 @@ impl Letters {
         true
     }
 
-    // These with what a word says, if it has letters that say something behind a dash, and nothing else, or is the long name of one.
+    // Returns these with the letters of a word: known letters after a dash, and nothing else, or the long name of one.
     fn with(self, word: &str) -> Option<Letters> {
         let mut letters = self;
         if let Some(letter) = letter_named(word) {
@@ -76,7 +76,7 @@ impl Letters {
         Some(letters)
     }
 
-    // What they ask for of a file.
+    // Returns what the letters select of a file.
     fn asked<'a>(&self, is_raw: bool, file: &'a str) -> Asked<'a>
         ensures { result ≡ defined.asked_by self.now is_raw file.entry }
     {
@@ -99,7 +99,7 @@ impl Letters {
     }
 }
 
-// The letter that a long name stands for.
+// Returns the letter for a long name.
 fn letter_named(name: &str) -> Option<char> {
     Some(match name {
         "--debug-syms" => 'a',
@@ -116,7 +116,7 @@ fn letter_named(name: &str) -> Option<char> {
     })
 }
 
-/// What is asked for of a file: all symbols as they stand, where no word says otherwise.
+/// Returns what is selected of a file: all symbols in table order, unless a letter says otherwise.
 pub fn asked_of<'a>(letters: Option<Letters>, is_raw: bool, file: &'a str) -> Asked<'a>
     ensures { result ≡ defined.asked_of letters is_raw file.entry }
 {
@@ -137,9 +137,8 @@ pub fn names_files(letters: Option<Letters>) -> bool {
     }
 }
 
-/// What the words of a call say, if any do, whether names are asked for as they are, and all other words, in order. The first word is the program's
-/// name; a word behind `--`, or behind
-/// an option that has one behind it, says nothing of this.
+/// Returns the letters of a call, if it has any; whether names are printed as they are; and all other words, in order. The first
+/// word is the program's name. A word after `--`, or after an option that takes one, is not read for letters.
 pub fn take_letters<A: Allocator>(
     alloc: A,
     words: Vec<Word>,

@@ -3,7 +3,7 @@
 ghost use Rattle.std.specs.Prelude.{◌≡◌, codes, option_map};
 ghost use Rattle.machsyms.specs.ShortNames as defined;
 
-// What stands before the last slash of a path, and behind it.
+// Returns the parts of a path before and after its last slash.
 fn around_slash(path: &str) -> (&str, &str)
     ensures { (result.0.now ≡ defined.folder_part path.now) × (result.1.now ≡ defined.last_part path.now) }
 {
@@ -13,21 +13,21 @@ fn around_slash(path: &str) -> (&str, &str)
     }
 }
 
-// The last component of a path.
+// Returns the last component of a path.
 fn file_of(path: &str) -> &str
     ensures { result.now ≡ defined.last_part path.now }
 {
     around_slash(path).1
 }
 
-// The path before it.
+// Returns the path before the last component.
 fn folder_of(path: &str) -> &str
     ensures { result.now ≡ defined.folder_part path.now }
 {
     around_slash(path).0
 }
 
-// What stands before the last dot of a name, and behind it.
+// Returns the parts of a name before and after its last dot.
 fn around_dot(name: &str) -> (&str, &str)
     ensures { (result.0.now ≡ defined.part_before 0x2e name.now) × (result.1.now ≡ defined.part_behind 0x2e name.now) }
 {
@@ -37,14 +37,14 @@ fn around_dot(name: &str) -> (&str, &str)
     }
 }
 
-// A text without this end, if it has it.
+// Returns a text without this suffix, if it has it.
 fn without_end<'a>(end: &str, text: &'a str) -> Option<&'a str>
     ensures { option_map (λ front. front.now) result ≡ defined.cut_end end.now text.now }
 {
     text.strip_suffix(end)
 }
 
-// A name without the end that says for what it was built.
+// Returns a name without the suffix of its build variant.
 fn unsuffixed(name: &str) -> &str
     ensures { result.now ≡ defined.unsuffixed name.now }
 {
@@ -76,7 +76,7 @@ fn in_framework(base: &str, folder: &str) -> bool
         || file_of(version) == "Versions" && is_framework(base, file_of(folder_of(version)))
 }
 
-// A name without the letter of a version behind its last dot.
+// Returns a name without the version letter after its last dot.
 fn unversioned(name: &str) -> &str
     ensures { result.now ≡ defined.unversioned name.now }
 {
@@ -88,14 +88,14 @@ fn unversioned(name: &str) -> &str
     }
 }
 
-// A text, or another where it is empty.
+// Returns a text, or another if it is empty.
 fn or_if_empty<'a>(text: &'a str, other: &'a str) -> &'a str
     ensures { result.now ≡ defined.or_if_empty text.now other.now }
 {
     if text.is_empty() { other } else { text }
 }
 
-// The short name of a dylib, whose path without that end this is.
+// Returns the short name of a dylib, given its path without `.dylib`.
 fn dylib_name(stem: &str) -> &str
     ensures { result.now ≡ defined.dylib_name stem.now }
 {
@@ -103,7 +103,7 @@ fn dylib_name(stem: &str) -> &str
     unversioned(or_if_empty(unsuffixed(file), file))
 }
 
-// That of a file by its end, empty where nothing is guessed.
+// Returns the short name of a file by its suffix, empty if nothing is guessed.
 fn guessed_file(path: &str) -> &str
     ensures { result.now ≡ defined.guessed_file (defined.cut_end (codes ".dylib") path.now) (defined.cut_end (codes ".qtx") path.now) }
 {
@@ -116,7 +116,7 @@ fn guessed_file(path: &str) -> &str
     }
 }
 
-// That of a framework or of a file, empty where nothing is guessed.
+// Returns the short name of a framework or of a file, empty if nothing is guessed.
 fn guessed_name(path: &str) -> &str
     ensures { result.now ≡ defined.guessed_name path.now }
 {
@@ -128,8 +128,8 @@ fn guessed_name(path: &str) -> &str
     }
 }
 
-/// The short name of a library by its path: of `/usr/lib/libSystem.B.dylib` it is `libSystem`, of `/F/Foo.framework/Versions/A/Foo` it is `Foo`.
-/// The whole path where nothing is guessed.
+/// Returns the short name of a library by its path: `libSystem` for `/usr/lib/libSystem.B.dylib`, `Foo` for
+/// `/F/Foo.framework/Versions/A/Foo`. It is the whole path if nothing is guessed.
 pub fn short_name(path: &str) -> &str
     ensures { result.now ≡ defined.short_library_name path.now }
 {

@@ -1,4 +1,4 @@
-//! Which library gives a symbol.
+//! The library that provides a symbol.
 
 ghost use Rattle.std.specs.Prelude.{◌≡◌, Bool, option_map, Some};
 ghost use Rattle.mach_base.specs.Items.{read_as};
@@ -13,22 +13,22 @@ use mach_parts::symbols::Nlist;
 use std::fmt;
 use std::fmt::{Display, Formatter, Write};
 
-/// Which library gives a symbol, as far as it is said.
+/// The library that provides a symbol, as far as it is recorded.
 #[derive(Clone, Copy)]
 pub enum Origin<'a> {
-    /// Nothing is said: the linker didn't write it down, or it is the image itself.
+    /// Nothing is printed: the linker recorded no library, or it is the image itself or a weak lookup.
     Unsaid,
-    /// The program.
+    /// The main executable.
     Executable,
     /// Any image.
     Lookup,
-    /// The library of this path.
+    /// The library with this path.
     Library(&'a str),
-    /// A library of this number, which isn't there.
+    /// A library with this number, which doesn't exist.
     BadOrdinal(u16),
 }
 
-/// That of a symbol with this provider, if the linker wrote one down.
+/// Returns the origin of a symbol with this provider, if the linker recorded one.
 pub fn origin_of<'a>(symbol: &Nlist, provider: Option<Result<Provider<'a>>>) -> Origin<'a>
     ensures { (is_raw : Bool) → origin_text is_raw result ≡ origin_said is_raw symbol.now.n_desc (option_map (read_as provider_view) provider.entry) }
 {
@@ -43,7 +43,7 @@ pub fn origin_of<'a>(symbol: &Nlist, provider: Option<Result<Provider<'a>>>) -> 
     }
 }
 
-/// It as it is printed.
+/// The origin as it is printed.
 #[derive(Clone, Copy)]
 pub struct OriginText<'a> {
     pub origin: Origin<'a>,

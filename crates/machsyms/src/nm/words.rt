@@ -16,7 +16,7 @@ use mach_parts::symbols::{
 use std::fmt;
 use std::fmt::{Display, Formatter, Write};
 
-// The kind of a file, and flags of symbols, which the crate has no names of (`mach-o/loader.h`, `mach-o/nlist.h`).
+// The kind of a file, and flags of symbols, for which the crates below have no names (`mach-o/loader.h`, `mach-o/nlist.h`).
 const MH_OBJECT: u32 = 0x1;
 
 const N_ARM_THUMB_DEF: u16 = 0x8;
@@ -27,7 +27,7 @@ const N_ALT_ENTRY: u16 = 0x200;
 
 const N_COLD_FUNC: u16 = 0x400;
 
-/// What is said of a symbol: what it is, who knows it, its flags, its name, and which library gives it.
+/// The words for a symbol: what it is, its scope, its flags, its name, and the library that provides it.
 #[derive(Clone, Copy)]
 pub struct SymbolWords<'a> {
     /// Its record.
@@ -38,7 +38,7 @@ pub struct SymbolWords<'a> {
     pub filetype: u32,
     /// Its name.
     pub name: &'a str,
-    /// Which library gives it.
+    /// The library that provides it.
     pub origin: Origin<'a>,
     /// Whether names are printed as they are.
     pub is_raw: bool,
@@ -70,7 +70,7 @@ impl<'a> Display for SymbolWords<'a> {
     }
 }
 
-// Words, where something is so.
+// Returns words if something is so, and nothing otherwise.
 fn marked(is_so: bool, words: &'static str) -> &'static str
     ensures { result.now ≡ defined.marked is_so words.now }
 {
@@ -91,7 +91,7 @@ fn has_bits(mask: u16, desc: u16) -> bool
     desc & mask != 0
 }
 
-// How an undefined symbol is bound.
+// Returns the words for how an undefined symbol is bound.
 fn undefined_words(desc: u16) -> &'static str
     ensures { result.now ≡ defined.undefined_words desc }
 {
@@ -103,14 +103,14 @@ fn undefined_words(desc: u16) -> &'static str
     }
 }
 
-// How a common symbol is aligned: a power of 2, or 0 where that isn't said.
+// Returns how a common symbol is aligned: a power of 2, or 0 if that isn't given.
 fn common_alignment(desc: u16) -> u16
     ensures { result ≡ defined.common_alignment desc }
 {
     desc >> 8 & 15
 }
 
-// It in words.
+// The alignment in words.
 #[derive(Clone, Copy)]
 struct AlignmentText(u16);
 
@@ -126,7 +126,7 @@ impl Display for AlignmentText {
     }
 }
 
-// A name, or a mark where it can't be read.
+// Returns a name, or a mark if it can't be read.
 fn readable(name: Result<&str>) -> &str
     ensures { result.now ≡ defined.name_or_mark (read_as (λ text. text.now) name.entry) }
 {
@@ -197,7 +197,7 @@ impl Display for KindWords<'_> {
     }
 }
 
-// Who knows a symbol.
+// Returns the words for a symbol's scope.
 fn reach_words(symbol: &Nlist) -> &'static str
     ensures { result.now ≡ defined.reach_words symbol.now }
 {
@@ -210,7 +210,7 @@ fn reach_words(symbol: &Nlist) -> &'static str
     }
 }
 
-// That the image alone knows it.
+// Returns the words for a symbol that isn't external.
 fn local_words(symbol: &Nlist) -> &'static str
     ensures { result.now ≡ defined.local_words symbol.now }
 {
@@ -221,7 +221,7 @@ fn local_words(symbol: &Nlist) -> &'static str
     }
 }
 
-// That what is linked with its file knows it.
+// Returns the words for a private external symbol, known to what is linked with its file.
 fn private_words(symbol: &Nlist) -> &'static str
     ensures { result.now ≡ defined.private_words symbol.now }
 {
@@ -232,7 +232,7 @@ fn private_words(symbol: &Nlist) -> &'static str
     }
 }
 
-// That others know it.
+// Returns the words for an external symbol.
 fn external_words(symbol: &Nlist) -> &'static str
     ensures { result.now ≡ defined.external_words symbol.now }
 {
@@ -247,7 +247,7 @@ fn external_words(symbol: &Nlist) -> &'static str
     }
 }
 
-// Whether a symbol that others know may be found by its name while the program runs.
+// Whether an external symbol may be looked up by name at run time.
 fn is_referenced(symbol: &Nlist) -> bool
     ensures { result ≡ defined.is_referenced symbol.now }
 {

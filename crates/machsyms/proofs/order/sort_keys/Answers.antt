@@ -2,7 +2,7 @@ use Rattle.std.proofs.Common.{rules}
 use Rattle.std.proofs.lemmas.List.Sorted.{answers_always}
 use Rattle.machsyms.proofs.order.sort_keys.Goals as goal
 
--- from the last on
+-- in descending order
 pub returns-then-is_reversed : goal.returns-then-is_reversed
 returns-then-is_reversed g c = rw c.if-is_reversed.true (record {
   each_once = c.in_ok-sort_by_key.ensures.permutation;
