@@ -1,5 +1,4 @@
-//! Prints the load commands, the exports or the imports of a Mach-O file, a line each; of a fat file
-//! those of each entry.
+//! Prints the load commands, the exports or the imports of a Mach-O file, a line each; of a fat file those of each entry.
 #![tactic(auto)]
 
 mod run;

@@ -19,7 +19,7 @@ use std::alloc::{AllocError, Allocator};
 use std::io::{BufWriter, Write};
 use std::{fmt, io};
 
-/// What is asked of a file: the program's first argument.
+/// The list that is printed of a file: the program's first argument.
 #[derive(Clone, Copy, Debug, PartialEq)]
 pub enum Word {
     /// The load commands.
@@ -31,7 +31,7 @@ pub enum Word {
 }
 
 impl Word {
-    /// The word that a text spells, if it spells one.
+    /// Returns the word with this spelling, if there is one.
     pub fn parse(text: &str) -> Option<Word>
         ensures commands { result ≡ Some Word.Commands ↔ (text.now ≡ codes "commands") }
         ensures exports { result ≡ Some Word.Exports ↔ (text.now ≡ codes "exports") }
@@ -46,10 +46,11 @@ impl Word {
     }
 }
 
-/// Prints what the word asks of the bytes, and answers the exit status: 0; 1 where the file is refused,
-/// and then `err` has the reason and `out` nothing, or where an entry of a fat file is; 2 where a write
-/// fails. That memory is refused may be told behind some lines of exports, since no list of them is kept. Where
-/// the status isn't 2, nothing is left in the buffer.
+/// Prints the list that the word selects of the bytes, and returns the exit status.
+///
+/// It is 0 if all was printed. It is 1 if the file is refused, and then `err` has the reason and `out` nothing, or if an entry of
+/// a fat file is refused. It is 2 if a write fails. No list of exports is kept, so a refused allocation may be reported after
+/// some of their lines. Unless the status is 2, nothing is left in the buffer.
 pub fn run<A: Allocator + Clone, W: Write + Drop, B: Allocator, E: Write>(
     alloc: A,
     word: Word,
@@ -72,7 +73,7 @@ pub fn run<A: Allocator + Clone, W: Write + Drop, B: Allocator, E: Write>(
     }
 }
 
-// The status of a failure; where it is a refusal, `err` tells of it.
+// Returns the status of a failure, and reports a refusal on `err`.
 fn failed<E: Write>(failure: Failure, err: &mut E) -> u8
     ensures few { result ≤ 2 }
     ensures none { result ≢ 0 }
@@ -96,7 +97,7 @@ enum Reason {
 }
 
 impl Reason {
-    // Why, by an error.
+    // Returns the reason of an error.
     fn of(error: &Error) -> Reason {
         match error {
             Error::Malformed(_) => Reason::Malformed,
@@ -143,7 +144,7 @@ impl From<io::Error> for Failure {
     }
 }
 
-// Prints a file, and answers whether every entry of a fat one was printed.
+// Prints a file, and returns whether every entry of a fat file was printed.
 fn print<A: Allocator + Clone, O: Write>(
     alloc: A,
     word: Word,
@@ -164,7 +165,7 @@ fn print<A: Allocator + Clone, O: Write>(
     }
 }
 
-// Prints the entries of a fat file, and answers whether none was refused.
+// Prints the entries of a fat file, and returns whether none was refused.
 fn print_entries<A: Allocator + Clone, O: Write>(
     alloc: &A,
     word: Word,
@@ -185,7 +186,7 @@ fn print_entries<A: Allocator + Clone, O: Write>(
     Ok(whole)
 }
 
-// Prints what the word asks of an entry.
+// Prints the list that the word selects of an entry.
 fn print_entry<A: Allocator + Clone, O: Write>(
     alloc: &A,
     word: Word,
@@ -199,7 +200,7 @@ fn print_entry<A: Allocator + Clone, O: Write>(
     }
 }
 
-// Prints the one list of an image that the word asks for; nothing where it is refused for a fault.
+// Prints the list that the word selects of an image; nothing if it is refused for a fault.
 fn print_image<A: Allocator + Clone, O: Write>(
     alloc: &A,
     word: Word,
@@ -228,7 +229,7 @@ fn print_commands<O: Write>(out: &mut O, commands: &[LoadCommand]) -> io::Result
     Ok(())
 }
 
-// Goes over the exports of an image, of which none is kept: Ok where they have a list.
+// Visits the exports of an image without keeping them: Ok if they have a list.
 fn walk_over<A: Allocator + Clone>(alloc: &A, image: &MachO<'_, A>) -> goblin_mach::Result<()>
     ensures { OnOk result ((list : List Entry) × ListsExports (trie_or_empty (trie_held image.now)) (texts image.now.libs.items) list) }
 {
@@ -241,7 +242,7 @@ fn walk_over<A: Allocator + Clone>(alloc: &A, image: &MachO<'_, A>) -> goblin_ma
     Ok(())
 }
 
-// The address of an export, counted from the image's start: that of a regular one, else 0.
+// Returns the address of an export, relative to the image's start: that of a regular export, else 0.
 fn offset(info: &ExportInfo<'_>) -> u64
     ensures { result ≡ offset_of (info_of info.now) }
 {

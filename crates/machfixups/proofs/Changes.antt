@@ -1,4 +1,4 @@
--- Tables of changes, and what they tell at an address.
+-- Tables of changes, and the holder at an address.
 use Rattle.std.proofs.Common.{◌≡◌, ◌⊎◌, ◌++◌, ◌∷◌, [], ◌∙◌, ℕ, ◌+◌, ◌-◌, ◌<◌, ◌≤◌, List, Option}
 use Rattle.std.proofs.Common.{Some, None, length, take, drop, get_or, refl, sym, ap, subst, arith, inl, inr}
 use Rattle.std.proofs.Common.{Bool, true, false}
@@ -23,7 +23,7 @@ pub holder_append : (h : Option ℕ) (cs ds : List Change) (x : ℕ) → holder_
 holder_append h [] ds x = refl
 holder_append h (c ∷ cs) ds x = holder_append (if nat_le c.start x then c.holder else h) cs ds x
 
--- changes behind an address say nothing of it
+-- changes after an address don't affect it
 pub holder_skip : (h : Option ℕ) (cs : List Change) (x : ℕ) → All (λ c. x < c.start) cs → holder_from h cs x ≡ h
 holder_skip h [] x behind = refl
 holder_skip h (c ∷ cs) x behind =
@@ -47,7 +47,7 @@ module _ (cs : List Change) (k x : ℕ) (at : IsPartitionPoint (λ (c : Change).
 no_change : Change
 no_change = record { start = 0; holder = None }
 
--- the last of the first changes
+-- the last of the first changes decides
 pub last_tells : (cs : List Change) (k last x : ℕ) (d : Change) → k ≤ length cs → 1 ≤ k → last ≡ k - 1 → All (λ c. c.start ≤ x) (take k cs)
     → (get_or cs last d).holder ≡ holder_from None (take k cs) x
 last_tells cs k last x d inside some is up_to =
@@ -62,13 +62,13 @@ last_tells cs k last x d inside some is up_to =
 
 -- ---- two tables together
 
--- The first changes of a table are up to an address, the others are there or behind it.
+-- The first changes of a table are up to an address, the others are at it or after it.
 pub record ArePassed (cs : List Change) (k at : ℕ) : Type 0 where
   pub inside : k ≤ length cs
   pub up_to : All (λ c. c.start ≤ at) (take k cs)
   pub from : All (λ c. at ≤ c.start) (drop k cs)
 
--- So they are for a later address, too, with as many or one more of them; and of an address before that they say what they said.
+-- The same holds of a later address, with as many changes or one more; for the addresses before that the holder is unchanged.
 pub record IsOnward (cs : List Change) (k more at : ℕ) : Type 0 where
   pub passed : ArePassed cs more at
   pub same : (x : ℕ) → x < at → holder_from None (take more cs) x ≡ holder_from None (take k cs) x
@@ -117,7 +117,7 @@ module _ (cs : List Change) (up : AreByAddress cs) (k at start : ℕ) (are : Are
       } in
       subst (λ n. IsOnward cs k n start) (sym at_rest.0) next
 
--- The first changes of two tables are passed, and a third one tells what they tell together.
+-- The first changes of two tables are passed, and a third table gives what they give together.
 pub record AreMerged (first second : List Change) (i j : ℕ) (all : List Change) : Type 0 where
   pub at : ℕ
   pub of_first : ArePassed first i at
@@ -171,7 +171,7 @@ module _ (first second : List Change) where
               ]) refl;
         }
 
-    -- the next change of the two, with what they tell there
+    -- the next change of the two, with what they give there
     pub next_merged : AreByAddress first → AreByAddress second → PassesNext first i second j (Some (more, others, start)) → holder ≡ option_or a b
         → ((x : ℕ) → All (λ c. c.start ≤ x) (take more first) → a ≡ holder_from None (take more first) x)
         → ((x : ℕ) → All (λ c. c.start ≤ x) (take others second) → b ≡ holder_from None (take others second) x)
@@ -196,7 +196,7 @@ first_holder-append x n (s ∷ ss) ys =
     elim (holds s.start s.size x) as (λ (b : Bool). (if b then Some n else first_holder x (n + 1) (ss ++ ys))
     ≡ option_or (if b then Some n else first_holder x (n + 1) ss) (first_holder x (n + length (s ∷ ss)) ys)) [ true ↦ refl | false ↦ rest ]
 
--- the tables of a front and of the rest
+-- the tables of the first half and of the rest
 pub halves_tell : (n half : ℕ) (all front back : List Stretch) (first second changes : List Change) → half ≤ length all
     → front ≡ take half all → back ≡ drop half all → TellHolders n front first → TellHolders (n + half) back second
     → ((x : ℕ) → holder_from None changes x ≡ option_or (holder_from None first x) (holder_from None second x)) → TellHolders n all changes

@@ -1,4 +1,4 @@
--- Facts on bytes, by the image that was opened there.
+-- Facts about bytes, by the image that was opened there.
 use Rattle.std.proofs.Common.{ℕ, List, refl}
 use Rattle.mach_base.specs.Context.{pointer_size}
 use Rattle.mach_base.specs.Text.{texts}

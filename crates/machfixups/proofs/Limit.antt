@@ -44,17 +44,17 @@ more_by : {X : Type 0} (n : ℕ) (xs ys : List X) (b : Bool) → nat_lt n (lengt
 more_by n xs ys true is = lt-ltb n (length (xs ++ ys)) (omega (arith, length-append xs ys, ltb-true n (length xs) is))
 more_by n xs ys false is = rest_more n xs ys (nat_lt (n - length xs) (length ys)) (ltb-false n (length xs) is) refl
 
--- two lists have more than a limit where the first has, or the second more than what the first leaves of it
+-- two lists have more than a limit if the first has, or if the second has more than the first leaves of it
 pub more_both : {X : Type 0} (n : ℕ) (xs ys : List X) → nat_lt n (length (xs ++ ys)) ≡ (nat_lt n (length xs) || nat_lt (n - length xs) (length ys))
 more_both n xs ys = more_by n xs ys (nat_lt n (length xs)) refl
 
--- ---- a list that is gone over
+-- ---- a list that is visited
 
 all-one : (answer : Result declared.Row Error) → is_ok answer ≡ list_all is_ok (row_read answer ∷ [])
 all-one (Ok r) = refl
 all-one (Err e) = refl
 
--- The rows begin with some whose lines were written, with `rest` behind them, and `left` lines more may be written.
+-- The rows begin with those whose lines were written, `rest` comes after them, and `left` more lines may be written.
 pub record Goes (limit : ℕ) (rows rest : List (Result PointerRow Fault)) (left : ℕ) (whole : Bool) (old new : Option (List ℕ)) : Type 0 where
   pub front : List (Result PointerRow Fault)
   pub are : rows ≡ front ++ rest
@@ -79,7 +79,7 @@ goes_on limit rows all rest left whole one answer old middle new goes is some ok
           ∙ sym (list_all-append is_ok goes.front (item ∷ []));
     }
 
--- where the rows that were gone over are the first `limit` of all
+-- the visited rows are the first `limit` of all
 told_of : (limit : ℕ) (rows rest : List (Result PointerRow Fault)) (left : ℕ) (whole : Bool) (old new : Option (List ℕ)) (t : Told)
     (goes : Goes limit rows rest left whole old new) → take limit rows ≡ goes.front → t.whole ≡ whole → t.left ≡ limit - length rows
     → t.more ≡ nat_lt limit (length rows) → WritesFirstRows limit rows old new t
@@ -90,7 +90,7 @@ told_of limit rows rest left whole old new t goes told is count more = record {
   more = more;
 }
 
--- to the end of the list
+-- the list was visited to its end
 pub goes_over : (limit : ℕ) (rows rest : List (Result PointerRow Fault)) (left : ℕ) (whole : Bool) (old new : Option (List ℕ)) (t : Told)
     → Goes limit rows rest left whole old new → rest ≡ [] → (t.left ≡ left) × (t.whole ≡ whole) × (t.more ≡ false) → WritesFirstRows limit rows old new t
 goes_over limit rows rest left whole old new t goes none is =
@@ -100,7 +100,7 @@ goes_over limit rows rest left whole old new t goes none is =
     told_of limit rows rest left whole old new t goes (take_all limit rows few ∙ all) is.1 (is.0 ∙ omega (arith, goes.count, many))
     (is.2 ∙ sym (le-ltb limit (length rows) few))
 
--- to the limit, with an item behind it
+-- the list was visited to the limit, and an item comes after it
 pub goes_cut : (limit : ℕ) (rows all : List (Result PointerRow Fault)) (left : ℕ) (whole : Bool) (old new : Option (List ℕ)) (t : Told)
     (item : Result PointerRow Fault)
     (rest : List (Result PointerRow Fault)) → Goes limit rows all left whole old new → all ≡ item ∷ rest → left ≡ 0
@@ -114,9 +114,9 @@ goes_cut limit rows all left whole old new t item rest goes is none said =
     told_of limit rows all left whole old new t goes told said.1 (said.0 ∙ omega (arith, many, front))
     (said.2 ∙ sym (lt-ltb limit (length rows) (omega (arith, many, front))))
 
--- ---- the lists of an image, one behind the other
+-- ---- the lists of an image, one after the other
 
--- of a list that isn't shown
+-- a list that isn't shown
 pub told_unless : (limit : ℕ) (is_shown : Bool) (rows : List (Result PointerRow Fault)) (known : Option (List ℕ)) (t : Told) → is_shown ≡ false
     → (t.left ≡ limit) × (t.whole ≡ true) × (t.more ≡ false) → WritesFirstRows limit (picked is_shown rows) known known t
 told_unless limit true rows known t off is = absurd (cc)
@@ -138,7 +138,7 @@ told_then left first second one two t old middle new a b is =
           ∙ ap (λ (n : ℕ). nat_lt left (length first) || nat_lt n (length second)) a.rest ∙ sym (more_both left first second);
     }
 
--- and then the line that says that there are more
+-- the line that says that there are more
 pub told_last : (limit left : ℕ) (rows : List (Result PointerRow Fault)) (t : Told) (final : Bool) (old middle new : Option (List ℕ))
     → WritesFirstRows left rows old middle t → Appends middle new (line_of_more limit t.more) → final ≡ (t.whole && not t.more)
     → WritesTold limit left rows final t.left old new

@@ -1,4 +1,4 @@
--- The lines that the program shows of an image.
+-- The lines that the program prints of an image.
 use Rattle.std.specs.Prelude.{ℕ, List, Bool, Option, Result}
 use Rattle.mach_base.specs.Fault.{Fault}
 use Rattle.mach_parts.specs.Segment.{SegmentView}
@@ -11,10 +11,11 @@ use Rattle.machfixups.specs.Parts.{parts_of}
 use Rattle.machfixups.specs.Rows.{rows_in_order, readable_table}
 use Rattle.machfixups.specs.declared.rows.Picks.{Picks}
 
--- The text is the lines of the image at the front of the bytes: one for each rebase of its opcodes, in order, then one for each of their binds,
--- then one for each row of its weak binds, then one for each fixup of its chains, of the lists that are picked, over its segments, which have
--- room for so many sections; of all of them the first ones, as many as are left of the limit, and where there are more, a line that says so. It is
--- whole where there are no more and none is missing. `rest` are left behind it.
+-- The text is the lines of the image at the start of the bytes, of the selected lists: one for each rebase of its opcodes, in
+-- order, then one for each of their binds, then one for each row of its weak binds, then one for each fixup of its chains. Names
+-- are those of its segments, with at most `room` sections. Of all lines these are the first ones, as many as are left of the
+-- limit, and a line follows if there are more. It is whole if there are no more and each can be read. Of the limit `rest` are
+-- left after it.
 pub record AreImagePointerLines (picks : Picks) (limit room left : ℕ) (bytes : List ℕ) (text : List ℕ) (whole : Bool) (rest : ℕ) : Type 0 where
   pub opens : Opens bytes 0
   pub segments : List SegmentView

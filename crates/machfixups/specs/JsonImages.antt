@@ -1,4 +1,4 @@
--- The members of the object of an image: what dyld corrects of it.
+-- The members of an image's object: its rebases, binds and fixups.
 use Rattle.std.specs.Prelude.{ℕ, List, Bool, Option, Result, map}
 use Rattle.mach_base.specs.Fault.{Fault}
 use Rattle.mach_parts.specs.Segment.{SegmentView}
@@ -15,11 +15,10 @@ use Rattle.machfixups.specs.declared.row.Row.{Row}
 use Rattle.machfixups.specs.declared.rows.Picks.{Picks}
 use Rattle.machfixups.specs.declared.rows.Rows as over
 
--- The text is the members of the image at the front of the bytes: of the lists that are picked exactly an object for each rebase of its opcodes, in
--- order, for each of their binds, for each row of its weak binds, and for each fixup of its chains, over its segments,
--- which have room for so many sections; of all of them the first ones, as many as are left of the limit, and whether there are more. It is whole
--- where there are no more and none is missing. `rest` are left
--- behind it.
+-- The text is the members of the image at the start of the bytes, of the selected lists: exactly one object for each rebase of
+-- its opcodes, in order, for each of their binds, for each row of its weak binds, and for each fixup of its chains. Names are
+-- those of its segments, with at most `room` sections. Of all objects these are the first ones, as many as are left of the limit,
+-- and whether there are more. It is whole if there are no more and each can be read. Of the limit `rest` are left after it.
 pub record AreImagePointerMembers (picks : Picks) (room left : ℕ) (bytes : List ℕ) (text : List ℕ) (whole : Bool) (rest : ℕ) : Type 0 where
   pub opens : Opens bytes 0
   pub segments : List SegmentView
@@ -34,6 +33,6 @@ pub record AreImagePointerMembers (picks : Picks) (room left : ℕ) (bytes : Lis
 abbrev pub objects_left : {A : Type 0} → over.Rows A → List (Result (List ℕ) Fault)
 objects_left rows = map pointer_told (rows_left rows)
 
--- the object of a row that is there
+-- the object of a row that can be read
 abbrev pub pointer_row_text : Row → List ℕ
 pointer_row_text row = pointer_object (row_view row)

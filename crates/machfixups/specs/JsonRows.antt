@@ -15,7 +15,7 @@ use Rattle.machfixups.specs.Rows.{PointerPlace, PointerBind, Action, binds, bind
 use Rattle.machfixups.specs.Rows.{picked, shown_picks, row_for_rebase, row_for_binding, row_for_weak, row_for_fixup}
 use Rattle.machfixups.specs.declared.rows.Picks.{Picks}
 
--- these among the flags of a bind
+-- the members of a bind's flags
 abbrev pub bind_flags : PointerBind → List ℕ
 bind_flags b =
     codes "\"is_lazy\":"
@@ -27,12 +27,12 @@ bind_flags b =
     ++ (codes ",\"key\":"
     ++ decimal (key_by b.auth)))))))
 
--- what is mixed into the pointer of a bind, these flags, and the ordinal of its library
+-- the diversity of the pointer of a bind, its flags, and the ordinal of its library
 abbrev pub bind_members : PointerBind → List ℕ
 bind_members b =
     diversity_members b.auth ++ (codes "," ++ (bind_flags b ++ (codes ",\"kind\":\"bind\",\"library\":" ++ signed_decimal b.ordinal)))
 
--- the names that are shown of the section and of the segment
+-- the printed names of the section and of the segment
 abbrev pub place_members : PointerPlace → List ℕ
 place_members p = codes "\"section\":" ++ (json_string p.section ++ (codes ",\"segment\":" ++ json_string p.segment))
 
@@ -97,12 +97,12 @@ abbrev pub pointer_object : PointerRow → List ℕ
 pointer_object (corrects place action) = action_object place action
 pointer_object (is_strong name) = strong_object name
 
--- that of a row, or why there is none
+-- the object of a row, or the fault if it can't be read
 abbrev pub pointer_told : Result PointerRow Fault → Result (List ℕ) Fault
 pointer_told row = told_by pointer_object row
 
--- The lists of an image with the names of their members: for each rebase of the opcodes its object, or why there is none, in order, then for each
--- of their binds, then for each weak bind, and then for each fixup of the chains; a list that isn't shown has none.
+-- The lists of an image with the names of their members: for each rebase of the opcodes its object, or its fault, in order, then
+-- for each of their binds, then for each weak bind, and then for each fixup of the chains. A list that isn't shown has no member.
 abbrev pub pointer_members : Picks → List Part → Option Fixups → PointerLists → List NamedRows
 pointer_members p parts table lists =
     record {

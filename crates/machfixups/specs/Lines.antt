@@ -1,4 +1,4 @@
--- The lines that are printed of rebases, binds and fixups.
+-- The lines of rebases, binds and fixups.
 use Rattle.std.specs.Prelude.{◌≡◌, ◌==◌, ◌&&◌, ◌-◌, ℕ, List, [], ◌++◌, codes, take, length, nat_lt, Bool, true, false, not, Option, Some, None, Result}
 use Rattle.std.specs.Prelude.{Ok, Err}
 use Rattle.std.specs.Prelude.{if◌then◌else◌}
@@ -39,11 +39,11 @@ abbrev pub address_text : (is_address_diverse : Bool) → List ℕ
 address_text true = codes ":address"
 address_text false = []
 
--- how a pointer is signed: the key, what is mixed in, and whether the pointer's own address is mixed in, too
+-- how a pointer is signed: the key, the diversity, and whether the pointer's address is mixed in too
 abbrev pub auth_text : Auth → List ℕ
 auth_text a = codes "auth:" ++ key_text a.key ++ codes ":" ++ hex a.diversity ++ address_text a.is_address_diverse
 
--- the flags of a bind, joined by commas, `-` where there are none
+-- the flags of a bind, joined by commas, `-` if there are none
 abbrev pub flags_text : (is_weak is_lazy : Bool) → Option Auth → List ℕ
 flags_text false false None = codes "-"
 flags_text true false None = codes "weak"
@@ -58,13 +58,13 @@ flags_text true true (Some a) = codes "weak,lazy," ++ auth_text a
 abbrev pub bind_text : PointerBind → List ℕ
 bind_text b = signed_decimal b.addend ++ codes " " ++ flags_text b.is_weak b.is_lazy b.auth ++ codes " " ++ escaped_text b.name
 
--- what is corrected, where it is no pointer
+-- the type of a rebase, unless it is a pointer
 abbrev pub rebase_kind_text : RebaseKind → List ℕ
 rebase_kind_text Pointer = []
 rebase_kind_text TextAbsolute32 = codes " text-absolute"
 rebase_kind_text TextRelative32 = codes " text-relative"
 
--- a rebase has flags where its pointer is signed
+-- a rebase has flags if its pointer is signed
 abbrev pub signed_text : Option Auth → List ℕ
 signed_text None = []
 signed_text (Some a) = codes " " ++ auth_text a
@@ -79,23 +79,23 @@ abbrev pub row_text : PointerRow → List ℕ
 row_text (corrects place action) = pointer_place_text place ++ codes " " ++ action_text action
 row_text (is_strong name) = codes "- - - strong " ++ escaped_text name
 
--- The line of a row as it was answered: the row, or why there is none.
+-- The line of an answer: the row, or its error.
 abbrev pub row_line : Result declared.Row Error → List ℕ
 row_line (Ok r) = row_text (row_view r) ++ codes "\n"
 row_line (Err e) = codes "unreadable: " ++ words_of e ++ codes "\n"
 
--- ---- where there is a limit
+-- ---- with a limit
 
--- the line behind the last one that is told, where there are more
+-- the line after the last printed one, if there are more
 abbrev pub limit_line : ℕ → List ℕ
 limit_line limit = codes "limit: " ++ (decimal limit ++ codes " of them are told, and there are more\n")
 
 abbrev pub line_of_more : ℕ → (more : Bool) → List ℕ
 line_of_more limit more = if more then limit_line limit else []
 
--- The text is the lines of the first of these rows, as many as are left of the limit, in order; one that is missing is an error that reports its
--- fault. Behind them stands, exactly where there are more rows than that, a line that says so. It is whole where there are no more, and none is
--- missing. Each row told is one less that is left.
+-- The text is the lines of the first of these rows, as many as are left of the limit, in order. A row that can't be read is an
+-- error that reports its fault. After them, exactly if there are more rows, a line says so. It is whole if there are no more, and
+-- each can be read. Each printed row uses up one of the limit.
 pub record AreLinesTo (limit left : ℕ) (rows : List (Result PointerRow Fault)) (text : List ℕ) (whole : Bool) (rest : ℕ) : Type 0 where
   pub lines : List ℕ
   pub are_lines : AreLines row_read row_line (take left rows) lines
@@ -103,13 +103,13 @@ pub record AreLinesTo (limit left : ℕ) (rows : List (Result PointerRow Fault))
   pub is_whole : whole ≡ (list_all is_ok (take left rows) && not (nat_lt left (length rows)))
   pub is_rest : rest ≡ left - length rows
 
--- What was written is such lines.
+-- These lines were written.
 pub record WritesTold (limit left : ℕ) (rows : List (Result PointerRow Fault)) (whole : Bool) (rest : ℕ) (old new : Option (List ℕ)) : Type 0 where
   pub text : List ℕ
   pub lines : AreLinesTo limit left rows text whole rest
   pub written : Appends old new text
 
--- The lines of the first rows were written, no more than `left`, and this is what is known then.
+-- The lines of the first rows were written, no more than `left`, and `t` says what is known then.
 pub record WritesFirstRows (left : ℕ) (rows : List (Result PointerRow Fault)) (old new : Option (List ℕ)) (t : Told) : Type 0 where
   pub lines : WritesLines row_read row_line (take left rows) old new
   pub whole : t.whole ≡ list_all is_ok (take left rows)

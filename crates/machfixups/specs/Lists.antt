@@ -1,4 +1,4 @@
--- What the bytes say of the lists of what dyld corrects of the image that opens at a place.
+-- The lists of rebases, binds and fixups of the image that opens at an offset, by the bytes.
 use Rattle.std.specs.Prelude.{ℕ, List, Result}
 use Rattle.mach_base.specs.Context.{pointer_size}
 use Rattle.mach_base.specs.Fault.{Fault}
@@ -29,7 +29,7 @@ pub record PointerLists : Type 0 where
   pub weak_binds : List (Result WeakBind Fault)
   pub fixups : List (Result Fixup Fault)
 
--- these are those lists
+-- these are those lists of the image at an offset
 pub record HasPointerLists (bytes : List ℕ) (o : ℕ) (lists : PointerLists) : Type 0 where
   pub rebases : HasOpcodeRebases bytes o lists.rebases
   pub bindings : HasOpcodeBindings bytes o lists.bindings

@@ -1,8 +1,8 @@
--- The words of a call that pick lists.
+-- The options of a call that select lists.
 use Rattle.std.specs.Prelude.{List, ℕ, codes, bytes_eq, Bool, true, false, if◌then◌else◌}
 use Rattle.machfixups.specs.declared.rows.Picks.{Picks}
 
--- the lists that are picked with a word more, and whether it is one of these words
+-- the selected lists with one more word, and whether it is one of these options
 abbrev pub pick_taken : Picks → List ℕ → Picks × Bool
 pick_taken p word =
     if bytes_eq word (codes "--rebases") then (record p { rebases = true }, true)

@@ -1,4 +1,4 @@
--- What is shown of each rebase, bind and weak bind of the opcodes and of each fixup of the chains.
+-- The rows of the rebases, binds and weak binds of the opcodes and of the fixups of the chains.
 use Rattle.std.specs.Prelude.{ℕ, ℤ, pos, negsuc, ◌+ℤ◌, List, [], codes, map, ◌++◌, slice_get, Bool, false, not, ◌||◌, if◌then◌else◌}
 use Rattle.std.specs.Prelude.{Option, Some, None, option_map, Result, Ok, Err}
 use Rattle.mach_base.specs.Answer.{◌>>=◌}
@@ -28,14 +28,14 @@ use Rattle.machfixups.specs.declared.row.Row as declared
 use Rattle.machfixups.specs.declared.row.Row.TheVariants as rows
 use Rattle.machfixups.specs.declared.rows.Picks.{Picks}
 
--- where a pointer lies: its address, and the names that are shown of its segment and its section
+-- the place of a pointer: its address, and the printed names of its segment and its section
 pub record PointerPlace : Type 0 where
   pub address : ℕ
   pub segment : List ℕ
   pub section : List ℕ
 
--- a symbol whose address a pointer takes: 0 is the image itself as its provider, above it a library of the image's list,
--- -1 the main executable, -2 any image (flat), -3 the weak look-up
+-- A symbol whose address a pointer takes. The ordinal is 0 for the image itself, above 0 for a library of the image's list, -1
+-- for the main executable, -2 for any image (flat lookup), -3 for weak lookup.
 pub record PointerBind : Type 0 where
   pub name : List ℕ
   pub ordinal : ℤ
@@ -44,14 +44,15 @@ pub record PointerBind : Type 0 where
   pub is_lazy : Bool
   pub auth : Option Auth
 
--- what is asked for: a symbol's address, that of the definition which all images share, an address that moves with the image, or a number
+-- what is stored: a symbol's address, the address of the definition that all images share, an address that moves with the image,
+-- or a number
 pub data Action : Type 0 where
   binds : PointerBind → Action
   binds_weakly : PointerBind → Action
   rebases : (target : ℕ) → RebaseKind → Option Auth → Action
   is_value : ℕ → Action
 
--- a place with what is asked for there, or a name that the image defines itself and not weakly
+-- a place and what is stored there; or the name of a strong definition of the image's own
 pub data PointerRow : Type 0 where
   corrects : PointerPlace → Action → PointerRow
   is_strong : (name : List ℕ) → PointerRow
@@ -61,11 +62,11 @@ abbrev pub place_in : Option Part → ℕ → PointerPlace
 place_in None address = record { address = address; segment = codes "-"; section = codes "-" }
 place_in (Some p) address = record { address = address; segment = stretch_name (Some p.memory); section = section_with address p.sections }
 
--- what is asked for at an address, in the first segment that holds it
+-- the row of an address, in the first segment that holds it
 abbrev pub row_by_address : List Part → ℕ → Action → PointerRow
 row_by_address parts address action = corrects (place_in (part_with address parts) address) action
 
--- what is asked for at an address, in the segment of a number
+-- the row of an address, in the segment with a number
 abbrev pub row_by_segment : List Part → (segment address : ℕ) → Action → PointerRow
 row_by_segment parts segment address action = corrects (place_in (slice_get parts segment) address) action
 
@@ -88,27 +89,27 @@ bind_of_binding b = record {
   auth = None;
 }
 
--- that of a bind, in the first segment that holds its address
+-- the row of a bind, in the first segment that holds its address
 abbrev pub row_of_binding : List Part → Binding → PointerRow
 row_of_binding parts b = row_by_address parts b.address (binds (bind_of_binding b))
 
--- that of a rebase, in its segment
+-- the row of a rebase, in its segment
 abbrev pub row_of_rebase : List Part → Rebase → PointerRow
 row_of_rebase parts r = row_by_segment parts r.segment r.address (rebases r.target r.kind r.auth)
 
--- that of a strong name; that of a weak bind, in the first segment that holds its address
+-- the row of a strong name; or that of a weak bind, in the first segment that holds its address
 abbrev pub row_of_weak : List Part → WeakBind → PointerRow
 row_of_weak parts (strong_name name) = is_strong name
 row_of_weak parts (weakly_bound b) = row_by_address parts b.address (binds_weakly (bind_of_binding b))
 
 -- ---- fixups of the chains
 
--- the import of a number, if there are chains and their table has it
+-- the import with a number, if there are chains and their table has it
 abbrev pub import_in : Option Fixups → ℕ → Result FixupImport Fault
 import_in None k = Err malformed
 import_in (Some table) k = import_at table k
 
--- the bind of an import: the addend of the table and that of the pointer together
+-- the bind of an import; its addend is the sum of the table's and the pointer's
 abbrev pub bind_of_import : FixupImport → ℤ → Option Auth → PointerBind
 bind_of_import i inline auth = record {
   name = i.name;
@@ -124,7 +125,7 @@ action_of table (rebase target) auth = Ok (rebases target Pointer auth)
 action_of table (value number) auth = Ok (is_value number)
 action_of table (bind import inline) auth = import_in table import >>= (λ i. Ok (binds (bind_of_import i inline auth)))
 
--- that of a fixup, in its segment
+-- the row of a fixup, in its segment
 abbrev pub row_of_fixup : List Part → Option Fixups → Fixup → Result PointerRow Fault
 row_of_fixup parts table f = action_of table f.kind f.auth >>= (λ action. Ok (row_by_segment parts f.segment f.address action))
 
@@ -142,12 +143,12 @@ row_for_binding parts item = item >>= (λ b. Ok (row_of_binding parts b))
 abbrev pub row_for_fixup : List Part → Option Fixups → Result Fixup Fault → Result PointerRow Fault
 row_for_fixup parts table item = item >>= row_of_fixup parts table
 
--- those chained fixups, if they can be read
+-- the chained fixups, if they can be read
 abbrev pub readable_table : Result (Option Fixups) Fault → Option Fixups
 readable_table (Ok table) = table
 readable_table (Err f) = None
 
--- the lists that are shown: all, where none is asked for
+-- the lists that are shown: all if none is selected
 abbrev pub none_asked : Picks → Bool
 none_asked p = not (p.rebases || p.binds || p.weak || p.chains)
 
@@ -163,8 +164,8 @@ shown_picks p = record {
 abbrev pub picked : Bool → List (Result PointerRow Fault) → List (Result PointerRow Fault)
 picked is_shown rows = if is_shown then rows else []
 
--- A row, or why there is none, for each rebase of the opcodes in order, then for each of their binds, then for each weak bind, and then for
--- each fixup of the chains: of the lists that are shown.
+-- A row, or its fault, for each rebase of the opcodes in order, then for each of their binds, then for each weak bind, and then
+-- for each fixup of the chains, of the lists that are shown.
 abbrev pub rows_in_order : Picks → List Part → Option Fixups → PointerLists → List (Result PointerRow Fault)
 rows_in_order p parts table lists =
     picked (shown_picks p).rebases (map (row_for_rebase parts) lists.rebases)
@@ -200,6 +201,6 @@ abbrev pub row_view : declared.Row → PointerRow
 row_view (rows.At place action) = corrects (place_view place) (action_view action)
 row_view (rows.Strong name) = is_strong name.now
 
--- a row, as it was answered
+-- the row of an answer
 abbrev pub row_read : Result declared.Row Error → Result PointerRow Fault
 row_read answer = read_as row_view answer

@@ -1,4 +1,4 @@
--- What is left to an iterator over the rows of a list.
+-- What is left of an iterator over the rows of a list.
 use Rattle.std.specs.Prelude.{List, map, Option, Result}
 use Rattle.mach_base.specs.Fault.{Fault}
 use Rattle.mach_chained.specs.Header.{Fixups}

@@ -18,12 +18,12 @@ use mach_cli::{Cpu, Failure, Heading, Names, Outcome, Shows, most_items};
 use std::alloc::Allocator;
 use std::io::{BufWriter, Write};
 
-// What dyld corrects of the images of a file, of the lists that are picked, as objects.
+// The selected lists of the images of a file, as objects.
 #[derive(Clone, Copy)]
 struct Objects<'a> {
     file: &'a str,
     picks: Picks,
-    // How many sections are looked at, at most.
+    // How many sections are read at most.
     room: usize,
 }
 
@@ -53,7 +53,7 @@ impl Shows for Objects<'_> {
     }
 }
 
-/// Writes of a file as `run` does, but as JSON, an object of the file on a line: with an object for each item of the lists that are picked, and
+/// Writes of a file what `run` prints, as JSON: one object on one line. It has an object for each item of the selected lists, and
 /// for each image whether it has more of them than are left of the limit.
 pub fn run_json<A: Allocator + Clone, W: Write + Drop, B: Allocator, E: Write>(
     alloc: A,

@@ -1,21 +1,20 @@
-//! Prints what dyld corrects of a Mach-O file, a line each: the rebases of the opcodes in order, then the binds of the bind
-//! opcodes, then the weak binds, then the fixups of the chains, or those of these lists that are asked for; of a fat file those
-//! of each entry, under a line that says which. Of a file it prints at most as many of them as `--limit` says, and behind those
-//! of an image that has more, a line that says so. With `--json` it writes an object a file on a line in their place.
+//! Prints what dyld fixes up in a Mach-O file, a line each: the rebases of the opcodes in order, then the binds of the bind
+//! opcodes, then the weak binds, then the fixups of the chains, or those of these lists that are selected. Of a fat file it
+//! prints those of each entry, under a line that says which. It prints at most as many of them as `--limit` says, and a line
+//! after those of an image that has more. With `--json` it writes one object for each file instead, on a line.
 //!
-//! A line has the address, the names of the segment and of the section, and what is asked for: `bind` with the ordinal
-//! of the library, the addend, flags and the symbol's name; `weak` with addend, flags and name; `rebase` with the address
-//! that moves with the image, and flags where the pointer is signed; or `value` with a number. A name that the image
-//! defines itself and not weakly has a line `- - - strong`.
+//! A line has the address, the names of the segment and of the section, and what is stored there: `bind` with the ordinal of the
+//! library, the addend, flags and the symbol's name; `weak` with addend, flags and name; `rebase` with the address that moves
+//! with the image, and flags if the pointer is signed; or `value` with a number. A strong definition of the image's own has a
+//! line `- - - strong` with its name.
 //!
-//! Where lines differ from those of `llvm-objdump --rebase --bind --lazy-bind --weak-bind --dyld-info`:
-//! - a library is shown by its ordinal, as it stands there: 0 is the image itself, -1 the main executable, -2 any image,
-//!   -3 the weak look-up;
-//! - of a rebase of the opcodes the target is shown, and its type where it is no pointer;
-//! - a count of 0 gives no line, and a place has its segment though it lies in no section whole;
-//! - an addend is shown in decimal, with its sign, and it is that of the table and that of the pointer together;
-//! - a bind or a fixup that can't be read has a line that says why, and those behind it in the opcodes or in the chains
-//!   can't be read, unless it is a bind whose import alone can't be.
+//! Its lines differ from those of `llvm-objdump --rebase --bind --lazy-bind --weak-bind --dyld-info`:
+//! - A library is printed by its ordinal: 0 is the image itself, -1 the main executable, -2 any image, -3 weak lookup.
+//! - A rebase of the opcodes has its target, and its type unless it is a pointer.
+//! - A count of 0 gives no line, and a place has its segment even if no section holds all of it.
+//! - An addend is printed in decimal, with its sign, and it is the sum of the table's and the pointer's.
+//! - A bind or a fixup that can't be read has a line with the error. Those after it in the opcodes or in the chains can't be
+//!   read, unless it is a bind and only its import can't be read.
 #![tactic(auto)]
 
 mod json;
@@ -75,7 +74,7 @@ fn main(rt: HostRuntime) -> ExitCode {
     })
 }
 
-// Does what the words ask for.
+// Runs the program with its words.
 fn start(rt: &HostRuntime) -> Result<u8, u8> {
     let words = PROGRAM.words(rt)?;
     let Ok((is_json, words)) = take_json(rt.alloc(), words) else {
@@ -94,7 +93,7 @@ fn start(rt: &HostRuntime) -> Result<u8, u8> {
     show_files(rt, shown, &call)
 }
 
-// What is shown of each file: the lists that are picked, `limit` lines at most, or objects.
+// What is shown of each file: the selected lists, `limit` lines at most, or objects.
 #[derive(Clone, Copy)]
 struct Shown {
     cpu: Cpu,
@@ -120,7 +119,7 @@ impl<W: Write + Drop, B: Allocator> ShowsFile<BufWriter<W, B>> for Shown {
     }
 }
 
-// Shows of files in order the images that are asked for, and answers the worst status.
+// Shows the selected images of files in order, and returns the worst status.
 fn show_files(rt: &HostRuntime, shown: Shown, call: &Call<'_, Global>) -> Result<u8, u8> {
     let (files, others) = (&call.words, &call.others);
     if files.is_empty() && others.is_empty() {

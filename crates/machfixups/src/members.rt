@@ -1,4 +1,4 @@
-//! The members of the object of an image: what dyld corrects of it.
+//! The members of an image's object: its rebases, binds and fixups.
 
 ghost use Rattle.std.specs.Prelude.{◌≡◌, ℕ, List, Option, Result, map, IfOk, OnOk};
 ghost use Rattle.std.specs.Io.KnownBytes.{Appends};
@@ -56,9 +56,12 @@ impl<'p, 'a, A: Allocator> Listing for Rows<'p, 'a, '_, A> {
     }
 }
 
-/// Writes the members of an image: of the lists that are picked exactly an object for each rebase of the opcodes that it has in its bytes, in order, for
-/// each of their binds, for each row of its weak binds, and for each fixup of its chains. Where one can't be read its object says why. Of all of them it
-/// writes the first `left`, and whether there are more; then they are not all read. Each object is one less that is left for the images behind.
+/// Writes the members of an image, of the selected lists: exactly one object for each rebase of its opcodes, in order, for each
+/// of their binds, for each row of its weak binds, and for each fixup of its chains. The object of an item that can't be read has
+/// the error.
+///
+/// Of all objects it writes the first `left`, and whether there are more; the rest is not read then. Each object uses up one of
+/// the limit for the images after it.
 pub fn write_members<A: Allocator, B: Allocator, O: Write>(
     image: &MachO<'_, A>,
     parts: &Parts<B>,

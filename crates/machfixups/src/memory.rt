@@ -1,4 +1,4 @@
-//! Where segments and sections lie in memory, and their names.
+//! The ranges of memory of segments and sections, and their names.
 
 ghost use Rattle.std.specs.Prelude.{◌≡◌, Some, map, IfOk, OnOk};
 ghost use Rattle.mach_base.specs.Items.{read_as};
@@ -12,7 +12,7 @@ use goblin_mach::segment::{Section, SectionData, Segment};
 use goblin_mach::{Error, read_text};
 use std::alloc::{AllocError, Allocator};
 
-/// What the sections of a segment leave of the room.
+/// Returns the room that the sections of a segment leave.
 pub fn room_after(room: usize, segment: &Segment<'_>) -> usize
     ensures { result ≡ room_after room (segment_view segment.now) }
 {
@@ -20,7 +20,7 @@ pub fn room_after(room: usize, segment: &Segment<'_>) -> usize
     if count <= room { room - count } else { room }
 }
 
-/// Where the sections of a segment lie, if there is room for them.
+/// Returns the ranges of memory of a segment's sections, if there is room for them.
 pub fn sections_within<A: Allocator + Clone>(
     alloc: &A,
     segment: &Segment<'_>,
@@ -40,7 +40,7 @@ pub fn sections_within<A: Allocator + Clone>(
     }
 }
 
-// Nothing, or out of memory where that is the error.
+// Returns nothing, or a refused allocation if the error is one.
 fn unless_memory(error: Error) -> Result<(), AllocError>
     ensures { OnOk result (IsTold error) }
 {
@@ -50,7 +50,7 @@ fn unless_memory(error: Error) -> Result<(), AllocError>
     }
 }
 
-// Where some sections lie.
+// Returns the ranges of memory of some sections.
 fn stretches_of<A: Allocator>(
     alloc: A,
     sections: &[(Section, SectionData<'_>)],
@@ -68,14 +68,14 @@ fn stretches_of<A: Allocator>(
     Ok(stretches)
 }
 
-/// The name that is shown of a segment or a section.
+/// Returns the printed name of a segment or a section.
 pub fn name_of(stretch: &Stretch) -> &str
     ensures { result.now ≡ stretch_name (Some stretch.now) }
 {
     shown_name(read_text(&stretch.name, 0))
 }
 
-// A name as it is shown.
+// Returns a name as it is printed.
 fn shown_name(name: goblin_mach::Result<&str>) -> &str
     ensures { result.now ≡ shown_name (read_as (λ text. text.now) name.entry) }
 {

@@ -13,7 +13,7 @@ use mach_cli::{AuthMembers, DiversityMembers, JsonString, has_auth, key_by, reba
 use std::fmt;
 use std::fmt::{Display, Formatter, Write};
 
-// The flags of a bind, and by which key its pointer is signed.
+// The flags of a bind, and the key of its signed pointer.
 #[derive(Clone, Copy)]
 struct BindFlags<'a>(&'a Bind<'a>);
 
@@ -36,7 +36,7 @@ impl Display for BindFlags<'_> {
     }
 }
 
-// What is mixed into the pointer of a bind, its flags, and the ordinal of its library.
+// The diversity of the pointer of a bind, its flags, and the ordinal of its library.
 #[derive(Clone, Copy)]
 struct BindMembers<'a>(&'a Bind<'a>);
 
@@ -163,7 +163,7 @@ impl Display for ValueObject<'_> {
     }
 }
 
-// What is asked for at a place.
+// What is stored at a place.
 #[derive(Clone, Copy)]
 struct ActionObject<'a> {
     place: &'a Place<'a>,

@@ -1,4 +1,4 @@
-//! The lines of what dyld corrects of an image.
+//! The lines of an image's rebases, binds and fixups.
 
 ghost use Rattle.std.specs.Prelude.{◌≡◌, ℕ, List, Option, Result, false, true, ◌&&◌, ◌||◌, IfOk, OnOk};
 ghost use Rattle.std.specs.Io.KnownBytes.{Appends};
@@ -24,22 +24,22 @@ use std::alloc::Allocator;
 use std::io;
 use std::io::Write;
 
-/// How many lines of a file are told, where no other limit is given.
+/// How many lines of a file are printed if no limit is given.
 pub const DEFAULT_LIMIT: usize = 10_000_000;
 
 /// What was printed of a list that ends at a limit.
 #[derive(Clone, Copy, Drop)]
 pub struct Told {
-    /// How many lines more there may be.
+    /// How many more lines may be printed.
     pub left: usize,
     /// Whether all that was printed can be read.
     pub whole: bool,
-    /// Whether the list has more than that.
+    /// Whether the list has more.
     pub more: bool,
 }
 
 impl Told {
-    // All of a list, with `left` lines left.
+    // Returns the outcome of a list that was printed to its end, with `left` lines left.
     fn all(left: usize, whole: bool) -> Told
         ensures { (result.left ≡ left) × (result.whole ≡ whole) × (result.more ≡ false) }
     {
@@ -50,7 +50,7 @@ impl Told {
         }
     }
 
-    // As many items of a list as may be printed, where there are more.
+    // Returns the outcome of a list that was cut at the limit.
     fn cut(whole: bool) -> Told
         ensures { (result.left ≡ 0) × (result.whole ≡ whole) × (result.more ≡ true) }
     {
@@ -61,7 +61,7 @@ impl Told {
         }
     }
 
-    // What was printed of a list, and of another behind it with what the first left.
+    // Returns the outcome of a list and another after it, printed with what the first left.
     fn then(self, next: Told) -> Told
         ensures { (result.left ≡ next.left) × (result.whole ≡ (self.whole && next.whole)) × (result.more ≡ (self.more || next.more)) }
     {
@@ -73,10 +73,12 @@ impl Told {
     }
 }
 
-/// Prints exactly a line for each rebase of the opcodes that the image has in its bytes, in order, then one for each of their binds, one for
-/// each row of its weak binds, and one for each fixup of its chains, of the lists that are picked, and answers whether all of them can be
-/// read. Where one can't its line says why. Of all of them it prints the first `left`, and where there are more, a line that says that
-/// `limit` are told; then they are not all read. Each line is one less that is left for the images behind.
+/// Prints the lines of an image, of the selected lists: exactly one for each rebase of its opcodes, in order, then one for each
+/// of their binds, one for each row of its weak binds, and one for each fixup of its chains. The line of an item that can't be
+/// read has the error.
+///
+/// Of all lines it prints the first `left`, and if there are more, a line that says that `limit` are printed; the rest is not
+/// read then. Each line uses up one of the limit for the images after it. Returns whether all of them can be read.
 pub fn print_fixups<A: Allocator, B: Allocator, O: Write>(
     image: &MachO<'_, A>,
     parts: &Parts<B>,
@@ -112,7 +114,7 @@ pub fn print_fixups<A: Allocator, B: Allocator, O: Write>(
     })
 }
 
-// Prints that there are more than the limit, where that is so.
+// Prints that there are more than the limit, if so.
 fn print_more<O: Write>(limit: usize, more: bool, out: &mut O) -> io::Result<()>
     ensures { OnOk result (Appends (O.contents out.old) (O.contents out.new) (line_of_more limit more)) }
 {
@@ -122,7 +124,7 @@ fn print_more<O: Write>(limit: usize, more: bool, out: &mut O) -> io::Result<()>
     Ok(())
 }
 
-/// The chained fixups of an image, if it has any that can be read.
+/// Returns the chained fixups of an image, if it has any that can be read.
 pub fn table_of<'a, A: Allocator>(image: &MachO<'a, A>) -> Option<ChainedFixups<'a>>
     ensures { fixups_table_seen result ≡ readable_table (chained_held image.now) }
 {
@@ -175,7 +177,7 @@ fn print_rows<B: Allocator, O: Write>(
     Ok(Told::all(left, whole))
 }
 
-// Prints the line of a row, and answers whether there is one.
+// Prints the line of a row, and returns whether it can be read.
 fn print_row<O: Write>(answer: &goblin_mach::Result<Row<'_, '_>>, out: &mut O) -> io::Result<bool>
     ensures { IfOk result (λ whole. (whole ≡ is_ok answer.now) × Appends (O.contents out.old) (O.contents out.new) (row_line answer.now)) }
 {

@@ -1,4 +1,4 @@
-//! What is shown of each rebase, bind and weak bind of the opcodes and of each fixup of the chains.
+//! The rows of the rebases, binds and weak binds of the opcodes and of the fixups of the chains.
 
 ghost use Rattle.std.specs.Prelude.{◌≡◌, ℤ, option_map, slice_get};
 ghost use Rattle.mach_base.specs.Answer.{Reads};
@@ -19,11 +19,11 @@ use goblin_mach::chained_fixups::{ChainedFixups, ChainedImport, Fixup, FixupKind
 use goblin_mach::{Binding, Error, Provider, Rebase, RebaseKind, Result, WeakBind};
 use std::alloc::Allocator;
 
-/// Where a pointer lies.
+/// The place of a pointer.
 #[derive(Clone, Copy)]
 pub struct Place<'a> {
     pub address: u64,
-    /// The names that are shown of the segment and of the section.
+    /// The printed names of the segment and of the section.
     pub segment: &'a str,
     pub section: &'a str,
 }
@@ -32,8 +32,8 @@ pub struct Place<'a> {
 #[derive(Clone, Copy)]
 pub struct Bind<'a> {
     pub name: &'a str,
-    /// 0 for the image itself, above it a library of the image's list, -1 for the main executable, -2 for any
-    /// image, -3 for the weak look-up.
+    /// 0 for the image itself, above 0 for a library of the image's list, -1 for the main executable, -2 for any image, -3 for
+    /// weak lookup.
     pub ordinal: i128,
     pub addend: i128,
     pub is_weak: bool,
@@ -41,7 +41,7 @@ pub struct Bind<'a> {
     pub auth: Option<PointerAuth>,
 }
 
-/// What is asked for.
+/// What is stored at a place.
 #[derive(Clone, Copy)]
 pub enum Action<'a> {
     /// The address of a symbol.
@@ -61,16 +61,16 @@ pub enum Action<'a> {
 /// A rebase, a bind or a weak bind of the opcodes, or a fixup of the chains.
 #[derive(Clone, Copy)]
 pub enum Row<'b, 'a> {
-    /// A place, and what is asked for there.
+    /// A place, and what is stored there.
     At {
         place: Place<'b>,
         action: Action<'a>,
     },
-    /// A name that the image defines itself, and not weakly.
+    /// The name of a strong definition of the image's own.
     Strong(&'a str),
 }
 
-// The place of an address in a segment, if there is one.
+// Returns the place of an address in a segment, if there is one.
 fn place_in<'b, A: Allocator>(part: Option<&'b Part<A>>, address: u64) -> Place<'b>
     ensures { place_view result ≡ place_in (option_map (λ p. part_view p.now) part.entry) address }
 {
@@ -88,7 +88,7 @@ fn place_in<'b, A: Allocator>(part: Option<&'b Part<A>>, address: u64) -> Place<
     }
 }
 
-// The ordinal of a provider.
+// Returns the ordinal of a provider.
 fn ordinal_of(provider: &Provider<'_>) -> i128
     ensures { result ≡ ordinal_of (provider_view provider.now) }
 {
@@ -101,7 +101,7 @@ fn ordinal_of(provider: &Provider<'_>) -> i128
     }
 }
 
-// What a bind of the opcodes asks for.
+// Returns the bind of a binding of the opcodes.
 fn bind_of_binding<'a>(binding: &Binding<'a>) -> Bind<'a>
     ensures { bind_view result ≡ bind_of_binding (binding_view binding.now) }
 {
@@ -115,7 +115,7 @@ fn bind_of_binding<'a>(binding: &Binding<'a>) -> Bind<'a>
     }
 }
 
-// What is asked for at an address, in the first segment that holds it.
+// Returns the row of an address, in the first segment that holds it.
 fn row_by_address<'b, 'a, A: Allocator>(
     parts: &'b Parts<A>,
     address: u64,
@@ -129,7 +129,7 @@ fn row_by_address<'b, 'a, A: Allocator>(
     }
 }
 
-// What is asked for at an address, in the segment of a number.
+// Returns the row of an address, in the segment with a number.
 fn row_by_segment<'b, 'a, A: Allocator>(
     parts: &'b Parts<A>,
     segment: u32,
@@ -145,7 +145,7 @@ fn row_by_segment<'b, 'a, A: Allocator>(
     }
 }
 
-// The import of a number, if there are chains and their table has it.
+// Returns the import with a number, if there are chains and their table has it.
 fn import_in<'a>(table: &Option<ChainedFixups<'a>>, index: u32) -> Result<ChainedImport<'a>>
     ensures { Reads import_view result (import_in (fixups_table_seen table.now) index) }
 {
@@ -155,7 +155,7 @@ fn import_in<'a>(table: &Option<ChainedFixups<'a>>, index: u32) -> Result<Chaine
     }
 }
 
-// The bind of an import: the addend of the table and that of the pointer together.
+// Returns the bind of an import; its addend is the sum of the table's and the pointer's.
 fn bind_of_import<'a>(
     import: &ChainedImport<'a>,
     inline: i32,
@@ -173,7 +173,7 @@ fn bind_of_import<'a>(
     }
 }
 
-// What a fixup asks for.
+// Returns what a fixup stores.
 fn action_of<'a>(table: &Option<ChainedFixups<'a>>, fixup: &Fixup) -> Result<Action<'a>>
     ensures { Reads action_view result (action_of (fixups_table_seen table.now) (kind_view fixup.now.kind) (auth_seen fixup.now.auth)) }
 {
@@ -192,7 +192,7 @@ fn action_of<'a>(table: &Option<ChainedFixups<'a>>, fixup: &Fixup) -> Result<Act
     }
 }
 
-// What is shown of a fixup of the chains, in its segment; refused where the import of a bind can't be read.
+// Returns the row of a fixup of the chains, in its segment; an error if the import of a bind can't be read.
 fn row_of_fixup<'b, 'a, A: Allocator>(
     parts: &'b Parts<A>,
     table: &Option<ChainedFixups<'a>>,
@@ -204,7 +204,7 @@ fn row_of_fixup<'b, 'a, A: Allocator>(
     Ok(row_by_segment(parts, fixup.segment, fixup.address, action))
 }
 
-/// What is shown of an item of the opcodes that rebase: its place is in its own segment.
+/// Returns the row of a rebase of the opcodes; its place is in its own segment.
 pub fn rebase_row<'b, 'a, A: Allocator>(
     parts: &'b Parts<A>,
     item: Result<Rebase>,
@@ -220,7 +220,7 @@ pub fn rebase_row<'b, 'a, A: Allocator>(
     Ok(row_by_segment(parts, rebase.segment, rebase.address, action))
 }
 
-/// What is shown of an item of the opcodes that bind weakly.
+/// Returns the row of a weak bind of the opcodes.
 pub fn weak_row<'b, 'a, A: Allocator>(
     parts: &'b Parts<A>,
     item: Result<WeakBind<'a>>,
@@ -236,7 +236,7 @@ pub fn weak_row<'b, 'a, A: Allocator>(
     }
 }
 
-/// What is shown of an item of the opcodes that bind: its place is in the first segment that holds its address.
+/// Returns the row of a bind of the opcodes; its place is in the first segment that holds its address.
 pub fn binding_row<'b, 'a, A: Allocator>(
     parts: &'b Parts<A>,
     item: Result<Binding<'a>>,
@@ -248,7 +248,7 @@ pub fn binding_row<'b, 'a, A: Allocator>(
     Ok(row_by_address(parts, binding.address, action))
 }
 
-/// What is shown of an item of the chains.
+/// Returns the row of a fixup of the chains.
 pub fn fixup_row<'b, 'a, A: Allocator>(
     parts: &'b Parts<A>,
     table: &Option<ChainedFixups<'a>>,

@@ -1,4 +1,4 @@
-//! The lists of what dyld corrects of an image, as rows.
+//! The lists of an image's rebases, binds and fixups, as rows.
 
 ghost use Rattle.std.specs.Prelude.{◌≡◌};
 ghost use Rattle.machfixups.specs.Rows.{row_read, shown_picks};
@@ -12,7 +12,7 @@ use goblin_mach::{
 };
 use std::alloc::Allocator;
 
-/// Which lists are asked for.
+/// Which lists are selected.
 #[derive(Clone, Copy)]
 pub struct Picks {
     pub rebases: bool,
@@ -22,7 +22,7 @@ pub struct Picks {
 }
 
 impl Picks {
-    /// None is asked for.
+    /// No list.
     pub const NONE: Picks = Picks {
         rebases: false,
         binds: false,
@@ -30,7 +30,7 @@ impl Picks {
         chains: false,
     };
 
-    /// The lists that are shown: all, where none is asked for.
+    /// Returns the lists that are shown: all if none is selected.
     pub fn shown(self) -> Picks
         ensures { result ≡ shown_picks self }
     {
@@ -44,7 +44,7 @@ impl Picks {
     }
 }
 
-/// A list of what dyld corrects.
+/// A list of rebases, binds, weak binds or fixups.
 #[derive(Drop)]
 pub enum Items<'a, 'b> {
     Rebases(OpcodeRebaseIterator<'a, 'b>),
@@ -56,9 +56,9 @@ pub enum Items<'a, 'b> {
 /// The rows of a list, one at a time.
 #[derive(Drop)]
 pub struct Rows<'p, 'a, 'b, A: Allocator> {
-    /// The segments in which its items lie.
+    /// The segments that hold its items.
     pub parts: &'p Parts<A>,
-    /// Where the imports of its binds stand.
+    /// The chained fixups with the imports of its binds.
     pub table: &'p Option<ChainedFixups<'a>>,
     pub items: Items<'a, 'b>,
 }

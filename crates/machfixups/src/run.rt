@@ -1,4 +1,4 @@
-//! What the program shows of an image and of a file, and its exit status.
+//! What the program prints of an image and of a file, and its exit status.
 
 ghost use Rattle.std.specs.Prelude.{◌≡◌, ◌≤◌, [], codes, length};
 ghost use Rattle.std.specs.Io.Buffered.{writer_buffer, writer_contents};
@@ -19,13 +19,13 @@ use std::io::{BufWriter, Write};
 /// The program's name.
 pub const NAME: &str = "machfixups";
 
-// What dyld corrects of the images of a file, of the lists that are picked, `limit` lines at most.
+// The selected lists of the images of a file, `limit` lines at most.
 #[derive(Clone, Copy)]
 struct Fixups<'a> {
     file: &'a str,
     picks: Picks,
     limit: usize,
-    // How many sections are looked at, at most.
+    // How many sections are read at most.
     room: usize,
 }
 
@@ -55,11 +55,13 @@ impl Shows for Fixups<'_> {
     }
 }
 
-/// Shows what dyld corrects of the images of a file that are asked for, of the lists that are picked, of all these together at most `limit` lines, and
-/// no more than the file has bytes. Answers the exit status: 0 where nothing was refused; 1 where the file or an entry of a fat one was, or memory,
-/// and then `err` has a line that says
-/// why, or where an item can't be read, and then its line says why, or where an image has more of them than are left of the limit, and then a line
-/// behind them says so; 2 or 141 where a write fails. But for that nothing is left in the buffer.
+/// Prints the selected lists of a file's selected images, at most `limit` lines of all these together, and no more than the file
+/// has bytes.
+///
+/// Returns the exit status. It is 0 if nothing was refused. It is 1 if the file, an entry of a fat file or an allocation was
+/// refused, and then `err` has a line that says why; or if an item can't be read, and then its line says why; or if an image has
+/// more items than are left of the limit, and then a line after them says so. It is 2 or 141 if a write fails. Unless a write
+/// fails, nothing is left in the buffer.
 pub fn run<A: Allocator + Clone, W: Write + Drop, B: Allocator, E: Write>(
     alloc: A,
     cpu: Cpu,

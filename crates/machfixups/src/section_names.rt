@@ -1,4 +1,4 @@
-//! The segments of an image with their sections, and the names of those in which addresses lie.
+//! The segments of an image with their sections, and the names of those that hold an address.
 
 ghost use Rattle.std.specs.Prelude.{◌≡◌, map};
 
@@ -12,7 +12,7 @@ use std::alloc::{AllocError, Allocator};
 #[derive(Drop)]
 pub struct Part<A: Allocator> {
     memory: Stretch,
-    // None where one of them can't be read, or where there is no room for them.
+    // None if one of them can't be read, or if there is no room for them.
     sections: Stretches<A>,
 }
 
@@ -29,7 +29,7 @@ impl<A: Allocator + Clone> Part<A> {
     ghost use Rattle.mach_parts.specs.Segment.{segment_view};
     ghost use Rattle.machfixups.specs.Parts.{memory_of_segment, sections_within};
 
-    // A segment with its sections, where there is room for them.
+    // Returns a segment with its sections, if there is room for them.
     fn of(alloc: &A, segment: &Segment<'_>, room: usize) -> Result<Self, AllocError>
         ensures memory { IfOk result (λ p. p.memory ≡ memory_of_segment (segment_view segment.now)) }
         ensures sections { IfOk result (λ p. p.sections.items.items ≡ sections_within room (segment_view segment.now)) }
@@ -50,14 +50,14 @@ impl<A: Allocator> Part<A> {
     ghost use Rattle.std.specs.Prelude.{Some};
     ghost use Rattle.machfixups.specs.Parts.{part_view, section_with, stretch_name};
 
-    /// The name that is shown of the segment.
+    /// Returns the printed name of the segment.
     pub fn name(&self) -> &str
         ensures { result.now ≡ stretch_name (Some (part_view self.now).memory) }
     {
         name_of(&self.memory)
     }
 
-    /// The name that is shown of the first section that holds an address.
+    /// Returns the printed name of the first section that holds an address.
     pub fn section_with(&self, address: u64) -> &str
         ensures { result.now ≡ section_with address (part_view self.now).sections }
     {
@@ -78,7 +78,7 @@ impl<B: Allocator + Clone> Parts<B> {
     ghost use Rattle.goblin_mach.specs.OpenImage.{IsImage};
     ghost use Rattle.machfixups.specs.Parts.{parts_of, parts_seen};
 
-    /// The segments of an image with their sections, in order, of which there are at most `room` in all.
+    /// Returns the segments of an image with their sections, at most `room` sections in all, in order.
     pub fn of_image<A: Allocator>(
         alloc: &B,
         image: &MachO<'_, A>,
@@ -91,7 +91,7 @@ impl<B: Allocator + Clone> Parts<B> {
         Self::of_segments(alloc, image.segments.as_slice(), room)
     }
 
-    // Some segments with their sections, in order.
+    // Returns some segments with their sections, in order.
     fn of_segments(alloc: &B, segments: &[Segment<'_>], room: usize) -> Result<Self, AllocError>
         ensures { IfOk result (λ parts. parts_seen parts ≡ parts_of room (map segment_view segments.now)) }
     {
@@ -113,14 +113,14 @@ impl<A: Allocator> Parts<A> {
     ghost use Rattle.std.specs.Prelude.{option_map, slice_get};
     ghost use Rattle.machfixups.specs.Parts.{part_view, part_with, parts_seen};
 
-    /// The segment of a number.
+    /// Returns the segment with a number.
     pub fn get(&self, number: usize) -> Option<&Part<A>>
         ensures { option_map (λ p. part_view p.now) result ≡ slice_get (parts_seen self.now) number }
     {
         self.items.get(number)
     }
 
-    /// The first segment that holds an address, if one does.
+    /// Returns the first segment that holds an address, if one does.
     pub fn first_with(&self, address: u64) -> Option<&Part<A>>
         ensures { option_map (λ p. part_view p.now) result ≡ part_with address (parts_seen self.now) }
     {

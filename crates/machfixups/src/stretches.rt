@@ -1,4 +1,4 @@
-//! Stretches of memory that may lie over each other, and the first of them that holds an address.
+//! Ranges of memory that may overlap, and the first of them that holds an address.
 
 ghost use Rattle.std.specs.Prelude.{◌≡◌, ◌+◌, ◌<◌, ◌≤◌, ◌^◌, ℕ, List, [], ◌∷◌, length, take, Option, None, IfOk};
 ghost use Rattle.std.specs.List.{All};
@@ -7,25 +7,25 @@ ghost use Rattle.machfixups.specs.Stretches.{first_holder, holder_from, AreByAdd
 
 use std::alloc::{AllocError, Allocator};
 
-/// A stretch of memory with a name: a segment, or a section.
+/// A range of memory with a name: a segment, or a section.
 #[derive(Clone, Copy)]
 pub struct Stretch {
-    /// The name, with zeros behind it.
+    /// The name, with zeros after it.
     pub name: [u8; 16],
     /// The address.
     pub start: u64,
-    /// How many bytes there are.
+    /// The size in bytes.
     pub size: u64,
 }
 
-/// From an address on: the number of the first stretch that holds what is there, if one does.
+/// From an address on: the number of the first range that holds it, if one does.
 #[derive(Clone, Copy)]
 pub struct Change {
     start: u64,
     holder: Option<usize>,
 }
 
-/// Stretches in order, with a table of the addresses from which on another one is the first to hold them.
+/// Ranges in order, with a table of the addresses from which on another range is the first to hold them.
 #[derive(Drop)]
 pub struct Stretches<A: Allocator> {
     pub items: Vec<Stretch, A>,
@@ -35,7 +35,7 @@ pub struct Stretches<A: Allocator> {
 }
 
 impl<A: Allocator + Clone> Stretches<A> {
-    /// Some stretches, with their table, which takes n log n steps.
+    /// Returns some ranges with their table, in n log n steps.
     pub fn of(alloc: &A, items: Vec<Stretch, A>) -> Result<Self, AllocError>
         ensures { IfOk result (λ s. s.items.items ≡ items.items) }
     {
@@ -45,7 +45,7 @@ impl<A: Allocator + Clone> Stretches<A> {
 }
 
 impl<A: Allocator> Stretches<A> {
-    /// The number of the first that holds an address, if one does, which takes log n steps.
+    /// Returns the number of the first range that holds an address, if one does, in log n steps.
     pub fn first_with(&self, address: u64) -> Option<usize>
         ensures { result ≡ first_holder address 0 self.now.items.items }
     {
@@ -54,7 +54,7 @@ impl<A: Allocator> Stretches<A> {
     }
 }
 
-// How many changes there are up to an address.
+// Returns how many changes there are up to an address.
 fn passed_at(changes: &[Change], address: u64) -> usize
     requires { AreByAddress changes.now }
     ensures inside { result ≤ length changes.now }
@@ -64,7 +64,7 @@ fn passed_at(changes: &[Change], address: u64) -> usize
     changes.partition_point(|change| change.start <= address)
 }
 
-// The holder that the first so many changes bring, at an address that is behind them.
+// Returns the holder after the first `passed` changes.
 fn holder_behind(changes: &[Change], passed: usize) -> Option<usize>
     requires { passed ≤ length changes.now }
     ensures { (address : ℕ) → All (λ c. c.start ≤ address) (take passed changes.now) → result ≡ holder_from None (take passed changes.now) address }
@@ -75,7 +75,7 @@ fn holder_behind(changes: &[Change], passed: usize) -> Option<usize>
     }
 }
 
-// The changes of some stretches, which are counted from a number on.
+// Returns the changes of some ranges, which are numbered from a number on.
 fn changes_of<A: Allocator + Clone>(
     alloc: &A,
     stretches: &[Stretch],
@@ -98,7 +98,7 @@ fn changes_of<A: Allocator + Clone>(
     }
 }
 
-// The changes of one stretch: where it begins, and where it ends, if that is an address.
+// Returns the changes of one range: its start, and its end, if that is an address.
 fn changes_of_one<A: Allocator>(
     alloc: A,
     one: Stretch,
@@ -121,7 +121,7 @@ fn changes_of_one<A: Allocator>(
     Ok(changes)
 }
 
-// The changes of two tables together: where the first has no holder, the second's counts.
+// Returns the changes of two tables together: if the first has no holder, the second decides.
 fn merged<A: Allocator>(
     alloc: A,
     first: &[Change],
@@ -143,7 +143,7 @@ fn merged<A: Allocator>(
     Ok(changes)
 }
 
-// How many changes of two tables are passed, where the next one by its address is, too; and that address.
+// Returns how many changes of two tables are passed together with the one at the next address; and that address.
 fn pass_next(first: &[Change], i: usize, second: &[Change], j: usize) -> Option<(usize, usize, u64)>
     requires first { i ≤ length first.now }
     requires second { j ≤ length second.now }

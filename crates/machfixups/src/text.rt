@@ -23,7 +23,7 @@ impl Display for Place<'_> {
     }
 }
 
-// The key of a signed pointer.
+// Returns the name of the key of a signed pointer.
 fn key_text(key: u8) -> &'static str
     ensures { result.now ≡ key_text key }
 {
@@ -35,7 +35,7 @@ fn key_text(key: u8) -> &'static str
     }
 }
 
-// Whether a signed pointer's own address is mixed in.
+// Returns the words for whether a signed pointer's own address is mixed in.
 fn address_text(is_address_diverse: bool) -> &'static str
     ensures { result.now ≡ address_text is_address_diverse }
 {
@@ -109,7 +109,7 @@ impl Display for Bind<'_> {
     }
 }
 
-// What is corrected, where it is no pointer.
+// Returns the type of a rebase, empty if it is a pointer.
 fn kind_text(kind: RebaseKind) -> &'static str
     ensures { result.now ≡ rebase_kind_text kind }
 {

@@ -1,4 +1,4 @@
-//! The words of a call that pick lists.
+//! The options of a call that select lists.
 
 ghost use Rattle.std.specs.Prelude.{◌≡◌};
 ghost use Rattle.machfixups.specs.PickWords.{pick_taken};
@@ -8,7 +8,7 @@ use mach_cli::{Word, takes_word};
 use std::alloc::{AllocError, Allocator};
 
 impl Picks {
-    // Takes a word, and answers whether it picks a list.
+    // Takes a word, and returns whether it selects a list.
     fn take(&mut self, word: &str) -> bool
         ensures { (self.new, result) ≡ pick_taken self.old word.now }
     {
@@ -23,8 +23,8 @@ impl Picks {
     }
 }
 
-/// The lists that the words of a call pick, and all other words, in order. The first word is the program's name; a word behind `--`, or behind
-/// an option that has one behind it, picks none.
+/// Returns the lists that the words of a call select, and all other words, in order. The first word is the program's name. A word
+/// after `--`, or after an option that takes one, selects none.
 pub fn take_picks<A: Allocator>(
     alloc: A,
     words: Vec<Word>,

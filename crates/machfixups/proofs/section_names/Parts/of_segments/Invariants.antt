@@ -3,7 +3,7 @@ use Rattle.mach_parts.specs.Segment.{segment_view}
 use Rattle.machfixups.specs.Parts.{part_view, parts_of}
 use Rattle.machfixups.proofs.section_names.Parts.of_segments.Given as goal
 
--- with the segments that are left, these make all parts
+-- the parts so far, and those of the segments that are left, are all parts
 abbrev pub invariant-segments : goal.invariant-segments
 invariant-segments g l =
     (map (λ p. p.memory) l.items.items ≡ l.memory.items)
