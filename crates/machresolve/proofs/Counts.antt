@@ -36,7 +36,7 @@ entries_few limit p ls (part ∷ entries) (o ∷ os) all =
       entries_few (limit - answer_count o) p ls entries os all.1,
     )
 
--- of what is told of a program at most as many as the limit
+-- of a report at most as many as the limit
 pub report_few : (limit : ℕ) (p : GivenFile) (ls : List GivenFile) (wanted : Option ℕ) (r : Report) → IsProgramReport limit p ls wanted r → answers_in r ≤ limit
 report_few limit p ls wanted r (image cputype o cpu is) = outcome_few limit p ls o is
 report_few limit p ls wanted r (image_of_cpu cputype o cpu is) = outcome_few limit p ls o is
@@ -59,7 +59,7 @@ outcomes_push limit p ls (a ∷ entries) (x ∷ os) part o all is = (
       (subst (λ (n : ℕ). IsEntryOutcome n (entry_of_program p part) ls o) (omega (arith, sum_by-cons answer_count x os)) is),
 )
 
--- one entry more, within what those before it leave
+-- one more entry, within what the entries before it left
 pub outcomes_more : (limit left : ℕ) (p : GivenFile) (ls : List GivenFile) (entries : List (List ℕ)) (os : List Outcome) (part : List ℕ) (o : Outcome)
     → left ≡ limit - sum_by answer_count os → AreEntryOutcomes limit p ls entries os → IsEntryOutcome left (entry_of_program p part) ls o
     → AreEntryOutcomes limit p ls (entries ++ part ∷ []) (os ++ o ∷ [])

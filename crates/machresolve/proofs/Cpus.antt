@@ -27,7 +27,7 @@ of_cpu bytes m is = record {
   cpu = record { ctx = is.ctx; cs = commands_held m; opens = is.opens.lossy; holds = (m.header, is.fields.header, refl) };
 }
 
--- what a table says of its records, by what is read of them
+-- a table's contents, by what is read of its records
 pub table_entries : {R A : Type 0} (form : ArchForm R) (bytes : List ℕ) (m : FatTable R A) (there : Result (List R) Fault)
     → arch_table_in form (file_held m) ≡ there
     → (fat_table_view form bytes (file_held m)).entries ≡ (there >>= (λ arches. Ok (map (entry_bytes form bytes) arches)))
@@ -38,7 +38,7 @@ pub table_first : {R A : Type 0} (form : ArchForm R) (bytes : List ℕ) (m : Fat
     → (fat_table_view form bytes (file_held m)).first_for cputype ≡ (there >>= (λ found. Ok (option_map (entry_bytes form bytes) found)))
 table_first {R} form bytes m cputype there is = ap (λ (r : Result (Option R) Fault). r >>= (λ found. Ok (option_map (entry_bytes form bytes) found))) is
 
--- what was found in a table
+-- an entry was found in a table, or none
 pub finds : {R A : Type 0} (form : ArchForm R) (bytes : List ℕ) (m : FatTable R A) (cputype : ℕ) (found : Option R)
     → HasTable bytes (fat_table_view form bytes (file_held m)) → first_arch_of_cpu form cputype (archs_in form (file_held m)) ≡ Ok found
     → FindsEntry bytes cputype (option_map (entry_bytes form bytes) found)
@@ -48,19 +48,19 @@ finds form bytes m cputype found has is =
 has_entry : (bytes slice entry : List ℕ) (cputype : ℕ) → FindsEntry bytes cputype (Some entry) → slice ≡ entry → HasFor bytes cputype (Some slice)
 has_entry bytes slice entry cputype found is = subst (λ (b : List ℕ). HasFor bytes cputype (Some b)) (sym is) (of_table found)
 
--- the first entry of a cpu, opened
+-- the first entry for a cpu, opened
 pub entry_library : (cputype number : ℕ) (g : GivenFile) (slice entry : List ℕ) (f : File) → FindsEntry g.bytes cputype (Some entry)
     → slice ≡ entry → IsFile number (record { path = g.path; bytes = slice }) f → IsLibrary cputype number g f
 entry_library cputype number g slice entry f found is opened =
     record { bytes = slice; has = has_entry g.bytes slice entry cputype found is; is_file = opened }
 
--- a fault of the first entry of a cpu is one of the library
+-- a fault of the first entry for a cpu is one of the library
 pub entry_fault : (cputype number : ℕ) (g : GivenFile) (slice entry : List ℕ) → FindsEntry g.bytes cputype (Some entry)
     → slice ≡ entry → (n : ℕ) (f : Fault) → OpenFault number (record { path = g.path; bytes = slice }) n f
     → NumberedFault number (LibraryFault cputype g) n f
 entry_fault cputype number g slice entry found is n f stands = (stands.0, of_image slice (has_entry g.bytes slice entry cputype found is) stands.1)
 
--- why a search in a table is refused stands
+-- a fault that refuses a search in a table holds
 pub search_fault : {R A : Type 0} (form : ArchForm R) (bytes : List ℕ) (m : FatTable R A) (cputype : ℕ) (e : Error)
     → HasTable bytes (fat_table_view form bytes (file_held m)) → first_arch_of_cpu form cputype (archs_in form (file_held m)) ≡ Err (fault_of e)
     → Stands (ForFault bytes cputype) e
@@ -74,7 +74,7 @@ pub library_fault : (cputype number : ℕ) (g : GivenFile) (e : Error) → Stand
 library_fault cputype number g e stands =
     Stands-in (ForFault g.bytes cputype) (NumberedFault number (LibraryFault cputype g) number) e (λ f s. (refl, unfound s)) stands
 
--- a file that opened as a fat one has its table
+-- a file that opened as a fat file has its table
 pub narrow_table : {A : Type 0} (bytes : List ℕ) (m : FatTable FatArch A) → IsInput bytes (Fat m)
     → HasTable bytes (fat_table_view arch_form_32 bytes (file_held m))
 narrow_table bytes m is = of_32_bits (file_held m) is.1.magic is.1.file
@@ -83,7 +83,7 @@ pub wide_table : {A : Type 0} (bytes : List ℕ) (m : FatTable FatArch64 A) → 
     → HasTable bytes (fat_table_view arch_form_64 bytes (file_held m))
 wide_table bytes m is = of_64_bits (file_held m) is.1 is.2
 
--- why a file that doesn't open is refused stands, and why one that is an archive is
+-- the fault of a file that doesn't open holds, and that of an archive
 pub input_fault : (bytes : List ℕ) (e : Error) → Stands (InputFault bytes) e → Stands (FileFault bytes) e
 input_fault bytes e stands = Stands-in (InputFault bytes) (FileFault bytes) e (λ f s. of_input s) stands
 
@@ -93,12 +93,12 @@ archive_fault bytes e begins is = subst (Stands (FileFault bytes)) (sym is) (an_
 pub file_fault : (cputype : ℕ) (bytes : List ℕ) (e : Error) → Stands (FileFault bytes) e → Stands (ForFault bytes cputype) e
 file_fault cputype bytes e stands = Stands-in (FileFault bytes) (ForFault bytes cputype) e (λ f s. of_file s) stands
 
--- an image of the cpu
+-- an image for the cpu
 pub image_library : {A : Type 0} (cputype number : ℕ) (g : GivenFile) (m : MachO A) (f : File) → IsImage g.bytes 0 m → m.header.cputype ≡ cputype
     → IsFile number g f → IsLibrary cputype number g f
 image_library cputype number g m f is same opened =
     record { bytes = g.bytes; has = subst (λ (c : ℕ). HasFor g.bytes c (Some g.bytes)) same (image (of_cpu g.bytes m is)); is_file = opened }
 
--- an image of another cpu
+-- an image for another cpu
 pub other_library : {A : Type 0} (cputype : ℕ) (bytes : List ℕ) (m : MachO A) → IsImage bytes 0 m → (m.header.cputype ≡ cputype → ⊥) → HasFor bytes cputype None
 other_library cputype bytes m is other = other_image m.header.cputype (of_cpu bytes m is) other

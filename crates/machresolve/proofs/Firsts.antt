@@ -1,4 +1,4 @@
--- The first bindings of an image, where each of them is there.
+-- The first bindings of an image, if each of them can be read.
 use Rattle.std.proofs.Common.{◌≡◌, ◌≤◌, ◌++◌, ◌∷◌, [], ◌∙◌, ℕ, ◌+◌, List, Result, Ok, true, false, sym, ap, length, map, take, arith}
 use Rattle.std.proofs.lemmas.Bool.{le-ltb, lt-ltb}
 use Rattle.std.proofs.lemmas.List.{append-nil, length-append, length-map, take-append-le, take_all}
@@ -24,7 +24,7 @@ first_all limit m items rest bs holds is none within =
       more_is = sym (le-ltb limit (length items) few);
     }
 
--- as many as may be, with an item behind them
+-- as many as the limit, and an item after them
 pub first_cut : {A : Type 0} (limit : ℕ) (m : MachO A) (items all rest : List (Result Binding Fault)) (item : Result Binding Fault) (bs : List Binding)
     → HoldsItems m items → items ≡ map there bs ++ all → all ≡ item ∷ rest → length bs ≤ limit → limit ≤ length bs → HoldsFirst limit m bs true
 first_cut limit m items all rest item bs holds is more within many =

@@ -1,4 +1,4 @@
--- What is found at a place, and answers that are carried on.
+-- The place of a name that is found, and answers that are passed on.
 use Rattle.std.proofs.Common.{◌≡◌, ◌∙◌, ◌<◌, ◌++◌, ℕ, List, [], ◌∷◌, Some, length, map, get_or, refl, ap, subst}
 use Rattle.std.specs.Prelude.{slice_get, option_map, Result, Ok, Err, IfOk}
 use Rattle.std.specs.List.{AllZip}

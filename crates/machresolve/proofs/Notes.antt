@@ -1,4 +1,4 @@
--- What is noted on a way, and which failures are told.
+-- The notes made on a way, and the failures that are reported.
 use Rattle.std.proofs.Common.{◌≡◌, ◌∙◌, ◌<◌, ℕ, Bool, true, false, not, List, [], ◌∷◌, ◌++◌, length, map, refl, sym, ap, subst, arith, length-append}
 use Rattle.std.specs.Prelude.{Result, Ok, Err, IfErr, if◌then◌else◌, nat_lt}
 use Rattle.std.specs.List.{list_any}
@@ -66,12 +66,12 @@ tells_more P Q (Scroll e) more t = more _ t
 tells_more P Q (BufferTooShort count what) more t = more _ t
 tells_more P Q (Memory e) more t = t
 
--- a failure that is one of some faults is one of more
+-- a failure that is one of some faults is one of a larger set of faults
 pub fails_more : (P Q : ℕ → Fault → Type 0) (x : Failure) → ((n : ℕ) (f : Fault) → P n f → Q n f) → IsFailure P x → IsFailure Q x
 fails_more P Q (failures.Refused file error) more t = tells_more (P file) (Q file) error (more file) t
 fails_more P Q failures.Memory more t = tt
 
--- want of memory is a failure
+-- a refused allocation is a failure
 pub memory_fails : {T : Type 0} (P : ℕ → Fault → Type 0) (r : Result T Failure) → IsErrAnd r (λ x. x ≡ failures.Memory) → IfErr r (IsFailure P)
 memory_fails P (Ok x) h = absurd h
 memory_fails P (Err x) h = subst (IsFailure P) (sym h) tt

@@ -9,7 +9,7 @@ use Rattle.machresolve.specs.Seen.{note_seen}
 use Rattle.machresolve.specs.declared.note.Note.{Note}
 use Rattle.machresolve.specs.declared.note.Note.TheVariants.{GivenBefore, NothingFor}
 
--- what holds of both forms of notes holds of all
+-- what holds of both forms of notes holds of all notes
 pub cases_notes : (P : Note → Note → Type 0) → ((i j : ℕ) (x y : Bor (List ℕ)) → P (GivenBefore i x) (GivenBefore j y))
     → ((i j : ℕ) (x : Bor (List ℕ)) (c : ℕ) → P (GivenBefore i x) (NothingFor j c))
     → ((i j : ℕ) (c : ℕ) (y : Bor (List ℕ)) → P (NothingFor i c) (GivenBefore j y))
@@ -19,7 +19,7 @@ cases_notes P one two three four (GivenBefore i x) (NothingFor j c) = two i j x 
 cases_notes P one two three four (NothingFor i c) (GivenBefore j y) = three i j c y
 cases_notes P one two three four (NothingFor i c) (NothingFor j d) = four i j c d
 
--- notes are equal exactly where what they mean is the same
+-- notes are equal exactly if their views are equal
 abbrev pub IsEquality : (Note → Note → Bool) → Type 0
 IsEquality E = (a b : Note) → E a b ≡ is_same_note (note_seen a) (note_seen b)
 

@@ -37,7 +37,7 @@ is_program g m p items own libraries is name has absences are all = record {
   bindings_are = all;
 }
 
--- a fault that stands where the bindings of an opened program are answered stands in the program or in a trie
+-- a fault of answering the bindings of an opened program is a fault of the program or of a trie
 pub more_faults : {A : Type 0} (limit : ℕ) (p : GivenFile) (ls : List GivenFile) (m : MachO A) (all : Gathered) → GathersAll p ls all
     → ((items : List (Result Binding Fault)) → HoldsItems m items → HasBindings p.bytes 0 items) → (n : ℕ) (f : Fault) → AnswerFault limit all.files m n f
     → ResolveFault limit p ls n f

@@ -1,4 +1,4 @@
--- Files that are opened and gathered.
+-- Files that are opened and collected.
 use Rattle.std.proofs.Common.{◌≡◌, ◌∙◌, ◌+◌, ◌<◌, ℕ, Bool, true, false, ◌||◌, List, [], ◌∷◌, ◌++◌, Some, Bor, length, map, drop, get_or, refl, sym, ap}
 use Rattle.std.proofs.Common.{subst, arith}
 use Rattle.std.specs.Prelude.{bytes_eq, if◌then◌else◌, slice_get}
@@ -20,7 +20,7 @@ list_any-map : {X Y : Type 0} (p : X → Bool) (h : Y → X) (ys : List Y) → l
 list_any-map p h [] = refl
 list_any-map p h (y ∷ ys) = ap (λ (b : Bool). p (h y) || b) (list_any-map p h ys)
 
--- the names that are kept are those of the files
+-- the names that are kept are the names of the files
 pub named_among : {A : Type 0} (name : List ℕ) (items : List (File A)) (keys : List (Bor (List ℕ))) → map (λ f. f.name.now) items ≡ map (λ k. k.now) keys
     → list_any (λ k. bytes_eq name k.now) keys ≡ is_named (map file_seen items) name
 named_among name items keys named =
@@ -51,7 +51,7 @@ adds_again items notes more f pushed there =
     subst (λ (ns : List Note). Adds (record { files = map file_seen items; notes = notes }) (file_seen f) (record { files = map file_seen items; notes = ns }))
     (sym pushed) (again there)
 
--- a file that counts
+-- a file that is used
 pub adds_new : {A : Type 0} (items more : List (File A)) (notes kept : List noted.Note) (f : File A) → more ≡ items ++ f ∷ [] → kept ≡ notes
     → is_named (map file_seen items) f.name.now ≡ false
     → Adds (record { files = map file_seen items; notes = map note_seen notes }) (file_seen f)
@@ -61,7 +61,7 @@ adds_new items more notes kept f pushed same new =
     (record { files = map file_seen more; notes = map note_seen ns }))
     (sym same) (adds_more items more (map note_seen notes) f pushed new)
 
--- a file whose name is there, which is noted
+-- a file whose name is there already, which is noted
 pub adds_known : {A : Type 0} (items kept : List (File A)) (notes more : List noted.Note) (n : noted.Note) (f : File A) → kept ≡ items → more ≡ notes ++ n ∷ []
     → note_seen n ≡ given_before f.number f.name.now → is_named (map file_seen items) f.name.now ≡ true
     → Adds (record { files = map file_seen items; notes = map note_seen notes }) (file_seen f)
@@ -73,7 +73,7 @@ adds_known items kept notes more n f same pushed is there =
     (adds_again items (map note_seen notes) (map note_seen more) f
     (ap (map note_seen) pushed ∙ (map_push note_seen notes n ∙ ap (λ (x : Note). map note_seen notes ++ x ∷ []) is)) there)
 
--- one more library that was gone over
+-- one more library was visited
 pub reexported_more : (all : List (List ℕ)) (names pushed : List (Bor (List ℕ))) (l : LibraryView) (ls left : List LibraryView) (name : Bor (List ℕ))
     → all ≡ map (λ t. t.now) names ++ reexported left → left ≡ l ∷ ls → l.attributes.is_reexport ≡ true → name.now ≡ l.name → pushed ≡ names ++ name ∷ []
     → all ≡ map (λ t. t.now) pushed ++ reexported ls

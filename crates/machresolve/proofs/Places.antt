@@ -1,4 +1,4 @@
--- Places of files by their names, and what is among some.
+-- Places of files by their names, and membership in lists.
 use Rattle.std.proofs.Common.{◌≡◌, ◌∙◌, ◌+◌, ℕ, Bool, not, cond, List, [], ◌∷◌, ◌++◌, Some, None, length, map, ◌⊎◌, refl, ap, inl, inr}
 use Rattle.std.specs.Prelude.{nat_lt, position}
 use Rattle.std.specs.List.{prefix_len}
@@ -16,7 +16,7 @@ position-map p h xs =
     ap (λ (n : ℕ). cond (nat_lt n (length (map h xs))) (Some n) None) same
     ∙ ap (λ (l : ℕ). cond (nat_lt there l) (Some there) None) (length-map xs h)
 
--- what is pushed is among the others
+-- a pushed item is among the others
 pub among_pushed : {X : Type 0} (x : X) (xs : List X) → IsAmong x (xs ++ x ∷ [])
 among_pushed x [] = inl refl
 among_pushed x (y ∷ ys) = inr (among_pushed x ys)

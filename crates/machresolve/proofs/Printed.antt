@@ -17,7 +17,7 @@ lines_push (x ∷ xs) a =
     ap (λ t. answer_text x ++ codes "\n" ++ t) (lines_push xs a)
     ∙ sym (append_assoc (answer_text x ++ codes "\n") (lines_of xs) (answer_text a ++ codes "\n"))
 
--- a gap's text, with its parts bracketed from the right, as they are written
+-- the text of a gap, with its parts bracketed from the right, as they are written
 pub gap_text : (library reexported : List ℕ)
     → codes "not found; " ++ (escaped_text library ++ (codes " re-exports " ++ (escaped_text reexported ++ codes ", which is not given")))
     ≡ place_text (not_given library reexported)
@@ -35,7 +35,7 @@ said_push call (x ∷ ns) n =
     ap (λ t. said_line (note_text call x) ++ t) (said_push call ns n)
     ∙ sym (append_assoc (said_line (note_text call x)) (said_lines call ns) (said_line (note_text call n)))
 
--- one more entry, behind the others
+-- one more entry, after the others
 pub entries_push : (call : ResolveCall) (k : ℕ) (os : List Outcome) (o : Outcome)
     → entries_text call k (os ++ o ∷ []) ≡ entries_text call k os ++ (entry_heading (k + length os) ++ entry_text call o)
 entries_push call k [] o =
@@ -45,6 +45,6 @@ entries_push call k (x ∷ os) o =
     (entries_push call (k + 1) os o ∙ ap (λ (i : ℕ). entries_text call (k + 1) os ++ (entry_heading i ++ entry_text call o)) (omega arith))
     ∙ sym (append_assoc (entry_heading k ++ entry_text call x) (entries_text call (k + 1) os) (entry_heading (k + length (x ∷ os)) ++ entry_text call o))
 
--- where there is no text, nothing is written
+-- if the text is empty, nothing is written
 pub nothing_written : (known : Option (List ℕ)) (text : List ℕ) → text ≡ [] → Appends known known text
 nothing_written known text none = subst (Appends known known) (sym none) (Appends-none known)

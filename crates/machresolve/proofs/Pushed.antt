@@ -1,4 +1,4 @@
--- Edges as they are pushed.
+-- Edges in the order in which they are pushed.
 use Rattle.std.proofs.Common.{◌≡◌, ◌∙◌, ◌<◌, ℕ, List, Bor, length, map, get_or, sym, ap, arith}
 use Rattle.std.proofs.lemmas.List.{length-map, get_or-map}
 use Rattle.machresolve.specs.Behind.{edges_of}

@@ -1,4 +1,4 @@
--- What is told of programs, and of refused files.
+-- The reports of programs, and of refused files.
 use Rattle.std.proofs.Common.{◌≡◌, ℕ, false, List, Option, Some, None, Result, Ok, Err, refl, sym, ap, subst}
 use Rattle.std.specs.Prelude.{IfOk}
 use Rattle.mach_base.proofs.Faults.{Stands-in}
@@ -33,7 +33,7 @@ refused_outcome n p ls x (Err kept) stands is = tt
 tells_fault : (P : Fault → Type 0) (e : Error) → IsTold e → Stands P e → Tells P e
 tells_fault P e told stands = tells P P e told (λ f s. s) stands
 
--- a program whose table is refused, where all of it is asked for, or what it has for a cpu
+-- a program whose table is refused, for all of it or for a cpu
 pub table_refused : (n : ℕ) (p : GivenFile) (ls : List GivenFile) (e : Error) (r : report.Report) → TellsError e r → Stands (ProgramFault p.bytes) e
     → IsProgramReport n p ls None r
 table_refused n p ls e r told stands =
@@ -44,7 +44,7 @@ pub search_refused : (n : ℕ) (p : GivenFile) (ls : List GivenFile) (c : ℕ) (
 search_refused n p ls c e r told stands =
     subst (IsProgramReport n p ls (Some c)) (sym told.0) (unfound c e (tells_fault (ForFault p.bytes c) e told.1 stands))
 
--- one that doesn't open, whatever is wanted of it
+-- a program that doesn't open, whichever cpu is selected
 pub file_refused : (n : ℕ) (p : GivenFile) (ls : List GivenFile) (wanted : Option ℕ) (e : Error) (r : report.Report) → TellsError e r
     → Stands (FileFault p.bytes) e → IsProgramReport n p ls wanted r
 file_refused n p ls None e r told stands =
@@ -58,7 +58,7 @@ pub entry_image : (n : ℕ) (path slice bytes : List ℕ) (ls : List GivenFile) 
 entry_image n path slice bytes ls o same off is =
     subst (λ (b : List ℕ). IsEntryOutcome n (record { path = path; bytes = b }) ls o) same (an_image o off is)
 
--- one image, of all that a file has, or for its cpu
+-- one image, for all that a file has, or for its cpu
 pub one_of_all : (n : ℕ) (p : GivenFile) (ls : List GivenFile) (c : ℕ) (r : report.Report) → IsOfCpu p.bytes c → IsOneOf (IsOutcome n p ls) r
     → IsProgramReport n p ls None r
 one_of_all n p ls c (report.one o) cpu is = image c o cpu is

@@ -1,4 +1,4 @@
--- Steps along re-exports, and what failures tell.
+-- Steps along re-exports, and the failures that are reported.
 use Rattle.std.proofs.Common.{◌≡◌, ◌∙◌, ℕ, Bool, true, false, ◌&&◌, ◌||◌, ◌⊎◌, List, [], ◌∷◌, Option, Some, None, Bor, unwrap_or, map, refl, sym, ap, subst}
 use Rattle.std.proofs.Common.{inl, inr}
 use Rattle.std.specs.Prelude.{bytes_eq}
@@ -24,7 +24,7 @@ use Rattle.machresolve.specs.declared.follow.Symbol.{Symbol}
 use Rattle.machresolve.specs.declared.follow.Step.{Step}
 use Rattle.machresolve.specs.declared.follow.Step.TheVariants.{Leads, Ends}
 
--- a fault that stands is told
+-- a fault that holds is reported
 pub told : (FaultAt : ℕ → Fault → Type 0) (file : ℕ) (e : Error) → Stands (FaultAt file) e → IsFailure FaultAt (told_as file e)
 told FaultAt file (Malformed msg) stands = stands
 told FaultAt file (BadMagic magic) stands = stands
@@ -32,12 +32,12 @@ told FaultAt file (Scroll e) stands = stands
 told FaultAt file (BufferTooShort count what) stands = stands
 told FaultAt file (Memory e) stands = tt
 
--- the name under which a re-export goes on
+-- the name with which a re-export goes on
 pub given_name : (o : Option (Bor (List ℕ))) (name r : Bor (List ℕ)) → r ≡ unwrap_or o name → r.now ≡ unwrap_or (text_in o) name.now
 given_name None name r e = ap (λ (b : Bor (List ℕ)). b.now) e
 given_name (Some x) name r e = ap (λ (b : Bor (List ℕ)). b.now) e
 
--- where the first file behind a library leads
+-- what the first file in the closure of a library leads to
 pub is_step : (files : List File) (s : follow.Symbol) (behind : Met) (g : File) (info : Info) (st : Step) → IsGiven files s behind
     → HasFirst files s.name behind.places g info → LeadsToStep g info s.name st → IsStep files s st
 is_step files s behind g info (Leads next) given has leads = (behind, given, g, info, has, leads)
@@ -61,7 +61,7 @@ or_one true y e = refl
 or_one false y (inl e) = absurd (false≢true e)
 or_one false y (inr e) = e
 
--- a symbol is the same where both of its texts are
+-- two symbols are the same if both of their texts are
 abbrev pub is_same : Symbol → Symbol → Bool
 is_same a b = bytes_eq a.library.now b.library.now && bytes_eq a.name.now b.name.now
 
@@ -95,7 +95,7 @@ met_among s [] a = absurd a
 met_among s (x ∷ xs) (inl e) = or_one (is_same s x) (list_any (is_same s) xs) (inl (equal_symbol s x e))
 met_among s (x ∷ xs) (inr a) = or_one (is_same s x) (list_any (is_same s) xs) (inr (met_among s xs a))
 
--- where a name that any file may give leads from the first that has it
+-- the place of a name that any file may provide, in the first file that has it
 pub is_flat : (files : List File) (all : Met) (g : File) (info : Info) (name : List ℕ) (t : follow.Symbol) (p : follow.SymbolPlace) → IsBehindAll files all
     → HasFirst files name all.places g info → follow.LeadsTo info name t → FollowsTo files [] t p → IsFlat files name p
 is_flat files all g info name t p behind has leads way = special.further all g info t p behind has leads way

@@ -9,7 +9,7 @@ use Rattle.machresolve.specs.Files.{File, place_of_file}
 use Rattle.machresolve.specs.Behind.{Edge, Met, none_met, with_place, with_gap, edges_of, Walks, done, absent, again, first}
 use Rattle.machresolve.proofs.Places.{among_pushed, among_before, among_or_last}
 
--- a walk along some edges and others behind them stops between them
+-- a walk along some edges and others after them stops between them
 pub split : (files : List File) (xs ys : List Edge) (m n : Met) → Walks files (xs ++ ys) m n
     → (mid : Met) × Walks files xs m mid × Walks files ys mid n
 split files [] ys m n w = (m, done, w)
@@ -20,13 +20,13 @@ split files (x ∷ xs) ys m n (again i is met rest) =
 split files (x ∷ xs) ys m n (first mid i f is new at inner rest) =
     let s = split files xs ys mid n rest in (s.0, first mid i f is new at inner s.1, s.2)
 
--- a file that is entered now: what it re-exports stands in front of what is left
+-- a file that is entered now: its re-exports come before the edges that are left
 pub entered : (files : List File) (e : Edge) (es : List Edge) (m n : Met) (i : ℕ) (f : File) → place_of_file files e.to ≡ Some i → (IsAmong i m.places → ⊥)
     → slice_get files i ≡ Some f → Walks files (edges_of f ++ es) (with_place m i) n → Walks files (e ∷ es) m n
 entered files e es m n i f is new at w =
     let s = split files (edges_of f) es (with_place m i) n w in first s.0 i f is new at s.1 s.2
 
--- what a stack gives back
+-- an item popped from a stack
 pub popped : {X : Type 0} (xs ys : List X) (x : X) → xs ≡ ys ++ x ∷ [] → reverse xs ≡ x ∷ reverse ys
 popped xs ys x e = ap reverse e ∙ reverse-append ys (x ∷ [])
 
@@ -34,14 +34,14 @@ pub emptied : {X : Type 0} (xs : List X) → length xs ≡ 0 → reverse xs ≡ 
 emptied [] e = refl
 emptied (x ∷ xs) e = absurd (omega arith)
 
--- one more of some on the stack, from the last one on
+-- one more item is pushed on the stack, in reverse order
 pub one_more : {X : Type 0} (es rest old new : List X) (e d : X) (j : ℕ) → new ≡ old ++ e ∷ [] → e ≡ get_or es j d → j < length es
     → reverse old ≡ drop (suc j) es ++ rest → reverse new ≡ drop j es ++ rest
 one_more es rest old new e d j more is inside so_far =
     popped new old e more ∙ (ap (λ (xs : List _). e ∷ xs) so_far
     ∙ (ap (λ (x : _). x ∷ drop (suc j) es ++ rest) is ∙ ap (λ (xs : List _). xs ++ rest) (sym (drop-cons es j d inside))))
 
--- the marks are those of the places that were met
+-- the marks are at the places that were met
 pub record AreMarks (files : List File) (marks : List Bool) (places : List ℕ) : Type 0 where
   pub long : length marks ≡ length files
   pub met : (i : ℕ) → i < length files → get_or marks i false ≡ true → IsAmong i places
@@ -76,7 +76,7 @@ marked files marks places i inside h =
       ];
     }
 
--- what holds between two edges: along those that are left the walk ends where the whole one does
+-- what holds between two edges: the walk along those that are left ends where the whole walk does
 pub record Holds (files : List File) (starts left : List Edge) (met : Met) (marks : List Bool) : Type 0 where
   pub walks : (n : Met) → Walks files left met n → Walks files starts none_met n
   pub marks_are : AreMarks files marks met.places

@@ -1,4 +1,4 @@
--- Weak look-ups, file by file.
+-- Weak lookups, file by file.
 use Rattle.std.proofs.Common.{◌≡◌, ◌∙◌, ◌+◌, ◌<◌, ◌≤◌, ℕ, Bool, true, false, List, [], Option, Some, None, unwrap_or, length, take, get_or, refl, sym, ap}
 use Rattle.std.proofs.Common.{subst, inl, inr}
 use Rattle.std.specs.Prelude.{All, slice_get, IfSome, IfNone, if◌then◌else◌}
@@ -18,7 +18,7 @@ use Rattle.machresolve.specs.declared.special.Definition.{Definition}
 abbrev pub some_file : File
 some_file = record { number = 0; name = []; is_main = false; reexports = []; trie = None; libs = [] }
 
--- what is known of the first files: none of them defines the name; or this is the first that does, and none is strong
+-- what is known of the first files: none of them defines the name; or this is the first definition, and none is strong
 abbrev pub WeakSoFar : List File → List ℕ → ℕ → Option Place → Type 0
 WeakSoFar files name k None = All (λ f. DefinesNot f name) (take k files)
 WeakSoFar files name k (Some place) =
@@ -28,7 +28,7 @@ WeakSoFar files name k (Some place) =
 pub none_so_far : (files : List File) (name : List ℕ) → WeakSoFar files name 0 None
 none_so_far files name = All-nil (λ f. DefinesNot f name)
 
--- the file at k, where it is
+-- the file at k, if it is there
 here : (files : List File) (k : ℕ) (P : File → Type 0) → k < length files → ((g : File) → slice_get files k ≡ Some g → P g) → P (get_or files k some_file)
 here files k P inside is = is (get_or files k some_file) (slice_get-get_or files k some_file inside)
 
@@ -55,7 +55,7 @@ not_strong : (files : List File) (name : List ℕ) (k : ℕ) (d : Definition) �
 not_strong files name k d is on inside =
     subst (NotStrong name) (sym (same_file files k is.file is.listed inside)) (inr (is.info, is.address, is.defines, is.weak.0 on))
 
--- one more file, which defines it weakly: it is kept where none was before
+-- one more file, which defines it weakly: the definition is kept if there was none before
 pub one_weak : (files : List File) (name : List ℕ) (k : ℕ) (d : Definition) → k < length files → IsDefinition files k name d → d.is_weak ≡ true
     → WeakSoFar files name k None → WeakSoFar files name (k + 1) (Some d.place)
 one_weak files name k d inside is on before = (
@@ -85,7 +85,7 @@ all_not_strong : (files : List File) (name : List ℕ) (k : ℕ) (o : Option Pla
 all_not_strong files name k None before = All-weaker (λ f. DefinesNot f name) (NotStrong name) (λ f lacks. inl lacks) (take k files) before
 all_not_strong files name k (Some place) before = before.0
 
--- the first that isn't weak
+-- the first definition that isn't weak
 pub one_strong : (files : List File) (name : List ℕ) (k : ℕ) (o : Option Place) (d : Definition) → IsDefinition files k name d → d.is_weak ≡ false
     → WeakSoFar files name k o → IsWeakLookup files name (place_seen d.place)
 one_strong files name k o d is off before =
@@ -98,7 +98,7 @@ weak_by : (b : Bool) (place : Place) → ◌≡◌ {A = Option Place} (if b then
 weak_by true place e = refl
 weak_by false place e = absurd (none-some place (sym e))
 
--- one more file was asked, and none of the definitions is strong
+-- one more file was searched, and none of the definitions is strong
 pub one_more : (files : List File) (name : List ℕ) (k : ℕ) (o : Option Place) (found : Option Definition) (new : Option Place) → k < length files
     → IfSome found (IsDefinition files k name) → IfNone found ((g : File) → slice_get files k ≡ Some g → DefinesNot g name)
     → strong_place found ≡ None → new ≡ first_place o found → WeakSoFar files name k o → WeakSoFar files name (k + 1) new
@@ -115,7 +115,7 @@ strong_by : (b : Bool) (place p : Place) → ◌≡◌ {A = Option Place} (if b 
 strong_by true place p e = absurd (none-some p e)
 strong_by false place p e = (refl, ap (λ (o : Option Place). unwrap_or o place) e)
 
--- the first strong one, if this is one
+-- this is the first strong definition, if it is one
 pub one_answers : (files : List File) (name : List ℕ) (k : ℕ) (o : Option Place) (found : Option Definition) (place : Place)
     → IfSome found (IsDefinition files k name) → strong_place found ≡ Some place → WeakSoFar files name k o → IsWeakLookup files name (place_seen place)
 one_answers files name k o None place is e before = absurd (none-some place e)
@@ -123,7 +123,7 @@ one_answers files name k o (Some d) place is e before =
     let parts = strong_by d.is_weak d.place place e in
     subst (λ (p : Place). IsWeakLookup files name (place_seen p)) parts.1 (one_strong files name k o d is parts.0 before)
 
--- all were asked
+-- all files were searched
 pub asked : (files : List File) (name : List ℕ) (k : ℕ) (place : Place) → length files ≤ k → WeakSoFar files name k (Some place)
     → IsWeakLookup files name (place_seen place)
 asked files name k place all before =

@@ -6,12 +6,12 @@ use Rattle.machresolve.specs.Files.{File}
 use Rattle.machresolve.specs.Follow.{SymbolPlace, found, leads_back, no_library, missing, not_given, not_found, no_main, FollowsTo}
 use Rattle.machresolve.specs.Special.{IsFlat, IsWeakLookup, IsInMain}
 
--- a program: the name by which it is known; and by ordinal, itself first, whether a library may be absent
+-- a program: its name; and by ordinal, the program first, whether a library may be absent
 pub record Program : Type 0 where
   pub name : List ℕ
   pub may_be_absent : List Bool
 
--- where a name is that a provider is to give
+-- the place of a name that a provider is to provide
 abbrev pub IsProvided : List File → Program → Provider → List ℕ → SymbolPlace → Type 0
 IsProvided files p (of_library ordinal library) name place = FollowsTo files [] (record { library = library; name = name }) place
 IsProvided files p itself name place = FollowsTo files [] (record { library = p.name; name = name }) place
@@ -24,14 +24,14 @@ abbrev pub is_absent_weak : Program → Provider → SymbolPlace → Bool
 is_absent_weak p (of_library ordinal library) (no_library absent) = bytes_eq library absent && unwrap_or (slice_get p.may_be_absent ordinal) false
 is_absent_weak p provider place = false
 
--- an answer: for which name and provider, where the name is, and whether it may be nowhere
+-- an answer: the name and the provider, the place of the name, and whether the name may be missing
 pub record Answer : Type 0 where
   pub name : List ℕ
   pub provider : Provider
   pub place : SymbolPlace
   pub is_weak : Bool
 
--- The answer for a binding: it may be nowhere where the binding is a weak import, or its library is absent and may be.
+-- The answer for a binding. The name may be missing if the binding is a weak import, or if its library is absent and may be.
 pub record IsAnswer (files : List File) (p : Program) (b : Binding) (a : Answer) : Type 0 where
   pub name_is : a.name ≡ b.name
   pub provider_is : a.provider ≡ b.provider
@@ -42,7 +42,7 @@ pub record IsAnswer (files : List File) (p : Program) (b : Binding) (a : Answer)
 abbrev pub AreAnswers : List File → Program → List Binding → List Answer → Type 0
 AreAnswers files p bindings answers = AllZip (IsAnswer files p) bindings answers
 
--- whether a place settles a binding, by whether the name may be nowhere
+-- whether a place settles a binding, given whether the name may be missing
 abbrev pub settles : SymbolPlace → Bool → Bool
 settles (found file address is_absolute) is_weak = true
 settles (leads_back library) is_weak = false

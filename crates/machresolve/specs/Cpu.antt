@@ -13,7 +13,7 @@ use Rattle.goblin_mach.specs.File.{HasFatMagic}
 use Rattle.mach_parts.specs.FatRecords.{HasFat64Magic}
 use Rattle.goblin_mach.specs.Inputs.{InputFault, begins_any_archive}
 
--- the bytes are an image of this cpu, which opens
+-- the bytes are an image for this cpu, which opens
 pub record IsOfCpu (bytes : List ℕ) (cputype : ℕ) : Type 0 where
   pub opens : Opens bytes 0
   pub cpu : OfImage bytes 0 (λ ctx cs. (h : Header) × IsHeader ctx bytes 0 h × (h.cputype ≡ cputype))
@@ -22,8 +22,8 @@ pub record IsOfCpu (bytes : List ℕ) (cputype : ℕ) : Type 0 where
 abbrev pub entry_bytes : {R : Type 0} → ArchForm R → List ℕ → R → List ℕ
 entry_bytes form bytes arch = part_of bytes (form.offset arch) (form.size arch)
 
--- What the table of a fat file says: the bytes of each entry, in order, or why it is refused; and those of the first entry of a cpu, if it has one, or
--- the fault of a record in front of it.
+-- The table of a fat file: the bytes of each entry, in order, or the fault that refuses it; and the bytes of the first entry for
+-- a cpu, if it has one, or the fault of a record before that entry.
 pub record FatTableView : Type 0 where
   pub entries : Result (List (List ℕ)) Fault
   pub first_for : (cputype : ℕ) → Result (Option (List ℕ)) Fault
@@ -35,29 +35,29 @@ fat_table_view form bytes file =
       first_for = λ cputype. first_arch_of_cpu form cputype (archs_in form file) >>= (λ found. Ok (option_map (entry_bytes form bytes) found));
     }
 
--- the bytes begin as a fat file, of 32 bits or of 64, whose table says this
+-- the bytes begin as a fat file, of 32 bits or of 64, that has this table
 pub data HasTable (bytes : List ℕ) : FatTableView → Type 0 where
   of_32_bits : (file : FatFile) → HasFatMagic bytes → fat_file_in bytes ≡ Ok file → HasTable bytes (fat_table_view arch_form_32 bytes file)
   of_64_bits : (file : FatFile) → HasFat64Magic bytes → fat_file_in bytes ≡ Ok file → HasTable bytes (fat_table_view arch_form_64 bytes file)
 
--- the bytes of the first entry of this cpu are found in the table, or that there is none
+-- the bytes of the first entry for this cpu are found in the table, or there is no such entry
 pub record FindsEntry (bytes : List ℕ) (cputype : ℕ) (found : Option (List ℕ)) : Type 0 where
   pub table : FatTableView
   pub has : HasTable bytes table
   pub is_first : table.first_for cputype ≡ Ok found
 
--- What a file has for a cpu: all of it, where it is an image of the cpu; of a fat file the first entry of it; or nothing.
+-- What a file has for a cpu: all of it, if it is an image for the cpu; of a fat file the first entry for the cpu; or nothing.
 pub data HasFor (bytes : List ℕ) (cputype : ℕ) : Option (List ℕ) → Type 0 where
   image : IsOfCpu bytes cputype → HasFor bytes cputype (Some bytes)
   other_image : (other : ℕ) → IsOfCpu bytes other → other ≢ cputype → HasFor bytes cputype None
   of_table : {found : Option (List ℕ)} → FindsEntry bytes cputype found → HasFor bytes cputype found
 
--- a fault stands where a file is opened, of which an archive has no bindings to answer
+-- a fault of opening a file; an archive is refused, as it has no bindings
 pub data FileFault (bytes : List ℕ) : Fault → Type 0 where
   of_input : {f : Fault} → InputFault bytes f → FileFault bytes f
   an_archive : begins_any_archive bytes ≡ true → FileFault bytes (bad_magic 0x213c_6172)
 
--- a fault stands where this is asked: where the file is opened, or in its table
+-- a fault of finding what a file has for a cpu: of opening the file, or of its table
 pub data ForFault (bytes : List ℕ) (cputype : ℕ) : Fault → Type 0 where
   of_file : {f : Fault} → FileFault bytes f → ForFault bytes cputype f
   of_record : {f : Fault} (table : FatTableView) → HasTable bytes table → table.first_for cputype ≡ Err f → ForFault bytes cputype f

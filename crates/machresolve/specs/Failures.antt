@@ -1,4 +1,4 @@
--- Why a program is not resolved.
+-- Why a program can't be resolved.
 use Rattle.std.specs.Prelude.{ℕ}
 use Rattle.mach_base.specs.Fault.{Fault}
 use Rattle.mach_base.specs.declared.error.Error.{Error}
@@ -7,12 +7,12 @@ use Rattle.goblin_mach.specs.View.{Tells}
 use Rattle.machresolve.specs.declared.failure.Failure.{Failure}
 use Rattle.machresolve.specs.declared.failure.Failure.TheVariants as failures
 
--- how a file's error is told: by the file's number, but for want of memory
+-- the failure for a file's error: the error with the file's number, unless an allocation was refused
 abbrev pub told_as : ℕ → Error → Failure
 told_as file (errors.Memory e) = failures.Memory
 told_as file error = failures.Refused file error
 
--- The failure is a fault that stands in a file, which is told by its number, or want of memory.
+-- The failure is a fault that holds of a file, with the file's number, or a refused allocation.
 abbrev pub IsFailure : (ℕ → Fault → Type 0) → Failure → Type 0
 IsFailure FaultAt (failures.Refused file error) = Tells (FaultAt file) error
 IsFailure FaultAt failures.Memory = Unit {0}

@@ -1,17 +1,17 @@
--- Where a name is found that is sought in a library: its own trie, those of what it re-exports as a whole, and the
--- re-exports of tries (dyld).
+-- The place of a name that is looked up in a library: in its own trie, in those of its closure, and through the re-exports of
+-- tries (dyld).
 use Rattle.std.specs.Prelude.{◌≡◌, ◌==◌, ℕ, Bool, List, [], ◌∷◌, ◌++◌, All, take, Option, Some, None, unwrap_or, slice_get, bit_and}
 use Rattle.mach_base.specs.Among.{IsAmong}
 use Rattle.mach_dyld.specs.Trie.{Info, regular, reexport, stub}
 use Rattle.machresolve.specs.Files.{File, place_of_file, Says, Lacks}
 use Rattle.machresolve.specs.Behind.{Edge, Met, IsBehind}
 
--- a name, and that of the library in which it is sought
+-- a name, and the name of the library in which it is looked up
 pub record Symbol : Type 0 where
   pub library : List ℕ
   pub name : List ℕ
 
--- where a name is, or why it is nowhere
+-- the place of a name, or why it has none
 pub data SymbolPlace : Type 0 where
   found : (file : List ℕ) (address : ℕ) (is_absolute : Bool) → SymbolPlace
   leads_back : (library : List ℕ) → SymbolPlace
@@ -21,7 +21,7 @@ pub data SymbolPlace : Type 0 where
   not_found : SymbolPlace
   no_main : SymbolPlace
 
--- the address of an export: a stub's where a resolver would be asked; a re-export has none
+-- the address of an export: that of a stub, even if it has a resolver; a re-export has none
 abbrev pub address_of : Info → Option ℕ
 address_of (regular address flags) = Some address
 address_of (reexport lib name flags) = None
@@ -45,25 +45,26 @@ pub record HasFirst (files : List File) (name : List ℕ) (places : List ℕ) (g
   pub says : Says g name (Some info)
   pub before : All (Lacks files name) (take index places)
 
--- none of them has it
+-- no file at these places has the name
 abbrev pub NoneHas : List File → List ℕ → List ℕ → Type 0
 NoneHas files name places = All (Lacks files name) places
 
--- the library of a symbol is given, with what stands behind it
+-- the library of a symbol is given, and this is its closure
 pub record IsGiven (files : List File) (s : Symbol) (behind : Met) : Type 0 where
   pub place : ℕ
   pub is_place : place_of_file files s.library ≡ Some place
   pub is_behind : IsBehind files s.library behind
 
--- what an export is followed to: a re-export, by the library and the name that it names, its own where it names none
+-- the symbol that a re-export leads to: in the library that it names, by the name that it gives, or by its own name if it gives
+-- none
 abbrev pub LeadsTo : Info → List ℕ → Symbol → Type 0
 LeadsTo info name t = (given : Option (List ℕ)) × (flags : ℕ) × (info ≡ reexport t.library given flags) × (t.name ≡ unwrap_or given name)
 
--- a symbol leads to another: the first file behind its library whose own trie has the name re-exports it
+-- a symbol leads to another: the first file in the closure of its library whose own trie has the name re-exports it
 abbrev pub IsReexport : List File → Symbol → Symbol → Type 0
 IsReexport files s t = (behind : Met) × IsGiven files s behind × (g : File) × (info : Info) × HasFirst files s.name behind.places g info × LeadsTo info s.name t
 
--- nothing behind a library has a name: it is missing, unless a library among them re-exports one that is not given
+-- no file in the closure of a library has the name: it is missing, unless one of them re-exports a library that is not given
 abbrev pub nowhere : List ℕ → Option Edge → SymbolPlace
 nowhere library None = missing library
 nowhere library (Some gap) = not_given gap.from gap.to
@@ -75,8 +76,8 @@ pub data IsEnd (files : List File) (s : Symbol) : SymbolPlace → Type 0 where
       → address_of info ≡ Some address → IsEnd files s (found g.name address (is_absolute info))
   unlisted : (behind : Met) → IsGiven files s behind → NoneHas files s.name behind.places → IsEnd files s (nowhere s.library behind.gap)
 
--- Where a symbol leads to, behind those that were met on this way: back, where it is one of them; else to its end, or
--- where the symbol leads to that it is a re-export of.
+-- The place that a symbol leads to, after those that were met on the way: back, if it is one of them; or its end; or the place of
+-- the symbol that it re-exports.
 pub data FollowsTo (files : List File) : List Symbol → Symbol → SymbolPlace → Type 0 where
   back : {met : List Symbol} {s : Symbol} → IsAmong s met → FollowsTo files met s (leads_back s.library)
   ends : {met : List Symbol} {s : Symbol} {p : SymbolPlace} → (IsAmong s met → ⊥) → IsEnd files s p → FollowsTo files met s p

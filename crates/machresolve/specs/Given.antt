@@ -1,4 +1,4 @@
--- The files that are given, and what the bytes of each say.
+-- The given files, and what the bytes of each hold.
 use Rattle.std.specs.Prelude.{◌≡◌, ◌==◌, ◌+◌, ℕ, Bool, true, false, List, [], ◌∷◌, ◌++◌, map, Some, None, unwrap_or, slice_get, bytes_eq, if◌then◌else◌}
 use Rattle.std.specs.List.{list_any}
 use Rattle.mach_base.specs.Fault.{Fault}
@@ -14,12 +14,12 @@ use Rattle.machresolve.specs.Files.{File}
 use Rattle.machresolve.specs.Note.{Note, given_before, nothing_for}
 use Rattle.machresolve.specs.Cpu.{IsOfCpu, HasFor, ForFault}
 
--- a file as it is given: its path, and its bytes
+-- a file as it was given: its path, and its bytes
 pub record GivenFile : Type 0 where
   pub path : List ℕ
   pub bytes : List ℕ
 
--- the names of those that are re-exported as a whole, in order
+-- the names of the libraries that are re-exported as a whole, in order
 abbrev pub reexported : List LibraryView → List (List ℕ)
 reexported [] = []
 reexported (l ∷ ls) = if l.attributes.is_reexport then l.name ∷ reexported ls else reexported ls
@@ -28,8 +28,8 @@ reexported (l ∷ ls) = if l.attributes.is_reexport then l.name ∷ reexported l
 abbrev pub may_be_absent : List LibraryView → List Bool
 may_be_absent ls = false ∷ map (λ l. l.attributes.is_weak) ls
 
--- The file of this number is what these bytes say: the image at 0, which opens; it is known by its own name, or by
--- its path where it has none.
+-- The file with this number is the image at 0 of these bytes, which opens. Its name is the image's own name, or its path if the
+-- image has none.
 pub record IsFile (number : ℕ) (g : GivenFile) (f : File) : Type 0 where
   pub opens : Opens g.bytes 0
   pub number_is : f.number ≡ number
@@ -38,11 +38,11 @@ pub record IsFile (number : ℕ) (g : GivenFile) (f : File) : Type 0 where
   pub reexports : OfImage g.bytes 0 (λ ctx cs. f.reexports ≡ reexported (libraries_in ctx.le g.bytes cs))
   pub trie : OfImage g.bytes 0 (λ ctx cs. (f.trie ≡ trie_in g.bytes cs) × (f.libs ≡ libs_in g.bytes cs))
 
--- whether a file of this name is among them
+-- whether one of these files has this name
 abbrev pub is_named : List File → List ℕ → Bool
 is_named files name = list_any (λ f. bytes_eq name f.name) files
 
--- the files that count, and notes of the others
+-- the files that are used, and notes about the others
 pub record Gathered : Type 0 where
   pub files : List File
   pub notes : List Note
@@ -50,23 +50,23 @@ pub record Gathered : Type 0 where
 abbrev pub with_note : Gathered → Note → Gathered
 with_note x n = record { files = x.files; notes = x.notes ++ n ∷ [] }
 
--- a file counts where none of its name is there before
+-- a file is used unless one with its name was added before
 pub data Adds (x : Gathered) (f : File) : Gathered → Type 0 where
   again : is_named x.files f.name ≡ true → Adds x f (with_note x (given_before f.number f.name))
   counts : is_named x.files f.name ≡ false → Adds x f (record { files = x.files ++ f ∷ []; notes = x.notes })
 
--- the file that a library is for a cpu
+-- the file of a library for a cpu
 pub record IsLibrary (cputype number : ℕ) (g : GivenFile) (f : File) : Type 0 where
   pub bytes : List ℕ
   pub has : HasFor g.bytes cputype (Some bytes)
   pub is_file : IsFile number (record { path = g.path; bytes = bytes }) f
 
--- a library is added as it is for a cpu; where it is nothing, that is noted
+-- what a library has for a cpu is added; if it has nothing, that is noted
 pub data AddsLibrary (cputype number : ℕ) (g : GivenFile) (x : Gathered) : Gathered → Type 0 where
   library : (f : File) (more : Gathered) → IsLibrary cputype number g f → Adds x f more → AddsLibrary cputype number g x more
   passed : HasFor g.bytes cputype None → AddsLibrary cputype number g x (with_note x (nothing_for number cputype))
 
--- The libraries that are given, from this number on, added one after the other.
+-- The given libraries, numbered from this number on, are added one after the other.
 pub data Gathers (cputype : ℕ) : ℕ → List GivenFile → Gathered → Gathered → Type 0 where
   done : {n : ℕ} {x : Gathered} → Gathers cputype n [] x x
   next : {n : ℕ} {g : GivenFile} {gs : List GivenFile} {x all : Gathered} (more : Gathered) → AddsLibrary cputype n g x more
@@ -76,7 +76,7 @@ pub data Gathers (cputype : ℕ) : ℕ → List GivenFile → Gathered → Gathe
 abbrev pub only : File → Gathered
 only f = record { files = f ∷ []; notes = [] }
 
--- the program, which is file 0, and the libraries behind it, as they are for a cpu
+-- the program, which is file 0, and the libraries after it, for a cpu
 abbrev pub GathersFor : ℕ → GivenFile → List GivenFile → Gathered → Type 0
 GathersFor cputype program libraries all = (own : File) × IsFile 0 program own × Gathers cputype 1 libraries (only own) all
 
@@ -88,16 +88,16 @@ GathersAll program libraries all = (cputype : ℕ) × IsOfCpu program.bytes cput
 abbrev pub NumberedFault : ℕ → (Fault → Type 0) → ℕ → Fault → Type 0
 NumberedFault number IsFault n f = (n ≡ number) × IsFault f
 
--- a fault stands where this file, of this number, is opened
+-- a fault of opening this file, with this number
 abbrev pub OpenFault : ℕ → GivenFile → ℕ → Fault → Type 0
 OpenFault number g = NumberedFault number (ImageFault g.bytes 0)
 
--- a fault stands where a library is opened for a cpu: where its bytes for the cpu are found, or in them
+-- a fault of opening a library for a cpu: of finding its bytes for the cpu, or of the image in them
 pub data LibraryFault (cputype : ℕ) (g : GivenFile) : Fault → Type 0 where
   unfound : {f : Fault} → ForFault g.bytes cputype f → LibraryFault cputype g f
   of_image : {f : Fault} (bytes : List ℕ) → HasFor g.bytes cputype (Some bytes) → ImageFault bytes 0 f → LibraryFault cputype g f
 
--- a fault stands where the file of this number is opened: the program, or a library for a cpu
+-- a fault of opening the file with this number: the program, or a library for a cpu
 pub data FaultFor (cputype : ℕ) (program : GivenFile) (libraries : List GivenFile) : ℕ → Fault → Type 0 where
   of_program : {f : Fault} → ImageFault program.bytes 0 f → FaultFor cputype program libraries 0 f
   of_library : {f : Fault} (index : ℕ) (g : GivenFile) → slice_get libraries index ≡ Some g → LibraryFault cputype g f

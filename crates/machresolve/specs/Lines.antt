@@ -1,4 +1,4 @@
--- The lines that are printed, and what is said of libraries that do not count and of refused files.
+-- The lines that are printed, and the messages about unused libraries and refused files.
 use Rattle.std.specs.Prelude.{◌+◌, ℕ, Bool, true, false, List, [], ◌∷◌, ◌++◌, codes, get_or, if◌then◌else◌}
 use Rattle.std.specs.Fmt.{digits, decimal}
 use Rattle.mach_base.specs.declared.error.Error.{Error}
@@ -39,7 +39,7 @@ place_text no_main = codes "no main executable"
 abbrev pub weak_text : Bool → List ℕ
 weak_text is_weak = if is_weak then codes "weak, " else []
 
--- what stands before the place, where the name may be nowhere
+-- the words before the place, if the name may be missing
 abbrev pub text_before_place : SymbolPlace → Bool → List ℕ
 text_before_place (found file address is_absolute) is_weak = []
 text_before_place (leads_back library) is_weak = []
@@ -52,7 +52,7 @@ text_before_place no_main is_weak = weak_text is_weak
 abbrev pub front_text : Answer → List ℕ
 front_text a = text_before_place a.place a.is_weak
 
--- the name, who is to give it, and where it is
+-- the name, its provider, and its place
 abbrev pub answer_text : Answer → List ℕ
 answer_text a = escaped_text a.name ++ codes " " ++ provider_text a.provider ++ codes " " ++ front_text a ++ place_text a.place
 
@@ -61,32 +61,32 @@ abbrev pub lines_of : List Answer → List ℕ
 lines_of [] = []
 lines_of (a ∷ others) = answer_text a ++ codes "\n" ++ lines_of others
 
--- that there are more bindings than the limit, if there are
+-- a line if there are more bindings than the limit
 abbrev pub more_text : ℕ → Bool → List ℕ
 more_text limit more = if more then codes "limit: " ++ (decimal limit ++ codes " of them are told, and there are more\n") else []
 
--- the answers of a program, and behind them that there are more bindings, if there are
+-- the answers of a program, and a line after them if there are more bindings
 abbrev pub resolved_text : ℕ → List Answer → Bool → List ℕ
 resolved_text limit answers more = lines_of answers ++ more_text limit more
 
--- what is asked of a run: a program and libraries, of which at most `limit` bindings are answered
+-- the arguments of a run: a program and libraries; at most `limit` bindings are answered
 pub record ResolveCall : Type 0 where
   pub limit : ℕ
   pub program : GivenFile
   pub libraries : List GivenFile
 
--- the file of a number: the program, which is file 0, or a library
+-- the file with a number: the program, which is file 0, or a library
 abbrev pub file_at : ResolveCall → ℕ → GivenFile
 file_at call number = get_or (call.program ∷ call.libraries) number call.program
 
--- why a file is refused
+-- the message about a refused file
 abbrev pub refusal_text : GivenFile → Error → List ℕ
 refusal_text file e = escaped_text file.path ++ (codes ": " ++ told_words file.bytes e)
 
 abbrev pub nothing_words : ℕ → List ℕ
 nothing_words cputype = codes "nothing for cputype 0x" ++ digits 16 false cputype
 
--- a file has nothing for a cpu
+-- the message about a file that has nothing for a cpu
 abbrev pub nothing_text : GivenFile → ℕ → List ℕ
 nothing_text file cputype = escaped_text file.path ++ (codes ": " ++ nothing_words cputype)
 
@@ -95,7 +95,7 @@ note_text call (given_before library name) =
     escaped_text (file_at call library).path ++ (codes ": " ++ (escaped_text name ++ codes " is given before"))
 note_text call (nothing_for library cputype) = nothing_text (file_at call library) cputype
 
--- a line that is said
+-- a line of a message
 abbrev pub said_line : List ℕ → List ℕ
 said_line text = codes "machresolve: " ++ text ++ codes "\n"
 
@@ -103,28 +103,28 @@ abbrev pub said_lines : ResolveCall → List Note → List ℕ
 said_lines call [] = []
 said_lines call (n ∷ notes) = said_line (note_text call n) ++ said_lines call notes
 
--- what is printed of an entry
+-- the text of an entry
 abbrev pub entry_text : ResolveCall → Outcome → List ℕ
 entry_text call (answered answers notes more) = resolved_text call.limit answers more
 entry_text call archive = codes "archive\n"
 entry_text call (refused file e) = codes "refused: " ++ (refusal_text (file_at call file) e ++ codes "\n")
 
--- the line under which entry i stands
+-- the line before entry i
 abbrev pub entry_heading : ℕ → List ℕ
 entry_heading i = codes "arch " ++ decimal i ++ codes "\n"
 
--- entries from number i on, each under its line
+-- the text of the entries from number i on, each after its line
 abbrev pub entries_text : ResolveCall → ℕ → List Outcome → List ℕ
 entries_text call i [] = []
 entries_text call i (o ∷ others) = entry_heading i ++ entry_text call o ++ entries_text call (i + 1) others
 
--- what is printed of one program: where it is refused, nothing
+-- the text of one program; none if it is refused
 abbrev pub one_text : ResolveCall → Outcome → List ℕ
 one_text call (answered answers notes more) = resolved_text call.limit answers more
 one_text call archive = codes "archive\n"
 one_text call (refused file e) = []
 
--- what is printed of a program
+-- the text of a report
 abbrev pub printed : ResolveCall → Report → List ℕ
 printed call (one o) = one_text call o
 printed call (entries outcomes) = entries_text call 0 outcomes
@@ -135,7 +135,7 @@ notes_of (answered answers notes more) = notes
 notes_of archive = []
 notes_of (refused file e) = []
 
--- those of all entries, each once
+-- the notes of all entries, each once
 abbrev pub all_notes : List Note → List Outcome → List Note
 all_notes notes [] = notes
 all_notes notes (o ∷ others) = all_notes (all_noted notes (notes_of o)) others
@@ -145,18 +145,18 @@ notes_in (one o) = all_noted [] (notes_of o)
 notes_in (entries outcomes) = all_notes [] outcomes
 notes_in (nothing cputype) = []
 
--- why nothing is printed of one program
+-- the message if one program is refused
 abbrev pub said_refusal : ResolveCall → Outcome → List ℕ
 said_refusal call (answered answers notes more) = []
 said_refusal call archive = []
 said_refusal call (refused file e) = said_line (refusal_text (file_at call file) e)
 
--- why nothing is printed
+-- the message if nothing is printed
 abbrev pub said_first : ResolveCall → Report → List ℕ
 said_first call (one o) = said_refusal call o
 said_first call (entries outcomes) = []
 said_first call (nothing cputype) = said_line (nothing_text call.program cputype)
 
--- what is said of a program
+-- the messages of a report
 abbrev pub said_of_report : ResolveCall → Report → List ℕ
 said_of_report call r = said_first call r ++ said_lines call (notes_in r)

@@ -1,8 +1,8 @@
--- Libraries that count for nothing, and why.
+-- Libraries that are not used, and why.
 use Rattle.std.specs.Prelude.{◌==◌, ℕ, Bool, false, ◌&&◌, List, [], ◌∷◌, ◌++◌, bytes_eq, if◌then◌else◌}
 use Rattle.std.specs.List.{list_any}
 
--- a library by its number: a file of its name is given before it, or it has nothing for a cpu
+-- a library by its number: a file with its name was given before it, or it has nothing for a cpu
 pub data Note : Type 0 where
   given_before : (library : ℕ) (name : List ℕ) → Note
   nothing_for : (library cputype : ℕ) → Note

@@ -1,4 +1,4 @@
--- What a file as it was given means, and a call.
+-- The views of a file as it was given, and of a call.
 use Rattle.std.specs.Prelude.{map}
 use Rattle.machresolve.specs.Given as given
 use Rattle.machresolve.specs.Lines.{ResolveCall}

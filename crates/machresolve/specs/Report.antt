@@ -1,4 +1,4 @@
--- What is told of a program: of one image, or of each entry of a fat one.
+-- The report of a program: of one image, or of each entry of a fat file.
 use Rattle.std.specs.Prelude.{◌≡◌, ◌≢◌, ◌-◌, ◌&&◌, ℕ, not, length, sum_by, Bool, true, false, List, [], ◌∷◌, Option, Some, None, Ok, Err}
 use Rattle.std.specs.List.{list_all}
 use Rattle.mach_base.specs.Fault.{Fault}
@@ -11,8 +11,8 @@ use Rattle.machresolve.specs.Given.{GivenFile}
 use Rattle.machresolve.specs.Note.{Note}
 use Rattle.machresolve.specs.Resolved.{IsResolved, ResolveFault}
 
--- what is told of one program: its answers, with notes, and whether it has more bindings; that it is an archive; or why a file, by its number, is
--- refused
+-- The outcome for one program: its answers, with notes, and whether it has more bindings; or it is an archive; or a file is
+-- refused, by its number.
 pub data Outcome : Type 0 where
   answered : (answers : List Answer) (notes : List Note) (more : Bool) → Outcome
   archive : Outcome
@@ -39,7 +39,7 @@ pub data IsEntryOutcome (limit : ℕ) (program : GivenFile) (libraries : List Gi
 abbrev pub entry_of_program : GivenFile → List ℕ → GivenFile
 entry_of_program program entry = record { path = program.path; bytes = entry }
 
--- one outcome for each entry, in order, each within what those before it leave of `limit` bindings
+-- one outcome for each entry, in order, each within what the entries before it left of `limit` bindings
 abbrev pub AreEntryOutcomes : ℕ → GivenFile → List GivenFile → List (List ℕ) → List Outcome → Type 0
 AreEntryOutcomes limit program libraries [] [] = Unit {0}
 AreEntryOutcomes limit program libraries [] (o ∷ outcomes) = ⊥
@@ -47,35 +47,35 @@ AreEntryOutcomes limit program libraries (entry ∷ entries) [] = ⊥
 AreEntryOutcomes limit program libraries (entry ∷ entries) (o ∷ outcomes) =
     IsEntryOutcome limit (entry_of_program program entry) libraries o × AreEntryOutcomes (limit - answer_count o) program libraries entries outcomes
 
--- a fault stands where a program is opened as a whole: where the file is opened, or in the table of a fat one
+-- a fault of opening a program as a whole: of opening the file, or of the table of a fat file
 pub data ProgramFault (bytes : List ℕ) : Fault → Type 0 where
   of_file : {f : Fault} → FileFault bytes f → ProgramFault bytes f
   of_table : {f : Fault} (table : FatTableView) → HasTable bytes table → table.entries ≡ Err f → ProgramFault bytes f
 
--- what is told of a whole file: one outcome; those of all entries; or that nothing is there for a cpu
+-- the report of a whole file: one outcome; those of all entries; or it has nothing for a cpu
 pub data Report : Type 0 where
   one : Outcome → Report
   entries : List Outcome → Report
   nothing : (cputype : ℕ) → Report
 
--- how many bindings are answered, of all images
+-- how many bindings of all images are answered
 abbrev pub answers_in : Report → ℕ
 answers_in (one o) = answer_count o
 answers_in (entries outcomes) = sum_by answer_count outcomes
 answers_in (nothing cputype) = 0
 
--- it is the one outcome of which this holds
+-- it is one outcome, of which this holds
 abbrev pub IsOneOf : (Outcome → Type 0) → Report → Type 0
 IsOneOf Holds (one o) = Holds o
 IsOneOf Holds (entries outcomes) = ⊥
 IsOneOf Holds (nothing cputype) = ⊥
 
--- why the program, which is file 0, is refused is told, and isn't want of memory
+-- the program, which is file 0, is reported as refused for this error, which is no refused allocation
 abbrev pub TellsError : Error → Report → Type 0
 TellsError e r = (r ≡ one (refused 0 e)) × IsTold e
 
--- What is told of a program, where all of it is asked for, or what it has for a cpu; of the bindings of its images, in order, the first `limit` are
--- answered.
+-- The report of a program: all of it, or what it has for a selected cpu. Of the bindings of its images, in order, the first
+-- `limit` are answered.
 pub data IsProgramReport (limit : ℕ) (program : GivenFile) (libraries : List GivenFile) : Option ℕ → Report → Type 0 where
   image : (cputype : ℕ) (o : Outcome) → IsOfCpu program.bytes cputype → IsOutcome limit program libraries o
       → IsProgramReport limit program libraries None (one o)
@@ -90,7 +90,7 @@ pub data IsProgramReport (limit : ℕ) (program : GivenFile) (libraries : List G
   unopened : (e : Error) → Tells (ProgramFault program.bytes) e → IsProgramReport limit program libraries None (one (refused 0 e))
   unfound : (cputype : ℕ) (e : Error) → Tells (ForFault program.bytes cputype) e → IsProgramReport limit program libraries (Some cputype) (one (refused 0 e))
 
--- whether all is answered and settled, and nothing is refused
+-- whether all is answered and settled, and nothing was refused
 abbrev pub is_whole : Outcome → Bool
 is_whole (answered answers notes more) = list_all is_settled answers && not more
 is_whole archive = true

@@ -17,15 +17,15 @@ use Rattle.machresolve.specs.Answers.{Program, Answer, AreAnswers}
 use Rattle.machresolve.specs.Given.{GivenFile, Gathered, GathersAll, GivenFault, may_be_absent}
 use Rattle.machresolve.specs.Note.{Note}
 
--- The bytes are this program: they open; its name is its own, or its path; and this is all that dyld binds of it.
+-- The bytes are this program: they open; its name is its own name, or its path; and these are all bindings of it.
 pub record IsProgram (g : GivenFile) (p : Program) (items : List (Result Binding Fault)) : Type 0 where
   pub opens : Opens g.bytes 0
   pub name : OfImage g.bytes 0 (λ ctx cs. p.name ≡ unwrap_or (own_name_in g.bytes cs) g.path)
   pub absences : OfImage g.bytes 0 (λ ctx cs. p.may_be_absent ≡ may_be_absent (libraries_in ctx.le g.bytes cs))
   pub bindings_are : HasBindings g.bytes 0 items
 
--- These are the answers for the first `limit` bindings of a program, in order, among the program and some libraries, these are the
--- notes of libraries that do not count, and this is whether it has more bindings.
+-- These are the answers for the first `limit` bindings of a program, in order, found in the program and some libraries; these are
+-- the notes about unused libraries; and this is whether the program has more bindings.
 pub record IsResolved (limit : ℕ) (program : GivenFile) (libraries : List GivenFile) (answers : List Answer) (notes : List Note) (more : Bool) : Type 0 where
   pub files : List File
   pub gathered : GathersAll program libraries (record { files = files; notes = notes })
@@ -37,7 +37,7 @@ pub record IsResolved (limit : ℕ) (program : GivenFile) (libraries : List Give
   pub are_answers : AreAnswers files known bindings answers
   pub more_is : more ≡ nat_lt limit (length items)
 
--- why a program is refused: a fault of its bindings is one of the first `limit`
+-- a fault for which a program is refused; a fault of its bindings is among the first `limit`
 pub data ResolveFault (limit : ℕ) (program : GivenFile) (libraries : List GivenFile) : ℕ → Fault → Type 0 where
   of_file : {n : ℕ} {f : Fault} → GivenFault program libraries n f → ResolveFault limit program libraries n f
   of_bindings : {f : Fault} (bindings : List Binding) (rest : List (Result Binding Fault))
@@ -45,7 +45,7 @@ pub data ResolveFault (limit : ℕ) (program : GivenFile) (libraries : List Give
       → length bindings < limit → ResolveFault limit program libraries 0 f
   of_trie : {n : ℕ} {f : Fault} (all : Gathered) → GathersAll program libraries all → TrieFaultAt all.files n f → ResolveFault limit program libraries n f
 
--- ---- of an image as it is held
+-- ---- an opened image
 
 abbrev pub HoldsItems : {A : Type 0} → MachO A → List (Result Binding Fault) → Type 0
 HoldsItems m items =
@@ -58,7 +58,7 @@ pub record HoldsFirst {A : Type 0} (limit : ℕ) (m : MachO A) (bindings : List 
   pub are_first : take limit items ≡ map (λ b. Ok b) bindings
   pub more_is : more ≡ nat_lt limit (length items)
 
--- a fault stands in one of its first `limit` bindings, or in the trie of a file
+-- a fault of one of its first `limit` bindings, or of the trie of a file
 pub data AnswerFault {A : Type 0} (limit : ℕ) (files : List File) (m : MachO A) : ℕ → Fault → Type 0 where
   of_bindings : {f : Fault} (bindings : List Binding) (rest : List (Result Binding Fault)) → HoldsItems m (map (λ b. Ok b) bindings ++ Err f ∷ rest)
       → length bindings < limit → AnswerFault limit files m 0 f

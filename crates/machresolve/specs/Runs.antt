@@ -1,15 +1,15 @@
--- What a run of the program writes, and its status.
+-- What a run of the program writes, and its exit status.
 use Rattle.std.specs.Prelude.{◌≡◌, ◌≤◌, ℕ, Bool, List, [], codes, Option, if◌then◌else◌}
 use Rattle.std.specs.Io.KnownBytes.{Appends}
 use Rattle.machresolve.specs.Given.{GivenFile}
 use Rattle.machresolve.specs.Lines.{printed, said_line, said_of_report}
 use Rattle.machresolve.specs.Report.{Report, IsProgramReport, answers_in, all_whole}
 
--- the exit status: 0 where all is answered and settled and nothing is refused, else 1
+-- the exit status: 0 if all is answered and settled and nothing was refused, else 1
 abbrev pub run_status : Bool → ℕ
 run_status whole = if whole then 0 else 1
 
--- what is told of a program was written on the two outputs, and this is the status; at most `limit` bindings are answered
+-- the report of a program was written on the two outputs, and this is the status; at most `limit` bindings are answered
 pub record Runs (wanted : Option ℕ) (limit : ℕ) (program : GivenFile) (libraries : List GivenFile) (status : ℕ)
     (out_old out_new err_old err_new : Option (List ℕ)) : Type 0 where
   pub report : Report
@@ -19,7 +19,7 @@ pub record Runs (wanted : Option ℕ) (limit : ℕ) (program : GivenFile) (libra
   pub text : Appends out_old out_new (printed (record { limit = limit; program = program; libraries = libraries }) report)
   pub told : Appends err_old err_new (said_of_report (record { limit = limit; program = program; libraries = libraries }) report)
 
--- What a run writes, and its status: what is told of a program; or, where memory is refused, that alone.
+-- What a run writes, and its status: the report of a program, or only that an allocation was refused.
 pub data IsRun (wanted : Option ℕ) (limit : ℕ) (program : GivenFile) (libraries : List GivenFile) (status : ℕ)
     (out_old out_new err_old err_new : Option (List ℕ)) : Type 0 where
   resolved : Runs wanted limit program libraries status out_old out_new err_old err_new

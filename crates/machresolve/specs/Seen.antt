@@ -1,4 +1,4 @@
--- What the program's own types mean.
+-- The views of the program's own types.
 use Rattle.std.specs.Prelude.{◌≡◌, ◌≢◌, ◌↔◌, ℕ, Result, Ok, Err, List, map, Option, option_map, Some, None, slice_get, IsTrue, if◌then◌else◌}
 use Rattle.mach_base.specs.declared.error.Error.{Error}
 use Rattle.mach_base.specs.Text.{texts}
@@ -66,7 +66,7 @@ place_seen (NotGiven library reexported) = follow.not_given library.now reexport
 place_seen NotFound = follow.not_found
 place_seen NoMain = follow.no_main
 
--- what an export of a file, sought under this name, leads to: another symbol, or its address
+-- what an export of a file, looked up by this name, leads to: another symbol, or its address
 abbrev pub LeadsToStep : files.File → Info → List ℕ → Step → Type 0
 LeadsToStep g info name (Leads next) = follow.LeadsTo info name (symbol_seen next)
 LeadsToStep g info name (Ends place) =
@@ -83,7 +83,7 @@ program_seen p = record { name = p.name.now; may_be_absent = p.may_be_absent.ite
 abbrev pub answer_seen : Answer → answers.Answer
 answer_seen a = record { name = a.name.now; provider = provider_view a.provider; place = place_seen a.place; is_weak = a.is_weak }
 
--- the file at this place defines a name so, and this is whether the definition is weak
+-- the file at this place has this definition of a name, weak or not
 pub record IsDefinition (fs : List files.File) (i : ℕ) (name : List ℕ) (d : Definition) : Type 0 where
   pub file : files.File
   pub info : Info
@@ -93,12 +93,12 @@ pub record IsDefinition (fs : List files.File) (i : ℕ) (name : List ℕ) (d : 
   pub place_is : place_seen d.place ≡ follow.found file.name address (follow.is_absolute info)
   pub weak : IsTrue d.is_weak ↔ special.IsWeakDefinition info
 
--- the place of a definition that isn't weak
+-- the place of a definition, unless it is weak
 abbrev pub strong_place : Option Definition → Option Place
 strong_place None = None
 strong_place (Some d) = if d.is_weak then None else Some d.place
 
--- the first place, where there is one, else that of a definition
+-- the first place, if there is one, else that of a definition
 abbrev pub first_place : Option Place → Option Definition → Option Place
 first_place (Some place) found = Some place
 first_place None found = option_map (λ (d : Definition). d.place) found
@@ -120,7 +120,7 @@ report_seen (One outcome) = report.one (outcome_seen outcome)
 report_seen (Entries outcomes) = report.entries (map outcome_seen outcomes.items)
 report_seen (Nothing cputype) = report.nothing cputype
 
--- the outcome for a failure: a refused file, or none, where the failure is another
+-- the outcome for a failure: a refused file; any other failure stays one
 abbrev pub IsOutcomeOfFailure : {A : Type 0} → Failure → Result (Outcome A) Failure → Type 0
 IsOutcomeOfFailure failure (Ok (Refused file e)) = failure ≡ failures.Refused file e
 IsOutcomeOfFailure failure (Ok Archive) = ⊥

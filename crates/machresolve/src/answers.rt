@@ -19,27 +19,27 @@ use std::alloc::Allocator;
 /// The program whose bindings are answered.
 #[derive(Drop)]
 pub struct Program<'a, A: Allocator> {
-    /// The name by which it is known.
+    /// Its name.
     pub name: &'a str,
-    /// By ordinal, itself first, whether a library may be absent.
+    /// Whether each library may be absent, by ordinal, the program itself first.
     pub may_be_absent: Vec<bool, A>,
 }
 
 /// The answer for a binding.
 #[derive(Clone, Copy)]
 pub struct Answer<'a> {
-    /// The name that is sought.
+    /// The name that is looked up.
     pub name: &'a str,
-    /// Who is to give it.
+    /// The provider of the name.
     pub provider: Provider<'a>,
-    /// Where it is.
+    /// The place of the name.
     pub place: Place<'a>,
-    /// Whether it may be nowhere.
+    /// Whether the name may be missing.
     pub is_weak: bool,
 }
 
 impl<'a> Answer<'a> {
-    /// Whether the binding is settled: the name is found, or may be nowhere.
+    /// Whether the binding is settled: the name is found, or may be missing.
     pub fn is_settled(&self) -> bool
         ensures { result ≡ is_settled (answer_seen self.now) }
     {
@@ -76,7 +76,7 @@ fn is_missed<A: Allocator>(
     }
 }
 
-// Where a name is that a provider is to give.
+// Returns the place of a name that a provider is to provide.
 fn provided<'a, A: Allocator + Copy>(
     alloc: A,
     files: &Files<'a, A>,
@@ -101,7 +101,7 @@ fn provided<'a, A: Allocator + Copy>(
     }
 }
 
-/// The answer for a binding of a program.
+/// Returns the answer for a binding of a program.
 pub fn answer_for<'a, A: Allocator + Copy>(
     alloc: A,
     files: &Files<'a, A>,

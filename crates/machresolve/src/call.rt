@@ -1,4 +1,4 @@
-//! What is asked of a run.
+//! The arguments of a run.
 
 ghost use Rattle.std.specs.Prelude.{◌≡◌};
 ghost use Rattle.machresolve.specs.Lines.{file_at};
@@ -6,19 +6,19 @@ ghost use Rattle.machresolve.specs.Opened.{call_seen, given_seen};
 
 use crate::inputs::Given;
 
-/// What is asked of a run.
+/// The arguments of a run.
 #[derive(Clone, Copy)]
 pub struct Call<'a, 'b> {
-    /// How many bindings are answered at most, of all images of the program together.
+    /// How many bindings are answered at most, those of all images of the program together.
     pub limit: usize,
     /// The program, which is file 0.
     pub program: Given<'a>,
-    /// The libraries, which are the files behind it.
+    /// The libraries, which are the files after it.
     pub libraries: &'b [Given<'a>],
 }
 
 impl<'a> Call<'a, '_> {
-    /// The file of a number.
+    /// Returns the file with a number.
     pub fn file_at(&self, number: usize) -> Given<'a>
         ensures { given_seen result ≡ file_at (call_seen self.now) number }
     {

@@ -1,4 +1,4 @@
-//! Why a program was not resolved.
+//! Why a program could not be resolved.
 
 ghost use Rattle.std.specs.Prelude.{◌≡◌};
 ghost use Rattle.machresolve.specs.Failures.{told_as};
@@ -7,17 +7,17 @@ ghost use Rattle.machresolve.specs.declared.failure.Failure.TheVariants as failu
 use goblin_mach::Error;
 use std::alloc::{AllocError, AllocFailed};
 
-/// Why a program was not resolved.
+/// Why a program could not be resolved.
 #[derive(Drop)]
 pub enum Failure {
     /// A file was refused: the program, which is file 0, or a library by its number.
     Refused { file: usize, error: Error },
-    /// Memory was refused.
+    /// An allocation was refused.
     Memory,
 }
 
 impl Failure {
-    /// A file was refused for an error, which may be want of memory.
+    /// Returns the failure for a file's error, which may be a refused allocation.
     pub fn refused(file: usize, error: Error) -> Failure
         ensures { result ≡ told_as file error }
     {

@@ -1,4 +1,4 @@
-//! The files among which names are sought.
+//! The files that are searched for names.
 
 ghost use Rattle.std.specs.Prelude.{◌≡◌, map};
 
@@ -7,12 +7,12 @@ use indexmap::IndexSet;
 use std::alloc::Allocator;
 use std::hash::{BuildHasherDefault, FoldHasher};
 
-/// A file: an image under the name by which others know it.
+/// A file: an image, under the name by which others refer to it.
 #[derive(Drop)]
 pub struct File<'a, A: Allocator> {
-    /// Its number among the files that were given, the program's being 0.
+    /// Its number among the given files, 0 for the program.
     pub number: usize,
-    /// Its own name, or its path where it has none.
+    /// Its own name, or its path if it has none.
     pub name: &'a str,
     /// Whether it is a main executable.
     pub is_main: bool,

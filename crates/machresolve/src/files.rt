@@ -1,4 +1,4 @@
-//! What the tries of the files say of a name.
+//! What the tries of the files have for a name.
 
 ghost use Rattle.std.specs.Prelude.{◌≡◌, ◌<◌, ℕ, Bool, length, map, option_map, slice_get, IfOk, IfErr, IfSome, IfNone, OnOk, OnErr, Some, None};
 ghost use Rattle.mach_dyld.specs.Exports.{info_of};
@@ -13,7 +13,7 @@ use goblin_mach::exports::ExportInfo;
 use std::alloc::Allocator;
 
 impl<'a, A: Allocator + Copy> Files<'a, A> {
-    /// The place of the file of a name.
+    /// Returns the place of the file with a name.
     pub fn place_of(&self, name: &str) -> Option<usize>
         ensures place { result ≡ place_of_file (files_seen self.now) name.now }
         ensures inside { IfSome result (λ i. i < length self.now.items.items) }
@@ -21,7 +21,7 @@ impl<'a, A: Allocator + Copy> Files<'a, A> {
         self.names.get_index_of(name)
     }
 
-    /// What the own trie of the file at a place says of a name, if a file is there: the file and its export.
+    /// Looks up a name in the own trie of the file at a place, if there is a file: returns the file and its export.
     pub fn find(
         &self,
         alloc: A,
@@ -43,7 +43,7 @@ impl<'a, A: Allocator + Copy> Files<'a, A> {
         }
     }
 
-    /// Of the files at some places the first whose own trie has a name, and its export.
+    /// Returns the first of the files at some places whose own trie has a name, and its export.
     pub fn first_having(
         &self,
         alloc: A,

@@ -1,4 +1,4 @@
-//! A name followed through re-exports, from library to library.
+//! Follows a name through re-exports, from library to library.
 
 ghost use Rattle.std.specs.Prelude.{◌≡◌, ◌==◌, ◌<◌, ◌^◌, ◌+◌, ◌∷◌, ◌++◌, [], length, map, option_map, bit_and, true, false, Ok, IfOk, IfErr};
 ghost use Rattle.mach_base.specs.Among.{IsAmong};
@@ -18,23 +18,23 @@ use indexmap::IndexSet;
 use std::alloc::{AllocFailed, Allocator};
 use std::hash::{BuildHasherDefault, FoldHasher};
 
-/// A name, and that of the library in which it is sought.
+/// A name, and the name of the library in which it is looked up.
 #[derive(Clone, Copy, PartialEq, Eq, Hash)]
 pub struct Symbol<'a> {
     pub library: &'a str,
     pub name: &'a str,
 }
 
-/// Where a name is found, or why it is not. The library is the last that re-exports of tries lead to.
+/// The place of a name, or why it has none. The library is the last one that re-exports of tries lead to.
 #[derive(Clone, Copy)]
 pub enum Place<'a> {
-    /// In a file, at this address: counted from the file's start, or an absolute one.
+    /// In a file, at this address: relative to the file's start, or absolute.
     Found {
         file: &'a str,
         address: u64,
         is_absolute: bool,
     },
-    /// The re-exports lead back to this library, to a name that was sought there before.
+    /// The re-exports lead back to this library, to a name that was looked up there before.
     LeadsBack {
         library: &'a str,
     },
@@ -42,11 +42,11 @@ pub enum Place<'a> {
     NoLibrary {
         library: &'a str,
     },
-    /// Neither the library nor what it re-exports as a whole has the name.
+    /// Neither the library nor its closure has the name.
     Missing {
         library: &'a str,
     },
-    /// The same, but this library re-exports another, which is not given.
+    /// The same, but this library re-exports another one, which is not given.
     NotGiven {
         library: &'a str,
         reexported: &'a str,
@@ -57,15 +57,15 @@ pub enum Place<'a> {
     NoMain,
 }
 
-/// What is said of a symbol in its library.
+/// What a symbol leads to in its library.
 pub enum Step<'a> {
-    /// Another symbol stands for it.
+    /// To another symbol.
     Leads(Symbol<'a>),
     /// It leads no further.
     Ends(Place<'a>),
 }
 
-/// What an export of a file leads to, by the name under which it was sought.
+/// Returns what an export of a file leads to, given the name that was looked up.
 pub fn lead<'a, A: Allocator>(file: &File<'a, A>, info: ExportInfo<'a>, name: &'a str) -> Step<'a>
     ensures { LeadsToStep (file_seen file.now) (info_of info.entry) name.now result }
 {
@@ -87,7 +87,7 @@ pub fn lead<'a, A: Allocator>(file: &File<'a, A>, info: ExportInfo<'a>, name: &'
     }
 }
 
-// The place at an address of a file.
+// Returns the place at an address of a file.
 fn found<'a, A: Allocator>(file: &File<'a, A>, address: u64, flags: u64) -> Place<'a>
     ensures { place_seen result ≡ found file.now.name.now address (bit_and flags 3 == 2) }
 {
@@ -98,7 +98,7 @@ fn found<'a, A: Allocator>(file: &File<'a, A>, address: u64, flags: u64) -> Plac
     }
 }
 
-// Notes a symbol on the way, and answers whether it was not noted before.
+// Adds a symbol to those on the way, and returns whether it is new.
 fn note<'a, A: Allocator + Copy>(
     met: &mut IndexSet<Symbol<'a>, BuildHasherDefault<FoldHasher>, A>,
     symbol: Symbol<'a>,
@@ -113,7 +113,7 @@ fn note<'a, A: Allocator + Copy>(
     Ok(met.len() > before)
 }
 
-// What is said of a symbol in its library: by the first file behind it whose own trie has the name.
+// Returns what a symbol leads to in its library: by the first file in its closure whose own trie has the name.
 fn turn<'a, A: Allocator + Copy>(
     alloc: A,
     files: &Files<'a, A>,
@@ -134,7 +134,7 @@ fn turn<'a, A: Allocator + Copy>(
     }
 }
 
-// The end of a name that nothing behind a library has.
+// Returns the end of a name that no file in the closure of a library has.
 fn nowhere<'a>(library: &'a str, gap: Option<Edge<'a>>) -> Place<'a>
     ensures { place_seen result ≡ nowhere library.now (option_map edge_seen gap.entry) }
 {
@@ -147,7 +147,7 @@ fn nowhere<'a>(library: &'a str, gap: Option<Edge<'a>>) -> Place<'a>
     }
 }
 
-/// Where a symbol leads: to its end, or back to a symbol that it met on this way.
+/// Returns the place that a symbol leads to: its end, or back to a symbol that it met on the way.
 pub fn follow<'a, A: Allocator + Copy>(
     alloc: A,
     files: &Files<'a, A>,

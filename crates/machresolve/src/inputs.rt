@@ -1,4 +1,4 @@
-//! The files as they were given, opened.
+//! Opens the given files.
 
 ghost use Rattle.std.specs.Prelude.{◌≡◌, ℕ, List, None, map, IfOk, IfErr, IfSome, IfNone};
 ghost use Rattle.mach_base.specs.Text.{texts};
@@ -28,7 +28,7 @@ pub struct Given<'a> {
     pub bytes: &'a [u8],
 }
 
-// The libraries that an image re-exports as a whole, in order.
+// Returns the libraries that an image re-exports as a whole, in order.
 fn reexports_of<'a, A: Allocator + Copy>(
     alloc: A,
     image: &MachO<'a, A>,
@@ -44,7 +44,7 @@ fn reexports_of<'a, A: Allocator + Copy>(
     Ok(names)
 }
 
-/// By ordinal, an image itself first, whether a library of it may be absent.
+/// Returns whether each library of an image may be absent, by ordinal, the image itself first.
 pub fn absences_of<'a, A: Allocator + Copy>(
     alloc: A,
     image: &MachO<'a, A>,
@@ -59,7 +59,7 @@ pub fn absences_of<'a, A: Allocator + Copy>(
     Ok(absences)
 }
 
-// The file that an opened image is.
+// Returns the file of an opened image.
 fn file_of<'a, A: Allocator + Copy>(
     alloc: A,
     number: usize,
@@ -78,14 +78,14 @@ fn file_of<'a, A: Allocator + Copy>(
     })
 }
 
-/// Why an archive is refused: its first four bytes are no magic of Mach-O's.
+/// Returns the error of an archive: its first four bytes are no Mach-O magic.
 pub fn archive_error() -> Error
     ensures { result ≡ errors.BadMagic 0x213c_6172 }
 {
     Error::BadMagic(0x213c_6172)
 }
 
-// The file of a number, opened.
+// Opens the file with a number.
 fn open<'a, A: Allocator + Copy>(
     alloc: A,
     number: usize,
@@ -100,7 +100,7 @@ fn open<'a, A: Allocator + Copy>(
     }
 }
 
-// The file that a fat library of a number is for a cpu: its first entry of it, or none.
+// Opens what the fat library with a number has for a cpu: its first entry for the cpu, or nothing.
 fn open_entry<'a, R: ArchRecord, A: Allocator + Copy>(
     alloc: A,
     cputype: u32,
@@ -129,8 +129,8 @@ fn open_entry<'a, R: ArchRecord, A: Allocator + Copy>(
     }
 }
 
-// The file that a library of a number is for a cpu: the image, where it is one of the cpu; of a fat file the first
-// entry of it; or none.
+// Opens what the library with a number has for a cpu: the image, if it is for the cpu; of a fat file the first entry for the cpu;
+// or nothing.
 fn open_library<'a, A: Allocator + Copy>(
     alloc: A,
     cputype: u32,
@@ -156,14 +156,14 @@ fn open_library<'a, A: Allocator + Copy>(
     }
 }
 
-/// The files that count, in order, and notes of the others.
+/// The files that are used, in order, and notes about the others.
 #[derive(Drop)]
 pub struct Gathered<'a, A: Allocator> {
     pub files: Files<'a, A>,
     pub notes: Vec<Note<'a>, A>,
 }
 
-// Adds a file, unless one of its name is there; that is noted then.
+// Adds a file; if there is one with its name already, notes that instead.
 fn add<'a, A: Allocator + Copy>(
     gathered: Gathered<'a, A>,
     file: File<'a, A>,
@@ -188,7 +188,7 @@ fn add<'a, A: Allocator + Copy>(
     Ok(Gathered { files, notes })
 }
 
-// One file alone.
+// Returns one file alone.
 fn only<'a, A: Allocator + Copy>(alloc: A, file: File<'a, A>) -> Result<Gathered<'a, A>, AllocError>
     ensures { IfOk result (λ g. gathered_seen g ≡ only (file_seen file.entry)) }
 {
@@ -202,7 +202,7 @@ fn only<'a, A: Allocator + Copy>(alloc: A, file: File<'a, A>) -> Result<Gathered
     })
 }
 
-// Adds what the library of a number is for a cpu; where it is nothing, that is noted.
+// Adds what the library with a number has for a cpu; if it has nothing, notes that.
 fn add_library<'a, A: Allocator + Copy>(
     alloc: A,
     cputype: u32,
@@ -227,8 +227,8 @@ fn add_library<'a, A: Allocator + Copy>(
     }
 }
 
-/// The program, which is an image of a cpu, and the libraries as they are for the cpu, each opened, in order: of
-/// those of one name the first.
+/// Opens the program, which is an image for a cpu, and what the libraries have for the cpu, in order. Of several files with one
+/// name the first is used.
 pub fn gather<'a, A: Allocator + Copy>(
     alloc: A,
     cputype: u32,

@@ -16,7 +16,7 @@ use mach_cli::Escaped;
 use std::fmt;
 use std::fmt::{Display, Formatter, Write};
 
-// Who is to give a name.
+// The provider of a name.
 #[derive(Clone, Copy)]
 struct ProviderText<'a>(Provider<'a>);
 
@@ -37,7 +37,7 @@ impl<'a> Display for ProviderText<'a> {
     }
 }
 
-// Where a name is, or why it is nowhere.
+// The place of a name, or why it has none.
 #[derive(Clone, Copy)]
 struct PlaceText<'a>(Place<'a>);
 
@@ -87,7 +87,7 @@ impl<'a> Display for PlaceText<'a> {
 }
 
 impl<'a> Answer<'a> {
-    // What stands before the place: whether the name may be nowhere, where that is so and it is.
+    // Returns the words before the place, if the name may be missing and is.
     fn front(&self) -> &'static str
         ensures { result.now ≡ front_text (answer_seen self.now) }
     {
@@ -111,7 +111,7 @@ impl<'a> Display for Answer<'a> {
     }
 }
 
-// That nothing is there for a cpu.
+// The words for a file that has nothing for a cpu.
 #[derive(Clone, Copy)]
 struct NothingWords(u32);
 

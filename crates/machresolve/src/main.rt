@@ -1,12 +1,13 @@
-//! Says for each binding of a program where it is found among some libraries, and at which address: for the binds of
-//! its opcodes, and for those of its chains. Of a fat program it says so for each entry, or for the first of the cpu
-//! that is wanted; a fat library stands for its first entry of the program's cpu. A library is known by its own name
-//! (LC_ID_DYLIB), or by its path where it has none; the first of several of one name counts. Names are compared as texts.
-//! Of all images of the program together at most as many bindings are answered as `--limit` says; of an image that has
-//! more than what is left, a line says so.
+//! Prints for each binding of a program in which of some libraries its name is found, and at which address: for the binds of its
+//! opcodes, and for those of its chains.
+//!
+//! Of a fat program it does so for each entry, or for the first entry for a selected cpu. Of a fat library it uses the first
+//! entry for the program's cpu. The name of a library is its own (LC_ID_DYLIB), or its path if it has none; of several with one
+//! name the first is used. Names are compared as texts. At most as many bindings of all images of the program are answered as
+//! `--limit` says; a line says so if an image has more than what is left.
 #![tactic(auto)]
 
-// Where each binding of a program is found among some libraries.
+// The place of each of a program's bindings in some libraries.
 mod answers;
 mod file;
 mod files;
@@ -53,7 +54,7 @@ fn main(rt: HostRuntime) -> ExitCode {
     })
 }
 
-// Does what the words ask for; the error is the exit status where nothing was resolved.
+// Runs the program with its words. The error is the exit status if nothing was resolved.
 fn start(rt: &HostRuntime) -> Result<u8, u8> {
     let Words { others, wanted } = match Words::of(rt.alloc(), PROGRAM.words(rt)?) {
         Ok(words) => words,
@@ -68,13 +69,13 @@ fn start(rt: &HostRuntime) -> Result<u8, u8> {
     }
 }
 
-// The bytes of a file. Where reading many takes long, it is told on a terminal that this one is begun.
+// Reads the bytes of a file. If reading many files takes long, a line on a terminal says that this one is begun.
 fn read(rt: &HostRuntime, progress: &mut Progress, file: &str) -> Result<Vec<u8>, u8> {
     progress.begin(rt, NAME, file, &mut rt.stderr());
     PROGRAM.read(rt, file)
 }
 
-// Resolves a program over libraries.
+// Resolves a program with its libraries.
 fn resolve_files(
     rt: &HostRuntime,
     wanted: Option<u32>,

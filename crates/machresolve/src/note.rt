@@ -1,4 +1,4 @@
-//! Libraries that count for nothing, and why.
+//! Libraries that are not used, and why.
 
 ghost use Rattle.std.specs.Prelude.{◌≡◌, map, OnOk};
 ghost use Rattle.machresolve.specs.Note.{all_noted};
@@ -8,19 +8,19 @@ use indexmap::IndexSet;
 use std::alloc::{AllocFailed, Allocator};
 use std::hash::{BuildHasherDefault, FoldHasher};
 
-/// Why a library, by its number, counts for nothing.
+/// Why a library, by its number, is not used.
 #[derive(Clone, Copy, PartialEq, Eq, Hash)]
 pub enum Note<'a> {
-    /// A file of its name is given before it.
+    /// A file with its name was given before it.
     GivenBefore { library: usize, name: &'a str },
     /// It has nothing for a cpu.
     NothingFor { library: usize, cputype: u32 },
 }
 
-/// Notes, each once, in the order in which they were made first.
+/// Notes, each once, in the order in which they were first made.
 pub type Notes<'a, A> = IndexSet<Note<'a>, BuildHasherDefault<FoldHasher>, A>;
 
-/// Adds some notes, but for those that are there.
+/// Adds some notes, but for those that are there already.
 pub fn note_all<'a, A: Allocator + Copy>(
     noted: &mut Notes<'a, A>,
     notes: &[Note<'a>],

@@ -1,4 +1,4 @@
-//! The files that stand behind a library: itself, and those that it re-exports as a whole.
+//! The closure of a library: the library itself, and the files that it re-exports as a whole.
 
 ghost use Rattle.std.specs.Prelude.{◌≡◌, ◌++◌, map, reverse, option_map, IfOk, OnOk};
 ghost use Rattle.machresolve.specs.Behind.{Walks, none_met, edges_of, first_gap, met_first, IsBehind, IsBehindAll};
@@ -14,7 +14,7 @@ pub struct Edge<'a> {
     pub to: &'a str,
 }
 
-/// What is met behind a library.
+/// What is met in the closure of a library.
 #[derive(Drop)]
 pub struct Met<'a, A: Allocator> {
     /// The files, by their places, in the order in which they are met.
@@ -24,7 +24,7 @@ pub struct Met<'a, A: Allocator> {
 }
 
 impl<'a> Edge<'a> {
-    // A library as it is met first.
+    // Returns the edge that starts at a library.
     fn start_at(name: &'a str) -> Edge<'a>
         ensures { edge_seen result ≡ met_first name.now }
     {
@@ -35,7 +35,7 @@ impl<'a> Edge<'a> {
     }
 }
 
-// Puts the libraries that a file re-exports on the edges that are left, the first of them last.
+// Pushes the libraries that a file re-exports on the edges that are left, the first of them last.
 fn push_edges<'a, A: Allocator>(
     file: &File<'a, A>,
     left: &mut Vec<Edge<'a>, A>,
@@ -52,8 +52,7 @@ fn push_edges<'a, A: Allocator>(
     Ok(())
 }
 
-// What is met along some edges, the last one first. Each file is entered once, and each of its re-exports
-// is looked at once.
+// Walks along some edges, the last one first. Each file is entered once, and each of its re-exports is visited once.
 fn walk<'a, A: Allocator + Copy>(
     alloc: A,
     files: &Files<'a, A>,
@@ -82,7 +81,7 @@ fn walk<'a, A: Allocator + Copy>(
     }
 }
 
-// The first gap, where there is one, else this one.
+// Returns the first gap, if there is one, else this one.
 fn keep<'a>(gap: Option<Edge<'a>>, edge: Edge<'a>) -> Option<Edge<'a>>
     ensures { option_map edge_seen result ≡ first_gap (option_map edge_seen gap.entry) (edge_seen edge.entry) }
 {
@@ -92,8 +91,8 @@ fn keep<'a>(gap: Option<Edge<'a>>, edge: Edge<'a>) -> Option<Edge<'a>>
     }
 }
 
-/// What stands behind the library of a name, itself first: depth first, each file once. The time is that of
-/// the re-exports of the files that it meets.
+/// Returns the closure of the library with a name, itself first: depth first, each file once. It takes time in the number of
+/// re-exports of the files that it meets.
 pub fn behind<'a, A: Allocator + Copy>(
     alloc: A,
     files: &Files<'a, A>,
@@ -106,7 +105,7 @@ pub fn behind<'a, A: Allocator + Copy>(
     walk(alloc, files, starts)
 }
 
-/// What stands behind all files, one after the other, each file once.
+/// Returns the closure of all files, one after the other, each file once.
 pub fn behind_all<'a, A: Allocator + Copy>(
     alloc: A,
     files: &Files<'a, A>,

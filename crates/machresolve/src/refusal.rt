@@ -1,4 +1,4 @@
-//! Why a file is refused, in words.
+//! The words for a refused file.
 
 ghost use Rattle.std.specs.Prelude.{◌≡◌};
 ghost use Rattle.machresolve.specs.Refusals.{has_table, kind_told};
@@ -23,7 +23,7 @@ fn has_table(bytes: &[u8]) -> bool
     }
 }
 
-// The kind of a file that is refused for this error, where it is none of Mach-O's.
+// Returns the kind of a file that is refused for this error, if it is not Mach-O.
 fn kind_told(bytes: &[u8], error: &Error) -> Option<Foreign>
     ensures { result ≡ kind_told bytes.now error.now }
 {
@@ -34,7 +34,7 @@ fn kind_told(bytes: &[u8], error: &Error) -> Option<Foreign>
     }
 }
 
-/// Why a file is refused.
+/// The words for a refused file.
 #[derive(Clone, Copy)]
 pub struct RefusalText<'a, 'b> {
     pub file: Given<'a>,

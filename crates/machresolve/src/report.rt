@@ -1,4 +1,4 @@
-//! What is told of a program: of one image, or of each entry of a fat one.
+//! The report of a program: of one image, or of each entry of a fat file.
 
 ghost use Rattle.std.specs.Prelude.{◌≡◌, ◌≤◌, map, Some, None, IfOk, IfErr};
 ghost use Rattle.std.specs.List.{list_all};
@@ -17,7 +17,7 @@ use crate::resolve::{Resolved, resolve};
 use goblin_mach::{ArchRecord, Error, FatTable, Input};
 use std::alloc::Allocator;
 
-/// What is told of one program.
+/// The outcome for one program.
 #[derive(Drop)]
 pub enum Outcome<'a, A: Allocator> {
     /// Its answers.
@@ -28,19 +28,19 @@ pub enum Outcome<'a, A: Allocator> {
     Refused { file: usize, error: Error },
 }
 
-/// What is told of a whole file.
+/// The report of a whole file.
 #[derive(Drop)]
 pub enum Report<'a, A: Allocator> {
-    /// Of one image, or of the entry that is asked for; or why the file is refused.
+    /// The outcome for one image, or for the selected entry; or the file is refused.
     One(Outcome<'a, A>),
-    /// Of each entry of a fat file, in order.
+    /// The outcomes for the entries of a fat file, in order.
     Entries(Vec<Outcome<'a, A>, A>),
     /// It has nothing for this cpu.
     Nothing(u32),
 }
 
 impl<'a, A: Allocator> Outcome<'a, A> {
-    // Whether all is answered and settled, and nothing refused.
+    // Whether all is answered and settled, and nothing was refused.
     fn is_whole(&self) -> bool
         ensures { result ≡ is_whole (outcome_seen self.now) }
     {
@@ -51,7 +51,7 @@ impl<'a, A: Allocator> Outcome<'a, A> {
         }
     }
 
-    // How many bindings are answered.
+    // Returns how many bindings are answered.
     fn answer_count(&self) -> usize
         ensures { result ≡ answer_count (outcome_seen self.now) }
     {
@@ -62,7 +62,7 @@ impl<'a, A: Allocator> Outcome<'a, A> {
     }
 }
 
-// Whether all is answered and settled in all entries, and nothing refused.
+// Whether all is answered and settled in all entries, and nothing was refused.
 fn all_whole<A: Allocator>(outcomes: &[Outcome<'_, A>]) -> bool
     ensures { result ≡ list_all is_whole (map outcome_seen outcomes.now) }
 {
@@ -74,7 +74,7 @@ fn all_whole<A: Allocator>(outcomes: &[Outcome<'_, A>]) -> bool
 }
 
 impl<'a, A: Allocator> Report<'a, A> {
-    /// Whether all is answered and settled, and nothing refused.
+    /// Whether all is answered and settled, and nothing was refused.
     pub fn is_whole(&self) -> bool
         ensures { result ≡ all_whole (report_seen self.now) }
     {
@@ -86,7 +86,7 @@ impl<'a, A: Allocator> Report<'a, A> {
     }
 }
 
-// The outcome for a refused file; want of memory stays a failure.
+// Returns the outcome for a refused file; a refused allocation stays a failure.
 fn refusal<'a, A: Allocator>(failure: Failure) -> Result<Outcome<'a, A>, Failure>
     ensures { IsOutcomeOfFailure failure result }
 {
@@ -96,7 +96,7 @@ fn refusal<'a, A: Allocator>(failure: Failure) -> Result<Outcome<'a, A>, Failure
     }
 }
 
-// The outcome for an image.
+// Returns the outcome for an image.
 fn outcome_for<'a, A: Allocator + Copy>(
     alloc: A,
     limit: usize,
@@ -112,7 +112,7 @@ fn outcome_for<'a, A: Allocator + Copy>(
     }
 }
 
-// The outcome for an entry of a fat program, by its record.
+// Returns the outcome for an entry of a fat program, by its record.
 fn entry_outcome<'a, R: ArchRecord, A: Allocator + Copy>(
     alloc: A,
     limit: usize,
@@ -134,8 +134,8 @@ fn entry_outcome<'a, R: ArchRecord, A: Allocator + Copy>(
     }
 }
 
-// The outcomes for the entries of a fat program, by their records, in order, each within what those before it leave of
-// `limit` bindings.
+// Returns the outcomes for the entries of a fat program, by their records, in order, each within what the entries before it left
+// of `limit` bindings.
 fn entry_outcomes<'a, R: ArchRecord, A: Allocator + Copy>(
     alloc: A,
     limit: usize,
@@ -161,7 +161,7 @@ fn entry_outcomes<'a, R: ArchRecord, A: Allocator + Copy>(
     Ok(outcomes)
 }
 
-// What is told of a program that is refused for an error; want of memory is a failure.
+// Returns the report of a program that is refused for an error; a refused allocation is a failure.
 fn report_refused<'a, A: Allocator>(error: Error) -> Result<Report<'a, A>, Failure>
     ensures told { IfOk result (λ r. TellsError error (report_seen r)) }
     ensures memory { IfErr result (λ failure. failure ≡ failures.Memory) }
@@ -172,7 +172,7 @@ fn report_refused<'a, A: Allocator>(error: Error) -> Result<Report<'a, A>, Failu
     }
 }
 
-// What is told of a fat program, of all its entries.
+// Returns the report of a fat program, with all its entries.
 fn report_all<'a, R: ArchRecord, A: Allocator + Copy>(
     alloc: A,
     limit: usize,
@@ -193,7 +193,7 @@ fn report_all<'a, R: ArchRecord, A: Allocator + Copy>(
     }
 }
 
-// What is told of a fat program, of its first entry of a cpu.
+// Returns the report of a fat program, with its first entry for a cpu.
 fn report_entry<'a, R: ArchRecord, A: Allocator + Copy>(
     alloc: A,
     cputype: u32,
@@ -216,7 +216,7 @@ fn report_entry<'a, R: ArchRecord, A: Allocator + Copy>(
     }
 }
 
-// What is told of a program that is one image.
+// Returns the report of a program that is one image.
 fn report_one<'a, A: Allocator + Copy>(
     alloc: A,
     limit: usize,
@@ -232,7 +232,7 @@ fn report_one<'a, A: Allocator + Copy>(
     }
 }
 
-// What is told of a program that is one image of a cpu.
+// Returns the report of a program that is one image, for a cpu.
 fn report_image<'a, A: Allocator + Copy>(
     alloc: A,
     wanted: Option<u32>,
@@ -252,7 +252,7 @@ fn report_image<'a, A: Allocator + Copy>(
     }
 }
 
-// What is told of a fat program: of all its entries, or of the first of a cpu that is wanted.
+// Returns the report of a fat program: with all its entries, or with the first for the selected cpu.
 fn report_fat<'a, R: ArchRecord, A: Allocator + Copy>(
     alloc: A,
     wanted: Option<u32>,
@@ -271,8 +271,8 @@ fn report_fat<'a, R: ArchRecord, A: Allocator + Copy>(
     }
 }
 
-/// What is told of a program: of all of it, or of what it has for a cpu that is wanted. Of the bindings of its images, in
-/// order, the first `limit` are answered. Only memory can be wanting.
+/// Returns the report of a program: all of it, or what it has for the selected cpu. Of the bindings of its images, in order, the
+/// first `limit` are answered. It fails only if an allocation is refused.
 pub fn report_on<'a, A: Allocator + Copy>(
     alloc: A,
     wanted: Option<u32>,

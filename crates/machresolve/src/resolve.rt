@@ -1,4 +1,4 @@
-//! A program, resolved: the answers for its bindings.
+//! Resolves a program: finds the answers for its bindings.
 
 ghost use Rattle.std.specs.Prelude.{◌≡◌, ◌∷◌, List, map, IfOk, IfErr};
 ghost use Rattle.mach_parts.specs.Bindings.{Binding};
@@ -19,7 +19,7 @@ use crate::reexports::behind_all;
 use goblin_mach::{MachO, laws};
 use std::alloc::Allocator;
 
-// An answer for each of the first `limit` bindings of an image, in order; and whether there are more.
+// Returns an answer for each of the first `limit` bindings of an image, in order, and whether there are more.
 fn answer_all<'a, A: Allocator + Copy>(
     alloc: A,
     limit: usize,
@@ -56,13 +56,13 @@ pub struct Resolved<'a, A: Allocator> {
     pub answers: Vec<Answer<'a>, A>,
     /// Whether it has more bindings.
     pub more: bool,
-    /// Notes of the libraries that count for nothing.
+    /// Notes about the libraries that are not used.
     pub notes: Vec<Note<'a>, A>,
 }
 
-/// The answers for the first `limit` bindings of a program, in order, among the program and some libraries. Each
-/// refusal but want of memory is a fault that stands: where a file is opened, in one of these bindings, or in a trie on
-/// the way of a name that is sought.
+/// Returns the answers for the first `limit` bindings of a program, in order, found in the program and some libraries. An error
+/// is a refused allocation, or a fault that holds: of opening a file, of one of these bindings, or of a trie on the way of a
+/// name.
 pub fn resolve<'a, A: Allocator + Copy>(
     alloc: A,
     limit: usize,

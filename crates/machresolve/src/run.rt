@@ -30,10 +30,12 @@ use std::io::{BufWriter, Write};
 /// The program's name.
 pub const NAME: &str = "machresolve";
 
-/// Resolves a program, or what it has for a cpu that is wanted, of all its images together the first `limit` bindings, no more than the program has
-/// bytes, and answers the exit status: 0 where each binding is settled; 1 where one is not, or there are more, or a file is refused, or memory; 2 or 141
-/// where a write fails. But for that nothing is left in the buffer. The lines of one image are written whole or not at all. Notes, and why nothing is
-/// printed, go to `err`.
+/// Resolves a program, or what it has for a selected cpu: the first `limit` bindings of all its images together, no more than the
+/// program has bytes.
+///
+/// Returns the exit status. It is 0 if each binding is settled. It is 1 if one is not, or there are more, or a file or an
+/// allocation is refused. It is 2 or 141 if a write fails. Unless a write fails, nothing is left in the buffer. The lines of one
+/// image are written whole or not at all. Notes, and the reason if nothing is printed, go to `err`.
 pub fn run<'a, A: Allocator + Copy, W: Write + Drop, B: Allocator, E: Write>(
     alloc: A,
     wanted: Option<u32>,
@@ -55,14 +57,14 @@ pub fn run<'a, A: Allocator + Copy, W: Write + Drop, B: Allocator, E: Write>(
     }
 }
 
-// The status, by whether all is settled and nothing refused.
+// Returns the status, by whether all is settled and nothing was refused.
 fn status(whole: bool) -> u8
     ensures { result ≡ run_status whole }
 {
     if whole { 0 } else { 1 }
 }
 
-// Writes what is told of a program, or that memory is refused, and answers whether all is settled and nothing refused.
+// Writes the report of a program, or that an allocation was refused. Returns whether all is settled and nothing was refused.
 fn tell<'a, A: Allocator + Copy, W: Write + Drop, B: Allocator, E: Write>(
     alloc: A,
     wanted: Option<u32>,
@@ -92,7 +94,7 @@ fn tell<'a, A: Allocator + Copy, W: Write + Drop, B: Allocator, E: Write>(
     Ok(report.is_whole())
 }
 
-// Prints what is told of a program, and sees to it that it is written.
+// Prints the report of a program and flushes it.
 fn print_report<A: Allocator, W: Write + Drop, B: Allocator>(
     call: &Call<'_, '_>,
     report: &Report<'_, A>,
@@ -106,7 +108,7 @@ fn print_report<A: Allocator, W: Write + Drop, B: Allocator>(
     out.flush()
 }
 
-// Prints what is told of a program.
+// Prints the report of a program.
 fn print_whole<A: Allocator, O: Write>(
     call: &Call<'_, '_>,
     report: &Report<'_, A>,
@@ -121,7 +123,7 @@ fn print_whole<A: Allocator, O: Write>(
     }
 }
 
-// Prints what is told of one program: where it is refused, nothing.
+// Prints the outcome for one program; nothing if it is refused.
 fn print_one<A: Allocator, O: Write>(
     call: &Call<'_, '_>,
     outcome: &Outcome<'_, A>,
@@ -136,7 +138,7 @@ fn print_one<A: Allocator, O: Write>(
     }
 }
 
-// Prints what is told of the entries of a fat program, each under its line.
+// Prints the outcomes for the entries of a fat program, each after its line.
 fn print_entries<A: Allocator, O: Write>(
     call: &Call<'_, '_>,
     outcomes: &[Outcome<'_, A>],
@@ -150,7 +152,7 @@ fn print_entries<A: Allocator, O: Write>(
     Ok(())
 }
 
-// Prints what is told of an entry, under its line.
+// Prints the outcome for an entry, after its line.
 fn print_entry<A: Allocator, O: Write>(
     call: &Call<'_, '_>,
     index: usize,
@@ -164,7 +166,7 @@ fn print_entry<A: Allocator, O: Write>(
     print_outcome(call, outcome, out)
 }
 
-// Prints what is told of one program.
+// Prints the outcome for one program.
 fn print_outcome<A: Allocator, O: Write>(
     call: &Call<'_, '_>,
     outcome: &Outcome<'_, A>,
@@ -185,7 +187,7 @@ fn print_outcome<A: Allocator, O: Write>(
     }
 }
 
-// Prints a line for each answer, in order, and behind them that there are more bindings, if there are.
+// Prints a line for each answer, in order, and a line after them if there are more bindings.
 fn print_resolved<A: Allocator, O: Write>(
     limit: usize,
     resolved: &Resolved<'_, A>,
@@ -219,7 +221,7 @@ fn print_answers<O: Write>(answers: &[Answer<'_>], out: &mut O) -> io::Result<()
     Ok(())
 }
 
-// The notes of a program, each once.
+// Returns the notes of a program, each once.
 fn notes_in<'a, A: Allocator + Copy>(
     alloc: A,
     report: &Report<'a, A>,
@@ -235,7 +237,7 @@ fn notes_in<'a, A: Allocator + Copy>(
     Ok(notes)
 }
 
-// Adds the notes of some entries, but for those that are there.
+// Adds the notes of some entries, but for those that are there already.
 fn note_entries<'a, A: Allocator + Copy>(
     notes: &mut Notes<'a, A>,
     outcomes: &[Outcome<'a, A>],
@@ -248,7 +250,7 @@ fn note_entries<'a, A: Allocator + Copy>(
     Ok(())
 }
 
-// Adds the notes of one program, but for those that are there.
+// Adds the notes of one program, but for those that are there already.
 fn note_outcome<'a, A: Allocator + Copy>(
     notes: &mut Notes<'a, A>,
     outcome: &Outcome<'a, A>,
@@ -261,7 +263,7 @@ fn note_outcome<'a, A: Allocator + Copy>(
     }
 }
 
-// Says what is said of a program: why nothing is printed, and the notes.
+// Writes the messages of a report: why nothing is printed, and the notes.
 fn say<'a, A: Allocator, E: Write>(
     call: &Call<'a, '_>,
     report: &Report<'a, A>,
@@ -275,7 +277,7 @@ fn say<'a, A: Allocator, E: Write>(
     say_notes(call, notes.as_slice(), err)
 }
 
-// Says why nothing is printed, if that is so.
+// Writes why nothing is printed, if so.
 fn say_first<A: Allocator, E: Write>(
     call: &Call<'_, '_>,
     report: &Report<'_, A>,
@@ -296,7 +298,7 @@ fn say_first<A: Allocator, E: Write>(
     }
 }
 
-// Says why one program is refused, if it is.
+// Writes why one program is refused, if it is.
 fn say_refusal<A: Allocator, E: Write>(
     call: &Call<'_, '_>,
     outcome: &Outcome<'_, A>,
@@ -317,7 +319,7 @@ fn say_refusal<A: Allocator, E: Write>(
     }
 }
 
-// Says some notes, a line each.
+// Writes some notes, a line each.
 fn say_notes<'a, E: Write>(call: &Call<'a, '_>, notes: &[Note<'a>], err: &mut E) -> io::Result<()>
     ensures { OnOk result (Appends (E.contents err.old) (E.contents err.new) (said_lines (call_seen call.now) (map note_seen notes.now))) }
 {
@@ -331,7 +333,7 @@ fn say_notes<'a, E: Write>(call: &Call<'a, '_>, notes: &[Note<'a>], err: &mut E)
     Ok(())
 }
 
-// Says that memory is refused, where nothing is printed.
+// Reports a refused allocation, if nothing is printed.
 fn say_memory<W: Write + Drop, B: Allocator, E: Write>(
     out: &mut BufWriter<W, B>,
     err: &mut E,

@@ -1,4 +1,4 @@
-//! Names that are sought in any file, and in the main executable.
+//! Looks up names in any file, and in the main executable.
 
 ghost use Rattle.std.specs.Prelude.{◌≡◌, slice_get, Some, IfOk, IfErr, IfSome, IfNone};
 ghost use Rattle.mach_dyld.specs.Exports.{info_of};
@@ -15,8 +15,8 @@ use crate::follow::{Place, Step, Symbol, follow, lead};
 use goblin_mach::exports::{EXPORT_SYMBOL_FLAGS_WEAK_DEFINITION, ExportInfo};
 use std::alloc::Allocator;
 
-/// Where a name is found that any file may give: the first of the files at these places, which are all, whose
-/// own trie has it.
+/// Returns the place of a name that any file may provide: in the first of the files at these places, which are all, whose own
+/// trie has it.
 pub fn flat<'a, A: Allocator + Copy>(
     alloc: A,
     files: &Files<'a, A>,
@@ -37,14 +37,14 @@ pub fn flat<'a, A: Allocator + Copy>(
     }
 }
 
-// A definition of a name, and whether it is a weak one.
+// A definition of a name, and whether it is weak.
 #[derive(Clone, Copy)]
 struct Definition<'a> {
     place: Place<'a>,
     is_weak: bool,
 }
 
-// The flags of an export.
+// Returns the flags of an export.
 fn flags_of(info: &ExportInfo<'_>) -> u64
     ensures { result ≡ flags_of_export (info_of info.now) }
 {
@@ -55,7 +55,7 @@ fn flags_of(info: &ExportInfo<'_>) -> u64
     }
 }
 
-// How the file at a place defines a name, if it does.
+// Returns the definition of a name in the file at a place, if it has one.
 fn define<'a, A: Allocator + Copy>(
     alloc: A,
     files: &Files<'a, A>,
@@ -79,7 +79,7 @@ fn define<'a, A: Allocator + Copy>(
     }
 }
 
-/// Where a name is found of which any file may have a definition: the first that isn't weak, else the first.
+/// Returns the place of a name that any file may define: the first definition that isn't weak, or if there is none, the first.
 pub fn weak_lookup<'a, A: Allocator + Copy>(
     alloc: A,
     files: &Files<'a, A>,
@@ -105,7 +105,7 @@ pub fn weak_lookup<'a, A: Allocator + Copy>(
     }
 }
 
-// The place of a definition that isn't weak.
+// Returns the place of a definition, unless it is weak.
 fn strong<'a>(found: Option<Definition<'a>>) -> Option<Place<'a>>
     ensures { result ≡ strong_place found.entry }
 {
@@ -115,7 +115,7 @@ fn strong<'a>(found: Option<Definition<'a>>) -> Option<Place<'a>>
     }
 }
 
-// The first place, where there is one, else that of this definition.
+// Returns the first place, if there is one, else that of this definition.
 fn first_place<'a>(first: Option<Place<'a>>, found: Option<Definition<'a>>) -> Option<Place<'a>>
     ensures { result ≡ first_place first.entry found.entry }
 {
@@ -128,7 +128,7 @@ fn first_place<'a>(first: Option<Place<'a>>, found: Option<Definition<'a>>) -> O
     }
 }
 
-/// Where a name is found that the main executable is to give: the first of the files that is one.
+/// Returns the place of a name that the main executable is to provide: the first of the files that is one.
 pub fn in_main<'a, A: Allocator + Copy>(
     alloc: A,
     files: &Files<'a, A>,

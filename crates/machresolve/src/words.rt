@@ -1,25 +1,26 @@
-//! What the words of the command line ask for, beside what all programs know.
+//! The options of the command line, beside those that all programs know.
 
 use mach_cli::{Misuse, Word, cputype_in};
 use std::alloc::{AllocError, AllocFailed, Global};
 
-/// So many bindings are answered where no other limit is given.
+/// How many bindings are answered if no other limit is given.
 pub const DEFAULT_LIMIT: usize = 10_000_000;
 
-/// The words of a call without `--cputype` and the cpu behind it, and that cpu; of several the last one counts. Behind `--` no word is an option.
+/// The words of a call without `--cputype` and the cpu after it, and that cpu; of several the last one is used. After `--` no
+/// word is an option.
 #[derive(Drop)]
 pub struct Words {
     pub others: Vec<Word>,
-    /// The cpu that is wanted, if not all are.
+    /// The selected cpu, if not all are selected.
     pub wanted: Option<u32>,
 }
 
-/// Why words can't be taken apart.
+/// Why words can't be parsed.
 #[derive(Clone, Copy)]
 pub enum Mistake {
     /// What is wrong with them.
     Misuse(Misuse<'static>),
-    /// Memory is refused.
+    /// An allocation was refused.
     Memory,
 }
 
@@ -35,11 +36,11 @@ impl From<AllocFailed<Word>> for Mistake {
     }
 }
 
-// That the cpu is no number, or missing.
+// The cpu is no number, or missing.
 const NO_CPU: Mistake = Mistake::Misuse(Misuse::Missing("0xN behind --cputype"));
 
 impl Words {
-    /// Takes words apart.
+    /// Parses words.
     pub fn of(alloc: Global, words: Vec<Word>) -> Result<Words, Mistake> {
         let mut others = Vec::new(alloc);
         let mut wanted = None;

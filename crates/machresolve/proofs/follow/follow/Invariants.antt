@@ -3,7 +3,7 @@ use Rattle.machresolve.specs.Follow.{SymbolPlace, FollowsTo}
 use Rattle.machresolve.specs.Seen.{files_seen, symbol_seen}
 use Rattle.machresolve.proofs.follow.follow.Given as goal
 
--- where the way ends from here, it ends from its start
+-- if the way ends at a place from here, it ends there from its start
 abbrev pub invariant-turns : goal.invariant-turns
 invariant-turns g l =
     (place : SymbolPlace) → FollowsTo (files_seen l.files) (map symbol_seen l.met.keys) (symbol_seen l.sought) place

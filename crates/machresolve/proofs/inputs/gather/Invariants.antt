@@ -4,7 +4,7 @@ use Rattle.machresolve.specs.Seen.{gathered_seen}
 use Rattle.machresolve.specs.Opened.{given_seen}
 use Rattle.machresolve.proofs.inputs.gather.Given as goal
 
--- what the others make of these files, all make
+-- adding the other libraries to these files gives the same as adding all
 abbrev pub invariant-loop-index : goal.invariant-loop-index
 invariant-loop-index g l =
     (all : Gathered) → Gathers l.cputype (l.index + 1) (drop l.index (map given_seen l.libraries)) (gathered_seen l.gathered) all

@@ -3,7 +3,7 @@ use Rattle.machresolve.specs.Note.{all_noted}
 use Rattle.machresolve.specs.Seen.{note_seen}
 use Rattle.machresolve.proofs.note.note_all.Given as goal
 
--- with those that are left, these make what all made
+-- adding the notes that are left gives the same as adding all
 abbrev pub invariant-notes : goal.invariant-notes
 invariant-notes g l =
     all_noted (map note_seen l.noted.keys) (map note_seen (drop l.note-index l.notes)) ≡ all_noted (map note_seen l.fn.noted.keys) (map note_seen l.notes)
