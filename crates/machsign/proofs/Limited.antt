@@ -15,14 +15,14 @@ use Rattle.machsign.specs.declared.form.Form.{Form}
 use Rattle.machsign.specs.declared.form.Form.TheVariants.{Lines, Objects}
 use Rattle.machsign.proofs.Rows.{row, rows_array, rows_left, rows_lines, rows_more}
 
--- the rows of blobs that are yet to be shown in a form
+-- the rows of the blobs that are left to print, in a form
 pub blob_rows_are : (it : OtherBlobs) (form : Form) (blobs : List OtherBlob) → blobs_yet it ≡ blobs → it.form ≡ form
     → blob_rows_left it ≡ map (row (blob_told form)) blobs
 blob_rows_are it form blobs are is =
     ap (λ (xs : List OtherBlob). map (row (blob_told it.form)) xs) are ∙ ap (λ (f : Form). map (row (blob_told f)) blobs) is
 
 module _ (it : OtherBlobs) (blobs : List OtherBlob) (left : ℕ) (old new : Option (List ℕ)) (t : Told) (are : blobs_yet it ≡ blobs) where
-  -- their lines, how many may be told behind them, and whether there are more
+  -- the lines of blobs, how many may be printed after them, and whether there are more
   pub blobs_written : it.form ≡ Lines → WritesRows [] left (blob_rows_left it) old new t
       → Appends old new (flat_map (λ b. blob_told Lines b ++ codes "\n") (take left blobs)) × (t.left ≡ left - length blobs)
       × (t.more ≡ nat_lt left (length blobs))
@@ -33,7 +33,7 @@ module _ (it : OtherBlobs) (blobs : List OtherBlob) (left : ℕ) (old new : Opti
         rows_more (blob_told Lines) left blobs t.more rows.more,
       )
 
-  -- the same of the array of them
+  -- the same for the array of blobs
   pub blobs_arrayed : it.form ≡ Objects → WritesArray left (blob_rows_left it) old new t
       → Appends old new (codes "[" ++ (with_commas (map (blob_told Objects) (take left blobs)) ++ codes "]")) × (t.left ≡ left - length blobs)
       × (t.more ≡ nat_lt left (length blobs))

@@ -12,7 +12,7 @@ use Rattle.goblin_mach.specs.View.{IsTold, Tells}
 use Rattle.mach_cli.specs.Cpus.{is_of_cpu, IsTaken}
 use Rattle.mach_cli.specs.declared.cpu.Cpu.{Cpu}
 
--- an image is asked for, or not, by its header
+-- an image is selected, or not, by its header
 pub taken_of : {A : Type 0} (cpu : Cpu) (bytes : List ℕ) (m : MachO A) (taken : Bool) → IsImage bytes 0 m
     → is_of_cpu cpu m.header.cputype m.header.cpusubtype ≡ taken → IsTaken cpu bytes taken
 taken_of cpu bytes m taken opened is = record {
@@ -22,7 +22,7 @@ taken_of cpu bytes m taken opened is = record {
   holds = (m.header, opened.fields.header, is);
 }
 
--- an error that tells of a fault that stands
+-- an error that reports a fault that holds
 pub told_of : (P : Fault → Type 0) (e : Error) → IsTold e → Stands P e → Tells P e
 told_of P (errors.Malformed m) told h = h
 told_of P (errors.BadMagic n) told h = h
@@ -30,7 +30,7 @@ told_of P (errors.Scroll e) told h = h
 told_of P (errors.BufferTooShort n m) told h = h
 told_of P (errors.Memory e) told h = absurd told
 
--- want of memory reports any fault
+-- a refused allocation reports any fault
 pub unless_memory : {X : Type 0} (P : Fault → Type 0) (answer : Result X Error) → IsOkUnlessMemory answer → IfErr answer (Stands P)
 unless_memory P (Ok x) only = tt
 unless_memory P (Err e) only = Stands-in (λ _. ⊥) P e (λ f none. absurd none) only

@@ -1,4 +1,4 @@
--- Lists of which each row can be told.
+-- Lists whose rows can all be read.
 use Rattle.std.proofs.Common.{◌≡◌, ◌++◌, ◌∷◌, [], ◌∙◌, ◌-◌, ℕ, Bool, List, Option, Result, Ok, Err, length, map, take, refl, ap, subst}
 use Rattle.std.proofs.lemmas.List.{length-map, take-map}
 use Rattle.std.specs.Io.KnownBytes.{Appends}
@@ -11,7 +11,7 @@ use Rattle.mach_cli.specs.Lines.{WritesLines}
 use Rattle.mach_cli.specs.Listings.{text_read, told_line}
 
 module _ {X : Type 0} (text : X → List ℕ) where
-  -- what a list has of an item
+  -- the row of an item
   abbrev pub row : X → Result (List ℕ) Fault
   row x = Ok (text x)
 
@@ -45,14 +45,14 @@ module _ {X : Type 0} (text : X → List ℕ) where
       subst (λ (t : List ℕ). Appends old new t)
       (w.lines.is_text ∙ lines_told word (take left xs) w.lines.answers (w.lines.are_items ∙ take-map row left xs)) w.written
 
-  -- the array of them
+  -- the array of the first items
   pub rows_array : (left : ℕ) (xs : List X) (array : List ℕ) → IsArrayOf (take left (map row xs)) array
       → array ≡ codes "[" ++ (with_commas (map text (take left xs)) ++ codes "]")
   rows_array left xs array a =
       a.is_text ∙ ap (λ (objects : List (List ℕ)). codes "[" ++ (with_commas objects ++ codes "]"))
       (objects_told (take left xs) a.answers (a.are_rows ∙ take-map row left xs))
 
-  -- how many there are
+  -- how many may be printed after them
   pub rows_left : (left : ℕ) (xs : List X) (n : ℕ) → n ≡ left - length (map row xs) → n ≡ left - length xs
   rows_left left xs n is = is ∙ ap (λ (count : ℕ). left - count) (length-map xs row)
 

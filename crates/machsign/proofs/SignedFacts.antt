@@ -1,4 +1,4 @@
--- The signature that an image holds is that of the bytes that it was opened in, and so is whether the image is as it was signed.
+-- The signature that an image holds is that of the bytes in which it was opened; so is whether the image is as it was signed.
 use Rattle.std.proofs.Common.{◌≡◌, ◌∙◌, ℕ, List, Bool, false, Option, Result, refl, sym}
 use Rattle.std.specs.Prelude.{◌↔◌, IsTrue}
 use Rattle.mach_base.specs.Fault.{Fault}
@@ -20,7 +20,7 @@ module _ {A : Type 0} (m : MachO A) (bytes : List ℕ) (p : IsImage bytes 0 m) w
   pub signed_is : HasSigned bytes 0 held
   signed_is = (facts_are bytes 0 m (strict-lossy bytes 0 m p) (λ f. held ≡ image_signed f.bytes f.commands f.segments)).1 refl
 
-  -- so are its entitlements
+  -- the same holds of its entitlements
   pub entitlements_are : (found : Option (List ℕ)) → found ≡ entitlements_of (image_signature (bytes_held m) (commands_held m))
       → HasEntitlements bytes 0 found
   entitlements_are found is = (facts_are bytes 0 m (strict-lossy bytes 0 m p) (λ f. found ≡ entitlements_of (image_signature f.bytes f.commands))).1 is
@@ -28,7 +28,7 @@ module _ {A : Type 0} (m : MachO A) (bytes : List ℕ) (p : IsImage bytes 0 m) w
   abbrev held_as_signed : HoldsAsSigned bytes 0 ↔ IsImageAsSigned (bytes_held m) (commands_held m) (segments_held m)
   held_as_signed = facts_are bytes 0 m (strict-lossy bytes 0 m p) (λ f. IsImageAsSigned f.bytes f.commands f.segments)
 
-  -- what is told of it is whole exactly where it is as it was signed, and all is told
+  -- its text is whole exactly if it is as it was signed, and all is printed
   pub whole_as_signed : (left : ℕ) (whole : Bool) → whole ≡ is_all_told left held
       → IsTrue whole ↔ (HoldsAsSigned bytes 0 × (is_there_cut left held ≡ false))
   whole_as_signed left whole same =

@@ -1,4 +1,4 @@
--- The special slots that are shown are eleven at most, and those that are left are gone over in order.
+-- At most eleven special slots are shown, and those that are left are visited in order.
 use Rattle.std.proofs.Common.{◌≡◌, ◌≤◌, ◌+◌, ◌∙◌, ◌∷◌, [], ℕ, suc, List, Option, Some, None, length, map, take, ap, arith}
 use Rattle.std.proofs.lemmas.List.{take_all}
 use Rattle.std.proofs.lemmas.List.FromFn.{length-range_with_len}
@@ -31,7 +31,7 @@ few_slots x d =
 pub all_slots : (x : SignedImage) (d : Directory) → take 11 (shown_slots x d) ≡ shown_slots x d
 all_slots x d = take_all 11 (shown_slots x d) (few_slots x d)
 
--- the rows of slots that are yet to be shown in a form
+-- the rows of the slots that are left to print, in a form
 pub slot_rows_are : (it : SpecialSlots) (form : Form) (slots : List SlotSeen) → slots_yet it ≡ slots → it.form ≡ form
     → slot_rows_left it ≡ map (row (slot_told form)) slots
 slot_rows_are it form slots are is = ap (λ (xs : List SlotSeen). map (row (slot_told it.form)) xs) are ∙ ap (λ (f : Form). map (row (slot_told f)) slots) is

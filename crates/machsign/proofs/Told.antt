@@ -1,4 +1,4 @@
--- Faults that are told up to a limit.
+-- Faults that are printed up to a limit.
 use Rattle.std.proofs.Common.{◌≡◌, ◌≤◌, ◌<◌, ◌+◌, ◌-◌, ◌++◌, ◌∷◌, [], ◌∙◌, ◌⊎◌, inl, inr, ℕ, List, Bool, true, false, refl, sym, ap, length, map, take, arith}
 use Rattle.std.specs.Prelude.{◌&&◌, ◌||◌, not, nat_lt}
 use Rattle.std.proofs.lemmas.Bool.{cases_lt, le-ltb, lt-ltb}
@@ -17,7 +17,7 @@ as_many : (done : List SignatureFault) → has_none done ≡ has_none (map signa
 as_many [] = refl
 as_many (x ∷ xs) = refl
 
--- The faults begin with some that were told, with `rest` behind them, and `left` more may be.
+-- The faults begin with those that were printed, `rest` comes after them, and `left` more may be printed.
 pub record Passes (limit : ℕ) (faults rest : List SignatureFaultSeen) (left : ℕ) (whole : Bool) (done : List SignatureFault) : Type 0 where
   pub are : faults ≡ map signature_fault_view done ++ rest
   pub count : left + length done ≡ limit
@@ -38,7 +38,7 @@ module _ (limit : ℕ) (faults : List SignatureFaultSeen) where
     is_whole = none_behind done fault [];
   }
 
-  -- to the end of the list
+  -- the list was visited to its end
   pub passed_over : (rest : List SignatureFaultSeen) (left : ℕ) (whole : Bool) (done : List SignatureFault) (t : Told)
       → Passes limit faults rest left whole done → rest ≡ [] → (t.left ≡ left) × (t.whole ≡ whole) × (t.more ≡ false)
       → (map signature_fault_view done ≡ take limit faults) × CountsFaults limit faults t
@@ -55,7 +55,7 @@ module _ (limit : ℕ) (faults : List SignatureFaultSeen) where
         },
       )
 
-  -- to the limit, with a fault behind it
+  -- the list was visited to the limit, and a fault comes after it
   pub passed_cut : (all rest : List SignatureFaultSeen) (left : ℕ) (whole : Bool) (done : List SignatureFault) (t : Told) (fault : SignatureFaultSeen)
       → Passes limit faults all left whole done → all ≡ fault ∷ rest → left ≡ 0 → (t.left ≡ 0) × (t.whole ≡ false) × (t.more ≡ true)
       → (map signature_fault_view done ≡ take limit faults) × CountsFaults limit faults t
@@ -86,7 +86,7 @@ cut_by left b f (inr most) (inr few) =
 pub cut_both : (left b f : ℕ) → (nat_lt left b || nat_lt (left - b) f) ≡ nat_lt left (b + f)
 cut_both left b f = cut_by left b f (cases_lt left b) (cases_lt (left - b) f)
 
--- whether there are more than are told, whether there is no fault and all is told, and how many are left
+-- whether there are more than are printed, whether there is no fault and all is printed, and how many are left
 pub counted : (left b : ℕ) (faults : List SignatureFaultSeen) (rest : ℕ) (more : Bool) (t : Told) → rest ≡ left - b → more ≡ nat_lt left b
     → CountsFaults rest faults t
     → ((more || t.more) ≡ nat_lt left (b + length faults))

@@ -1,4 +1,4 @@
--- The lines of a signature are whole exactly where it is there, no fault is told of it, and all is told; and so is its object.
+-- The lines of a signature are whole exactly if there is one, it has no fault, and all is printed; the same holds of its object.
 use Rattle.std.proofs.Common.{◌≡◌, ◌∷◌, [], ℕ, List, Bool, true, false, Option, Some, None, Result, Ok, Err, refl, ap}
 use Rattle.std.specs.Prelude.{◌↔◌, ◌&&◌, not, IsTrue}
 use Rattle.mach_base.specs.Answer.{◌>>=◌}
@@ -26,7 +26,7 @@ module _ (bytes : List ℕ) (segments : List SegmentView) where
   faults_read place (Ok s) = refl
   faults_read place (Err f) = refl
 
-  -- they are those that the image has
+  -- they are the faults that the image has
   pub faults_are_by : (place : Option (ℕ × ℕ)) → faults_there bytes place segments ≡ faults_by (signed_there bytes place (plist_of bytes segments))
   faults_are_by None = refl
   faults_are_by (Some place) = faults_read place (signature_in bytes place.0 place.1)
@@ -38,17 +38,17 @@ none_of (x ∷ xs) h = absurd (cc)
 empty_there : {A : Type 0} (xs : List A) → ◌≡◌ {A = Result (Option (List A)) Fault} (Ok (Some xs)) (Ok (Some [])) → xs ≡ []
 empty_there xs e = cc
 
--- whether a signature is there, and no fault is told of it
+-- whether there is a signature, and it has no fault
 abbrev pub is_unfaulted : Result (Option SignedImage) Fault → Bool
 is_unfaulted (Ok None) = false
 is_unfaulted (Ok (Some x)) = has_none (signature_faults_of x)
 is_unfaulted (Err f) = false
 
--- and all is told
+-- whether all is printed besides
 abbrev pub is_all_told : (left : ℕ) → Result (Option SignedImage) Fault → Bool
 is_all_told left there = is_unfaulted there && not (is_there_cut left there)
 
--- so lines are whole, and objects
+-- lines and objects are whole exactly then
 pub lines_unfaulted : (limit left : ℕ) (there : Result (Option SignedImage) Fault) (text : List ℕ) (whole : Bool) (rest : ℕ)
     → AreSignatureLines limit left there text whole rest → whole ≡ is_all_told left there
 lines_unfaulted limit left _ _ _ _ unsigned = refl
@@ -61,19 +61,19 @@ object_unfaulted left _ _ _ _ unsigned_object = refl
 object_unfaulted left _ _ _ _ (unreadable_object e) = refl
 object_unfaulted left _ _ _ _ (signed_object x text whole rest is) = is.is_whole
 
--- both of two are so
+-- both of two conditions hold
 pub and_not : (a b : Bool) → IsTrue (a && not b) ↔ (IsTrue a × (b ≡ false))
 and_not true true = ((λ h. absurd (cc)), (λ h. absurd (cc)))
 and_not true false = ((λ h. (refl, refl)), (λ h. refl))
 and_not false b = ((λ h. absurd (cc)), (λ h. absurd (cc)))
 
--- then no fault is told
+-- an unfaulted signature has an empty list of faults
 pub unfaulted_untold : (there : Result (Option SignedImage) Fault) → IsTrue (is_unfaulted there) → faults_by there ≡ Ok (Some [])
 unfaulted_untold (Ok None) h = absurd (cc)
 unfaulted_untold (Ok (Some x)) h = ap (λ (told : List SignatureFaultSeen). Ok (Some told)) (none_of (signature_faults_of x) h)
 unfaulted_untold (Err f) h = absurd (cc)
 
--- and the other way round
+-- a signature with an empty list of faults is unfaulted
 pub untold_unfaulted : (there : Result (Option SignedImage) Fault) → faults_by there ≡ Ok (Some []) → IsTrue (is_unfaulted there)
 untold_unfaulted (Ok None) e = absurd (cc)
 untold_unfaulted (Ok (Some x)) e = ap has_none (empty_there (signature_faults_of x) e)

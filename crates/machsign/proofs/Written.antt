@@ -7,11 +7,11 @@ use Rattle.std.specs.List.{flat_map}
 use Rattle.mach_base.proofs.Written.{Appends-none, Appends-both}
 
 module _ {A : Type 0} (part : A → List ℕ) where
-  -- before the first part
+  -- nothing was written before the first part
   pub no_parts : (known : Option (List ℕ)) → Appends known known (flat_map part [])
   no_parts known = Appends-none known
 
-  -- behind one more
+  -- one more part was written
   pub part_more : (before : List A) (x : A) (old middle new : Option (List ℕ)) → Appends old middle (flat_map part before) → Appends middle new (part x)
       → Appends old new (flat_map part (before ++ x ∷ []))
   part_more before x old middle new written more =
@@ -19,7 +19,7 @@ module _ {A : Type 0} (part : A → List ℕ) where
       (ap (λ last. flat_map part before ++ last) (sym (append-nil (part x))) ∙ sym (flat_map-append part before (x ∷ [])))
       (Appends-both old middle new (flat_map part before) (part x) written more)
 
-  -- of a list of which nothing is left
+  -- the parts of a list were written, of which nothing is left
   pub all_given : (all done left : List A) (old new : Option (List ℕ)) → all ≡ done ++ left → left ≡ [] → Appends old new (flat_map part done)
       → Appends old new (flat_map part all)
   all_given all done left old new is none written =

@@ -1,4 +1,4 @@
--- The blobs that are yet to be shown.
+-- The blobs that are left to print.
 use Rattle.std.specs.Prelude.{ℕ, List, map, filter_map, Result, Ok}
 use Rattle.mach_base.specs.Fault.{Fault}
 use Rattle.mach_signature.specs.SignViews.{blobs_left}

@@ -18,11 +18,11 @@ use Rattle.machsign.specs.Special.{shown_slots, slot_told}
 use Rattle.machsign.specs.Texts.{hash_name, pages_text, runtime_text}
 use Rattle.machsign.specs.declared.form.Form.TheVariants.{Lines}
 
--- what is said of it before its flags: the name of its slot, and its version
+-- the text before its flags: the name of its slot, and its version
 abbrev pub head_front : (slot version : ℕ) → List ℕ
 head_front slot version = slot_words slot ++ (codes ": version 0x" ++ (hexadecimal version ++ codes ", flags "))
 
--- and behind them
+-- the text after its flags
 abbrev pub shape_text : HashType → DirectoryHead → (limit : ℕ) → List ℕ
 shape_text hash head limit =
     codes ", " ++ (hash_name hash ++ (codes ", " ++ (decimal head.n_special_slots ++ (codes " special slots, " ++ (decimal head.n_code_slots
@@ -38,24 +38,24 @@ head_line slot d =
 abbrev pub name_line : (label : List ℕ) → Result (Option (List ℕ)) Fault → List ℕ
 name_line label name = codes "  " ++ (label ++ (codes ": " ++ (name_text name ++ codes "\n")))
 
--- where an executable segment stands
+-- the addresses of an executable segment
 abbrev pub segment_front : (base end : ℕ) → List ℕ
 segment_front base end = codes "  executable: 0x" ++ (hexadecimal base ++ (codes "..0x" ++ (hexadecimal end ++ codes ", flags ")))
 
--- where it ends; the highest number of 64 bits where it would end behind that
+-- the end of the segment, or the highest number of 64 bits if that is less
 abbrev pub segment_end : ExecutableSegment → ℕ
 segment_end s = min (s.base + s.limit) (2 ^ 64 - 1)
 
--- its line
+-- the line of an executable segment
 abbrev pub segment_line : ExecutableSegment → List ℕ
 segment_line s = segment_front s.base (segment_end s) ++ (worded_flags_text segment_flags s.flags ++ codes "\n")
 
--- where the version has it
+-- the line of the executable segment, if the version has it
 abbrev pub executable_line : Option ExecutableSegment → List ℕ
 executable_line None = []
 executable_line (Some s) = segment_line s
 
--- the line of the runtime, where the version has it
+-- the line of the runtime, if the version has it
 abbrev pub runtime_line : Option RuntimeFields → List ℕ
 runtime_line None = []
 runtime_line (Some r) = codes "  runtime: " ++ (runtime_text r.version ++ codes "\n")
@@ -63,7 +63,7 @@ runtime_line (Some r) = codes "  runtime: " ++ (runtime_text r.version ++ codes 
 abbrev pub cdhash_line : List ℕ → List ℕ
 cdhash_line cdhash = codes "  cdhash: " ++ (bytes_text cdhash ++ codes "\n")
 
--- that the code is as signed, and how many pages it has; or that it isn't
+-- the code is as signed, with the number of its pages; or it isn't
 abbrev pub code_text : (pages : ℕ) → List CodeFault → List ℕ
 code_text pages [] = decimal pages ++ codes " pages as signed"
 code_text pages (fault ∷ faults) = codes "not as signed"
@@ -75,21 +75,21 @@ code_line d image = codes "  code: " ++ (code_text (page_count_of d) (code_fault
 abbrev pub special_lines : SignedImage → Directory → List ℕ
 special_lines x d = flat_map (λ s. slot_told Lines s ++ codes "\n") (shown_slots x d)
 
--- ---- the whole of it
+-- ---- the whole directory
 
--- what it is called, and what is said of it
+-- its first line, its names and its executable segment
 abbrev pub naming_lines : (slot : ℕ) → Directory → List ℕ
 naming_lines slot d =
     head_line slot d ++ (name_line (codes "identifier") (identifier_of d) ++ (name_line (codes "team") (team_of d) ++ executable_line d.executable))
 
--- its hashes
+-- its runtime and its hashes
 abbrev pub hashing_lines : SignedImage → Directory → List ℕ
 hashing_lines x d = runtime_line d.runtime ++ (cdhash_line (cdhash_of d) ++ (code_line d x.bytes ++ special_lines x d))
 
 unfoldable pub directory_lines : SignedImage → (slot : ℕ) → Directory → List ℕ
 directory_lines x slot d = naming_lines slot d ++ hashing_lines x d
 
--- those of a directory that can be read
+-- the lines of a directory that can be read
 abbrev pub slot_directory_lines : SignedImage → SlotDirectory → List ℕ
 slot_directory_lines x (slot, Ok d) = directory_lines x slot d
 slot_directory_lines x (slot, Err f) = []

@@ -16,40 +16,40 @@ use Rattle.mach_cli.specs.Foreigners.{refused_words}
 use Rattle.mach_cli.specs.Shown.{complaint}
 use Rattle.mach_cli.specs.declared.cpu.Cpu.{Cpu}
 
--- what is there, if it can be read
+-- the content, if it can be read
 abbrev pub readable_content : Result (Option (List ℕ)) Fault → Option (List ℕ)
 readable_content (Ok content) = content
 readable_content (Err f) = None
 
--- the entitlements of a signature: what the first blob of slot 5 has behind its head, if one is there and can be read
+-- the entitlements of a signature: the content after the header of the first blob of slot 5, if there is one that can be read
 abbrev pub entitlements_of : Result (Option SuperBlob) Fault → Option (List ℕ)
 entitlements_of (Ok (Some s)) = readable_content (content_of s 5)
 entitlements_of (Ok None) = None
 entitlements_of (Err f) = None
 
--- those of the image at o of the bytes
+-- the entitlements of the image at o of the bytes
 abbrev pub HasEntitlements : List ℕ → ℕ → Option (List ℕ) → Type 0
 HasEntitlements bytes o found = OfImage bytes o (λ ctx cs. found ≡ entitlements_of (image_signature bytes cs))
 
--- whether an image is asked for: by the cpu of its entry, or else by its header
+-- whether an image is selected: by the cpu of its entry, or else by its header
 abbrev pub IsAskedImage : Cpu → Option EntryCpu → List ℕ → Bool → Type 0
 IsAskedImage cpu (Some entry) bytes asked = is_of_cpu cpu entry.cputype entry.cpusubtype ≡ asked
 IsAskedImage cpu None bytes asked = IsTaken cpu bytes asked
 
--- those of what stands at a place of a file: of an image that is asked for; what is no image has none
+-- the entitlements of what is at a place of a file, if it is a selected image; what is no image has none
 pub data EntitlesContent (cpu : Cpu) (entry : Option EntryCpu) (content : ContentView) : Option (List ℕ) → Type 0 where
   asked_entitles : (found : Option (List ℕ)) → IsAskedImage cpu entry (content_bytes content) true → HasEntitlements (content_bytes content) 0 found
       → EntitlesContent cpu entry content found
   other_entitles : IsAskedImage cpu entry (content_bytes content) false → EntitlesContent cpu entry content None
   refusal_entitles : (e : Error) → Tells (ImageFault (content_bytes content) 0) e → EntitlesContent cpu entry content None
 
--- those of an item; an entry that can't be read has none
+-- the entitlements of an item; an entry that can't be read has none
 pub data EntitlesItem (cpu : Cpu) (x : ItemView) : Option (List ℕ) → Type 0 where
   content_entitles : (content : ContentView) (found : Option (List ℕ)) → x.content ≡ Ok content → EntitlesContent cpu x.place.cpu content found
       → EntitlesItem cpu x found
   fault_entitles : (f : Fault) (entry : ℕ) → x.content ≡ Err f → x.place.entry ≡ Some entry → EntitlesItem cpu x None
 
--- those of the first item that has some, if one does
+-- the entitlements of the first item that has some, if one does
 pub data EntitlesItems (cpu : Cpu) : List ItemView → Option (List ℕ) → Type 0 where
   none_entitles : EntitlesItems cpu [] None
   first_entitles : (x : ItemView) (xs : List ItemView) (found : List ℕ) → EntitlesItem cpu x (Some found) → EntitlesItems cpu (x ∷ xs) (Some found)
@@ -58,7 +58,7 @@ pub data EntitlesItems (cpu : Cpu) : List ItemView → Option (List ℕ) → Typ
 
 -- ---- why nothing is written
 
--- an item that is no entry of a fat file and can't be read refuses the file
+-- an item that can't be read refuses the file, unless it is an entry of a fat file
 abbrev pub RefusesItem : ItemView → Fault → Type 0
 RefusesItem x f = (x.content ≡ Err f) × (x.place.entry ≡ None)
 
@@ -71,7 +71,7 @@ pub data RefusesItems (cpu : Cpu) : List ItemView → Fault → Type 0 where
 abbrev pub EntitlementFault : Cpu → List ℕ → Fault → Type 0
 EntitlementFault cpu bytes f = InputFault bytes f ⊎ RefusesItems cpu (items_in bytes) f
 
--- The line says that no image that is asked for has entitlements, or why the file is refused, or that memory is.
+-- The line says that no selected image has entitlements, or why the file is refused, or that an allocation is.
 pub data SaysWhyNone (cpu : Cpu) (names bytes : List ℕ) : (said : List ℕ) → Type 0 where
   none_has_some : EntitlesItems cpu (items_in bytes) None → SaysWhyNone cpu names bytes (complaint names (codes "no entitlements"))
   file_is_refused : (e : Error) → Stands (EntitlementFault cpu bytes) e → SaysWhyNone cpu names bytes (complaint names (refused_words bytes e))

@@ -1,4 +1,4 @@
--- The faults of a signature, as they are told: the first of them, up to a limit.
+-- The faults of a signature as they are printed: the first ones, up to a limit.
 use Rattle.std.specs.Prelude.{◌≡◌, ◌-◌, ℕ, List, [], ◌∷◌, ◌++◌, codes, length, take, map, flat_map, nat_lt, Bool, true, false, Option}
 use Rattle.std.specs.Io.KnownBytes.{Appends}
 use Rattle.mach_cli.specs.JsonArrays.{with_commas}
@@ -15,7 +15,7 @@ fault_line fault = codes "fault: " ++ (signature_fault_words fault ++ codes "\n"
 abbrev pub signature_fault_lines : List SignatureFault → List ℕ
 signature_fault_lines faults = flat_map fault_line faults
 
--- its string; its words are made of fixed texts and numbers, and stand as they are
+-- the string of a fault; its words consist of fixed texts and numbers, so nothing is escaped
 abbrev pub fault_string : SignatureFault → List ℕ
 fault_string fault = codes "\"" ++ (signature_fault_words fault ++ codes "\"")
 
@@ -26,13 +26,14 @@ abbrev pub has_none : {A : Type 0} → List A → Bool
 has_none [] = true
 has_none (x ∷ xs) = false
 
--- The text tells of the first of these faults, no more than `left`, in order, each with the words of an error that reports its fault.
+-- The text has the first of these faults, no more than `left`, in order, each with the words of an error that reports its fault.
 pub record TellsFaults (telling : List SignatureFault → List ℕ) (left : ℕ) (faults : List SignatureFaultSeen) (text : List ℕ) : Type 0 where
   pub answers : List SignatureFault
   pub are_faults : map signature_fault_view answers ≡ take left faults
   pub is_text : text ≡ telling answers
 
--- This is known of faults of which the first were told, no more than `left`: whether there is none, how many more may be told, and whether there are more.
+-- What is known of faults whose first ones were printed, no more than `left`: whether there is none, how many more may be
+-- printed, and whether there are more.
 pub record CountsFaults (left : ℕ) (faults : List SignatureFaultSeen) (t : Told) : Type 0 where
   pub whole : t.whole ≡ has_none faults
   pub rest : t.left ≡ left - length faults

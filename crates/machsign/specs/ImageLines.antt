@@ -1,4 +1,4 @@
--- The lines that the program shows of an image.
+-- The lines that the program prints of an image.
 use Rattle.std.specs.Prelude.{◌≡◌, ◌↔◌, ℕ, List, Bool, false, IsTrue, Option, Some, None, Result, Ok, Err}
 use Rattle.mach_base.specs.Answer.{◌>>=◌}
 use Rattle.mach_base.specs.Fault.{Fault}
@@ -12,13 +12,13 @@ use Rattle.mach_signature.specs.SignedFacts.{HoldsAsSigned}
 use Rattle.mach_signature.specs.SignedImages.{signature_place_in, plist_of}
 use Rattle.machsign.specs.Signatures.{AreSignatureLines, is_cut}
 
--- the signature that lies at a place, if one does, with the bytes of its image
+-- the signature at a place, if there is one, with the bytes of its image
 abbrev pub signed_there : List ℕ → Option (ℕ × ℕ) → (plist : Option (List ℕ)) → Result (Option SignedImage) Fault
 signed_there bytes None plist = Ok None
 signed_there bytes (Some place) plist =
     signature_in bytes place.0 place.1 >>= (λ s. Ok (Some (record { bytes = bytes; dataoff = place.0; signature = s; plist = plist })))
 
--- that of an image
+-- the signature of an image
 abbrev pub image_signed : List ℕ → List Command → List SegmentView → Result (Option SignedImage) Fault
 image_signed bytes cs segments = signed_there bytes (signature_place_in cs) (plist_of bytes segments)
 
@@ -26,13 +26,14 @@ image_signed bytes cs segments = signed_there bytes (signature_place_in cs) (pli
 abbrev pub HasSigned : List ℕ → ℕ → Result (Option SignedImage) Fault → Type 0
 HasSigned bytes o there = OfImage bytes o (λ ctx cs. there ≡ image_signed bytes cs (lossy_segments_in ctx bytes cs))
 
--- whether it has more blobs and faults than may be told
+-- whether it has more blobs and faults than may be printed
 abbrev pub is_there_cut : (left : ℕ) → Result (Option SignedImage) Fault → Bool
 is_there_cut left (Ok (Some x)) = is_cut left x
 is_there_cut left (Ok None) = false
 is_there_cut left (Err f) = false
 
--- The text is the lines of the signature of the image at the front of the bytes. It is whole exactly where the image is as it was signed, and all is told.
+-- The text is the lines of the signature of the image at the start of the bytes. It is whole exactly if the image is as it was
+-- signed, and all is printed.
 pub record AreImageSignatureLines (limit left : ℕ) (bytes text : List ℕ) (whole : Bool) (rest : ℕ) : Type 0 where
   pub opens : Opens bytes 0
   pub there : Result (Option SignedImage) Fault

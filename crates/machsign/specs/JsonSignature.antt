@@ -1,4 +1,4 @@
--- The members of the object of an image: its signature.
+-- The members of an image's object: its signature.
 use Rattle.std.specs.Prelude.{◌≡◌, ◌==◌, ◌^◌, ◌-◌, ℕ, List, ◌++◌, codes, Bool, false, if◌then◌else◌, Option, Some, None, Result, Ok, Err, ◌↔◌, IsTrue}
 use Rattle.std.specs.Fmt.{decimal}
 use Rattle.std.specs.Io.KnownBytes.{Appends}
@@ -32,22 +32,22 @@ json_name (Ok (Some name)) = json_string name
 json_name (Ok None) = codes "null"
 json_name (Err f) = codes "{\"error\":\"unreadable\"}"
 
--- how many bytes a page has, by the power of 2; 0 is any number
+-- the page size, by its power of 2; 0 is any size
 abbrev pub page_size_text : ℕ → List ℕ
 page_size_text power = if power == 0 then codes "null" else decimal (2 ^ power)
 
--- the executable segment, where the version has it
+-- the executable segment, if the version has it
 abbrev pub executable_object : Option ExecutableSegment → List ℕ
 executable_object None = codes "null"
 executable_object (Some s) =
     codes "{\"base\":" ++ (decimal s.base ++ (codes ",\"flags\":" ++ (decimal s.flags ++ (codes ",\"limit\":" ++ (decimal s.limit ++ codes "}")))))
 
--- the version of the runtime, where the directory has it
+-- the version of the runtime, if the directory has it
 abbrev pub runtime_object : Option RuntimeFields → List ℕ
 runtime_object None = codes "null"
 runtime_object (Some r) = codes "\"" ++ (runtime_text r.version ++ codes "\"")
 
--- ---- what a directory says
+-- ---- the members of a directory
 
 abbrev pub hashing_members : DirectoryHead → List ℕ
 hashing_members head =
@@ -77,35 +77,37 @@ team_text d = json_name (team_of d)
 abbrev pub naming_members : Directory → List ℕ
 naming_members d = team_text d ++ (codes ",\"version\":" ++ (decimal d.head.version ++ codes "}"))
 
--- after the faults
+-- the members after the faults
 abbrev pub directory_members : SignedImage → (more : Bool) → Directory → List ℕ
 directory_members x more d =
     (hashing_members d.head ++ (identifier_text d ++ pages_members more d))
     ++ (running_members d.head.platform d.runtime ++ (special_members x d ++ naming_members d))
 
--- before them
+-- the members before the faults
 abbrev pub cdhash_members : Directory → List ℕ
 cdhash_members d =
     codes ",\"cdhash\":\"" ++ (bytes_text (cdhash_of d) ++ (codes "\",\"executable\":" ++ (executable_object d.executable ++ codes ",\"faults\":[")))
 
 -- ---- the object
 
--- what is between the blobs and the faults: the hash of the directory that counts and its executable segment, or why none counts
+-- the members between the blobs and the faults: the hash of the directory that is used and its executable segment, or why none is
+-- used
 abbrev pub before_faults : Result CodeDirectory Error → List ℕ
 before_faults (Ok d) = cdhash_members (directory_view d)
 before_faults (Err e) = codes ",\"error\":\"" ++ (words_of e ++ codes "\",\"faults\":[")
 
--- and after them: what it says
+-- the members after the faults: the fields of that directory
 abbrev pub after_faults : SignedImage → (more : Bool) → Result CodeDirectory Error → List ℕ
 after_faults x more (Ok d) = directory_members x more (directory_view d)
 after_faults x more (Err e) = codes "],\"limit_met\":" ++ (json_bool more ++ codes "}")
 
--- that of a signature that can't be read
+-- the object of a signature that can't be read
 abbrev pub refused_object : List ℕ → List ℕ
 refused_object words = codes "{" ++ error_end words
 
--- The text is the object of a signature that can be read: of its blobs, of its directory that counts, or why none does, and of all that isn't as it was
--- signed: of blobs and faults together the first ones, no more than `left`, and whether there are more. It is whole where there is no fault, and all is told.
+-- The text is the object of a signature that can be read: its blobs; its directory that is used, or why none is; and all that
+-- differs from what was signed. Of blobs and faults together these are the first ones, no more than `left`, and whether there are
+-- more. It is whole if there is no fault, and all is written.
 pub record IsSignedObject (left : ℕ) (x : SignedImage) (text : List ℕ) (whole : Bool) (rest : ℕ) : Type 0 where
   pub directory : Result CodeDirectory Error
   pub is_directory : read_as directory_view directory ≡ directory_of x.signature
@@ -116,13 +118,13 @@ pub record IsSignedObject (left : ℕ) (x : SignedImage) (text : List ℕ) (whol
   pub is_whole : whole ≡ is_unfaulted_whole left x
   pub is_rest : rest ≡ left - limited_count x
 
--- What was written is such an object.
+-- Such an object was written.
 pub record WritesSignedObject (left : ℕ) (x : SignedImage) (whole : Bool) (rest : ℕ) (old new : Option (List ℕ)) : Type 0 where
   pub text : List ℕ
   pub object : IsSignedObject left x text whole rest
   pub written : Appends old new text
 
--- The text is the object of what is there: a signature; that there is none; or why it can't be read.
+-- The text is the object of a signature, of a missing one, or of one that can't be read.
 pub data IsSignatureObject (left : ℕ) : Result (Option SignedImage) Fault → (text : List ℕ) → (whole : Bool) → (rest : ℕ) → Type 0 where
   unsigned_object : IsSignatureObject left (Ok None) (codes "null") false left
   unreadable_object : (e : Error) → IsSignatureObject left (Err (fault_of e)) (refused_object (words_of e)) false left
@@ -135,13 +137,14 @@ pub record AreSignatureMembers (left : ℕ) (there : Result (Option SignedImage)
   pub is_signature : IsSignatureObject left there signature whole rest
   pub is_text : text ≡ codes "\"kind\":\"image\",\"signature\":" ++ signature
 
--- What was written is such members.
+-- Such members were written.
 pub record WritesSignatureMembers (left : ℕ) (there : Result (Option SignedImage) Fault) (whole : Bool) (rest : ℕ) (old new : Option (List ℕ)) : Type 0 where
   pub text : List ℕ
   pub members : AreSignatureMembers left there text whole rest
   pub written : Appends old new text
 
--- The text is the members of the image at the front of the bytes. It is whole exactly where the image is as it was signed, and all is told.
+-- The text is the members of the image at the start of the bytes. It is whole exactly if the image is as it was signed, and all
+-- is written.
 pub record AreImageSignatureMembers (left : ℕ) (bytes text : List ℕ) (whole : Bool) (rest : ℕ) : Type 0 where
   pub opens : Opens bytes 0
   pub there : Result (Option SignedImage) Fault

@@ -12,7 +12,7 @@ use Rattle.machsign.specs.Blobs.{blobs_lines, other_blobs_of}
 use Rattle.machsign.specs.Blocks.{slot_directory_lines}
 use Rattle.machsign.specs.Faults.{signature_fault_lines, has_none, TellsFaults}
 
--- those of its directories, in the order of the index; where none counts no directory has lines
+-- the lines of its directories, in the order of the index; if none is used, no directory has lines
 abbrev pub directories_lines_by : Result Directory Fault → (lines : List ℕ) → List ℕ
 directories_lines_by (Ok d) lines = lines
 directories_lines_by (Err f) lines = []
@@ -20,23 +20,24 @@ directories_lines_by (Err f) lines = []
 abbrev pub directories_lines : SignedImage → List ℕ
 directories_lines x = directories_lines_by (directory_of x.signature) (flat_map (slot_directory_lines x) (directories_of x.signature))
 
--- how many blobs that are no directories, and faults, a signature has
+-- how many blobs that are no directories a signature has, and how many faults
 abbrev pub blobs_counted : SignedImage → ℕ
 blobs_counted x = length (other_blobs_of x.signature)
 
 abbrev pub limited_count : SignedImage → ℕ
 limited_count x = blobs_counted x + length (signature_faults_of x)
 
--- whether these are more than may be told
+-- whether these are more than may be printed
 abbrev pub is_cut : (left : ℕ) → SignedImage → Bool
 is_cut left x = nat_lt left (limited_count x)
 
--- whether there is no fault, and all is told
+-- whether there is no fault, and all is printed
 abbrev pub is_unfaulted_whole : (left : ℕ) → SignedImage → Bool
 is_unfaulted_whole left x = has_none (signature_faults_of x) && not (is_cut left x)
 
--- The text is the lines of the directories, of the other blobs, and of all that isn't as it was signed: of blobs and faults together the first ones, no
--- more than `left`, and a line that says so where there are more. It is whole where there is no fault, and all is told.
+-- The text is the lines of the directories, of the other blobs, and of all that differs from what was signed. Of blobs and faults
+-- together these are the first ones, no more than `left`, and a line follows if there are more. It is whole if there is no fault,
+-- and all is printed.
 pub record AreSignedLines (limit left : ℕ) (x : SignedImage) (text : List ℕ) (whole : Bool) (rest : ℕ) : Type 0 where
   pub faults : List ℕ
   pub are_faults : TellsFaults signature_fault_lines (left - blobs_counted x) (signature_faults_of x) faults
@@ -44,14 +45,14 @@ pub record AreSignedLines (limit left : ℕ) (x : SignedImage) (text : List ℕ)
   pub is_whole : whole ≡ is_unfaulted_whole left x
   pub is_rest : rest ≡ left - limited_count x
 
--- The text is the lines of what is there: a signature; that there is none; or why it can't be read.
+-- The text is the lines of a signature, of a missing one, or of one that can't be read.
 pub data AreSignatureLines (limit left : ℕ) : Result (Option SignedImage) Fault → (text : List ℕ) → (whole : Bool) → (rest : ℕ) → Type 0 where
   unsigned : AreSignatureLines limit left (Ok None) (codes "not signed\n") false left
   unreadable : (e : Error) → AreSignatureLines limit left (Err (fault_of e)) (codes "refused: " ++ (words_of e ++ codes "\n")) false left
   signed : (x : SignedImage) (text : List ℕ) (whole : Bool) (rest : ℕ) → AreSignedLines limit left x text whole rest
       → AreSignatureLines limit left (Ok (Some x)) text whole rest
 
--- What was written is such lines.
+-- Such lines were written.
 pub record WritesSignature (limit left : ℕ) (there : Result (Option SignedImage) Fault) (whole : Bool) (rest : ℕ) (old new : Option (List ℕ)) : Type 0 where
   pub text : List ℕ
   pub lines : AreSignatureLines limit left there text whole rest

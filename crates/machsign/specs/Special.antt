@@ -1,4 +1,4 @@
--- The special slots of a code directory that seal something, or have a fault, as they are shown.
+-- The special slots of a code directory that seal something, or have a fault, as they are printed.
 use Rattle.std.specs.Prelude.{ℕ, ◌+◌, List, [], ◌++◌, codes, min, map, filter_map, if◌then◌else◌, Option, Some, None, Result, Ok, Err}
 use Rattle.std.specs.Fmt.{decimal}
 use Rattle.std.specs.List.{range_with_len}
@@ -16,12 +16,12 @@ use Rattle.machsign.specs.declared.form.Form.TheVariants.{Lines, Objects}
 use Rattle.machsign.specs.declared.special.SlotState.{SlotState}
 use Rattle.machsign.specs.declared.special.SlotState.TheVariants.{AsSigned, OtherFile, Unreadable, Unknown, Unsealed, Changed, Absent}
 
--- what is written in the one form or in the other
+-- the text in one form or in the other
 abbrev pub by_form : Form → (line object : List ℕ) → List ℕ
 by_form Lines line object = line
 by_form Objects line object = object
 
--- ---- what comes of a slot
+-- ---- the state of a slot
 
 abbrev pub state_text : SlotState → List ℕ
 state_text AsSigned = codes "as signed"
@@ -32,7 +32,7 @@ state_text Unsealed = codes "not sealed"
 state_text Changed = codes "not what was signed"
 state_text Absent = codes "sealed, and absent"
 
--- without a fault: by what is there
+-- the state without a fault, by the content that the slot seals
 abbrev pub unfaulted_state : Result (Option (List ℕ)) Fault → SlotState
 unfaulted_state (Ok (Some bytes)) = AsSigned
 unfaulted_state (Ok None) = OtherFile
@@ -47,7 +47,7 @@ slot_state (Some (faults.Absent k)) there = Absent
 
 -- ---- which slots are shown
 
--- a slot as it is shown: its number, its hash, and what comes of it
+-- a slot as it is printed: its number, its hash, and its state
 pub record SlotSeen : Type 0 where
   pub number : ℕ
   pub hash : List ℕ
@@ -56,7 +56,7 @@ pub record SlotSeen : Type 0 where
 abbrev pub seen_slot : ℕ → List ℕ → SlotState → SlotSeen
 seen_slot k hash state = record { number = k; hash = hash; state = state }
 
--- a slot with a fault, or one that isn't zero
+-- a slot with a fault, or one whose hash isn't zero
 abbrev pub if_shown : ℕ → List ℕ → Option SpecialFault → Result (Option (List ℕ)) Fault → Option SlotSeen
 if_shown k hash None there = if is_unsealing hash then None else Some (seen_slot k hash (unfaulted_state there))
 if_shown k hash (Some fault) there = Some (seen_slot k hash (slot_state (Some fault) there))
@@ -68,13 +68,13 @@ shown_if_any x d k (Some hash) = if_shown k hash (special_fault d x.signature x.
 abbrev pub shown_slot : SignedImage → Directory → ℕ → Option SlotSeen
 shown_slot x d k = shown_if_any x d k (special_slot_of d k)
 
--- those of the slots to 11, from 1 on
+-- the shown slots up to 11, from 1 on
 abbrev pub shown_slots : SignedImage → Directory → List SlotSeen
 shown_slots x d = filter_map (λ k. shown_slot x d (k + 1)) (range_with_len 0 (min d.head.n_special_slots 11))
 
 -- ---- their texts
 
--- of a slot that seals another file, its hash
+-- the hash of a slot that seals another file
 abbrev pub hash_after : SlotState → List ℕ → List ℕ
 hash_after AsSigned hash = []
 hash_after OtherFile hash = codes ", " ++ bytes_text hash

@@ -1,4 +1,4 @@
--- The special slots that are yet to be shown.
+-- The special slots that are left to print.
 use Rattle.std.specs.Prelude.{ℕ, ◌+◌, ◌-◌, List, min, map, filter_map, Result, Ok}
 use Rattle.std.specs.List.{range_with_len}
 use Rattle.mach_base.specs.Fault.{Fault}

@@ -10,7 +10,7 @@ hash_name Sha256 = codes "sha256"
 hash_name Sha256Truncated = codes "sha256-truncated"
 hash_name Sha384 = codes "sha384"
 
--- how many bytes a page has, by the power of 2; 0 is any number
+-- the page size, by its power of 2; 0 is any size
 abbrev pub pages_text : ℕ → List ℕ
 pages_text power = if power == 0 then codes "pages of any size" else codes "pages of " ++ decimal (2 ^ power)
 

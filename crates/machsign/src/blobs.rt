@@ -15,14 +15,14 @@ use std::fmt::{Display, Formatter};
 use std::io::Write;
 use std::{fmt, io};
 
-/// A blob that is no directory: its slot, and how many bytes it has behind its head.
+/// A blob that is no directory: its slot, and the number of its bytes after its header.
 #[derive(Clone, Copy, Drop)]
 pub struct OtherBlob {
     pub slot: u32,
     pub len: usize,
 }
 
-/// A blob, and how it is written.
+/// A blob, and the form in which it is written.
 #[derive(Clone, Copy, Drop)]
 pub struct BlobRow {
     form: Form,
@@ -48,7 +48,7 @@ impl Display for BlobRow {
     }
 }
 
-// A blob that can be read and is no directory.
+// Returns a blob that can be read and is no directory.
 fn if_other(answer: &Result<Blob<'_>>) -> Option<OtherBlob>
     ensures { result ≡ other_blob (blob_read answer.now) }
 {
@@ -72,7 +72,7 @@ pub struct OtherBlobs<'a> {
 }
 
 impl<'a> OtherBlobs<'a> {
-    /// Those of a signature.
+    /// Returns the blobs of a signature.
     pub fn of(signature: &CodeSignature<'a>, form: Form) -> Self
         ensures blobs { blobs_yet result ≡ other_blobs_of (signature_view signature.now) }
         ensures form { result.form ≡ form }
@@ -83,7 +83,7 @@ impl<'a> OtherBlobs<'a> {
         }
     }
 
-    // The next blob.
+    // Returns the next blob.
     fn take_next(&mut self) -> Option<OtherBlob>
         ensures blob { YieldsFirst blobs_yet self.old result self.new }
         ensures form { self.new.form ≡ self.old.form }

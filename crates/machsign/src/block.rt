@@ -18,7 +18,7 @@ use mach_signature::{CodeDirectory, CodeFaults, ExecutableSegment, RuntimeFields
 use std::io;
 use std::io::Write;
 
-/// Prints the lines of the code directory of a slot of an image.
+/// Prints the lines of an image's code directory in a slot.
 #[tactic(auto, unfolding(crate::specs::Blocks::directory_lines))]
 pub fn print_directory<O: Write>(
     signed: &SignedBytes<'_>,
@@ -33,7 +33,7 @@ pub fn print_directory<O: Write>(
     print_hashing(signed, directory, out)
 }
 
-// Prints what a directory is called, and what is said of it.
+// Prints the first line of a directory, its names and its executable segment.
 fn print_naming<O: Write>(slot: u32, directory: &CodeDirectory<'_>, out: &mut O) -> io::Result<()>
     ensures { OnOk result (Appends (O.contents out.old) (O.contents out.new) (defined.naming_lines slot (directory_view directory.now))) }
 {
@@ -43,7 +43,7 @@ fn print_naming<O: Write>(slot: u32, directory: &CodeDirectory<'_>, out: &mut O)
     print_executable(directory.executable, out)
 }
 
-// Prints the hashes of a directory.
+// Prints the runtime and the hashes of a directory.
 fn print_hashing<O: Write>(
     signed: &SignedBytes<'_>,
     directory: &CodeDirectory<'_>,
@@ -71,7 +71,7 @@ fn print_head<O: Write>(slot: u32, directory: &CodeDirectory<'_>, out: &mut O) -
     print_shape(directory, out)
 }
 
-// Prints what is said of a directory behind its flags.
+// Prints the first line of a directory after its flags.
 fn print_shape<O: Write>(directory: &CodeDirectory<'_>, out: &mut O) -> io::Result<()>
     ensures { OnOk result (Appends (O.contents out.old) (O.contents out.new)
         (defined.shape_text directory.now.hash directory.now.head (code_limit_of (directory_view directory.now)) ++ codes "\n")) }
@@ -100,7 +100,7 @@ fn print_team<O: Write>(directory: &CodeDirectory<'_>, out: &mut O) -> io::Resul
     print_name("team", directory.team(), out)
 }
 
-// Prints the line of a name.
+// Prints the line of a label and a name.
 fn print_name<O: Write>(
     label: &str,
     name: mach_base::Result<Option<&str>>,
@@ -127,7 +127,7 @@ fn print_segment<O: Write>(segment: ExecutableSegment, out: &mut O) -> io::Resul
     writeln!(out)
 }
 
-// Prints the line of the executable segment, where the version has it.
+// Prints the line of the executable segment, if the version has it.
 fn print_executable<O: Write>(executable: Option<ExecutableSegment>, out: &mut O) -> io::Result<()>
     ensures { OnOk result (Appends (O.contents out.old) (O.contents out.new) (defined.executable_line executable)) }
 {
@@ -137,7 +137,7 @@ fn print_executable<O: Write>(executable: Option<ExecutableSegment>, out: &mut O
     }
 }
 
-// Prints the line of the runtime, where the version has it.
+// Prints the line of the runtime, if the version has it.
 fn print_runtime<O: Write>(runtime: Option<RuntimeFields>, out: &mut O) -> io::Result<()>
     ensures { OnOk result (Appends (O.contents out.old) (O.contents out.new) (defined.runtime_line runtime)) }
 {
@@ -157,7 +157,7 @@ fn print_cdhash<O: Write>(directory: &CodeDirectory<'_>, out: &mut O) -> io::Res
     writeln!(out)
 }
 
-// Prints whether the code is as signed, and how many pages it has then. Which of them are not is told of the faults.
+// Prints whether the code is as signed, and the number of its pages then. The pages that are not as signed are among the faults.
 fn print_code_text<O: Write>(pages: u64, mut faults: CodeFaults<'_>, out: &mut O) -> io::Result<()>
     ensures { OnOk result (Appends (O.contents out.old) (O.contents out.new) (defined.code_text pages (code_faults_left faults.entry))) }
 {

@@ -29,7 +29,7 @@ use std::alloc::Allocator;
 use std::io;
 use std::io::{BufWriter, Write};
 
-// The entitlements of a signature, if there is one and has some that can be read.
+// Returns the entitlements of a signature, if there is one and has some that can be read.
 fn of_signature<'a>(signature: Result<Option<CodeSignature<'a>>>) -> Option<&'a [u8]>
     ensures { slot_read result ≡ entitlements_of (read_as (option_map signature_view) signature.entry) }
 {
@@ -43,14 +43,14 @@ fn of_signature<'a>(signature: Result<Option<CodeSignature<'a>>>) -> Option<&'a 
     }
 }
 
-// The entitlements of an image, if it has some that can be read.
+// Returns the entitlements of an image, if it has some that can be read.
 fn of_image<'a, A: Allocator>(image: &MachO<'a, A>) -> Option<&'a [u8]>
     ensures { (bytes : List ℕ) → IsImage bytes 0 image.now → HasEntitlements bytes 0 (slot_read result) }
 {
     of_signature(code_signature(image))
 }
 
-// None of what is no image, but for want of memory.
+// Returns no entitlements for what is no image; a refused allocation stays an error.
 fn of_refused<'a>(error: Error) -> Result<Option<&'a [u8]>>
     ensures none { IfOk result (λ found. (slot_read found ≡ None) × IsTold error) }
     ensures memory { IsOkUnlessMemory result }
@@ -61,7 +61,7 @@ fn of_refused<'a>(error: Error) -> Result<Option<&'a [u8]>>
     }
 }
 
-// Whether an image is asked for: by the cpu of its entry, or else by its header.
+// Whether an image is selected: by the cpu of its entry, or else by its header.
 fn is_asked<A: Allocator>(cpu: Cpu, entry: Option<EntryCpu>, image: &MachO<'_, A>) -> bool
     ensures { (bytes : List ℕ) → IsImage bytes 0 image.now → IsAskedImage cpu entry bytes result }
 {
@@ -71,7 +71,7 @@ fn is_asked<A: Allocator>(cpu: Cpu, entry: Option<EntryCpu>, image: &MachO<'_, A
     }
 }
 
-// The entitlements of what stands at a place of a file, if it is an image that is asked for and has some.
+// Returns the entitlements of what is at a place of a file, if it is a selected image that has some.
 fn of_content<'a, A: Allocator + Clone>(
     alloc: &A,
     cpu: Cpu,
@@ -88,7 +88,8 @@ fn of_content<'a, A: Allocator + Clone>(
     }
 }
 
-// The entitlements of an item of a file, if it has some. An entry that can't be read has none, and of what is no entry the fault is the file's.
+// Returns the entitlements of an item of a file, if it has some. An entry of a fat file that can't be read has none; the fault of
+// another item is the file's.
 fn of_item<'a, A: Allocator + Clone>(
     alloc: &A,
     cpu: Cpu,
@@ -109,7 +110,7 @@ fn of_item<'a, A: Allocator + Clone>(
     }
 }
 
-// The entitlements of the first image of a file that is asked for and has some: of the file itself, an entry or a member.
+// Returns the entitlements of the first selected image of a file that has some: the file itself, an entry or a member.
 fn first_in<'a, A: Allocator + Clone>(
     alloc: &A,
     cpu: Cpu,
@@ -128,7 +129,7 @@ fn first_in<'a, A: Allocator + Clone>(
     Ok(None)
 }
 
-// Writes bytes, and all that was gathered.
+// Writes bytes and flushes them.
 fn put<W: Write + Drop, B: Allocator>(bytes: &[u8], out: &mut BufWriter<W, B>) -> io::Result<()>
     ensures written { OnOk result (Appends (writer_contents W.contents out.old) (writer_contents W.contents out.new) bytes.now) }
     ensures flushed { OnOk result (writer_buffer out.new ≡ []) }
@@ -138,7 +139,7 @@ fn put<W: Write + Drop, B: Allocator>(bytes: &[u8], out: &mut BufWriter<W, B>) -
     Ok(())
 }
 
-// The status where a file has no entitlements, which is told.
+// Reports that a file has no entitlements, and returns the status.
 fn none_there<E: Write>(file: &str, err: &mut E) -> u8
     ensures bound { IsStatus result }
     ensures not_zero { 1 ≤ result }
@@ -155,7 +156,7 @@ fn none_there<E: Write>(file: &str, err: &mut E) -> u8
     }
 }
 
-// Says why a file is refused: what it is, where it is none of Mach-O's.
+// Writes why a file is refused: its kind, if it is not Mach-O, else the error.
 fn say_refused<E: Write>(file: &str, bytes: &[u8], error: &Error, err: &mut E) -> io::Result<()>
     ensures { OnOk result (Appends (E.contents err.old) (E.contents err.new)
         (complaint (names_text (codes "machsign") file.now) (refused_words bytes.now error.now))) }
@@ -173,7 +174,7 @@ fn say_refused<E: Write>(file: &str, bytes: &[u8], error: &Error, err: &mut E) -
     }
 }
 
-// The status of a file that is refused, which is told.
+// Reports a refused file, and returns the status.
 fn refused<E: Write>(file: &str, bytes: &[u8], error: &Error, err: &mut E) -> u8
     ensures bound { IsStatus result }
     ensures not_zero { 1 ≤ result }
@@ -186,9 +187,10 @@ fn refused<E: Write>(file: &str, bytes: &[u8], error: &Error, err: &mut E) -> u8
     }
 }
 
-/// Writes the entitlements of the first image of a file, an archive or a fat file that is asked for and has some, and nothing else, and answers the
-/// exit status: 0; 1 where there are none, or the file or memory is refused, and then `err` has a line that says why, and `out` nothing; 2 or 141 where a
-/// write fails. At 0 nothing is left in the buffer.
+/// Writes the entitlements of the first selected image of a file, an archive or a fat file that has some, and nothing else.
+///
+/// Returns the exit status. It is 0 if they were written, and then nothing is left in the buffer. It is 1 if there are none, or
+/// the file or an allocation is refused; then `err` has a line that says why, and `out` nothing. It is 2 or 141 if a write fails.
 pub fn run_entitlements<A: Allocator + Clone, W: Write + Drop, B: Allocator, E: Write>(
     alloc: A,
     cpu: Cpu,

@@ -1,6 +1,6 @@
-//! How rows are written.
+//! The form of rows.
 
-/// How the rows of a list are written.
+/// The form in which the rows of a list are written.
 #[derive(Clone, Copy)]
 pub enum Form {
     /// As lines.

@@ -47,8 +47,8 @@ impl Shows for ObjectsOf<'_> {
     }
 }
 
-/// Writes of a file as `run` does, but as JSON, an object of the file on a line: of each image its blobs, what the code directory of its signature says that
-/// counts, and a string for all that isn't as it was signed.
+/// Writes of a file what `run` prints, as JSON: one object on one line. It has of each image its blobs, the fields of the code
+/// directory that is used, and a string for everything that differs from what was signed.
 pub fn run_json<A: Allocator + Clone, W: Write + Drop, B: Allocator, E: Write>(
     alloc: A,
     cpu: Cpu,

@@ -9,7 +9,7 @@ ghost use Rattle.machsign.specs.Special.{SlotSeen, slot_told};
 ghost use Rattle.machsign.specs.declared.blobs.OtherBlob.{OtherBlob};
 ghost use Rattle.machsign.specs.declared.form.Form.TheVariants.{Lines};
 
-/// Of what is printed of a name, of a special slot and of a blob, each is one line.
+/// The text of a name, of a special slot and of a blob is one line each.
 pub fn lines_are_one_each()
     ensures names { (label : List ℕ) (name : Result (Option (List ℕ)) Fault) → has_no_feed label ≡ true → IsOneLine (name_line label name) }
     ensures slots { (s : SlotSeen) → IsOneLine (slot_told Lines s ++ codes "\n") }

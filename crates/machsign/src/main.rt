@@ -1,9 +1,10 @@
-//! Prints the code signature of a Mach-O file: of each code directory what it says, its cdhash, and whether the code and what it seals beside are as they
-//! were signed; how many bytes the other blobs have; and a line `fault:` for all that isn't as it was signed. Of a fat file it prints that of each
-//! entry, or of those for one cpu, under a line that says which. With `--entitlements` it writes the entitlements of the first image that has them, and
-//! nothing else, and with `--json` an object a file on a line.
+//! Prints the code signature of a Mach-O file: the fields of each code directory, its cdhash, and whether the code and what it
+//! seals besides are as they were signed; how many bytes the other blobs have; and a line `fault:` for everything that differs
+//! from what was signed. Of a fat file it prints that of each entry, or of the entries for one cpu, under a line that says which.
+//! With `--entitlements` it writes the entitlements of the first image that has them, and nothing else. With `--json` it writes
+//! one object for each file, on a line.
 //!
-//! It says nothing of who signed: a CMS is not verified, and no other file is read.
+//! It does not check who signed: a CMS blob is not verified, and no other file is read.
 #![tactic(auto)]
 
 mod blobs;
@@ -59,7 +60,7 @@ fn main(rt: HostRuntime) -> ExitCode {
     })
 }
 
-// Does what the words ask for.
+// Runs the program with its words.
 fn start(rt: &HostRuntime) -> Result<u8, u8> {
     let words = PROGRAM.words(rt)?;
     let Ok((is_json, words)) = take_json(rt.alloc(), words) else {
@@ -72,7 +73,7 @@ fn start(rt: &HostRuntime) -> Result<u8, u8> {
     answer(rt, are_asked, is_json, &call)
 }
 
-// Does what a call asks for: entitlements, or what is shown of each file.
+// Runs a parsed call: writes entitlements, or shows each file.
 fn answer(
     rt: &HostRuntime,
     are_asked: bool,
@@ -90,7 +91,7 @@ fn answer(
     show_files(rt, shown, &call.words, &call.others)
 }
 
-// Writes the entitlements of the first image of a file that has them, and answers the status.
+// Writes the entitlements of the first image of a file that has them, and returns the status.
 fn write_entitlements(rt: &HostRuntime, cpu: Cpu, files: &[&str]) -> Result<u8, u8> {
     let [file] = files else {
         return Err(PROGRAM.bad_usage(rt, Misuse::Missing("single FILE")));
@@ -126,7 +127,7 @@ impl<W: Write + Drop, B: Allocator> ShowsFile<BufWriter<W, B>> for Shown {
     }
 }
 
-// Shows of files in order the signatures of the images that are asked for, and answers the worst status.
+// Shows the signatures of the selected images of files in order, and returns the worst status.
 fn show_files(
     rt: &HostRuntime,
     shown: Shown,

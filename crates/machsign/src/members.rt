@@ -1,4 +1,4 @@
-//! The members of the object of an image: its signature.
+//! The members of an image's object: its signature.
 
 ghost use Rattle.std.specs.Prelude.{◌≡◌, ◌≤◌, ◌++◌, codes, false, IfOk, OnOk, Some};
 ghost use Rattle.std.specs.Io.KnownBytes.{Appends};
@@ -31,8 +31,8 @@ use std::fmt::{Display, Formatter};
 use std::io::Write;
 use std::{fmt, io};
 
-/// Writes the members of an image: of the blobs and the faults of its signature together the first `left`. Answers whether it has a signature without a
-/// fault and all were written, and how many are left.
+/// Writes the members of an image: of the blobs and the faults of its signature together the first `left`. Returns whether it has
+/// a signature without a fault and all were written, and how many are left.
 pub fn write_members<A: Allocator, O: Write>(
     image: &MachO<'_, A>,
     left: usize,
@@ -50,7 +50,7 @@ pub fn write_members<A: Allocator, O: Write>(
     }
 }
 
-// Writes that there is no signature; so there is none without a fault.
+// Writes that there is no signature; the image is not whole then.
 fn write_unsigned<O: Write>(left: usize, out: &mut O) -> io::Result<Outcome>
     ensures { IfOk result (λ outcome. (outcome.whole ≡ false) × (outcome.left ≡ left)
         × Appends (O.contents out.old) (O.contents out.new) (codes "null")) }
@@ -59,7 +59,7 @@ fn write_unsigned<O: Write>(left: usize, out: &mut O) -> io::Result<Outcome>
     Ok(Outcome { whole: false, left })
 }
 
-// Writes why a signature can't be read; so there is none without a fault.
+// Writes the error of a signature that can't be read; the image is not whole then.
 fn write_refused<O: Write>(error: &Error, left: usize, out: &mut O) -> io::Result<Outcome>
     ensures { IfOk result (λ outcome. (outcome.whole ≡ false) × (outcome.left ≡ left)
         × Appends (O.contents out.old) (O.contents out.new) (defined.refused_object (words_of error.now))) }
@@ -69,7 +69,7 @@ fn write_refused<O: Write>(error: &Error, left: usize, out: &mut O) -> io::Resul
     Ok(Outcome { whole: false, left })
 }
 
-// Writes the object of a signature that can be read, up to the limit, and answers whether it has no fault and all were written.
+// Writes the object of a signature that can be read, up to the limit. Returns whether it has no fault and all were written.
 fn write_signed<O: Write>(signed: &SignedBytes<'_>, left: usize, out: &mut O) -> io::Result<Outcome>
     ensures { IfOk result (λ outcome. defined.WritesSignedObject left (signed_view signed.now) outcome.whole outcome.left
         (O.contents out.old) (O.contents out.new)) }
@@ -88,7 +88,7 @@ fn write_signed<O: Write>(signed: &SignedBytes<'_>, left: usize, out: &mut O) ->
     })
 }
 
-// Writes what stands between the blobs and the faults: of the directory that counts, or why none does.
+// Writes the members between the blobs and the faults: those of the directory that is used, or why none is.
 fn write_before<O: Write>(directory: &Result<CodeDirectory<'_>>, out: &mut O) -> io::Result<()>
     ensures { OnOk result (Appends (O.contents out.old) (O.contents out.new) (defined.before_faults directory.now)) }
 {
@@ -101,7 +101,7 @@ fn write_before<O: Write>(directory: &Result<CodeDirectory<'_>>, out: &mut O) ->
     }
 }
 
-// Writes the hash of a directory, its executable segment, and the front of the faults.
+// Writes the hash of a directory, its executable segment, and the start of the faults.
 fn write_cdhash<O: Write>(directory: &CodeDirectory<'_>, out: &mut O) -> io::Result<()>
     ensures { OnOk result (Appends (O.contents out.old) (O.contents out.new) (defined.cdhash_members (directory_view directory.now))) }
 {
@@ -111,7 +111,7 @@ fn write_cdhash<O: Write>(directory: &CodeDirectory<'_>, out: &mut O) -> io::Res
     write!(out, "\",\"executable\":{executable},\"faults\":[")
 }
 
-// An executable segment; null where the version has none.
+// An executable segment; null if the version has none.
 #[derive(Clone, Copy)]
 struct ExecutableObject(Option<ExecutableSegment>);
 
@@ -127,7 +127,8 @@ impl Display for ExecutableObject {
     }
 }
 
-// Writes what stands after the faults: of the directory that counts, if one does; and whether there are more than were written.
+// Writes the members after the faults: the fields of the directory that is used, if one is, and whether there are more blobs or
+// faults than were written.
 fn write_after<O: Write>(
     signed: &SignedBytes<'_>,
     directory: &Result<CodeDirectory<'_>>,
@@ -142,7 +143,7 @@ fn write_after<O: Write>(
     }
 }
 
-// Writes what a directory says.
+// Writes the fields of a directory.
 fn write_fields<O: Write>(
     signed: &SignedBytes<'_>,
     directory: &CodeDirectory<'_>,
@@ -160,7 +161,7 @@ fn write_fields<O: Write>(
     write_naming(directory, out)
 }
 
-// Writes the flags, the kind of hash, and the name of the member behind them.
+// Writes the flags, the kind of hash, and the name of the member after them.
 fn write_hashing<O: Write>(directory: &CodeDirectory<'_>, out: &mut O) -> io::Result<()>
     ensures { OnOk result (Appends (O.contents out.old) (O.contents out.new) (defined.hashing_members directory.now.head)) }
 {
@@ -171,7 +172,7 @@ fn write_hashing<O: Write>(directory: &CodeDirectory<'_>, out: &mut O) -> io::Re
     )
 }
 
-// Writes what is covered, and whether there are more blobs or faults than were written.
+// Writes the covered bytes and the pages, and whether there are more blobs or faults than were written.
 fn write_pages<O: Write>(directory: &CodeDirectory<'_>, more: bool, out: &mut O) -> io::Result<()>
     ensures { OnOk result (Appends (O.contents out.old) (O.contents out.new) (defined.pages_members more (directory_view directory.now))) }
 {
@@ -186,7 +187,7 @@ fn write_pages<O: Write>(directory: &CodeDirectory<'_>, more: bool, out: &mut O)
     )
 }
 
-// Writes where it runs: the platform, and the runtime; and the name of the member behind them.
+// Writes the platform and the runtime, and the name of the member after them.
 fn write_running<O: Write>(directory: &CodeDirectory<'_>, out: &mut O) -> io::Result<()>
     ensures { OnOk result (Appends (O.contents out.old) (O.contents out.new)
         (defined.running_members directory.now.head.platform directory.now.runtime)) }
@@ -199,7 +200,7 @@ fn write_running<O: Write>(directory: &CodeDirectory<'_>, out: &mut O) -> io::Re
     )
 }
 
-// The version of a runtime as a string; null where the directory has none.
+// The version of a runtime as a string; null if the directory has none.
 #[derive(Clone, Copy)]
 struct RuntimeObject(Option<RuntimeFields>);
 
@@ -215,7 +216,7 @@ impl Display for RuntimeObject {
     }
 }
 
-// Writes an array of the special slots, and the name of the member behind them.
+// Writes an array of the special slots, and the name of the member after them.
 fn write_special<O: Write>(
     signed: &SignedBytes<'_>,
     directory: &CodeDirectory<'_>,
@@ -238,7 +239,7 @@ fn write_naming<O: Write>(directory: &CodeDirectory<'_>, out: &mut O) -> io::Res
     write!(out, ",\"version\":{version}}}")
 }
 
-// How many bytes a page has, by the power of 2; null where there is one of any size.
+// The page size, by its power of 2; null if a page has any size.
 #[derive(Clone, Copy)]
 struct PageSize {
     power: u8,
@@ -291,7 +292,7 @@ fn write_string<O: Write>(text: &str, out: &mut O) -> io::Result<()>
     write!(out, "{text}")
 }
 
-// Writes the words of a fault as a string, behind a comma if it isn't the first.
+// Writes the words of a fault as a string, after a comma unless it is the first.
 fn write_fault<O: Write>(fault: &SignatureFault, is_first: bool, out: &mut O) -> io::Result<()>
     ensures { OnOk result (Appends (O.contents out.old) (O.contents out.new) (comma_before is_first ++ fault_string fault.now)) }
 {

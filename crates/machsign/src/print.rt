@@ -24,8 +24,9 @@ use std::alloc::Allocator;
 use std::io;
 use std::io::Write;
 
-/// Prints the lines of the signature of an image: of its blobs and its faults together the first `left`, and where there are more, a line that says
-/// that `limit` are told. Answers whether the image has a signature without a fault and all lines were printed, and how many are left.
+/// Prints the lines of an image's signature: of its blobs and its faults together the first `left`, and if there are more, a line
+/// that says that `limit` are printed. Returns whether the image has a signature without a fault and all lines were printed, and
+/// how many are left.
 pub fn print_signature<A: Allocator, O: Write>(
     image: &MachO<'_, A>,
     limit: usize,
@@ -43,7 +44,7 @@ pub fn print_signature<A: Allocator, O: Write>(
     }
 }
 
-// Prints that there is no signature; so there is none without a fault.
+// Prints that there is no signature; the image is not whole then.
 fn print_unsigned<O: Write>(left: usize, out: &mut O) -> io::Result<Outcome>
     ensures { IfOk result (λ outcome. (outcome.whole ≡ false) × (outcome.left ≡ left)
         × Appends (O.contents out.old) (O.contents out.new) (codes "not signed\n")) }
@@ -52,7 +53,7 @@ fn print_unsigned<O: Write>(left: usize, out: &mut O) -> io::Result<Outcome>
     Ok(Outcome { whole: false, left })
 }
 
-// Prints why a signature can't be read; so there is none without a fault.
+// Prints the error of a signature that can't be read; the image is not whole then.
 fn print_refused<O: Write>(error: &Error, left: usize, out: &mut O) -> io::Result<Outcome>
     ensures { IfOk result (λ outcome. (outcome.whole ≡ false) × (outcome.left ≡ left)
         × Appends (O.contents out.old) (O.contents out.new) (codes "refused: " ++ (words_of error.now ++ codes "\n"))) }
@@ -62,7 +63,7 @@ fn print_refused<O: Write>(error: &Error, left: usize, out: &mut O) -> io::Resul
     Ok(Outcome { whole: false, left })
 }
 
-// Prints the lines of a signature that can be read, up to the limit, and answers whether it has no fault and all were printed.
+// Prints the lines of a signature that can be read, up to the limit. Returns whether it has no fault and all were printed.
 fn print_signed<O: Write>(
     signed: &SignedBytes<'_>,
     limit: usize,
@@ -84,7 +85,7 @@ fn print_signed<O: Write>(
     })
 }
 
-// Prints the lines of the directories, where one of them counts.
+// Prints the lines of the directories, if one of them is used.
 fn print_directories<O: Write>(signed: &SignedBytes<'_>, out: &mut O) -> io::Result<()>
     ensures { OnOk result (Appends (O.contents out.old) (O.contents out.new) (defined.directories_lines (signed_view signed.now))) }
 {

@@ -1,4 +1,4 @@
-//! What the program shows of an image and of a file, and its exit status.
+//! What the program prints of an image and of a file, and its exit status.
 
 ghost use Rattle.std.specs.Prelude.{◌≡◌, ◌≤◌, [], codes};
 ghost use Rattle.std.specs.Io.Buffered.{writer_buffer, writer_contents};
@@ -49,10 +49,13 @@ impl Shows for SignaturesOf<'_> {
     }
 }
 
-/// Shows the signatures of the images of a file that are asked for, of their blobs and faults together at most `limit` lines and no more than the file
-/// has bytes. Answers the exit status: 0 where nothing was refused, each image is as it was signed, and no line is left out; 1 where the file or an entry
-/// of a fat one was refused, or memory, and then `err` has a line that says why, or where an image has no signature, one that can't be read, one with a
-/// fault, or more lines than the limit leaves, and then its lines say so; 2 or 141 where a write fails. But for that nothing is left in the buffer.
+/// Prints the signatures of a file's selected images, at most `limit` lines of their blobs and faults together, and no more than
+/// the file has bytes.
+///
+/// Returns the exit status. It is 0 if nothing was refused, each image is as it was signed, and no line is left out. It is 1 if
+/// the file, an entry of a fat file or an allocation was refused, and then `err` has a line that says why; or if an image has no
+/// signature, one that can't be read, one with a fault, or more lines than the limit leaves, and then its lines say so. It is 2
+/// or 141 if a write fails. Unless a write fails, nothing is left in the buffer.
 pub fn run<A: Allocator + Clone, W: Write + Drop, B: Allocator, E: Write>(
     alloc: A,
     cpu: Cpu,

@@ -1,4 +1,4 @@
-//! The signature of an image, with the bytes that it is of.
+//! The signature of an image, with the bytes of the image.
 
 ghost use Rattle.std.specs.Prelude.{◌≡◌, Option};
 ghost use Rattle.std.specs.Option.{option_map};
@@ -12,7 +12,7 @@ use mach_signature::image::{image_plist, signature_place};
 use mach_signature::{SignedBytes, code_signature};
 use std::alloc::Allocator;
 
-/// The signature of an image, if it has one, with the bytes that it is of.
+/// Returns the signature of an image, if it has one, with the bytes of the image.
 pub fn signed_image<'a, A: Allocator>(image: &MachO<'a, A>) -> Result<Option<SignedBytes<'a>>>
     ensures { Reads (option_map signed_view) result (image_signed (bytes_held image.now) (commands_held image.now) (segments_held image.now)) }
 {

@@ -21,14 +21,14 @@ use std::{fmt, io};
 /// How many special slots are known.
 pub const MOST_SLOTS: usize = 11;
 
-/// What comes of a special slot.
+/// The state of a special slot.
 #[derive(Clone, Copy)]
 pub enum SlotState {
-    /// What is there is what was signed.
+    /// The image has what was signed.
     AsSigned,
-    /// Nothing is in the image: it seals another file.
+    /// The image has nothing for it: the slot seals another file.
     OtherFile,
-    /// What is there can't be read.
+    /// What the slot seals can't be read.
     Unreadable,
     /// The faults of a slot.
     Unknown,
@@ -53,7 +53,7 @@ impl Display for SlotState {
     }
 }
 
-// What comes of a slot without a fault.
+// Returns the state of a slot without a fault.
 fn unfaulted_state(there: Result<Option<&[u8]>>) -> SlotState
     ensures { result ≡ defined.unfaulted_state (read_as slot_read there.entry) }
 {
@@ -64,7 +64,7 @@ fn unfaulted_state(there: Result<Option<&[u8]>>) -> SlotState
     }
 }
 
-// What comes of a slot with a fault, or without one.
+// Returns the state of a slot, with or without a fault.
 fn slot_state(fault: Option<SpecialFault>, there: Result<Option<&[u8]>>) -> SlotState
     ensures { result ≡ defined.slot_state fault (read_as slot_read there.entry) }
 {
@@ -85,7 +85,7 @@ pub struct SpecialSlot<'a> {
     state: SlotState,
 }
 
-// A slot that seals something, or has a fault.
+// Returns a slot if it seals something, or has a fault.
 fn if_shown<'a>(
     number: u32,
     hash: &'a [u8],
@@ -105,7 +105,7 @@ fn if_shown<'a>(
     })
 }
 
-// The slot of a number, if it seals something, or has a fault.
+// Returns the slot with a number, if it seals something, or has a fault.
 fn shown_slot<'a>(
     signed: &SignedBytes<'a>,
     directory: &CodeDirectory<'a>,
@@ -119,18 +119,18 @@ fn shown_slot<'a>(
     if_shown(number, hash, fault, there)
 }
 
-/// The special slots of a directory that are known, and seal something or have a fault, in order, one at a time.
+/// The known special slots of a directory that seal something or have a fault, in order, one at a time.
 #[derive(Clone, Copy)]
 pub struct SpecialSlots<'a> {
     signed: SignedBytes<'a>,
     directory: CodeDirectory<'a>,
     form: Form,
-    // How many slots were gone over.
+    // How many slots were visited.
     taken: u32,
 }
 
 impl<'a> SpecialSlots<'a> {
-    /// Those of a directory of an image.
+    /// Returns the slots of an image's directory.
     pub fn of(signed: &SignedBytes<'a>, directory: &CodeDirectory<'a>, form: Form) -> Self
         ensures slots { slots_yet result ≡ defined.shown_slots (signed_view signed.now) (directory_view directory.now) }
         ensures form { result.form ≡ form }
@@ -143,7 +143,7 @@ impl<'a> SpecialSlots<'a> {
         }
     }
 
-    // The next slot.
+    // Returns the next slot.
     #[tactic(auto, using(mach_signature::proofs::NumberedLists::told_first, mach_signature::proofs::NumberedLists::told_none))]
     fn take_next(&mut self) -> Option<SpecialSlot<'a>>
         ensures slot { YieldsFirstBy special_slot_view slots_yet self.old result self.new }
@@ -160,7 +160,7 @@ impl<'a> SpecialSlots<'a> {
     }
 }
 
-/// A slot, and how it is written.
+/// A slot, and the form in which it is written.
 #[derive(Clone, Copy, Drop)]
 pub struct SlotRow<'a> {
     form: Form,
@@ -200,7 +200,7 @@ impl<'a> Listing for SpecialSlots<'a> {
     }
 }
 
-// Prints what a line says of a slot.
+// Prints the line of a slot.
 fn print_line<O: Write>(slot: &SpecialSlot<'_>, out: &mut O) -> io::Result<()>
     ensures { OnOk result (Appends (O.contents out.old) (O.contents out.new) (defined.slot_line (special_slot_view slot.now))) }
 {
@@ -209,7 +209,7 @@ fn print_line<O: Write>(slot: &SpecialSlot<'_>, out: &mut O) -> io::Result<()>
     print_hash(state, slot.hash, out)
 }
 
-// Prints the hash of another file.
+// Prints the hash of a slot that seals another file.
 fn print_hash<O: Write>(state: SlotState, hash: &[u8], out: &mut O) -> io::Result<()>
     ensures { OnOk result (Appends (O.contents out.old) (O.contents out.new) (defined.hash_after state hash.now)) }
 {

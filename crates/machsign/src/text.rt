@@ -1,4 +1,4 @@
-//! What is said of a code directory on its first line, and a version.
+//! The first line of a code directory, and a version.
 
 ghost use Rattle.std.specs.Prelude.{◌≤◌, Some};
 ghost use Rattle.machsign.specs.Blocks.{head_front, segment_front, shape_text};
@@ -8,7 +8,7 @@ use mach_signature::{DirectoryHead, HashType, SlotName};
 use std::fmt;
 use std::fmt::{Display, Formatter, Write};
 
-// The name of a hash.
+// The name of a kind of hash.
 #[derive(Clone, Copy)]
 struct HashName(HashType);
 
@@ -25,7 +25,7 @@ impl Display for HashName {
     }
 }
 
-// How many bytes a page has, by the power of 2; 0 is any number.
+// The page size, by its power of 2; 0 is any size.
 #[derive(Clone, Copy)]
 struct PagesText {
     power: u8,
@@ -44,7 +44,7 @@ impl Display for PagesText {
     }
 }
 
-/// What is said of a directory before its flags: the name of its slot, and its version.
+/// The text of a directory before its flags: the name of its slot, and its version.
 #[derive(Clone, Copy)]
 pub struct HeadFront {
     pub slot: u32,
@@ -60,11 +60,11 @@ impl Display for HeadFront {
     }
 }
 
-/// What is said of an executable segment before its flags: where it stands.
+/// The text of an executable segment before its flags: its addresses.
 #[derive(Clone, Copy)]
 pub struct SegmentFront {
     pub base: u64,
-    /// Where it ends; the highest number where that has more than 64 bits.
+    /// The end of the segment; the highest number of 64 bits if the end is above that.
     pub end: u64,
 }
 
@@ -77,7 +77,7 @@ impl Display for SegmentFront {
     }
 }
 
-/// What is said of a directory behind its flags.
+/// The text of a directory after its flags.
 #[derive(Clone, Copy)]
 pub struct ShapeText {
     pub hash: HashType,

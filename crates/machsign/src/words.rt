@@ -1,10 +1,10 @@
-//! The word of a call that asks for entitlements.
+//! The option of a call that selects entitlements.
 
 use mach_cli::{Word, takes_word};
 use std::alloc::{AllocError, Allocator};
 
-/// Whether the words of a call ask for entitlements, and all other words, in order. The first word is the program's name; a word behind `--`, or
-/// behind an option that has one behind it, asks for none.
+/// Returns whether the words of a call select entitlements, and all other words, in order. The first word is the program's name.
+/// A word after `--`, or after an option that takes one, does not select them.
 pub fn take_entitlements<A: Allocator>(
     alloc: A,
     words: Vec<Word>,
