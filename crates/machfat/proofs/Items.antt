@@ -1,4 +1,4 @@
--- Lines of the first items, one more at a time, up to a limit.
+-- Lines of the first items, one at a time, up to a limit.
 use Rattle.std.proofs.Common.{◌≡◌, ◌≤◌, ◌+◌, ◌-◌, ◌++◌, ◌∷◌, [], ◌∙◌, ℕ, List, Option, Bool, true, false, refl, sym, ap, subst}
 use Rattle.std.proofs.Common.{length, take, arith}
 use Rattle.std.specs.Prelude.{◌&&◌, nat_lt}
@@ -13,7 +13,7 @@ use Rattle.mach_cli.specs.Lines.{AreLines, WritesLines}
 use Rattle.mach_cli.specs.declared.listing.Told.{Told}
 use Rattle.machfat.specs.Written.{AreItemLines, WritesAs}
 
--- The lines of these items were written, and this is whether they are whole.
+-- The lines of these items were written, and this says whether they are whole.
 pub record Gone {A X : Type 0} (read : A → X) (line : A → List ℕ) (is_whole : X → Bool) (front : List X) (whole : Bool)
     (old new : Option (List ℕ)) : Type 0 where
   pub lines : WritesLines read line front old new
@@ -32,7 +32,7 @@ module _ {A X : Type 0} (read : A → X) (line : A → List ℕ) (is_whole : X �
         ∙ sym (list_all-append is_whole front (item ∷ []));
   }
 
-  -- where they are the first ones, no more than `left`
+  -- these are the first items, no more than `left`
   gone_of : (left : ℕ) (items front : List X) (whole : Bool) (old new : Option (List ℕ)) (t : Told) → Gone read line is_whole front whole old new
       → take left items ≡ front → t.whole ≡ whole → t.left ≡ left - length items → t.more ≡ nat_lt left (length items)
       → WritesAs (AreItemLines read line is_whole left items) t old new
@@ -47,7 +47,7 @@ module _ {A X : Type 0} (read : A → X) (line : A → List ℕ) (is_whole : X �
     written = gone.lines.written;
   }
 
-  -- to the end of the items
+  -- the list was visited to its end
   pub gone_over : (left : ℕ) (items front : List X) (whole : Bool) (old new : Option (List ℕ)) (t : Told) → Gone read line is_whole front whole old new
       → items ≡ front → length front ≤ left → (t.left ≡ left - length front) × (t.whole ≡ whole) × (t.more ≡ false)
       → WritesAs (AreItemLines read line is_whole left items) t old new
@@ -56,7 +56,7 @@ module _ {A X : Type 0} (read : A → X) (line : A → List ℕ) (is_whole : X �
       gone_of left items front whole old new t gone (take_all left items (omega (arith, few, many)) ∙ are) said.1 (said.0 ∙ omega (arith, many))
       (said.2 ∙ sym (le-ltb left (length items) (omega (arith, few, many))))
 
-  -- to the limit, with an item behind it
+  -- the list was visited to the limit, and an item comes after it
   pub gone_cut : (left : ℕ) (items front : List X) (item : X) (rest : List X) (whole : Bool) (old new : Option (List ℕ)) (t : Told)
       → Gone read line is_whole front whole old new → items ≡ front ++ item ∷ rest → length front ≡ left
       → (t.left ≡ 0) × (t.whole ≡ whole) × (t.more ≡ true) → WritesAs (AreItemLines read line is_whole left items) t old new

@@ -1,4 +1,4 @@
--- What is told of members and of symbols, one more at a time.
+-- What is reported of members and of symbols, one at a time.
 use Rattle.std.proofs.Common.{◌≡◌, ◌+◌, ◌≤◌, ◌++◌, ◌∷◌, [], ◌∙◌, ℕ, suc, List, Option, Result, Ok, Err, Bool, true, false, refl, sym, ap, subst, arith}
 use Rattle.std.proofs.Common.{length, map}
 use Rattle.std.specs.Prelude.{◌&&◌, ◌-◌}
@@ -19,7 +19,7 @@ use Rattle.machfat.specs.MemberLines.{AreMemberLines, MemberTold, is_whole_membe
 use Rattle.machfat.specs.SymbolLines.{SymbolTold, is_whole_symbol, told_symbol_faults, symbol_item, symbol_line}
 use Rattle.machfat.specs.Written.{AreItemLines, WritesAs}
 
--- members behind others are numbered from how many these are
+-- members after others are numbered from the number of those on
 told-append : (n : ℕ) (ms rest : List (Result MemberView Fault))
     → told_members n (ms ++ rest) ≡ told_members n ms ++ told_members (n + length ms) rest
 told-append n [] rest = let same : n ≡ n + 0 = omega arith in ap (λ (k : ℕ). told_members k rest) same
@@ -73,7 +73,7 @@ members_cut a left done item rest whole old new t gone are full said =
 abbrev pub SymbolsGone : ArchiveView → List (Result IndexSymbol Fault) → Bool → (old new : Option (List ℕ)) → Type 0
 SymbolsGone a done whole old new = Gone told_symbol_faults symbol_line is_whole_symbol (map (symbol_item a) done) whole old new
 
--- and of all, or of the first ones of all, no more than `left`
+-- the lines of all symbols, or of the first ones, no more than `left`, were written
 abbrev pub SymbolsTold : ArchiveView → (left : ℕ) → List (Result IndexSymbol Fault) → Told → (old new : Option (List ℕ)) → Type 0
 SymbolsTold a left items t old new =
     WritesAs (λ text t. AreItemLines told_symbol_faults symbol_line is_whole_symbol left (map (symbol_item a) items) text t) t old new
@@ -104,7 +104,7 @@ symbols_cut a left items done item rest whole old new t gone are full said =
     (map (symbol_item a) rest) whole old new t gone (ap (map (symbol_item a)) are ∙ map-append (symbol_item a) done (item ∷ rest))
     (length-map done (symbol_item a) ∙ full) said
 
--- a name, as it was answered
+-- a name, as it was returned
 pub name_seen : (answer : Result (Bor (List ℕ)) Error) → read_as (λ n. n) (text_answer (λ name. name.now) answer) ≡ read_as (λ name. name.now) answer
 name_seen (Ok name) = refl
 name_seen (Err e) = refl

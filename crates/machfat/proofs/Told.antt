@@ -1,4 +1,4 @@
--- What is said of a file whose entries are refused, and what is told of entries.
+-- The refusal of a file whose entries are refused, and what is reported of entries.
 use Rattle.std.proofs.Common.{◌≡◌, ◌++◌, ◌∷◌, [], ℕ, List, Option, Some, None, Result, true, refl, subst, length}
 use Rattle.std.specs.Prelude.{◌&&◌}
 use Rattle.std.specs.Io.KnownBytes.{Appends}
@@ -22,12 +22,12 @@ tells_by : {Y : Type 0} (bytes : List ℕ) (why : EntryRefusal) (kind : Option F
 tells_by bytes why (Some kind) there is refuses = (why, refuses, is)
 tells_by bytes why None there is refuses = (refuses, is)
 
--- what is said of a refusal tells why there is nothing
+-- the refusal says why there is nothing
 pub tells_of : {Y : Type 0} (bytes : List ℕ) (why : EntryRefusal) (there : Result Y Unfit) → RefusesAs why there
     → Refuses bytes there (said_by (kind_by_front bytes why) why)
 tells_of bytes why there refuses = tells_by bytes why (kind_by_front bytes why) there refl refuses
 
--- want of memory is told of a file of any kind
+-- a refused allocation is reported without the kind of the file
 pub want_has_no_kind : (bytes : List ℕ) (e : Error) → Stands (λ f. ⊥) e → refused_kind bytes e ≡ None
 want_has_no_kind bytes (errors.Malformed m) want = absurd want
 want_has_no_kind bytes (errors.BadMagic n) want = absurd want
@@ -35,7 +35,7 @@ want_has_no_kind bytes (errors.Scroll e) want = absurd want
 want_has_no_kind bytes (errors.BufferTooShort n m) want = absurd want
 want_has_no_kind bytes (errors.Memory e) want = refl
 
--- why a file isn't read, by what is said of it
+-- why a file can't be read, by its refusal
 refuses_by : (faults : Fault → Type 0) (kind : Error → Option Foreign) (known : Option Foreign) (e : Error) → Stands faults e → kind e ≡ known
     → RefusesRead faults kind (refused_by known e)
 refuses_by faults kind (Some known) e stands is = (e, stands, is)
@@ -54,7 +54,7 @@ pub no_entries_told : (limit : ℕ) (bytes : List ℕ) (known : Option (List ℕ
     → WritesAs (AreEntryLines limit bytes []) (stays limit true) known known
 no_entries_told limit bytes known = record { text = []; are_lines = no_entries; written = Appends-none known }
 
--- one entry more, after its line
+-- one more entry, after its line
 pub entry_more : (limit : ℕ) (bytes : List ℕ) (records : List EntryRecord) (r : EntryRecord) (i : ℕ) (before one : Outcome)
     (old middle line new : Option (List ℕ)) → i ≡ length records → WritesAs (AreEntryLines limit bytes records) before old middle
     → Appends middle line (entry_line i) → WritesAs (AreContentLines limit before.left bytes i r) one line new

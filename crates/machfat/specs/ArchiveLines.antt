@@ -7,8 +7,8 @@ use Rattle.mach_cli.specs.declared.shows.Outcome.{Outcome}
 use Rattle.machfat.specs.MemberLines.{AreMemberLines}
 use Rattle.machfat.specs.SymbolLines.{AreIndexLines}
 
--- The text is the lines of an archive: of its members, then of the symbols of its index, together no more than `left`; and where there are more, a line
--- that says that `limit` are told. It is whole where there are no more, and nothing tells a fault.
+-- The text is the lines of an archive: of its members, then of the symbols of its index, together no more than `left`; and if
+-- there are more, a line that says that `limit` are printed. It is whole if there are no more, and no line has a fault.
 pub record AreArchiveLines (limit left : ℕ) (a : ArchiveView) (text : List ℕ) (o : Outcome) : Type 0 where
   pub members : List ℕ
   pub symbols : List ℕ

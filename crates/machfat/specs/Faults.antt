@@ -1,4 +1,4 @@
--- The lines that are printed of the faults of a fat file's layout.
+-- The lines of the faults of a fat file's layout.
 use Rattle.std.specs.Prelude.{ℕ, List, [], ◌∷◌, ◌++◌, codes, length, take, nat_lt, Bool, true, false, Option}
 use Rattle.std.specs.Io.KnownBytes.{Appends}
 use Rattle.goblin_mach.specs.File.{HasFatMagic}
@@ -13,12 +13,12 @@ use Rattle.mach_cli.specs.Listings.{cut_line}
 abbrev pub table_fault_line : LayoutFault → List ℕ
 table_fault_line fault = fault_text fault ++ codes "\n"
 
--- the lines of faults, one behind the other
+-- the lines of faults, one after the other
 abbrev pub fault_lines : List LayoutFault → List ℕ
 fault_lines [] = []
 fault_lines (fault ∷ faults) = table_fault_line fault ++ fault_lines faults
 
--- whether there is none
+-- whether there is no fault
 abbrev pub is_faultless : List LayoutFault → Bool
 is_faultless [] = true
 is_faultless (fault ∷ faults) = false
@@ -28,7 +28,7 @@ pub data HasFatFaults (bytes : List ℕ) (faults : List LayoutFault) : Type 0 wh
   of_32_bits : HasFatMagic bytes → AreContainerFaults arch_form_32 bytes faults → HasFatFaults bytes faults
   of_64_bits : HasFat64Magic bytes → AreContainerFaults arch_form_64 bytes faults → HasFatFaults bytes faults
 
--- Its layout has these faults, and what was written are the lines of the first ones, no more than a limit, and of more that there are more.
+-- Its layout has these faults, and the lines of the first ones were written, no more than a limit, and a line if there are more.
 pub record TellsFatFaults (limit : ℕ) (bytes : List ℕ) (faults : List LayoutFault) (old new : Option (List ℕ)) : Type 0 where
   pub has : HasFatFaults bytes faults
   pub told : Appends old new (fault_lines (take limit faults) ++ cut_line limit (nat_lt limit (length faults)))

@@ -6,7 +6,7 @@ use Rattle.mach_base.specs.declared.hint.Hint.{Hint}
 use Rattle.mach_base.specs.declared.hint.Hint.TheVariants.{Mach, MachFat, Archive, Unknown}
 use Rattle.mach_parts.specs.Magic.{hint_in}
 
--- what the first bytes hint at
+-- the words for what the first bytes hint at
 abbrev pub hint_text : Hint → List ℕ
 hint_text Archive = codes "archive"
 hint_text (Mach said) = codes "image"

@@ -1,4 +1,4 @@
--- What is printed of the records of a fat file: lines, or an object.
+-- The text of a fat file's records: lines, or an object.
 use Rattle.std.specs.Prelude.{◌≡◌, ◌==◌, ℕ, ◌+◌, List, [], ◌∷◌, ◌++◌, codes, length, take, nat_lt, Bool, false, not, Option, Ok, unwrap_or}
 use Rattle.std.specs.Fmt.{decimal, digits}
 use Rattle.std.specs.Io.KnownBytes.{Appends}
@@ -12,7 +12,7 @@ use Rattle.machfat.specs.Kinds.{entry_kind}
 use Rattle.machfat.specs.declared.entry.ListForm.{ListForm}
 use Rattle.machfat.specs.declared.entry.ListForm.TheVariants.{Lines, Objects}
 
--- the kind of a record's entry; one that isn't in the file has no bytes
+-- the kind of a record's entry; an entry outside the file has no bytes
 abbrev pub record_kind : List ℕ → EntryRecord → List ℕ
 record_kind bytes r = entry_kind (unwrap_or (slice_of bytes r) [])
 
@@ -20,7 +20,7 @@ record_kind bytes r = entry_kind (unwrap_or (slice_of bytes r) [])
 abbrev pub cpu_text : EntryRecord → List ℕ
 cpu_text r = codes "cputype 0x" ++ digits 16 false r.cputype ++ codes ", cpusubtype 0x" ++ digits 16 false r.cpusubtype
 
--- where its entry stands
+-- the offset, the size and the alignment of its entry
 abbrev pub entry_place_text : EntryRecord → List ℕ
 entry_place_text r = codes "offset " ++ decimal r.offset ++ codes ", size " ++ decimal r.size ++ codes ", align 2^" ++ decimal r.align
 
@@ -32,7 +32,7 @@ record_text bytes r = cpu_text r ++ codes ", " ++ entry_place_text r ++ codes ",
 abbrev pub record_line : List ℕ → ℕ → EntryRecord → List ℕ
 record_line bytes i r = codes "arch " ++ decimal i ++ codes ": " ++ record_text bytes r ++ codes "\n"
 
--- its object, behind a comma if it isn't the first
+-- its object, after a comma unless it is the first
 abbrev pub cpu_members : EntryRecord → List ℕ
 cpu_members r =
     codes "\"align\":" ++ (decimal r.align ++ (codes ",\"cpusubtype\":" ++ (decimal r.cpusubtype ++ (codes ",\"cputype\":" ++ decimal r.cputype))))
@@ -48,21 +48,21 @@ record_object bytes r =
 abbrev pub next_object : List ℕ → ℕ → EntryRecord → List ℕ
 next_object bytes i r = comma_before (i == 0) ++ record_object bytes r
 
--- what is printed of a record
+-- the text of a record in a form
 abbrev pub record_as : ListForm → List ℕ → ℕ → EntryRecord → List ℕ
 record_as Lines bytes i r = record_line bytes i r
 record_as Objects bytes i r = next_object bytes i r
 
--- and of records, numbered from i on
+-- the text of records, numbered from i on
 abbrev pub records_from : ListForm → List ℕ → ℕ → List EntryRecord → List ℕ
 records_from form bytes i [] = []
 records_from form bytes i (r ∷ records) = record_as form bytes i r ++ records_from form bytes (i + 1) records
 
--- the lines of the first records, no more than a limit, and of more that there are more
+-- the lines of the first records, no more than a limit, and a line if there are more
 abbrev pub list_text : (limit : ℕ) (bytes : List ℕ) → List EntryRecord → List ℕ
 list_text limit bytes records = records_from Lines bytes 0 (take limit records) ++ cut_line limit (nat_lt limit (length records))
 
--- the object of a fat file, with those of the first records, no more than a limit, and whether there are more
+-- the object of a fat file, with the objects of the first records, no more than a limit, and whether there are more
 abbrev pub document_tail : (more : Bool) (file : List ℕ) → List ℕ
 document_tail more file =
     codes "],\"kind\":\"fat file\",\"limit_met\":" ++ (json_bool more ++ (codes ",\"name\":" ++ (json_string file ++ codes "}\n")))
@@ -71,20 +71,20 @@ abbrev pub document_text : (limit : ℕ) (file bytes : List ℕ) → List EntryR
 document_text limit file bytes records =
     codes "{\"entries\":[" ++ (records_from Objects bytes 0 (take limit records) ++ document_tail (nat_lt limit (length records)) file)
 
--- What was written is a text of a fat file's records; it is whole where there are no more than a limit.
+-- A text of a fat file's records was written; it is whole if there are no more than a limit.
 pub record TellsFirstRecords (text : List EntryRecord → List ℕ) (limit : ℕ) (bytes : List ℕ) (whole : Bool) (old new : Option (List ℕ)) : Type 0 where
   pub records : List EntryRecord
   pub are_records : fat_records_in bytes ≡ Ok records
   pub is_whole : whole ≡ not (nat_lt limit (length records))
   pub written : Appends old new (text records)
 
--- What was written are these lines, or this object.
+-- These lines, or this object, were written.
 abbrev pub TellsList : (limit : ℕ) (bytes : List ℕ) (whole : Bool) (old new : Option (List ℕ)) → Type 0
 TellsList limit bytes whole old new = TellsFirstRecords (list_text limit bytes) limit bytes whole old new
 
 abbrev pub TellsDocument : (limit : ℕ) (file bytes : List ℕ) (whole : Bool) (old new : Option (List ℕ)) → Type 0
 TellsDocument limit file bytes whole old new = TellsFirstRecords (document_text limit file bytes) limit bytes whole old new
 
--- that of a file that is refused; the words are made of fixed texts and numbers, and stand as they are
+-- the object of a refused file; its words consist of fixed texts and numbers, so nothing is escaped
 abbrev pub refusal_document : (file words : List ℕ) → List ℕ
 refusal_document file words = codes "{\"entries\":[],\"error\":\"" ++ (words ++ (codes "\",\"name\":" ++ (json_string file ++ codes "}\n")))

@@ -15,17 +15,17 @@ use Rattle.machfat.specs.Kinds.{entry_kind}
 use Rattle.machfat.specs.Names.{name_tail, refused_line}
 use Rattle.machfat.specs.Written.{AreItemLines}
 
--- a number, or a dash where a field is none
+-- a number, or a dash if the field has none
 abbrev pub number_or_dash : Option ℕ → List ℕ
 number_or_dash (Some n) = decimal n
 number_or_dash None = codes "-"
 
--- a number in octal, behind a 0
+-- a number in octal, after a 0
 abbrev pub octal_or_dash : Option ℕ → List ℕ
 octal_or_dash (Some n) = codes "0" ++ digits 8 false n
 octal_or_dash None = codes "-"
 
--- where a member's header and its bytes stand, and how many these are
+-- the offsets of a member's header and of its bytes, and their number
 abbrev pub member_place_text : MemberView → List ℕ
 member_place_text m = codes "header " ++ (decimal m.offset ++ (codes ", offset " ++ (decimal m.start ++ (codes ", size " ++ decimal (length m.bytes)))))
 
@@ -37,28 +37,29 @@ member_numbers_text m =
     ++ (codes ", gid " ++ (number_or_dash (field_number 10 (gid_field m.fields))
     ++ (codes ", mode " ++ octal_or_dash (field_number 8 (mode_field m.fields))))))))
 
--- a member with its number, before what is told of its name
+-- a member with its number, before its name
 abbrev pub member_front : ℕ → MemberView → List ℕ
 member_front number m =
     codes "member " ++ (decimal number ++ (codes ": " ++ (member_place_text m ++ (codes ", " ++ (member_numbers_text m
     ++ (codes ", " ++ (entry_kind m.bytes ++ codes ", ")))))))
 
--- its name, or why it has none, and the end of the line
+-- its name, or the error of its name, and the end of the line
 abbrev pub member_name_end : Result (List ℕ) Error → List ℕ
 member_name_end (Ok name) = codes "name " ++ name_tail name
 member_name_end (Err e) = codes "name refused: " ++ (words_of e ++ codes "\n")
 
--- What is told of a place where a member may be: its number, itself, and its name, or why that can't be read; or why there is none, nor any behind it.
+-- What is reported where a member may be: the member with its number, and its name or the error of the name; or the error for
+-- which there is no member, nor any after it.
 pub data MemberTold (E : Type 0) : Type 0 where
   a_member : (number : ℕ) (member : MemberView) (name : Result (List ℕ) E) → MemberTold E
   no_more_members : E → MemberTold E
 
--- the line of what is told
+-- the line of this
 abbrev pub member_line : MemberTold Error → List ℕ
 member_line (a_member number m name) = member_front number m ++ member_name_end name
 member_line (no_more_members e) = refused_line (codes "refused") e
 
--- the words of the error that it tells, if it tells one
+-- the words of its error, if it has one
 abbrev pub name_reason : Result (List ℕ) Error → List ℕ
 name_reason (Ok name) = []
 name_reason (Err e) = words_of e
@@ -67,17 +68,17 @@ abbrev pub member_reason : MemberTold Error → List ℕ
 member_reason (a_member number m name) = name_reason name
 member_reason (no_more_members e) = words_of e
 
--- which faults it tells
+-- the same, with faults for errors
 abbrev pub member_faults : MemberTold Error → MemberTold Fault
 member_faults (a_member number m name) = a_member number m (read_as (λ n. n) name)
 member_faults (no_more_members e) = no_more_members (fault_of e)
 
--- what is there to be told of a member of a number
+-- what is reported of a member with a number
 abbrev pub member_item : ℕ → Result MemberView Fault → MemberTold Fault
 member_item number (Ok m) = a_member number m (member_name m)
 member_item number (Err f) = no_more_members f
 
--- and of members that are numbered from one on
+-- what is reported of members, numbered from one on
 abbrev pub told_members : ℕ → List (Result MemberView Fault) → List (MemberTold Fault)
 told_members number [] = []
 told_members number (m ∷ ms) = member_item number m ∷ told_members (number + 1) ms
@@ -91,8 +92,8 @@ abbrev pub is_whole_member : MemberTold Fault → Bool
 is_whole_member (a_member number m name) = is_whole_name name
 is_whole_member (no_more_members f) = false
 
--- The text is a line for each of an archive's first members, in order, up to the first fault, and for this, no more than `left`; it is whole where none
--- of them tells a fault.
+-- The text is a line for each of an archive's first members, in order, up to the first fault, and for that fault, no more than
+-- `left`. It is whole if none of them has a fault.
 pub record AreMemberLines (a : ArchiveView) (left : ℕ) (text : List ℕ) (t : Told) : Type 0 where
   pub members : List (Result MemberView Fault)
   pub are_members : AreMembers a.bytes a.names a.begin members

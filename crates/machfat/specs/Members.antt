@@ -16,12 +16,12 @@ use Rattle.machfat.specs.ArchiveLines.{AreArchiveLines}
 use Rattle.machfat.specs.Kinds.{is_image_magic}
 use Rattle.machfat.specs.Names.{refused_line}
 
--- what is known where no line of a list is told: whether it is whole
+-- the outcome if no line of a list is printed: whether it is whole
 abbrev pub stays : (left : ℕ) → (whole : Bool) → Outcome
 stays left whole = record { whole = whole; left = left }
 
--- The text is what is told of the entry of record i: that it isn't in the file, that it is an image, why it is no archive, or its lines as one. Of these
--- there are no more than `left`.
+-- The text of the entry of record i: it isn't in the file; it is an image; it is no archive, for this error; or it is an archive,
+-- with its lines, no more than `left`.
 pub data AreContentLines (limit left : ℕ) (bytes : List ℕ) (i : ℕ) (r : EntryRecord) : List ℕ → Outcome → Type 0 where
   out_of_the_file : slice_of bytes r ≡ None
       → AreContentLines limit left bytes i r (codes "refused: " ++ (entry_refusal_words (OutOfFile i) ++ codes "\n")) (stays left false)
@@ -36,23 +36,23 @@ pub data AreContentLines (limit left : ℕ) (bytes : List ℕ) (i : ℕ) (r : En
 abbrev pub entry_line : ℕ → List ℕ
 entry_line i = codes "arch " ++ (decimal i ++ codes "\n")
 
--- The text is what is told of the entries of the first records, in order, each behind its line; it is whole where that of each is. Of an entry's lines
--- there are no more than those before it left of the limit.
+-- The text is that of the entries of the first records, in order, each after its line. It is whole if that of each entry is. An
+-- entry has no more lines than those before it left of the limit.
 pub data AreEntryLines (limit : ℕ) (bytes : List ℕ) : List EntryRecord → List ℕ → Outcome → Type 0 where
   no_entries : AreEntryLines limit bytes [] [] (stays limit true)
   one_more : (records : List EntryRecord) (r : EntryRecord) (front last : List ℕ) (before one : Outcome) → AreEntryLines limit bytes records front before
       → AreContentLines limit before.left bytes (length records) r last one
       → AreEntryLines limit bytes (records ++ r ∷ []) (front ++ (entry_line (length records) ++ last)) (stays one.left (before.whole && one.whole))
 
--- The text is what is told of a file, no more than `limit` lines of members and symbols: of all entries of a fat file of either form, or those of an
--- archive.
+-- The text is that of a file, no more than `limit` lines of members and symbols: of all entries of a fat file of either form, or
+-- of an archive.
 pub data AreFileLines (limit : ℕ) (bytes : List ℕ) : List ℕ → Bool → Type 0 where
   of_fat_file : (form : FatForm) (records : List EntryRecord) (text : List ℕ) (o : Outcome) → form_in bytes ≡ Some form
       → fat_table_in form bytes ≡ Ok records → AreEntryLines limit bytes records text o → AreFileLines limit bytes text o.whole
   of_archive : (a : ArchiveView) (text : List ℕ) (o : Outcome) → form_in bytes ≡ None → archive_in bytes ≡ Ok a
       → AreArchiveLines limit limit a text o → AreFileLines limit bytes text o.whole
 
--- a fault stands where the members of a file are read: in the table of a fat file, or in the front of an archive
+-- a fault of reading the members of a file: of the table of a fat file, or of the start of an archive
 pub data MembersFault (bytes : List ℕ) : Fault → Type 0 where
   in_table : (form : FatForm) (f : Fault) → form_in bytes ≡ Some form → fat_table_in form bytes ≡ Err f → MembersFault bytes f
   in_archive : (f : Fault) → form_in bytes ≡ None → archive_in bytes ≡ Err f → MembersFault bytes f

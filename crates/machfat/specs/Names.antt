@@ -4,10 +4,10 @@ use Rattle.mach_base.specs.Words.{words_of}
 use Rattle.mach_base.specs.declared.error.Error.{Error}
 use Rattle.mach_cli.specs.Escapes.{escaped_text}
 
--- a name, of which a control character and a backslash are told in hexadecimal, so that it makes no line, and the end of its line
+-- a name with control characters and backslashes in hexadecimal, so that it breaks no line, and the end of its line
 abbrev pub name_tail : List ℕ → List ℕ
 name_tail name = escaped_text name ++ codes "\n"
 
--- the line of what is refused, and why
+-- the line of what is refused, with its error
 abbrev pub refused_line : List ℕ → Error → List ℕ
 refused_line what e = what ++ (codes ": " ++ (words_of e ++ codes "\n"))

@@ -1,4 +1,4 @@
--- Why the program refuses a file or an entry, and what it says of it.
+-- Why the program refuses a file or an entry, and the message about it.
 use Rattle.std.specs.Prelude.{◌≡◌, ℕ, List, [], codes, Option, Some, None, Result, Ok, Err}
 use Rattle.std.specs.Io.KnownBytes.{Appends}
 use Rattle.mach_base.specs.Answer.{Stands}
@@ -33,24 +33,24 @@ refusal_words (Entries why) = entry_refusal_words why
 abbrev pub refusal_line : List ℕ → Refusal → List ℕ
 refusal_line file refusal = complaint (names_text (codes "machfat") file) (refusal_words refusal)
 
--- A fault stands where a fat file is opened: of 64 bits in its header, else as the file is opened of which it is none.
+-- A fault of opening a fat file: of the header of one of 64 bits; of any other file, of opening it.
 pub data FatFault (bytes : List ℕ) : Fault → Type 0 where
   in_header : (f : Fault) → HasFat64Magic bytes → fat_file_in bytes ≡ Err f → FatFault bytes f
   in_view : (f : Fault) → ¬ HasFat64Magic bytes → ViewFault bytes f → FatFault bytes f
 
--- what is said of a file that is refused for an error: what it is, where that is known
+-- the refusal of a file for an error: by its kind, if that is known
 abbrev pub refused_by : Option declared.Foreign → Error → Refusal
 refused_by (Some kind) e = Foreign kind
 refused_by None e = Refused e
 
--- Why a file isn't read: one of these faults that stands there, of a file of which it is known what it is, or isn't; or want of memory.
+-- Why a file can't be read: one of these faults holds, and the kind of the file is known or not; or an allocation was refused.
 abbrev pub RefusesRead : (Fault → Type 0) → (kind : Error → Option declared.Foreign) → Refusal → Type 0
 RefusesRead faults kind (Refused e) = Stands faults e × (kind e ≡ None)
 RefusesRead faults kind (Foreign known) = (e : Error) × Stands faults e × (kind e ≡ Some known)
 RefusesRead faults kind NotFat = ⊥
 RefusesRead faults kind (Entries why) = ⊥
 
--- Why the faults of a fat file's layout aren't told: a fault stands where it is opened; or it is an image.
+-- Why the faults of a fat file's layout can't be listed: a fault of opening it holds; or it is an image.
 abbrev pub RefusesFaults : List ℕ → Refusal → Type 0
 RefusesFaults bytes (Refused e) = RefusesRead (FatFault bytes) (refused_kind bytes) (Refused e)
 RefusesFaults bytes (Foreign kind) = RefusesRead (FatFault bytes) (refused_kind bytes) (Foreign kind)
@@ -62,57 +62,58 @@ abbrev pub but_archive : Option declared.Foreign → Option declared.Foreign
 but_archive (Some Archive) = None
 but_archive kind = kind
 
--- Why the members of a file aren't told: a fault stands where they are read.
+-- Why the members of a file can't be listed: a fault of reading them holds.
 abbrev pub RefusesMembers : List ℕ → Refusal → Type 0
 RefusesMembers bytes refusal = RefusesRead (MembersFault bytes) (λ e. but_archive (refused_kind bytes e)) refusal
 
--- the kind that is told of a file whose entries are refused, where its first bytes show it
+-- the kind of a file whose entries are refused, if its first bytes show it
 abbrev pub kind_by_front : List ℕ → EntryRefusal → Option declared.Foreign
 kind_by_front bytes (Unread e) = refused_kind bytes e
 kind_by_front bytes _ = None
 
--- what is said of a file whose entries are refused
+-- the refusal of a file whose entries are refused
 abbrev pub said_by : Option declared.Foreign → EntryRefusal → Refusal
 said_by (Some kind) why = Foreign kind
 said_by None why = Entries why
 
--- an answer, or what is said of the file where it is refused
+-- an answer, or the refusal of the file
 abbrev pub said_in : {X : Type 0} → List ℕ → Result X EntryRefusal → Result X Refusal
 said_in bytes (Ok x) = Ok x
 said_in bytes (Err why) = Err (said_by (kind_by_front bytes why) why)
 
--- Why what a fat file has isn't told or written, which is `there`: it can't be read, and the first bytes tell what the file is, or don't; it isn't there; or
--- want of memory.
+-- Why what a fat file has, `there`, can't be printed or written: it can't be read, and the first bytes show the kind of the file,
+-- or don't; it isn't there; or an allocation was refused.
 abbrev pub Refuses : {Y : Type 0} → List ℕ → Result Y Unfit → Refusal → Type 0
 Refuses bytes there (Refused e) = Stands (λ f. ⊥) e
 Refuses bytes there (Foreign kind) = (why : EntryRefusal) × RefusesAs why there × (kind_by_front bytes why ≡ Some kind)
 Refuses bytes there NotFat = ⊥
 Refuses bytes there (Entries why) = RefusesAs why there × (kind_by_front bytes why ≡ None)
 
--- The same, where it isn't told what the file is.
+-- The same, without the kind of the file.
 abbrev pub RefusesPlainly : {Y : Type 0} → Result Y Unfit → Refusal → Type 0
 RefusesPlainly there (Refused e) = Stands (λ f. ⊥) e
 RefusesPlainly there (Foreign kind) = ⊥
 RefusesPlainly there NotFat = ⊥
 RefusesPlainly there (Entries why) = RefusesAs why there
 
--- the refusal, if it is one, is as P says
+-- the refusal, if it is one, satisfies P
 abbrev pub IsRefusal : (Refusal → Type 0) → Failure → Type 0
 IsRefusal P (failures.Refused refusal) = P refusal
 IsRefusal P (failures.Unwritten e) = Unit {0}
 
--- the refusal tells of want of memory
+-- the refusal is a refused allocation
 abbrev pub IsWant : Refusal → Type 0
 IsWant (Refused e) = Stands (λ f. ⊥) e
 IsWant (Foreign kind) = ⊥
 IsWant NotFat = ⊥
 IsWant (Entries why) = ⊥
 
--- It is refused for a reason as P says, and nothing was written till then.
+-- It is a refusal that satisfies P, and nothing was written.
 abbrev pub RefusesUnwritten : (Refusal → Type 0) → (old new : Option (List ℕ)) → Failure → Type 0
 RefusesUnwritten P old new failure = IsRefusal (λ refusal. P refusal × Appends old new []) failure
 
--- A file is refused for a reason as P says: a line on the error output says why, and nothing was written on the other one.
+-- A file is refused, and the refusal satisfies P: a line on the error output says why, and nothing was written on the other
+-- output.
 pub record RefusesFile (P : Refusal → Type 0) (file : List ℕ) (out_old out_new err_old err_new : Option (List ℕ)) : Type 0 where
   pub refusal : Refusal
   pub stands : P refusal

@@ -4,17 +4,17 @@ use Rattle.std.specs.Borrow.{Bor}
 use Rattle.std.specs.Str.{bytes_eq}
 use Rattle.machfat.specs.declared.new_file.Node.{Node}
 
--- the system knows a file by both paths, and it is the same one: one device, and one number there
+-- the system knows a file by both paths, and it is the same one: the same device and the same inode
 abbrev pub is_one_node : Option Node → Option Node → Bool
 is_one_node None there = false
 is_one_node (Some here) None = false
 is_one_node (Some here) (Some there) = (here.dev == there.dev) && (here.ino == there.ino)
 
--- they are one text, or the system says so
+-- they are one text, or the system knows them as one file
 abbrev pub is_one_file : List ℕ → List ℕ → Option Node → Option Node → Bool
 is_one_file one other here there = bytes_eq one other || is_one_node here there
 
--- they were found to lead to one file, or not to
+-- they were found to lead to one file; they were found not to
 abbrev pub IsSame : List ℕ → List ℕ → Type 0
 IsSame one other = (here : Option Node) × (there : Option Node) × (is_one_file one other here there ≡ true)
 

@@ -13,50 +13,50 @@ use Rattle.mach_cli.specs.declared.listing.Told.{Told}
 use Rattle.machfat.specs.Names.{name_tail, refused_line}
 use Rattle.machfat.specs.Written.{AreItemLines}
 
--- What is told of a place where a symbol may be: that of a member and a name; why no member is there; why the name is no text; or why there is no
--- symbol, nor any behind it.
+-- What is reported where a symbol may be: its member and its name; or the error of its member; or the error of a name that is no
+-- text; or the error for which there is no symbol, nor any after it.
 pub data SymbolTold (E : Type 0) : Type 0 where
   a_symbol : (place : ℕ) (name : List ℕ) → SymbolTold E
   of_no_member : (place : ℕ) (name : List ℕ) → E → SymbolTold E
   of_no_name : (place : ℕ) → E → SymbolTold E
   no_more_symbols : E → SymbolTold E
 
--- what it says before a name or a reason
+-- the text before a name or an error
 abbrev pub symbol_at_text : ℕ → List ℕ
 symbol_at_text place = codes "symbol at " ++ decimal place
 
--- the line of what is told
+-- the line of this
 abbrev pub symbol_line : SymbolTold Error → List ℕ
 symbol_line (a_symbol place name) = (symbol_at_text place ++ codes ": ") ++ name_tail name
 symbol_line (of_no_member place name e) = (symbol_at_text place ++ (codes ", refused: " ++ (words_of e ++ codes ": "))) ++ name_tail name
 symbol_line (of_no_name place e) = symbol_at_text place ++ (codes ", name refused: " ++ (words_of e ++ codes "\n"))
 symbol_line (no_more_symbols e) = refused_line (codes "symbol refused") e
 
--- the words of the error that it tells, if it tells one
+-- the words of its error, if it has one
 abbrev pub symbol_reason : SymbolTold Error → List ℕ
 symbol_reason (a_symbol place name) = []
 symbol_reason (of_no_member place name e) = words_of e
 symbol_reason (of_no_name place e) = words_of e
 symbol_reason (no_more_symbols e) = words_of e
 
--- which faults it tells
+-- the same, with faults for errors
 abbrev pub told_symbol_faults : SymbolTold Error → SymbolTold Fault
 told_symbol_faults (a_symbol place name) = a_symbol place name
 told_symbol_faults (of_no_member place name e) = of_no_member place name (fault_of e)
 told_symbol_faults (of_no_name place e) = of_no_name place (fault_of e)
 told_symbol_faults (no_more_symbols e) = no_more_symbols (fault_of e)
 
--- what is there to be told of a symbol of this name, of which this is said to be the member
+-- what is reported of a symbol with this name, given its member
 abbrev pub item_of_member : (place : ℕ) (name : List ℕ) → Result MemberView Fault → SymbolTold Fault
 item_of_member place name (Ok m) = a_symbol place name
 item_of_member place name (Err f) = of_no_member place name f
 
--- of one whose name may be a text
+-- what is reported of a symbol, given its name, which may be no text
 abbrev pub item_of_name : ArchiveView → (place : ℕ) → Result (List ℕ) Fault → SymbolTold Fault
 item_of_name a place (Ok name) = item_of_member place name (archive_member_at a place)
 item_of_name a place (Err f) = of_no_name place f
 
--- and of one that was read
+-- what is reported of a symbol as it was read
 abbrev pub symbol_item : ArchiveView → Result IndexSymbol Fault → SymbolTold Fault
 symbol_item a (Ok s) = item_of_name a s.member (text_or_fault s.name)
 symbol_item a (Err f) = no_more_symbols f
@@ -68,12 +68,13 @@ is_whole_symbol (of_no_member place name f) = false
 is_whole_symbol (of_no_name place f) = false
 is_whole_symbol (no_more_symbols f) = false
 
--- what is known of none: whether it is whole
+-- what is known if no line is printed: whether it is whole
 abbrev pub untold : (left : ℕ) → (whole : Bool) → Told
 untold left whole = record { left = left; whole = whole; more = false }
 
--- The text is a line for each of the first symbols of an archive's index, in order, up to the first fault, and for this, no more than `left`; none, where
--- it has no index; or why the index can't be read. It is whole where nothing tells a fault.
+-- The text is a line for each of the first symbols of an archive's index, in order, up to the first fault, and for that fault, no
+-- more than `left`; nothing, if the archive has no index; or a line with the error of the index. It is whole if no line has a
+-- fault.
 pub data AreIndexLines (a : ArchiveView) (left : ℕ) : List ℕ → Told → Type 0 where
   no_index : archive_table a ≡ Ok None → AreIndexLines a left [] (untold left true)
   no_table : (e : Error) → archive_table a ≡ Err (fault_of e) → AreIndexLines a left (refused_line (codes "symbols refused") e) (untold left false)

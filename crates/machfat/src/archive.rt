@@ -19,7 +19,7 @@ use mach_cli::{Escaped, Outcome, print_cut};
 use std::io;
 use std::io::Write;
 
-/// Prints the line of what is refused, and why, and answers that nothing is whole then.
+/// Prints the line of what is refused, with its error. Returns that it is not whole.
 pub fn print_refused<O: Write>(what: &str, error: &Error, out: &mut O) -> io::Result<bool>
     ensures { IfOk result (λ whole. (whole ≡ false) × Appends (O.contents out.old) (O.contents out.new) (refused_line what.now error.now)) }
 {
@@ -36,8 +36,8 @@ pub fn print_name_end<O: Write>(name: &str, out: &mut O) -> io::Result<()>
     writeln!(out, "{name}")
 }
 
-/// Prints the lines of an archive: of its members, then of the symbols of its index, no more than `left`; where there are more, a line says that `limit` are
-/// told. Answers whether there are no more and nothing tells a fault, and how many lines are left.
+/// Prints the lines of an archive: of its members, then of the symbols of its index, no more than `left`; if there are more, a
+/// line says that `limit` are printed. Returns whether there are no more and no line has a fault, and how many lines are left.
 pub fn print_archive<O: Write>(
     archive: &Archive<'_>,
     limit: usize,

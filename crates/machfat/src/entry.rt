@@ -14,7 +14,7 @@ use std::alloc::{Allocator, Global};
 use std::io;
 use std::io::Write;
 
-// The kind of a file whose entries are refused, where its first bytes show it.
+// Returns the kind of a file whose entries are refused, if its first bytes show it.
 fn kind_by_front(bytes: &[u8], why: &EntryRefusal) -> Option<Foreign>
     ensures { result ≡ kind_by_front bytes.now why.now }
 {
@@ -24,7 +24,7 @@ fn kind_by_front(bytes: &[u8], why: &EntryRefusal) -> Option<Foreign>
     }
 }
 
-// An answer of a file's entries; where they are refused, what is said of the file.
+// Returns an answer about a file's entries, or the refusal of the file.
 fn said<T>(bytes: &[u8], answer: Result<T, EntryRefusal>) -> Result<T, Refusal>
     ensures { result ≡ said_in bytes.now answer }
 {
@@ -40,13 +40,13 @@ fn said<T>(bytes: &[u8], answer: Result<T, EntryRefusal>) -> Result<T, Refusal>
 /// The form of a list.
 #[derive(Clone, Copy)]
 pub enum ListForm {
-    /// A line a record.
+    /// A line for each record.
     Lines,
-    /// An object a record, with a comma between two.
+    /// An object for each record, with commas between them.
     Objects,
 }
 
-/// The records of a fat file of 32 or of 64 bits, in order.
+/// Returns the records of a fat file of 32 or of 64 bits, in order.
 #[tactic(auto, using(crate::proofs::Told::tells_of))]
 pub fn records<A: Allocator>(alloc: A, bytes: &[u8]) -> Result<Vec<EntryRecord, A>, Refusal>
     ensures held { IfOk result (λ v. fat_records_in bytes.now ≡ Ok v.items) }
@@ -99,7 +99,7 @@ fn print_line<O: Write>(
     writeln!(out, "arch {index}: {record}")
 }
 
-// Prints the object of a record, behind a comma if it isn't the first.
+// Prints the object of a record, after a comma unless it is the first.
 fn print_object<O: Write>(
     bytes: &[u8],
     index: usize,
@@ -113,15 +113,15 @@ fn print_object<O: Write>(
     write!(out, "{comma}{record}")
 }
 
-/// The first of some items, no more than a limit.
+/// Returns the first of some items, no more than a limit.
 pub fn first_of<T>(items: &[T], limit: usize) -> &[T]
     ensures { result.now ≡ take limit items.now }
 {
     items.get(..limit).unwrap_or(items)
 }
 
-/// Prints the list of a fat file: a line for each of its first records, in order, no more than a limit, and that there are more, where that is so.
-/// Answers whether there are no more.
+/// Prints the list of a fat file: a line for each of its first records, in order, no more than a limit, and a line if there are
+/// more. Returns whether there are no more.
 pub fn list<A: Allocator, O: Write>(
     alloc: A,
     limit: usize,
@@ -138,7 +138,7 @@ pub fn list<A: Allocator, O: Write>(
     Ok(!more)
 }
 
-/// The bytes of an entry of a fat file of 32 or of 64 bits.
+/// Returns the bytes of an entry of a fat file of 32 or of 64 bits.
 #[tactic(auto, using(crate::proofs::Told::tells_of))]
 pub fn entry_bytes(alloc: Global, bytes: &[u8], index: usize) -> Result<&[u8], Refusal>
     ensures found { IfOk result (λ entry. indexed_entry_in bytes.now index ≡ Ok entry.now) }

@@ -20,9 +20,12 @@ use std::alloc::Allocator;
 use std::io;
 use std::io::{BufWriter, Write};
 
-/// Writes the object of a fat file of this name on a line, with an object for each of its first records, in order, no more than a limit, and answers the
-/// exit status: 0; 1 where there are more, or where the file or memory is refused, and then the object has a member `error` and `err` a line that says
-/// why; 2 or 141 where a write fails. But for that nothing is left in the buffer.
+/// Writes the object of a fat file with this name on a line, with an object for each of its first records, in order, no more than
+/// a limit.
+///
+/// Returns the exit status. It is 0 if all were written. It is 1 if there are more; or if the file or an allocation is refused,
+/// and then the object has a member `error`, and `err` a line that says why. It is 2 or 141 if a write fails. Unless a write
+/// fails, nothing is left in the buffer.
 pub fn run_list_json<A: Allocator, W: Write + Drop, B: Allocator, E: Write>(
     alloc: A,
     limit: usize,
@@ -47,7 +50,7 @@ pub fn run_list_json<A: Allocator, W: Write + Drop, B: Allocator, E: Write>(
     }
 }
 
-// The status of a fat file with these records, whose object is written.
+// Writes the object of a fat file with these records, and returns the status.
 fn list_as<W: Write + Drop, B: Allocator, E: Write>(
     limit: usize,
     file: &str,
@@ -70,7 +73,7 @@ fn list_as<W: Write + Drop, B: Allocator, E: Write>(
     }
 }
 
-// The status of a file that is refused, which is told, and whose object says so.
+// Reports a refused file, writes its object, and returns the status.
 fn refuse<W: Write + Drop, B: Allocator, E: Write>(
     file: &str,
     refusal: &Refusal,
@@ -90,7 +93,7 @@ fn refuse<W: Write + Drop, B: Allocator, E: Write>(
     }
 }
 
-// Writes the object of a fat file with these records, and all that was gathered, and answers whether there are no more than the limit.
+// Writes the object of a fat file with these records and flushes it. Returns whether there are no more than the limit.
 fn write_document<W: Write + Drop, B: Allocator>(
     limit: usize,
     file: &str,
@@ -134,7 +137,7 @@ fn print_end<O: Write>(more: bool, file: &str, out: &mut O) -> io::Result<()>
     )
 }
 
-// Writes the object of a file that is refused, and all that was gathered.
+// Writes the object of a refused file and flushes it.
 fn write_refusal<W: Write + Drop, B: Allocator>(
     file: &str,
     refusal: &Refusal,

@@ -8,7 +8,8 @@ ghost use Rattle.machfat.specs.Lines.{record_line};
 ghost use Rattle.machfat.specs.MemberLines.{member_line, member_reason, MemberTold};
 ghost use Rattle.machfat.specs.SymbolLines.{symbol_line, symbol_reason, SymbolTold};
 
-/// The line of a record, of a member and of a symbol is one line, whatever the names of the file are, if the words of the error that it tells are.
+/// The line of a record, of a member and of a symbol is one line, whatever the names in the file are, if the words of its error
+/// are one line.
 pub fn an_item_is_one_line()
     ensures records { (bytes : List ℕ) → (i : ℕ) → (r : EntryRecord) → IsOneLine (record_line bytes i r) }
     ensures members { (told : MemberTold Error) → has_no_feed (member_reason told) ≡ true → IsOneLine (member_line told) }

@@ -1,4 +1,4 @@
-//! Fat files that are made of files.
+//! Fat files that are created from files.
 
 ghost use Rattle.std.specs.Prelude.{◌≡◌, ◌≤◌, List, ℕ};
 ghost use Rattle.std.specs.Io.KnownBytes.{Appends};
@@ -24,9 +24,11 @@ use std::alloc::Global;
 use std::io::Write;
 use std::rt::Files;
 
-/// Writes the fat file that is made of some files, and answers the exit status: 0; 1 where one of the files is refused, or what they
-/// make, or memory, and then `err` has a line that says why; 2 where one of them is the target; 2 or 141 where the file can't be
-/// written. The file is whole, or as it was before.
+/// Writes the fat file that consists of some files.
+///
+/// Returns the exit status. It is 0 if the file was written. It is 1 if one of the files, the fat file or an allocation is
+/// refused, and then `err` has a line that says why. It is 2 if one of the files is the target. It is 2 or 141 if the file can't
+/// be written. The target is written whole, or unchanged.
 pub fn run_create<R: Files, E: Write>(
     files: &R,
     alloc: Global,
@@ -51,8 +53,8 @@ pub fn run_create<R: Files, E: Write>(
     }
 }
 
-/// Writes the fat file that another one becomes where a file takes the place of each entry for its cpu, and answers the exit status as
-/// `run_create` does. `both` are the names of the fat file and of the other one.
+/// Writes a fat file in which another file replaces each entry for its cpu, and returns the exit status as `run_create` does.
+/// `both` are the names of the fat file and of the other one.
 pub fn run_replace<R: Files, E: Write>(
     files: &R,
     alloc: Global,
@@ -77,8 +79,8 @@ pub fn run_replace<R: Files, E: Write>(
     }
 }
 
-/// Writes the fat file that another one becomes without the entry of an index, and answers the exit status as `run_create` does. `only` has
-/// the name of the fat file.
+/// Writes a fat file without the entry with an index, and returns the exit status as `run_create` does. `only` has the name of
+/// the fat file.
 pub fn run_remove<R: Files, E: Write>(
     files: &R,
     alloc: Global,
@@ -103,7 +105,7 @@ pub fn run_remove<R: Files, E: Write>(
     }
 }
 
-// Writes a file that was made, and answers the exit status.
+// Writes a created file, and returns the exit status.
 fn place_made<R: Files, E: Write>(
     files: &R,
     alloc: Global,
@@ -119,7 +121,7 @@ fn place_made<R: Files, E: Write>(
     status(place_file(files, alloc, made, target), target, target, err)
 }
 
-// The status where nothing is made, which is told with the name of the file that is refused, or else of the one that isn't made.
+// Reports a refusal, with the name of the file that is refused or else of the target, and returns the status.
 fn refuse<E: Write>(names: &[&str], target: &str, refusal: MakeRefusal, err: &mut E) -> u8
     ensures status { IsStatus result }
     ensures not_zero { 1 ≤ result }
@@ -133,7 +135,7 @@ fn refuse<E: Write>(names: &[&str], target: &str, refusal: MakeRefusal, err: &mu
     }
 }
 
-// The name of a file, by its index among those that are given.
+// Returns the name of a file, by its index among the given ones.
 fn given_name<'a>(names: &[&'a str], index: usize) -> &'a str
     ensures { result.now ≡ given_name names.now index }
 {
@@ -143,7 +145,7 @@ fn given_name<'a>(names: &[&'a str], index: usize) -> &'a str
     }
 }
 
-/// The status where a file that is read is the one that is to be written, which is told.
+/// Reports that a file that is read is the one to write, and returns the status.
 pub fn one_file<E: Write>(file: &str, target: &str, err: &mut E) -> u8
     ensures { result ≡ 2 }
 {

@@ -1,13 +1,14 @@
-//! Lists the entries of a fat file or the members of an archive, a line each, or writes the bytes of an entry to a file; or makes a fat file.
+//! Lists the entries of a fat file or the members of an archive, a line each; or writes the bytes of an entry to a file; or
+//! writes a fat file.
 //!
-//! With `--json` the list is an object a file, on a line. A line has the fields of `llvm-objdump --universal-headers`, and the kind of the entry by its first
-//! bytes. Numbers of cpus are not given names, and the capabilities stay in the top 8 bits of `cpusubtype`.
-//! An entry is asked for by its place in the list, or by its cputype. A fat file of 32 or of 64 bits is created of files as
-//! `llvm-lipo -create` creates it, an entry is replaced as by `-replace`, or removed by its place. What is written
-//! stands under another name beside the file that is asked for, and is renamed once it is whole.
+//! With `--json` the list is one object for each file, on a line. A line has the fields of `llvm-objdump --universal-headers`,
+//! and the kind of the entry by its first bytes. Numbers of cpus are not given names, and the capabilities stay in the top 8 bits
+//! of `cpusubtype`. An entry is selected by its place in the list, or by its cputype. A fat file of 32 or of 64 bits is created
+//! from files as `llvm-lipo -create` does, an entry is replaced as by `-replace`, or removed by its place. A file is written
+//! under another name beside its target, and is renamed once it is whole.
 #![tactic(auto)]
 
-// Fat files: taken apart, made, and listed.
+// Fat files: taken apart, written, and listed.
 mod entry;
 mod json;
 mod laws;
@@ -20,7 +21,7 @@ mod text;
 mod thin;
 mod verify;
 
-// What is listed of an archive: a line for each member, and one for each symbol of its index.
+// The list of an archive: a line for each member, and one for each symbol of its index.
 mod archive;
 
 ghost use Rattle.std.specs.Prelude.{◌≡◌, if◌then◌else◌};
@@ -42,10 +43,10 @@ use std::process::ExitCode;
 use thin::run_thin;
 use verify::run_verify;
 
-// The option by which a fat file of 64 bits is created.
+// The option that selects a fat file of 64 bits.
 const WIDE: &str = "--fat64";
 
-// How many lines of a file are told, where no other limit is given.
+// How many lines of a file are printed if no other limit is given.
 const DEFAULT_LIMIT: usize = 10_000_000;
 
 // What is printed of a file.
@@ -57,7 +58,7 @@ enum Shown {
     Members,
 }
 
-// What is asked for of each file: what is printed of it, and how many lines at most.
+// What is printed of each file, and how many lines at most.
 #[derive(Clone, Copy)]
 struct Asked {
     shown: Shown,
@@ -97,7 +98,7 @@ const PROGRAM: Program = Program {
     ],
 };
 
-// The same for the words that write a file, which know none of its options.
+// The same for the commands that write a file, which have no options.
 const FOR_WRITES: Program = Program {
     known: &[],
     ..PROGRAM
@@ -109,7 +110,7 @@ fn main(rt: HostRuntime) -> ExitCode {
     })
 }
 
-// Does what the words ask for.
+// Runs the program with its words.
 fn start(rt: &HostRuntime) -> Result<u8, u8> {
     let Ok((is_json, mut words)) = take_json(rt.alloc(), PROGRAM.words(rt)?) else {
         return Err(PROGRAM.out_of_memory(rt));
@@ -136,7 +137,7 @@ fn start(rt: &HostRuntime) -> Result<u8, u8> {
     }
 }
 
-// What is shown of files, if a word asks for that.
+// Returns what is shown of files, if the word is a command that shows them.
 fn shown_by(word: &str, is_json: bool) -> Option<Shown> {
     match word {
         "list" if is_json => Some(Shown::Object),
@@ -147,7 +148,7 @@ fn shown_by(word: &str, is_json: bool) -> Option<Shown> {
     }
 }
 
-// An option of a call that the words which write a file don't know, or a word that is no text, if there is one.
+// Returns an option of a call that the commands which write a file don't have, or a word that is no text, if there is one.
 fn misplaced<'a>(call: &Call<'a, Global>, is_json: bool, is_wide: bool) -> Option<Misuse<'a>> {
     if let Some(word) = call.others.no_texts.first() {
         return Some(Misuse::NoText(*word));
@@ -167,7 +168,8 @@ fn misplaced<'a>(call: &Call<'a, Global>, is_json: bool, is_wide: bool) -> Optio
     None
 }
 
-// Writes what a word asks for. Of all but `create` the first of the names that are given is that of a fat file, and the last that of what is written.
+// Runs a command that writes a file. Except for `create`, the first of the given names is that of a fat file, and the last is
+// that of the target.
 fn write_file(rt: &HostRuntime, word: &str, form: Form, given: &[&str]) -> Result<u8, u8> {
     match word {
         "create" => create_file(rt, form, given),
@@ -191,7 +193,7 @@ impl<W: Write + Drop, B: Allocator> ShowsFile<BufWriter<W, B>> for Asked {
     }
 }
 
-// Prints what is asked for of files in order, and answers the worst status.
+// Shows files in order, and returns the worst status.
 fn show_files(
     rt: &HostRuntime,
     asked: Asked,
@@ -214,7 +216,7 @@ fn show_files(
     shown.show(rt, &asked, files, others, &mut lines)
 }
 
-// Takes the option out of a call's words, where it stands before `--`, and answers whether it was there.
+// Removes the option from a call's words, if it is before `--`, and returns whether it was there.
 fn take_option(words: &mut Vec<Word>) -> bool {
     for index in 1..words.len() {
         match words[index].as_str() {
@@ -229,14 +231,14 @@ fn take_option(words: &mut Vec<Word>) -> bool {
     false
 }
 
-// The form of a file that is created.
+// Returns the form of a file to create.
 fn form_for(is_wide: bool) -> Form
     ensures { result ≡ (if is_wide then Bits64 else Bits32) }
 {
     if is_wide { Form::Bits64 } else { Form::Bits32 }
 }
 
-// Creates a fat file, whose name is the first of some words, of the others.
+// Creates a fat file, whose name is the first of some words, from the others.
 fn create_file(rt: &HostRuntime, form: Form, words: &[&str]) -> Result<u8, u8> {
     let [target, names @ ..] = words else {
         return Err(PROGRAM.bad_usage(rt, Misuse::Missing("OUT")));
@@ -259,7 +261,7 @@ fn create_file(rt: &HostRuntime, form: Form, words: &[&str]) -> Result<u8, u8> {
     ))
 }
 
-// The bytes of some files, in order.
+// Reads the bytes of some files, in order.
 fn read_all(rt: &HostRuntime, names: &[&str]) -> Result<Vec<Vec<u8>>, u8> {
     let mut files = Vec::new(rt.alloc());
     for name in names {
@@ -271,7 +273,7 @@ fn read_all(rt: &HostRuntime, names: &[&str]) -> Result<Vec<Vec<u8>>, u8> {
     Ok(files)
 }
 
-// The same bytes, borrowed.
+// Returns the same bytes, borrowed.
 fn slices(alloc: Global, files: &[Vec<u8>]) -> Result<Vec<&[u8]>, AllocError> {
     let mut inputs = Vec::with_capacity(alloc, files.len())?;
     for bytes in files {
@@ -280,7 +282,7 @@ fn slices(alloc: Global, files: &[Vec<u8>]) -> Result<Vec<&[u8]>, AllocError> {
     Ok(inputs)
 }
 
-// The index that a word is.
+// Returns the index that a word spells.
 fn index_in(rt: &HostRuntime, word: &str) -> Result<usize, u8> {
     match word.parse::<usize>() {
         Ok(index) => Ok(index),

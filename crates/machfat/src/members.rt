@@ -24,9 +24,12 @@ use std::alloc::{Allocator, Global};
 use std::io;
 use std::io::{BufWriter, Write};
 
-/// Prints a line for each member of an archive and each symbol of its index, or of each entry of a fat file, no more than a limit together, and answers the
-/// exit status: 0; 1 where a line says that something is refused, or that there are more, or where the file or memory is refused, and then `err` has a line
-/// that says why and `out` nothing; 2 or 141 where a write fails. But for that nothing is left in the buffer.
+/// Prints a line for each member of an archive and each symbol of its index, also of those that are entries of a fat file, no
+/// more than a limit in all.
+///
+/// Returns the exit status. It is 0 if all were printed. It is 1 if a line says that something is refused, or that there are
+/// more; or if the file or an allocation is refused, and then `err` has a line that says why, and `out` nothing. It is 2 or 141
+/// if a write fails. Unless a write fails, nothing is left in the buffer.
 pub fn run_members<W: Write + Drop, B: Allocator, E: Write>(
     alloc: Global,
     limit: usize,
@@ -48,7 +51,7 @@ pub fn run_members<W: Write + Drop, B: Allocator, E: Write>(
     told(answer, file, out, err)
 }
 
-// Prints what is told of a file, no more than a limit, and answers whether it is whole.
+// Prints the lines of a file, no more than a limit. Returns whether it is whole.
 fn print_file<O: Write>(
     alloc: Global,
     limit: usize,
@@ -70,7 +73,7 @@ fn print_file<O: Write>(
     }
 }
 
-// The records of a fat file of this form.
+// Returns the records of a fat file of this form.
 fn table(alloc: Global, form: Form, bytes: &[u8]) -> Result<Vec<EntryRecord>, Refusal>
     ensures records { IfOk result (λ v. fat_table_in (form_of form) bytes.now ≡ Ok v.items) }
     ensures refused { IfErr result (λ refusal. form_in bytes.now ≡ Some (form_of form) → RefusesMembers bytes.now refusal) }
@@ -81,7 +84,7 @@ fn table(alloc: Global, form: Form, bytes: &[u8]) -> Result<Vec<EntryRecord>, Re
     }
 }
 
-// What is said of a file that is refused for an error: what it is, where its first bytes tell it, and it is no archive.
+// Returns the refusal of a file for an error: by its kind, if its first bytes show one that is no archive.
 fn refused(bytes: &[u8], error: Error) -> Refusal
     ensures { result ≡ refused_by (but_archive (refused_kind bytes.now error)) error }
 {
@@ -92,7 +95,7 @@ fn refused(bytes: &[u8], error: Error) -> Refusal
     refused_by(kind, error)
 }
 
-// Prints what is told of the entries of some records, in order, no more than a limit.
+// Prints the lines of the entries of some records, in order, no more than a limit.
 fn print_entries<O: Write>(
     limit: usize,
     bytes: &[u8],
@@ -116,7 +119,7 @@ fn print_entries<O: Write>(
     Ok(outcome)
 }
 
-// Prints what is told of the entry of a record, no more than is left of a limit.
+// Prints the lines of the entry of a record, no more than are left of a limit.
 fn print_content<O: Write>(
     limit: usize,
     left: usize,

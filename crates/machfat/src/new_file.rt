@@ -1,4 +1,4 @@
-//! Bytes as a file of their own.
+//! Writes bytes as a file of their own.
 
 ghost use Rattle.std.specs.Prelude.{◌≡◌, Option, MatchOption, OnOk, IfOk, IfErr};
 ghost use Rattle.machfat.specs.Entry.{Took, TookLast};
@@ -13,17 +13,17 @@ use std::os::unix::fs::MetadataExt;
 use std::rt::Files;
 use std::{fs, io};
 
-// How many names are tried for a file that is not whole yet.
+// How many names are tried for a temporary file.
 const NAMES: usize = 100;
 
-/// What the system knows a file by: the number of its device, and its own number there.
+/// How the system identifies a file: the number of its device, and its inode there.
 #[derive(Clone, Copy)]
 pub struct Node {
     dev: u64,
     ino: u64,
 }
 
-/// Whether two paths lead to one file: exactly where they are one text, or the system says so.
+/// Whether two paths lead to one file: exactly if they are one text, or the system knows them as one file.
 pub fn is_same_file<R: Files>(files: &R, one: &str, other: &str) -> bool
     ensures { (here : Option Node) × (there : Option Node) × (result ≡ is_one_file one.now other.now here there) }
 {
@@ -32,7 +32,7 @@ pub fn is_same_file<R: Files>(files: &R, one: &str, other: &str) -> bool
     is_one_file(one, other, here, there)
 }
 
-/// The first of some paths that leads to the file of another, if there is one.
+/// Returns the first of some paths that leads to the file of another, if there is one.
 pub fn first_same<'a, R: Files>(files: &R, paths: &[&'a str], other: &str) -> Option<&'a str>
     ensures { MatchOption result (AreOther paths.now other.now) (λ path. IsSame path.now other.now) }
 {
@@ -44,7 +44,7 @@ pub fn first_same<'a, R: Files>(files: &R, paths: &[&'a str], other: &str) -> Op
     None
 }
 
-// What the system knows the file of a path by, if it says so.
+// Returns how the system identifies the file of a path, if it does.
 fn node_of<R: Files>(files: &R, path: &str) -> Option<Node> {
     match fs::metadata(files, path) {
         Ok(there) => Some(Node {
@@ -55,7 +55,7 @@ fn node_of<R: Files>(files: &R, path: &str) -> Option<Node> {
     }
 }
 
-// Whether two paths are one text, or what they lead to is one file.
+// Whether two paths are one text, or lead to one file.
 fn is_one_file(one: &str, other: &str, here: Option<Node>, there: Option<Node>) -> bool
     ensures { result ≡ is_one_file one.now other.now here there }
 {
@@ -72,8 +72,9 @@ fn is_one_node(here: Option<Node>, there: Option<Node>) -> bool
     }
 }
 
-/// Writes bytes under another name beside the target, and renames it once it is whole; the file is the answer. Until then the
-/// target is as it was, and where a step fails it stays so and nothing is left beside it. No file is made where
+/// Writes bytes under another name beside the target, and renames that file once it is whole. Returns the file.
+///
+/// Until then the target is unchanged. If a step fails, it stays unchanged and nothing is left beside it. Nothing is written if
 /// something other than a plain file has the target's name.
 pub fn place_file<R: Files>(
     files: &R,
@@ -105,7 +106,7 @@ fn is_free<R: Files>(files: &R, path: &str) -> bool {
     }
 }
 
-// Makes a file of a new name beside a path.
+// Creates a file with a new name beside a path.
 fn new_file<R: Files>(files: &R, alloc: Global, path: &str) -> Result<(String, R::File), Failure>
     ensures { IfErr result (IsRefusal IsWant) }
 {
@@ -120,14 +121,14 @@ fn new_file<R: Files>(files: &R, alloc: Global, path: &str) -> Result<(String, R
     Err(taken())
 }
 
-// The failure where a name is taken.
+// Returns the failure if a name is taken.
 fn taken() -> Failure
     ensures { IsRefusal IsWant result }
 {
     Failure::Unwritten(io::Error::from(ErrorKind::AlreadyExists))
 }
 
-// Writes bytes to a file, down to the disk.
+// Writes bytes to a file, and syncs it to the disk.
 fn fill<F: Write + OpenFile>(bytes: &[u8], file: &mut F) -> Result<(), Failure>
     ensures written { OnOk result (Took F.contents file.old file.new bytes.now) }
     ensures refused { IfErr result (IsRefusal IsWant) }
@@ -138,7 +139,7 @@ fn fill<F: Write + OpenFile>(bytes: &[u8], file: &mut F) -> Result<(), Failure>
     Ok(())
 }
 
-// Writes bytes to a new file, and nothing else, and gives it the name of the target. The file is the answer.
+// Writes bytes to a new file, and nothing else, and gives it the name of the target. Returns the file.
 fn complete<R: Files>(
     files: &R,
     bytes: &[u8],

@@ -1,4 +1,4 @@
-//! Why an answer is not given.
+//! Why the program refuses a file or an entry.
 
 ghost use Rattle.std.specs.Prelude.{◌≡◌};
 ghost use Rattle.machfat.specs.Refusals.{refused_by};
@@ -17,11 +17,11 @@ use std::{fmt, io};
 pub enum Refusal {
     /// The library refuses it.
     Refused(Error),
-    /// The library refuses it, and its first bytes say what it is.
+    /// The library refuses it, and its first bytes show its kind.
     Foreign(Foreign),
     /// It is one image.
     NotFat,
-    /// Its entries are refused, or it has none of those that are asked for.
+    /// Its entries are refused, or it doesn't have the selected one.
     Entries(EntryRefusal),
 }
 
@@ -57,7 +57,7 @@ impl Display for Refusal {
     }
 }
 
-/// What is said of a file that is refused for an error: what it is, where that is known.
+/// Returns the refusal of a file for an error: by its kind, if that is known.
 pub fn refused_by(kind: Option<Foreign>, error: Error) -> Refusal
     ensures { result ≡ refused_by kind error }
 {

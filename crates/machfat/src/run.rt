@@ -1,4 +1,4 @@
-//! What the program's words do, and its exit status.
+//! What the program's commands do, and its exit status.
 
 ghost use Rattle.std.specs.Prelude.{◌≡◌, ◌≤◌, ◌⊎◌, [], ℕ, List, true, false, IsOk, IfOk, IfErr, Ok, Err};
 ghost use Rattle.std.specs.Io.Buffered.{writer_buffer, writer_contents};
@@ -24,8 +24,11 @@ use std::rt::Files;
 /// The program's name.
 pub const NAME: &str = "machfat";
 
-/// Prints the records of a fat file, of which no more than a limit are told, and answers the exit status: 0; 1 where there are more, or where the file or
-/// memory is refused, and then `err` has a line that says why and `out` nothing; 2 or 141 where a write fails. But for that nothing is left in the buffer.
+/// Prints the records of a fat file, no more than a limit.
+///
+/// Returns the exit status. It is 0 if all were printed. It is 1 if there are more; or if the file or an allocation is refused,
+/// and then `err` has a line that says why, and `out` nothing. It is 2 or 141 if a write fails. Unless a write fails, nothing is
+/// left in the buffer.
 pub fn run_list<A: Allocator, W: Write + Drop, B: Allocator, E: Write>(
     alloc: A,
     limit: usize,
@@ -47,8 +50,7 @@ pub fn run_list<A: Allocator, W: Write + Drop, B: Allocator, E: Write>(
     told(answer, file, out, err)
 }
 
-/// The exit status of what was told of a file, which is whole or not, or of why it wasn't, which `err` tells. All that was gathered is written
-/// before.
+/// Flushes the output, reports a refusal on `err`, and returns the exit status of a file's lines, which are whole or not.
 pub fn told<W: Write + Drop, B: Allocator, E: Write>(
     answer: Result<bool, Failure>,
     file: &str,
@@ -73,9 +75,10 @@ pub fn told<W: Write + Drop, B: Allocator, E: Write>(
     }
 }
 
-/// Writes an entry to a file, and answers the exit status: 0; 1 where there is no such entry, or for want of
-/// memory, and then `err` has a line that says why; 2 or 141 where the file can't be written. The file is whole, or as
-/// it was before.
+/// Writes an entry to a file.
+///
+/// Returns the exit status. It is 0 if the file was written. It is 1 if there is no such entry, or an allocation is refused, and
+/// then `err` has a line that says why. It is 2 or 141 if the file can't be written. The file is written whole, or unchanged.
 pub fn run_extract<R: Files, E: Write>(
     files: &R,
     alloc: Global,
@@ -98,7 +101,7 @@ pub fn run_extract<R: Files, E: Write>(
     )
 }
 
-// Writes an entry to a file, which is the answer. No file is made where there is no such entry.
+// Writes an entry to a file, and returns the file. Nothing is written if there is no such entry.
 fn extract<R: Files>(
     files: &R,
     alloc: Global,
@@ -114,7 +117,8 @@ fn extract<R: Files>(
     place_file(files, alloc, entry, target)
 }
 
-/// The exit status of a file that was written, or of why it wasn't, which goes to `err`: of a failed write with the name of the target.
+/// Returns the exit status of a file that was written, or reports on `err` why it wasn't: a failed write with the name of the
+/// target.
 pub fn status<F: Drop, E: Write>(
     answer: Result<F, Failure>,
     file: &str,
@@ -133,7 +137,7 @@ pub fn status<F: Drop, E: Write>(
     }
 }
 
-/// The status of a refusal, which is told.
+/// Reports a refusal, and returns the status.
 pub fn refused<E: Write>(file: &str, refusal: &Refusal, err: &mut E) -> u8
     ensures bound { IsStatus result }
     ensures not_zero { 1 ≤ result }

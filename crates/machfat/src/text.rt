@@ -25,7 +25,7 @@ impl Display for CpuText {
     }
 }
 
-// Where the entry of a record stands.
+// The offset, the size and the alignment of a record's entry.
 #[derive(Clone, Copy)]
 struct PlaceText(EntryRecord);
 
@@ -43,7 +43,7 @@ impl Display for PlaceText {
     }
 }
 
-/// A record of the fat file that these bytes are, with the kind of its entry.
+/// A record of the fat file in these bytes, with the kind of its entry.
 #[derive(Clone, Copy)]
 pub struct RecordText<'a> {
     pub bytes: &'a [u8],
@@ -61,7 +61,7 @@ impl<'a> Display for RecordText<'a> {
     }
 }
 
-// The members of a record's object that say for which cpu it is.
+// The members of a record's object with its cpu.
 #[derive(Clone, Copy)]
 struct CpuMembers(EntryRecord);
 
@@ -82,7 +82,7 @@ impl Display for CpuMembers {
     }
 }
 
-// Those that say where its entry stands.
+// The members with the place of its entry.
 #[derive(Clone, Copy)]
 struct PlaceMembers(EntryRecord);
 
@@ -95,7 +95,7 @@ impl Display for PlaceMembers {
     }
 }
 
-/// The object of a record of the fat file that these bytes are, with the kind of its entry.
+/// The object of a record of the fat file in these bytes, with the kind of its entry.
 #[derive(Clone, Copy)]
 pub struct RecordObject<'a> {
     pub bytes: &'a [u8],
@@ -113,7 +113,7 @@ impl<'a> Display for RecordObject<'a> {
     }
 }
 
-// The kind of a record's entry; an entry that isn't in the file has no bytes.
+// Returns the kind of a record's entry; an entry outside the file has no bytes.
 fn kind_of(bytes: &[u8], arch: &EntryRecord) -> &'static str
     ensures { result.now ≡ record_kind bytes.now arch.now }
 {

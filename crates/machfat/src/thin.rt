@@ -1,4 +1,4 @@
-//! An entry of a fat file that is written by its cpu.
+//! Writes an entry of a fat file, selected by its cpu.
 
 ghost use Rattle.std.specs.Prelude.{◌≡◌, ℕ, List, Ok, IfOk, IfErr};
 ghost use Rattle.std.specs.Io.KnownBytes.{Appends};
@@ -18,9 +18,11 @@ use std::alloc::Global;
 use std::io::Write;
 use std::rt::Files;
 
-/// Writes the first entry of a cputype to a file, and answers the exit status: 0; 1 where there is no such entry, or for want of memory,
-/// and then `err` has a line that says why; 2 where the fat file is the target; 2 or 141 where the target can't be written. The target is
-/// whole, or as it was before.
+/// Writes the first entry for a cputype to a file.
+///
+/// Returns the exit status. It is 0 if the file was written. It is 1 if there is no such entry, or an allocation is refused, and
+/// then `err` has a line that says why. It is 2 if the fat file is the target. It is 2 or 141 if the target can't be written. The
+/// target is written whole, or unchanged.
 pub fn run_thin<R: Files, E: Write>(
     files: &R,
     alloc: Global,
@@ -47,7 +49,7 @@ pub fn run_thin<R: Files, E: Write>(
     )
 }
 
-// The bytes of the first entry of a cputype.
+// Returns the bytes of the first entry for a cputype.
 fn entry_of_cpu(alloc: Global, bytes: &[u8], cputype: u32) -> Result<&[u8], Refusal>
     ensures found { IfOk result (λ entry. thin_entry_in bytes.now cputype ≡ Ok entry.now) }
     ensures refused { IfErr result (RefusesPlainly (thin_entry_in bytes.now cputype)) }
@@ -56,7 +58,7 @@ fn entry_of_cpu(alloc: Global, bytes: &[u8], cputype: u32) -> Result<&[u8], Refu
     Ok(entry)
 }
 
-// Writes the first entry of a cputype to a file, which is the answer. No file is made where there is no such entry.
+// Writes the first entry for a cputype to a file, and returns the file. Nothing is written if there is no such entry.
 fn thin<R: Files>(
     files: &R,
     alloc: Global,

@@ -23,9 +23,11 @@ use std::alloc::{Allocator, Global};
 use std::io;
 use std::io::{BufWriter, Write};
 
-/// Prints the faults of a fat file's layout, a line each, of which no more than a limit are told, and answers the exit status: 0 where there is none; 1 where
-/// there is one, or where the file or memory is refused, and then `err` has a line that says why and `out` nothing; 2 or 141 where a write fails. But for
-/// that nothing is left in the buffer.
+/// Prints the faults of a fat file's layout, a line each, no more than a limit.
+///
+/// Returns the exit status. It is 0 if there is no fault. It is 1 if there is one; or if the file or an allocation is refused,
+/// and then `err` has a line that says why, and `out` nothing. It is 2 or 141 if a write fails. Unless a write fails, nothing is
+/// left in the buffer.
 pub fn run_verify<W: Write + Drop, B: Allocator, E: Write>(
     alloc: Global,
     limit: usize,
@@ -47,7 +49,7 @@ pub fn run_verify<W: Write + Drop, B: Allocator, E: Write>(
     told(answer, file, out, err)
 }
 
-// Prints the faults, no more than a limit, and answers whether there is none.
+// Prints the faults, no more than a limit. Returns whether there is none.
 fn verify<O: Write>(alloc: Global, limit: usize, bytes: &[u8], out: &mut O) -> Result<bool, Failure>
     ensures told { IfOk result (λ sound. (faults : List LayoutFault) × (sound ≡ is_faultless faults)
         × TellsFatFaults limit bytes.now faults (O.contents out.old) (O.contents out.new)) }
@@ -59,7 +61,7 @@ fn verify<O: Write>(alloc: Global, limit: usize, bytes: &[u8], out: &mut O) -> R
     Ok(faults.is_empty())
 }
 
-// The faults of a fat file's layout.
+// Returns the faults of a fat file's layout.
 fn fat_faults(alloc: Global, bytes: &[u8]) -> Result<Vec<LayoutFault>, Refusal>
     ensures faults { IfOk result (λ v. HasFatFaults bytes.now v.items) }
     ensures refused { IfErr result (RefusesFaults bytes.now) }
@@ -70,7 +72,7 @@ fn fat_faults(alloc: Global, bytes: &[u8]) -> Result<Vec<LayoutFault>, Refusal>
     }
 }
 
-// The same, of a file that is no fat file of 64 bits.
+// Returns the faults of a file that is no fat file of 64 bits.
 fn narrow_faults(alloc: Global, bytes: &[u8]) -> Result<Vec<LayoutFault>, Refusal>
     requires { ¬ HasFat64Magic bytes.now }
     ensures faults { IfOk result (λ v. HasFatFaults bytes.now v.items) }
@@ -80,7 +82,7 @@ fn narrow_faults(alloc: Global, bytes: &[u8]) -> Result<Vec<LayoutFault>, Refusa
     Ok(container_faults::<FatArch, Global>(alloc, bytes)?)
 }
 
-// The same, of a fat file of 64 bits.
+// Returns the faults of a fat file of 64 bits.
 fn wide_faults(alloc: Global, bytes: &[u8]) -> Result<Vec<LayoutFault>, Refusal>
     requires { HasFat64Magic bytes.now }
     ensures faults { IfOk result (λ v. HasFatFaults bytes.now v.items) }
@@ -92,7 +94,7 @@ fn wide_faults(alloc: Global, bytes: &[u8]) -> Result<Vec<LayoutFault>, Refusal>
     }
 }
 
-// That the bytes open as a fat file of 32 bits.
+// Tests that the bytes open as a fat file of 32 bits.
 fn test_fat(alloc: Global, bytes: &[u8]) -> Result<(), Refusal>
     requires { ¬ HasFat64Magic bytes.now }
     ensures fat { OnOk result (HasFatMagic bytes.now) }

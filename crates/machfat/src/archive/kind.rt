@@ -7,7 +7,7 @@ ghost use Rattle.machfat.specs.Kinds.{entry_kind, is_image_magic};
 use goblin_mach::{Hint, peek_bytes, take_hint_bytes};
 use mach_parts::magic::parse_magic_and_ctx;
 
-/// The kind of a member or an entry, by its first 16 bytes.
+/// Returns the kind of a member or an entry, by its first 16 bytes.
 pub fn entry_kind(entry: &[u8]) -> &'static str
     ensures { result.now ≡ entry_kind entry.now }
 {

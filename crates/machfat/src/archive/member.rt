@@ -17,7 +17,7 @@ use mach_cli::Told;
 use std::fmt::{Display, Formatter, Write};
 use std::{fmt, io};
 
-// A number of a header, if its field is one.
+// A number of a header, if its field has one.
 #[derive(Clone, Copy)]
 struct NumberText(Option<u64>);
 
@@ -32,7 +32,7 @@ impl Display for NumberText {
     }
 }
 
-// A mode in octal, if its field is one.
+// A mode in octal, if its field has one.
 #[derive(Clone, Copy)]
 struct ModeText(Option<u64>);
 
@@ -47,7 +47,7 @@ impl Display for ModeText {
     }
 }
 
-// Where a member's header and its bytes stand, and how many these are.
+// The offsets of a member's header and of its bytes, and their number.
 #[derive(Clone, Copy)]
 struct PlaceText<'a>(Member<'a>);
 
@@ -77,7 +77,7 @@ impl Display for NumbersText<'_> {
     }
 }
 
-// A member with its number, before what is told of its name.
+// A member with its number, before its name.
 #[derive(Clone, Copy)]
 struct MemberText<'a> {
     number: usize,
@@ -96,7 +96,7 @@ impl Display for MemberText<'_> {
     }
 }
 
-// Prints a member's name, or why it has none, and the end of its line.
+// Prints a member's name, or its error, and the end of the line.
 fn print_name<O: io::Write>(name: &Result<&str>, out: &mut O) -> io::Result<()>
     ensures { OnOk result (Appends (O.contents out.old) (O.contents out.new) (member_name_end (text_answer (λ name. name.now) name.now))) }
 {
@@ -112,7 +112,7 @@ fn print_name<O: io::Write>(name: &Result<&str>, out: &mut O) -> io::Result<()>
     }
 }
 
-// Prints the line of a member of a number, and answers whether it tells no fault.
+// Prints the line of the member with a number. Returns whether it has no fault.
 fn print_member<O: io::Write>(number: usize, member: Member<'_>, out: &mut O) -> io::Result<bool>
     ensures { IfOk result (λ whole. (told : MemberTold Error) × (member_faults told ≡ member_item number (Ok (member_view member.entry)))
         × (whole ≡ is_whole_member (member_faults told)) × Appends (O.contents out.old) (O.contents out.new) (member_line told)) }
@@ -124,7 +124,7 @@ fn print_member<O: io::Write>(number: usize, member: Member<'_>, out: &mut O) ->
     Ok(name.is_ok())
 }
 
-// Prints the line of a member of a number, or why there is none, and answers whether it tells no fault.
+// Prints the line of the member with a number, or its error. Returns whether it has no fault.
 fn print_answer<O: io::Write>(
     number: usize,
     answer: Result<Member<'_>>,
@@ -139,8 +139,8 @@ fn print_answer<O: io::Write>(
     }
 }
 
-/// Prints a line for each of an archive's members, in order, up to the first fault, and for this, no more than `left`; and answers whether none of them
-/// tells one, how many lines are left, and whether there are more.
+/// Prints a line for each of an archive's members, in order, up to the first fault, and for that fault, no more than `left`.
+/// Returns whether none of them has a fault, how many lines are left, and whether there are more.
 pub fn print_members<O: io::Write>(
     archive: &Archive<'_>,
     left: usize,

@@ -19,7 +19,7 @@ use mach_cli::Told;
 use std::fmt::{Display, Formatter, Write};
 use std::{fmt, io};
 
-// The place that a symbol speaks of.
+// The offset that a symbol refers to.
 #[derive(Clone, Copy)]
 struct PlaceText(u64);
 
@@ -31,7 +31,7 @@ impl Display for PlaceText {
     }
 }
 
-// A symbol's name as a text.
+// Returns a symbol's name as a text.
 #[tactic(auto, using(mach_archive::proofs::HeadersRead::text_is, mach_archive::proofs::HeadersRead::text_is_none))]
 fn name_of<'a>(name: &'a [u8]) -> Result<&'a str>
     ensures { Reads (λ name. name.now) result (text_or_fault name.now) }
@@ -45,7 +45,7 @@ fn name_of<'a>(name: &'a [u8]) -> Result<&'a str>
     }
 }
 
-// Prints the line of a symbol of this name, which is said to be that of the member at a place, and answers whether this can be read.
+// Prints the line of a symbol with this name and the member at a place. Returns whether the member can be read.
 fn print_named<O: io::Write>(
     archive: &Archive<'_>,
     place: u64,
@@ -72,7 +72,7 @@ fn print_named<O: io::Write>(
     }
 }
 
-// Prints the line of a symbol, and answers whether its name and its member can be read.
+// Prints the line of a symbol. Returns whether its name and its member can be read.
 fn print_symbol<O: io::Write>(
     archive: &Archive<'_>,
     symbol: &ArchiveSymbol<'_>,
@@ -93,7 +93,7 @@ fn print_symbol<O: io::Write>(
     }
 }
 
-// Prints the line of a symbol, or why there is none, and answers whether it tells no fault.
+// Prints the line of a symbol, or its error. Returns whether it has no fault.
 fn print_answer<O: io::Write>(
     archive: &Archive<'_>,
     answer: Result<ArchiveSymbol<'_>>,
@@ -109,8 +109,8 @@ fn print_answer<O: io::Write>(
     }
 }
 
-// Prints a line for each of the symbols, in order, up to the first fault, and for this, no more than `left`; and answers whether none of them tells one, how
-// many lines are left, and whether there are more.
+// Prints a line for each of the symbols, in order, up to the first fault, and for that fault, no more than `left`. Returns
+// whether none of them has a fault, how many lines are left, and whether there are more.
 fn print_items<O: io::Write>(
     archive: &Archive<'_>,
     symbols: ArchiveSymbols<'_>,
@@ -140,8 +140,9 @@ fn print_items<O: io::Write>(
     })
 }
 
-/// Prints a line for each symbol of an archive's index, in order, up to the first fault, and for this, no more than `left`; none, where it has no index;
-/// or why the index can't be read. Answers whether none of them tells a fault, how many lines are left, and whether there are more.
+/// Prints a line for each symbol of an archive's index, in order, up to the first fault, and for that fault, no more than `left`;
+/// nothing, if the archive has no index; or a line with the error of the index. Returns whether no line has a fault, how many
+/// lines are left, and whether there are more.
 pub fn print_symbols<O: io::Write>(
     archive: &Archive<'_>,
     left: usize,

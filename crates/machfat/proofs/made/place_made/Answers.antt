@@ -8,7 +8,7 @@ use Rattle.machfat.specs.declared.refusal.Refusal.{Refusal}
 use Rattle.machfat.specs.declared.refusal.Refusal.TheVariants.{Refused, Foreign, NotFat, Entries}
 use Rattle.machfat.proofs.made.place_made.Goals as goal
 
--- a refusal that tells of want of memory has an error that does
+-- a refusal that is a refused allocation has an error that is one
 wanting : (target : List ℕ) (old new : Option (List ℕ)) (refusal : Refusal) → IsWant refusal → Appends old new (refusal_line target refusal)
     → (e : Error) × Stands (λ f. ⊥) e × Appends old new (refusal_line target (Refused e))
 wanting target old new (Refused e) want told = (e, want, told)

@@ -8,7 +8,7 @@ use Rattle.mach_layout.specs.declared.fault.LayoutFault.{LayoutFault}
 use Rattle.machfat.specs.Faults.{fault_lines, is_faultless}
 use Rattle.machfat.proofs.verify.verify.Goals as goal
 
--- there is none exactly where the list has no item
+-- there is no fault exactly if the list has no item
 none_is : (faults : List LayoutFault) → (length faults == 0) ≡ is_faultless faults
 none_is [] = refl
 none_is (fault ∷ faults) = ne_eqb (length (fault ∷ faults)) 0 (λ none. omega (arith, none))
