@@ -1,5 +1,5 @@
-//! Tests of `mach_chained`: rows of bytes with what they hold, pointers by format, imports by format,
-//! every prefix, and numbers set to their largest. There is nothing else here.
+//! Tests of `mach_chained`: rows of bytes with their contents, pointers by format, imports by format, every prefix, and numbers
+//! set to their largest. The library is otherwise empty.
 #![tactic(auto)]
 
 #[cfg(test)]

@@ -1,4 +1,4 @@
-//! The worked rows of docs/FORMAT.md on tries, bind opcodes, weak binds and rebases.
+//! The worked rows of docs/FORMAT-DYLD.md on tries, bind opcodes, weak binds and rebases.
 
 // Tries.
 mod export_kinds;

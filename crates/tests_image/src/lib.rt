@@ -1,4 +1,5 @@
-//! Tests of `goblin_mach`: images, fat files and whole views, every beginning of a file, and small callers. There is nothing else here.
+//! Tests of `goblin_mach`: images, fat files and whole views, every prefix of a file, and small callers. The library is otherwise
+//! empty.
 #![tactic(auto)]
 
 #[cfg(test)]

@@ -1,4 +1,4 @@
-//! The worked rows of docs/FORMAT.md on images, fat files and views, and what no clause says.
+//! The worked rows of docs/FORMAT-IMAGE.md and docs/FORMAT-CONTAINERS.md on images, fat files and views, and what no clause says.
 
 mod answers;
 mod bindings;

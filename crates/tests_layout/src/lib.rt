@@ -1,5 +1,5 @@
-//! Tests of `mach_layout`: rows of each rule, over small images with a change each, and images with many parts.
-//! There is nothing else here.
+//! Tests of `mach_layout`: rows of each rule, over small images with one change each, and images with many parts. The library is
+//! otherwise empty.
 #![tactic(auto)]
 
 #[cfg(test)]

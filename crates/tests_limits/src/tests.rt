@@ -1,7 +1,7 @@
-//! The rows of docs/FORMAT.md on lists of exports, which answers come where memory runs out, and lists of thousands: a contract can't rule out that one
-//! is refused for want of memory; here there is memory to spare, so each is answered whole.
+//! The rows of docs/FORMAT-DYLD.md on lists of exports, the answers when memory runs out, and lists of thousands. A contract
+//! can't rule out that an allocation is refused; here there is memory to spare, so that each list is returned whole.
 
-// Memory that is refused, and lists of exports.
+// Refused allocations, and lists of exports.
 mod export_lists;
 mod growths;
 mod look_ups;

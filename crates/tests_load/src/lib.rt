@@ -1,5 +1,5 @@
-//! Tests of `mach_load`: rows of each table with what they say, every prefix of an image, and many items. There is nothing
-//! else here.
+//! Tests of `mach_load`: rows of each table with their contents, every prefix of an image, and many items. The library is
+//! otherwise empty.
 #![tactic(auto)]
 
 #[cfg(test)]

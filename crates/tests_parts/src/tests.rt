@@ -1,4 +1,4 @@
-//! The worked rows of docs/FORMAT.md on the parts of an image, and what no clause says: printed text.
+//! The worked rows of docs/FORMAT-IMAGE.md on the parts of an image, and what no clause says: printed text.
 
 // Headers, commands, segments and symbols.
 mod commands;
@@ -10,7 +10,7 @@ mod relocations;
 mod segments;
 mod symbols;
 
-// Slots, and what else is asked of a made image.
+// Slots, and what else is read of a built image.
 mod libraries;
 mod many_slots;
 mod providers;

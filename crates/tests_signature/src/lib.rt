@@ -1,5 +1,5 @@
-//! Tests of signatures: small images that a signer here signs, images that linkers signed, and the signatures of images. There is nothing
-//! else here.
+//! Tests of signatures: small images signed by a signer in this crate, images that linkers signed, and the signatures of images.
+//! The library is otherwise empty.
 #![tactic(auto)]
 
 #[cfg(test)]

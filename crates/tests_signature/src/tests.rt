@@ -1,5 +1,5 @@
-//! The worked rows of docs/FORMAT.md on signatures, each byte of a small image changed in turn, images that linkers signed, and what is told
-//! of the signature of an image, and the section that it seals.
+//! The worked rows of docs/FORMAT-SIGNATURE.md on signatures, each byte of a small image changed in turn, images that linkers
+//! signed, and the faults of an image's signature and of the section that it seals.
 
 // Signatures over bytes.
 mod changed;

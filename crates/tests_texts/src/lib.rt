@@ -10,7 +10,7 @@ use goblin_mach::{Error, LinkView, Mach, MachO, Result as Read, ScrollError, Sin
 use std::alloc::{AllocError, Allocator, Global};
 use std::fmt::Write;
 
-/// The kind of an error with its numbers.
+/// Returns the kind of an error with its numbers.
 pub fn error(alloc: Global, error: &Error) -> Result<String, AllocError> {
     match error {
         Error::Malformed(_) => String::from_str(alloc, "malformed"),
@@ -25,7 +25,7 @@ pub fn error(alloc: Global, error: &Error) -> Result<String, AllocError> {
     }
 }
 
-/// The width, the byte order and the commands of an image.
+/// Returns the width, the byte order and the commands of an image.
 pub fn image<A: Allocator>(alloc: Global, image: &MachO<'_, A>) -> Result<String, AllocError> {
     let bits = if image.is_64 { 64 } else { 32 };
     let order = if image.little_endian { "little" } else { "big" };
@@ -39,7 +39,7 @@ pub fn image<A: Allocator>(alloc: Global, image: &MachO<'_, A>) -> Result<String
     Ok(text)
 }
 
-/// The exports of a list: names, what they stand for, offsets.
+/// Returns the exports of a list: names, what they refer to, offsets.
 pub fn exports<A: Allocator>(
     alloc: Global,
     exports: &[Export<'_, A>],
@@ -54,7 +54,7 @@ pub fn exports<A: Allocator>(
     Ok(text)
 }
 
-// Writes what an export stands for, and answers its flags.
+// Writes what an export refers to, and returns its flags.
 fn push_info(text: &mut String, info: &ExportInfo<'_>) -> Result<u64, AllocError> {
     match info {
         ExportInfo::Regular { address, flags } => {
@@ -83,7 +83,7 @@ fn push_info(text: &mut String, info: &ExportInfo<'_>) -> Result<u64, AllocError
     }
 }
 
-/// What is read off an image: entry, libraries, run paths, how many segments with how many bytes, symbols.
+/// Returns the fields of an image: entry, libraries, run paths, the number of segments and of their bytes, symbols.
 pub fn fields<A: Allocator>(alloc: Global, image: &MachO<'_, A>) -> Result<String, AllocError> {
     let old = if image.old_style_entry { " old" } else { "" };
     let mut text = format!(in alloc; "{:#x}{old}", image.entry)?;
@@ -96,7 +96,7 @@ pub fn fields<A: Allocator>(alloc: Global, image: &MachO<'_, A>) -> Result<Strin
     Ok(text)
 }
 
-// Writes names, each behind a mark.
+// Writes names, each after a mark.
 fn push_names(text: &mut String, mark: &str, names: &[&str]) -> Result<(), AllocError> {
     for name in names {
         write!(text, "{mark}{name}")?;
@@ -112,7 +112,7 @@ fn push_segments(text: &mut String, segments: &[Segment<'_>]) -> Result<(), Allo
     Ok(())
 }
 
-/// An opened file: the fields of an image, or the count of a fat file.
+/// Returns an opened file: the fields of an image, or the count of a fat file.
 pub fn file<A: Allocator>(alloc: Global, file: &Mach<'_, A>) -> Result<String, AllocError> {
     match file {
         Mach::Binary(image) => fields(alloc, image),
@@ -120,7 +120,7 @@ pub fn file<A: Allocator>(alloc: Global, file: &Mach<'_, A>) -> Result<String, A
     }
 }
 
-/// The imports of a list: libraries, names, offsets.
+/// Returns the imports of a list: libraries, names, offsets.
 pub fn imports(alloc: Global, imports: &[Import<'_>]) -> Result<String, AllocError> {
     let mut text = String::new(alloc);
     for import in imports {
@@ -135,7 +135,7 @@ pub fn imports(alloc: Global, imports: &[Import<'_>]) -> Result<String, AllocErr
     Ok(text)
 }
 
-/// Sections with relocations: the number of each, its name, how many relocations.
+/// Returns sections with relocations: the number of each, its name, the number of its relocations.
 pub fn relocations(
     alloc: Global,
     sections: &[(usize, RelocationIterator<'_>, Section)],
@@ -148,7 +148,7 @@ pub fn relocations(
     Ok(text)
 }
 
-/// A relocation: its place, and its bits.
+/// Returns a relocation: its place, and its bits.
 pub fn relocation(alloc: Global, item: &Read<RelocationInfo>) -> Result<String, AllocError> {
     match item {
         Ok(relocation) => { format!(in alloc; "{} {:#x}", relocation.r_address, relocation.r_info) }
@@ -156,7 +156,7 @@ pub fn relocation(alloc: Global, item: &Read<RelocationInfo>) -> Result<String, 
     }
 }
 
-/// Sections: the name of each, how many bytes.
+/// Returns sections: the name of each, and the number of its bytes.
 pub fn sections(
     alloc: Global,
     sections: &[(Section, SectionData<'_>)],
@@ -169,7 +169,7 @@ pub fn sections(
     Ok(text)
 }
 
-/// Records of a fat file: the cpu of each, and where it stands.
+/// Returns records of a fat file: the cpu of each, and its offset.
 pub fn arches(alloc: Global, records: &[FatArch]) -> Result<String, AllocError> {
     let mut text = String::new(alloc);
     for arch in records {
@@ -178,7 +178,7 @@ pub fn arches(alloc: Global, records: &[FatArch]) -> Result<String, AllocError> 
     Ok(text)
 }
 
-/// An entry of a fat file: an archive by its length, an image by its entry.
+/// Returns an entry of a fat file: an archive by its length, an image by its entry point.
 pub fn entry<A: Allocator>(
     alloc: Global,
     answer: &Read<SingleArch<'_, A>>,
@@ -190,7 +190,7 @@ pub fn entry<A: Allocator>(
     }
 }
 
-/// An item of a view: the lists of an image, or an archive by its length.
+/// Returns an item of a view: the lists of an image, or an archive by its length.
 pub fn item<A: Allocator>(
     alloc: Global,
     item: &Read<LinkView<'_, A>>,
@@ -232,7 +232,7 @@ fn push_imports(text: &mut String, imports: &[Import<'_>]) -> Result<(), AllocEr
     Ok(())
 }
 
-/// All items of a view.
+/// Returns all items of a view.
 pub fn view<A: Allocator>(
     alloc: Global,
     items: &[Read<LinkView<'_, A>>],

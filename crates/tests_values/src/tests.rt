@@ -1,5 +1,5 @@
-//! What public fields hold at their largest, what Debug shows, the value of each constant, and the worked rows of docs/FORMAT.md on `Input` and on
-//! tables of 64 bits.
+//! Public fields at their largest, what Debug shows, the value of each constant, and the worked rows of docs/FORMAT-CONTAINERS.md
+//! on `Input` and on tables of 64 bits.
 
 // Numbers set by hand, Debug and constants.
 mod answers;
@@ -7,7 +7,7 @@ mod by_hand;
 mod constants;
 mod debug;
 
-// Whatever has images in it, and tables of 64 bits.
+// Files that contain images, and tables of 64 bits.
 mod fat_tables;
 mod input_files;
 mod input_items;

@@ -1,4 +1,4 @@
-//! What archives say, as short texts.
+//! The contents of archives as short texts.
 
 use mach_archive::{Archive, ArchiveSymbol, Member};
 use mach_base::{Error, describe};
@@ -24,7 +24,7 @@ fn write_symbol(text: &mut String, symbol: &ArchiveSymbol<'_>) -> Result<(), All
     }
 }
 
-/// The members, or why the archive is refused.
+/// Returns the members, or the error of the archive.
 pub fn members_text(alloc: Global, bytes: &[u8]) -> Result<String, AllocError> {
     let mut text = String::new(alloc);
     match Archive::parse(bytes) {
@@ -44,7 +44,7 @@ pub fn members_text(alloc: Global, bytes: &[u8]) -> Result<String, AllocError> {
     Ok(text)
 }
 
-/// The symbols, or why there are none.
+/// Returns the symbols, or the error.
 pub fn symbols_text(alloc: Global, bytes: &[u8]) -> Result<String, AllocError> {
     let mut text = String::new(alloc);
     let archive = match Archive::parse(bytes) {
@@ -73,7 +73,7 @@ pub fn symbols_text(alloc: Global, bytes: &[u8]) -> Result<String, AllocError> {
     Ok(text)
 }
 
-/// The member whose header stands at a place, or why there is none.
+/// Returns the member whose header is at a place, or the error.
 pub fn member_text(alloc: Global, bytes: &[u8], place: usize) -> Result<String, AllocError> {
     let mut text = String::new(alloc);
     match Archive::parse(bytes) {
@@ -86,7 +86,7 @@ pub fn member_text(alloc: Global, bytes: &[u8], place: usize) -> Result<String, 
     Ok(text)
 }
 
-/// What a name finds.
+/// Returns what is found by a name.
 pub fn found_text(alloc: Global, bytes: &[u8], name: &str) -> Result<String, AllocError> {
     let mut text = String::new(alloc);
     match Archive::parse(bytes) {

@@ -8,7 +8,7 @@ use std::alloc::Global;
 use std::process::Abort;
 use std::test::Fail;
 
-// Tests what entry a file becomes.
+// Tests which entry a file becomes.
 fn test_created(rt: &impl Abort, alloc: Global, file: &[u8], want: &str) -> Result<(), Fail> {
     let text = created_text(alloc, file)?;
     assert_eq!(rt; text.as_str(), want);
@@ -76,7 +76,7 @@ fn archives(rt: HostRuntime) -> Result<(), Fail> {
     )
 }
 
-// What files are created as.
+// Orders entries as those of a created file, and asserts the file that they are written as.
 fn ordered_text(
     rt: &impl Abort,
     alloc: Global,

@@ -1,4 +1,4 @@
-//! What fat files say, as short texts.
+//! The contents of fat files as short texts.
 
 use mach_base::{Error, Record, describe};
 use mach_fat_writer::{FatArch64, FatEntry, write_fat, write_fat64};
@@ -24,7 +24,7 @@ fn write_refused(text: &mut String, error: &Error) -> Result<(), AllocError> {
     write!(text, "refused: {}; ", describe(error))
 }
 
-// The record of entry i of a file of 32 bits.
+// Writes the record of entry i of a file of 32 bits.
 fn write_arch(text: &mut String, file: &[u8], i: usize) -> Result<(), AllocError> {
     match FatArch::parse(file, 8usize.saturating_add(i.saturating_mul(20))) {
         Ok(arch) => write_record(
@@ -38,7 +38,7 @@ fn write_arch(text: &mut String, file: &[u8], i: usize) -> Result<(), AllocError
     }
 }
 
-// The record of entry i of a file of 64 bits.
+// Writes the record of entry i of a file of 64 bits.
 fn write_arch64(text: &mut String, file: &[u8], i: usize) -> Result<(), AllocError> {
     match FatArch64::parse(file, 8usize.saturating_add(i.saturating_mul(32))) {
         Ok(arch) => {
@@ -57,7 +57,7 @@ fn write_arch64(text: &mut String, file: &[u8], i: usize) -> Result<(), AllocErr
     }
 }
 
-/// The records of a file of 32 bits, as many as its header says, or of 64 bits.
+/// Returns the records of a file of 32 bits, as many as its header says, or of 64 bits.
 pub fn records_text(alloc: Global, file: &[u8], is_64: bool) -> Result<String, AllocError> {
     let mut text = String::new(alloc);
     write!(&mut text, "{} bytes: ", file.len())?;
@@ -77,7 +77,7 @@ pub fn records_text(alloc: Global, file: &[u8], is_64: bool) -> Result<String, A
     Ok(text)
 }
 
-/// What some entries are written as, in 32 bits.
+/// Returns the file that some entries are written as, in 32 bits.
 pub fn written_text(alloc: Global, entries: &[FatEntry<'_>]) -> Result<String, AllocError> {
     match write_fat(alloc, entries) {
         Ok(file) => records_text(alloc, file.as_slice(), false),
@@ -85,7 +85,7 @@ pub fn written_text(alloc: Global, entries: &[FatEntry<'_>]) -> Result<String, A
     }
 }
 
-/// The same in 64 bits.
+/// Returns the same in 64 bits.
 pub fn written64_text(alloc: Global, entries: &[FatEntry<'_>]) -> Result<String, AllocError> {
     match write_fat64(alloc, entries) {
         Ok(file) => records_text(alloc, file.as_slice(), true),
@@ -93,7 +93,7 @@ pub fn written64_text(alloc: Global, entries: &[FatEntry<'_>]) -> Result<String,
     }
 }
 
-/// The entry that a file becomes.
+/// Returns the entry that a file becomes.
 pub fn created_text(alloc: Global, file: &[u8]) -> Result<String, AllocError> {
     match FatEntry::of(file) {
         Ok(entry) => format!(in alloc;

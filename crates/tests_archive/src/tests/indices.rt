@@ -6,7 +6,7 @@ use std::alloc::Global;
 use std::process::Abort;
 use std::test::Fail;
 
-// Tests what symbols an archive of these parts has.
+// Tests which symbols an archive of these parts has.
 fn test_symbols(
     rt: &impl Abort,
     alloc: Global,
@@ -19,7 +19,7 @@ fn test_symbols(
     Ok(())
 }
 
-// Tests what members it has.
+// Tests which members an archive of these parts has.
 fn test_members(
     rt: &impl Abort,
     alloc: Global,
@@ -32,7 +32,7 @@ fn test_members(
     Ok(())
 }
 
-/// An index of two symbols in BSD's form with a long name, and no member: 112 bytes in all.
+/// An index of two symbols in BSD's form with a long name, without members: 112 bytes in all.
 pub const TWO_SYMBOLS: [Piece<'static>; 4] = [
     Piece::Header("#1/12", "44"),
     Piece::Text("__.SYMDEF\0\0\0"),

@@ -9,7 +9,7 @@ use std::alloc::{AllocError, Global};
 use std::process::Abort;
 use std::test::Fail;
 
-// How many prefixes of an archive open, each of which is asked for its members and its symbols.
+// Returns how many prefixes of an archive open, and reads the members and the symbols of each.
 fn opened_prefixes(alloc: Global, bytes: &[u8]) -> Result<usize, AllocError> {
     let mut opened: usize = 0;
     for len in 0..=bytes.len() {
@@ -91,7 +91,7 @@ fn ten_thousand_symbols(rt: HostRuntime) -> Result<(), Fail> {
     Ok(())
 }
 
-// Tests what symbols an index of these numbers has.
+// Tests which symbols an index with these numbers has.
 fn test_index(
     rt: &impl Abort,
     alloc: Global,

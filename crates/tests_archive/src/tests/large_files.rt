@@ -9,7 +9,7 @@ use mach_parts::fat::FatArch;
 use std::alloc::{AllocError, Global};
 use std::test::Fail;
 
-// So many entries of other cpus, of one byte, aligned to 8; from a cpusubtype downwards.
+// Returns `count` entries for other cpus, of one byte, aligned to 8, with falling cpusubtypes.
 fn entries(alloc: Global, count: u32) -> Result<Vec<FatEntry<'static>>, AllocError> {
     let mut entries = Vec::new(alloc);
     for i in 0..count {
@@ -54,7 +54,7 @@ fn five_thousand_and_one_twice(rt: HostRuntime) -> Result<(), Fail> {
     }
 }
 
-// The last of these stands at 2^32 or behind, in a file that isn't made; the one before it doesn't.
+// The last of these would be at 2^32 or after it, in a file that isn't written; the one before it would not.
 #[test]
 fn places_of_32_bits(rt: HostRuntime) -> Result<(), Fail> {
     let bytes = vec![in rt.alloc(); 0u8; 1 << 20]?;

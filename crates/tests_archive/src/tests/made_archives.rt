@@ -1,11 +1,11 @@
-//! Archives that the tests make.
+//! Archives that the tests build.
 
 use std::alloc::{AllocError, Global};
 
-/// A part of an archive behind its magic.
+/// A part of an archive after its magic.
 #[derive(Clone, Copy)]
 pub enum Piece<'a> {
-    /// A header of this name and this size.
+    /// A header with this name and this size.
     Header(&'a str, &'a str),
     Text(&'a str),
     Little(&'a [u32]),
@@ -14,7 +14,7 @@ pub enum Piece<'a> {
     BigWide(&'a [u64]),
 }
 
-// A text, filled up with spaces.
+// Adds a text, filled up with spaces.
 fn push_field(bytes: &mut Vec<u8>, text: &str, width: usize) -> Result<(), AllocError> {
     bytes.extend_from_slice(text.as_bytes())?;
     for _ in text.len()..width {
@@ -23,7 +23,7 @@ fn push_field(bytes: &mut Vec<u8>, text: &str, width: usize) -> Result<(), Alloc
     Ok(())
 }
 
-/// Adds a header of this name and this size, with the date, the mode and the end that are given.
+/// Adds a header with this name and this size, and the given date, mode and end.
 pub fn push_header(
     bytes: &mut Vec<u8>,
     name: &str,
@@ -68,7 +68,7 @@ pub fn push_piece(bytes: &mut Vec<u8>, piece: &Piece<'_>) -> Result<(), AllocErr
     Ok(())
 }
 
-/// The magic, and these parts behind it.
+/// Returns the magic with these parts after it.
 pub fn made(alloc: Global, pieces: &[Piece<'_>]) -> Result<Vec<u8>, AllocError> {
     let mut bytes = Vec::from_slice(alloc, b"!<arch>\n")?;
     for piece in pieces {

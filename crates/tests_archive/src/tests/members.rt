@@ -1,4 +1,4 @@
-//! Members one behind the other.
+//! Members one after the other.
 
 use crate::tests::archive_text::{member_text, members_text};
 use crate::tests::made_archives::{Piece, made};
@@ -6,7 +6,7 @@ use std::alloc::Global;
 use std::process::Abort;
 use std::test::Fail;
 
-// Tests what members an archive of these parts has.
+// Tests which members an archive of these parts has.
 fn test_members(
     rt: &impl Abort,
     alloc: Global,

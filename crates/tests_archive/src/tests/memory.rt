@@ -1,4 +1,4 @@
-//! Want of memory at each growth.
+//! Refused allocations at each growth.
 
 use crate::tests::same::same;
 use crate::tests::written::entry;
@@ -9,7 +9,7 @@ use std::alloc::{AllocError, Global};
 use std::process::Abort;
 use std::test::Fail;
 
-// So many entries of three cputypes, whose cpusubtypes fall.
+// Returns `count` entries for three cputypes, with falling cpusubtypes.
 fn entries(alloc: Global, count: u32) -> std::result::Result<Vec<FatEntry<'static>>, AllocError> {
     let mut entries = Vec::new(alloc);
     for i in 0..count {
@@ -18,14 +18,14 @@ fn entries(alloc: Global, count: u32) -> std::result::Result<Vec<FatEntry<'stati
     Ok(entries)
 }
 
-// What was counted of the answers over larger and larger heaps: those that want memory come first.
+// The counts of answers over larger and larger heaps: refused ones come first.
 #[derive(Drop)]
 struct Answers {
     refused: u32,
     given: u32,
 }
 
-// Counts an answer, which is given with this number, or else wants memory.
+// Counts an answer, which has this number, or is a refused allocation.
 fn count(rt: &impl Abort, answers: &mut Answers, answer: Result<usize>, want: usize) {
     match answer {
         Ok(found) => {
@@ -40,7 +40,7 @@ fn count(rt: &impl Abort, answers: &mut Answers, answer: Result<usize>, want: us
     }
 }
 
-// That some wanted memory, at more than one growth, and others didn't.
+// Asserts that some were refused, at more than one growth, and others weren't.
 fn test_both(rt: &impl Abort, answers: &Answers) {
     assert!(rt; answers.refused > 1);
     assert!(rt; answers.given > 1);
@@ -85,7 +85,7 @@ fn of_an_order(rt: HostRuntime) -> std::result::Result<(), Fail> {
         let heap = LocalHeap::new(rt.alloc(), 16 * size)?;
         let mut many = entries(rt.alloc(), 30)?;
         let answer = fat_order(&heap, many.as_mut_slice());
-        // What is refused stays as it was.
+        // If it is refused, the order is unchanged.
         let first = many
             .as_slice()
             .first()

@@ -11,7 +11,7 @@ const NAMES: Piece<'static> = Piece::Text("long_name_of_a_file.o/\n\n");
 
 const LIST: Piece<'static> = Piece::Header("//", "23");
 
-// Tests what members an archive of these parts has.
+// Tests which members an archive of these parts has.
 fn test_members(
     rt: &impl Abort,
     alloc: Global,
@@ -24,7 +24,7 @@ fn test_members(
     Ok(())
 }
 
-// A header of this name, and no bytes.
+// Returns a header with this name and no bytes.
 fn empty(name: &str) -> Piece<'_> {
     Piece::Header(name, "0")
 }

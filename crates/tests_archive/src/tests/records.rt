@@ -1,4 +1,4 @@
-//! The record of 64 bits, where it is cut, and where what it says isn't there.
+//! The record of 64 bits: cut off, and naming bytes that aren't there.
 
 use crate::tests::made_files::{X86_64, front};
 use crate::tests::same::same;

@@ -1,4 +1,4 @@
-//! Entries and the files that they are written as.
+//! Entries and the files that are written of them.
 
 use crate::tests::file_text::{written_text, written64_text};
 use crate::tests::made_files::{ARM64, X86_64};
@@ -8,7 +8,7 @@ use std::alloc::Global;
 use std::process::Abort;
 use std::test::Fail;
 
-/// An entry of these bytes.
+/// Returns an entry with these bytes.
 pub fn entry(cputype: u32, cpusubtype: u32, align: u32, bytes: &[u8]) -> FatEntry<'_> {
     FatEntry {
         cputype,
@@ -18,7 +18,7 @@ pub fn entry(cputype: u32, cpusubtype: u32, align: u32, bytes: &[u8]) -> FatEntr
     }
 }
 
-// Tests what entries are written as.
+// Tests which file entries are written as.
 fn test_written(
     rt: &impl Abort,
     alloc: Global,

@@ -1,4 +1,4 @@
-//! Callers that count the pointers which a walk along chains reads.
+//! Callers that count the pointers read by a walk along chains.
 
 ghost use Rattle.std.specs.Prelude.{◌≡◌, ◌+◌, length, IfOk};
 
@@ -11,7 +11,7 @@ use mach_parts::segment::Segment;
 use std::alloc::Global;
 use std::test::Fail;
 
-// The fixups of all chains, each of which costs one read of a pointer.
+// Returns the fixups of all chains; each costs one read of a pointer.
 fn all_fixups<'a>(
     alloc: Global,
     fixups: &ChainedFixups<'a>,

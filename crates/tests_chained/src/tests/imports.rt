@@ -7,7 +7,7 @@ use mach_records::LinkeditDataCommand;
 use std::process::Abort;
 use std::test::Fail;
 
-// A table of one import, at 32, and names at 48; there are no segments.
+// A table of one import, at 32, and names at 48; without segments.
 const TABLE: [u8; 56] = [
     0, 0, 0, 0, 28, 0, 0, 0, 32, 0, 0, 0, 48, 0, 0, 0, 1, 0, 0, 0, 1, 0, 0, 0, 0, 0, 0, 0, 0, 0, 0,
     0, //
@@ -27,7 +27,7 @@ const COMMAND: LinkeditDataCommand = LinkeditDataCommand {
 // An import's library, whether the symbol may be missing, its name and addend.
 type Row = (i32, bool, &'static str, i64);
 
-// Tests import 0 of a table, which has no other, by its number and as the first of all.
+// Tests import 0, the only one of a table: by its number, and as the first of all.
 fn test_import(rt: &impl Abort, table: &[u8; 56], want: Row) -> Result<(), Fail> {
     let chained = ChainedFixups::parse(table, &COMMAND, LE)?;
     let found = chained.import(0)?;

@@ -14,13 +14,13 @@ pub const PAYLOAD: [u8; 72] = [
     b'_', b'a', 0, 0,
 ];
 
-// A bind of import 0 and 5, the next one 8 bytes further: a rebase to 0x1000, the last.
+// A bind of import 0 with addend 5, and 8 bytes after it a rebase to 0x1000, the last.
 pub const DATA: [u8; 16] = [0, 0, 0, 5, 0, 0, 0x10, 0x80, 0, 0x10, 0, 0, 0, 0, 0, 0];
 
-// A rebase to 0x1000, the next one 8 bytes further: a bind of import 0 and 5, the last.
+// A rebase to 0x1000, and 8 bytes after it a bind of import 0 with addend 5, the last.
 pub const BIND_BEHIND: [u8; 16] = [0, 0x10, 0, 0, 0, 0, 0x10, 0, 0, 0, 0, 5, 0, 0, 0, 0x80];
 
-// The same as the first, but that the import has an addend of 64 bits, 7.
+// The same as the first, except that the import has an addend of 64 bits, 7.
 pub const WIDE_IMPORT: [u8; 84] = [
     0, 0, 0, 0, 32, 0, 0, 0, 64, 0, 0, 0, 80, 0, 0, 0, 1, 0, 0, 0, 3, 0, 0, 0, 0, 0, 0, 0, 0, 0, 0,
     0, //
@@ -50,13 +50,13 @@ pub const TWO_SEGMENTS: [u8; 100] = [
     b'_', b'a', 0, 0,
 ];
 
-// One page with pointers of format 3, of which the greatest is 0x3000, and with two starts, at 0 and 8.
+// One page with pointers of format 3, the greatest of which is 0x3000, and with two starts, at 0 and 8.
 pub const TWO_STARTS: [u8; 76] = [
     0, 0, 0, 0, 32, 0, 0, 0, 68, 0, 0, 0, 72, 0, 0, 0, 1, 0, 0, 0, 1, 0, 0, 0, 0, 0, 0, 0, 0, 0, 0,
     0, //
     // 32
     1, 0, 0, 0, 8, 0, 0, 0, //
-    // 40: 28 bytes; the page's start names start 1
+    // 40: 28 bytes; the page's start refers to start 1
     28, 0, 0, 0, 0, 0x10, 3, 0, 0, 0, 0, 0, 0, 0, 0, 0, 0, 0x30, 0, 0, 1, 0, 1, 0x80, //
     // 64: starts 1 and 2
     0, 0, 8, 0x80, //

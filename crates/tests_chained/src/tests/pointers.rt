@@ -24,7 +24,7 @@ fn auth(key: u8, diversity: u16, is_address_diverse: bool) -> Option<PointerAuth
     })
 }
 
-// Tests a pointer of some format: what it asks for, how far the next one is, and how it is signed.
+// Tests a pointer of some format: what it stores, how far the next one is, and how it is signed.
 fn test_pointer(
     rt: &impl Abort,
     format: PointerFormat,
@@ -139,7 +139,7 @@ fn numbers_among_pointers(rt: HostRuntime) -> Result<(), Fail> {
     Ok(())
 }
 
-// The same bytes by other formats: the first pointer is a signed rebase there.
+// The same bytes in other formats: the first pointer is a signed rebase there.
 #[test]
 fn data_by_format(rt: HostRuntime) -> Result<(), Fail> {
     let alloc = rt.alloc();

@@ -36,7 +36,7 @@ fn refused_at_once(rt: HostRuntime) -> Result<(), Fail> {
     Ok(())
 }
 
-// The same, of what both the fixups and the bindings refuse first as malformed.
+// The same, if both the fixups and the bindings refuse something first as malformed.
 #[test]
 fn refused_first(rt: HostRuntime) -> Result<(), Fail> {
     let alloc = rt.alloc();
@@ -64,7 +64,7 @@ fn refused_first(rt: HostRuntime) -> Result<(), Fail> {
     Ok(())
 }
 
-// The same, of what only the bindings ask for, or of what gives less or other.
+// The same, if only the bindings need it, or if it gives less or something else.
 #[test]
 fn read_otherwise(rt: HostRuntime) -> Result<(), Fail> {
     let alloc = rt.alloc();

@@ -1,4 +1,4 @@
-//! Several segments, and sums that pass 64 bits.
+//! Several segments, and sums above 64 bits.
 
 use crate::tests::payloads::{BIND_BEHIND, DATA, PAYLOAD, TWO_SEGMENTS, WIDE_IMPORT};
 use crate::tests::text::{BASE, segment_at, text_of, text_of_one};

@@ -1,4 +1,4 @@
-//! What chained fixups say, as a short text.
+//! The contents of chained fixups as a short text.
 
 use mach_base::{Container, Ctx, Error, LE, describe};
 use mach_chained::{ChainedFixups, Fixup, FixupKind};
@@ -17,7 +17,7 @@ const WIDE: Ctx = Ctx {
 
 pub const LIBS: [&str; 2] = ["self", "L"];
 
-// A segment with data at a place of the file and at an address.
+// Returns a segment with data at a place of the file and at an address.
 pub fn segment_at(fileoff: u64, vmaddr: u64, data: &[u8]) -> Segment<'_> {
     let mut segment = Segment::new(WIDE, &[]);
     segment.fileoff = fileoff;
@@ -76,7 +76,7 @@ fn write_error(text: &mut String, error: &Error) -> Result<(), AllocError> {
     Ok(())
 }
 
-// What stands at the front of chained fixups.
+// Reads the header of chained fixups.
 pub fn chained_of(payload: &[u8]) -> mach_base::Result<ChainedFixups<'_>> {
     let command = LinkeditDataCommand {
         datasize: (payload.len() & 0xffff) as u32,
@@ -85,7 +85,7 @@ pub fn chained_of(payload: &[u8]) -> mach_base::Result<ChainedFixups<'_>> {
     ChainedFixups::parse(payload, &command, LE)
 }
 
-// The fixups of some segments, `|`, and their bindings; of a header that is refused its error.
+// Returns the fixups of some segments, `|`, and their bindings; the error, if the header is refused.
 pub fn text_of(
     alloc: Global,
     payload: &[u8],
@@ -116,7 +116,7 @@ pub fn text_of(
     Ok(text)
 }
 
-// The same of one segment at the base.
+// Returns the same of one segment at the base.
 pub fn text_of_one(alloc: Global, payload: &[u8], data: &[u8]) -> Result<String, AllocError> {
     let segments = [segment_at(0x4000, BASE, data)];
     text_of(alloc, payload, &segments, BASE)

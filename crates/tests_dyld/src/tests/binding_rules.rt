@@ -1,11 +1,11 @@
-//! What a bind needs to have a binding, where a stream ends, and opcodes that are none.
+//! What a bind needs to give a binding, where a stream ends, and unknown opcodes.
 
 use crate::tests::bindings::{all_lazy, listed, segment, whole};
 use mach_dyld::imports::BindInterpreter;
 use mach_parts::segment::Segment;
 use std::test::Fail;
 
-// Streams of 64 bits, with one segment of 0x1000 bytes at 0: what each bind needs, where the stream ends, and opcodes that are none.
+// Streams of 64 bits, with one segment of 0x1000 bytes at 0: what each bind needs, where the stream ends, and unknown opcodes.
 const RULES: &[(&str, &[u8], &str)] = &[
     (
         "name, type and segment",
@@ -167,7 +167,7 @@ fn rules(rt: HostRuntime) -> Result<(), Fail> {
     Ok(())
 }
 
-// The same of the lazy stream, which goes on behind DONE, and in which the type begins as 1.
+// The same of the lazy stream, which goes on after DONE, and whose type is 1 at the start.
 const LAZY: &[(&str, &[u8], &str)] = &[
     (
         "no type",
@@ -346,7 +346,7 @@ const TWO_SEGMENTS: &[(&str, &[u8], &str)] = &[
     ),
 ];
 
-// Lazy ones of the same image.
+// Lazy streams of the same image.
 const LAZY_OF_TWO_SEGMENTS: &[(&str, &[u8], &str)] = &[
     (
         "DONE between binds",
@@ -389,7 +389,7 @@ const LAZY_OF_TWO_SEGMENTS: &[(&str, &[u8], &str)] = &[
     ),
 ];
 
-// A segment of 0x1000 bytes at an address, which is its place in the file too.
+// Returns a segment of 0x1000 bytes at an address, which is its place in the file too.
 fn placed_as_in_memory(address: u64) -> Segment<'static> {
     let mut placed = segment(address, 0x1000);
     placed.fileoff = address;

@@ -1,4 +1,4 @@
-//! The bindings of bind streams: which provider each has, and where they end.
+//! The bindings of bind streams: the provider of each, and where they end.
 
 use mach_base::{Container, Ctx, Error, LE, ScrollError};
 use mach_dyld::bindings::OpcodeBindingIterator;
@@ -22,7 +22,7 @@ const NARROW: Ctx = Ctx {
     le: LE,
 };
 
-// A segment of so many bytes at an address, at byte 0 of the file.
+// Returns a segment of `vmsize` bytes at an address, at byte 0 of the file.
 pub fn segment(vmaddr: u64, vmsize: u64) -> Segment<'static> {
     let mut segment = Segment::new(WIDE, &[]);
     segment.vmaddr = vmaddr;
@@ -30,7 +30,7 @@ pub fn segment(vmaddr: u64, vmsize: u64) -> Segment<'static> {
     segment
 }
 
-// The command whose non-lazy range is all the bytes.
+// Returns the command whose non-lazy range is all the bytes.
 pub fn whole(bytes: &[u8]) -> DyldInfoCommand {
     DyldInfoCommand {
         bind_size: (bytes.len() & 0xffff) as u32,
@@ -38,7 +38,7 @@ pub fn whole(bytes: &[u8]) -> DyldInfoCommand {
     }
 }
 
-// The command whose lazy range is all the bytes.
+// Returns the command whose lazy range is all the bytes.
 pub fn all_lazy(bytes: &[u8]) -> DyldInfoCommand {
     DyldInfoCommand {
         lazy_bind_size: (bytes.len() & 0xffff) as u32,
@@ -46,7 +46,7 @@ pub fn all_lazy(bytes: &[u8]) -> DyldInfoCommand {
     }
 }
 
-// A provider as a short text.
+// Returns a provider as a short text.
 fn provider_text(alloc: Global, provider: Provider<'_>) -> Result<String, AllocError> {
     match provider {
         Provider::Library { ordinal, name } => format!(in alloc; "{ordinal} {name}"),
@@ -57,7 +57,7 @@ fn provider_text(alloc: Global, provider: Provider<'_>) -> Result<String, AllocE
     }
 }
 
-// A binding as a short text.
+// Returns a binding as a short text.
 fn binding_text(alloc: Global, b: &Binding<'_>) -> Result<String, AllocError> {
     let mut text = format!(in alloc;
         "[{}] {} {:#x}",
@@ -78,7 +78,7 @@ fn binding_text(alloc: Global, b: &Binding<'_>) -> Result<String, AllocError> {
     Ok(text)
 }
 
-// An error as a word.
+// Returns an error as a word.
 fn word_of(alloc: Global, error: Error) -> Result<String, AllocError> {
     match error {
         Error::Malformed(_) => String::from_str(alloc, "malformed"),
@@ -87,7 +87,7 @@ fn word_of(alloc: Global, error: Error) -> Result<String, AllocError> {
     }
 }
 
-// What an iterator answers up to its end, and then once more.
+// Returns what an iterator gives up to its end, and then once more.
 fn text_of(alloc: Global, given: OpcodeBindingIterator<'_, '_>) -> Result<String, AllocError> {
     let mut left = given;
     let mut text = String::new(alloc);
@@ -103,7 +103,7 @@ fn text_of(alloc: Global, given: OpcodeBindingIterator<'_, '_>) -> Result<String
     Ok(text)
 }
 
-// The bindings of 64 bits, as one text.
+// Returns the bindings of 64 bits, as one text.
 pub fn listed(
     alloc: Global,
     binds: &BindInterpreter<'_>,
@@ -124,7 +124,7 @@ fn listed_in(
 // What a bind needs: the empty name, type 1, and segment 0 at 0.
 const HEAD: [u8; 5] = [0x40, 0, 0x51, 0x70, 0];
 
-// Streams of 64 bits behind that head, with one segment of 0x1000 bytes at 0, and their bindings.
+// Streams of 64 bits after that head, with one segment of 0x1000 bytes at 0, and their bindings.
 const ROWS: &[(&str, &[u8], &str)] = &[
     ("none", &[], ""),
     ("no ordinal", &[0x90], "malformed"),
@@ -303,7 +303,7 @@ fn both_streams(rt: HostRuntime) -> Result<(), Fail> {
     Ok(())
 }
 
-// The address of an iterator's first binding.
+// Returns the address of an iterator's first binding.
 fn first_address(given: OpcodeBindingIterator<'_, '_>) -> Option<u64> {
     let mut left = given;
     match left.next() {
@@ -345,7 +345,7 @@ fn places(rt: HostRuntime) -> Result<(), Fail> {
     Ok(())
 }
 
-// How many bindings of a provider an iterator gives, and how many items else.
+// Returns how many bindings with a provider an iterator gives, and how many other items.
 fn counted(left: OpcodeBindingIterator<'_, '_>) -> (u64, u64) {
     let mut flat = 0u64;
     let mut others = 0u64;

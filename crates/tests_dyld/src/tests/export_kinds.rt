@@ -1,4 +1,4 @@
-//! What exports stand for, and their kinds.
+//! What exports refer to, and their kinds.
 
 use crate::tests::same::{same, same_of};
 use mach_base::Error;

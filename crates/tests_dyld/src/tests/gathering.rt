@@ -1,4 +1,4 @@
-//! A loop over a walk that keeps what it has seen, as docs/CALLING.md shows it: with a contract of its own.
+//! A loop over a walk that keeps what it has seen, with a contract of its own, as in docs/RATTLE.md.
 
 ghost use Rattle.std.specs.Prelude.{◌≡◌, ◌≤◌, ◌+◌, ◌-◌, ◌++◌, ◌∷◌, [], ℕ, List, IfOk, IfErr, OnOk};
 ghost use Rattle.mach_base.specs.Answer.{Stands};
@@ -27,7 +27,7 @@ fn keep<'a>(
     Ok(())
 }
 
-// All exports that a walk gives: the list of the trie, or a fault that stands there.
+// Returns all exports that a walk gives: the list of the trie, or a fault that holds.
 fn gather<'a>(alloc: Global, mut walk: ExportWalk<'a, '_>) -> Result<Vec<Export<'a>>>
     ensures listed { (t : TrieRange) (libs : List (List ℕ)) → HasGiven t libs [] walk.entry
         → IfOk result (λ v. ListsExports t libs (entries v.items)) }
@@ -42,7 +42,7 @@ fn gather<'a>(alloc: Global, mut walk: ExportWalk<'a, '_>) -> Result<Vec<Export<
     Ok(found)
 }
 
-// All that a walk gives, counted.
+// Runs a walk to its end, counted.
 fn go_over(mut walk: ExportWalk<'_, '_>, steps: &mut Steps) -> Result<()>
     ensures few { steps.new ≤ steps.old + nodes_left walk.entry }
 {

@@ -23,7 +23,7 @@ const NARROW: Ctx = Ctx {
     le: LE,
 };
 
-// A segment in the file and in memory.
+// Returns a segment in the file and in memory.
 fn segment(fileoff: u64, vmaddr: u64, vmsize: u64) -> Segment<'static> {
     let mut segment = Segment::new(WIDE, &[]);
     segment.fileoff = fileoff;
@@ -32,12 +32,12 @@ fn segment(fileoff: u64, vmaddr: u64, vmsize: u64) -> Segment<'static> {
     segment
 }
 
-// One at 0.
+// Returns a segment at 0.
 fn plain(vmsize: u64) -> Segment<'static> {
     segment(0, 0, vmsize)
 }
 
-// The command whose non-lazy range is all the bytes.
+// Returns the command whose non-lazy range is all the bytes.
 fn whole(bytes: &[u8]) -> DyldInfoCommand {
     DyldInfoCommand {
         bind_size: (bytes.len() & 0xffff) as u32,
@@ -45,7 +45,7 @@ fn whole(bytes: &[u8]) -> DyldInfoCommand {
     }
 }
 
-// Imports as a short text.
+// Returns imports as a short text.
 fn text_of(alloc: Global, imports: &[Import<'_>]) -> Result<String, AllocError> {
     let mut text = String::new(alloc);
     for i in imports {
@@ -69,7 +69,7 @@ fn text_of(alloc: Global, imports: &[Import<'_>]) -> Result<String, AllocError> 
     Ok(text)
 }
 
-// What the binds of a command list, or why they list nothing.
+// Returns the list of a command's binds, or the error.
 fn listed(
     alloc: Global,
     binds: &BindInterpreter<'_>,
@@ -82,7 +82,7 @@ fn listed(
     }
 }
 
-// An error as a word.
+// Returns an error as a word.
 fn word_of(alloc: Global, error: Error) -> Result<String, AllocError> {
     match error {
         Error::Malformed(_) => String::from_str(alloc, "malformed"),
@@ -92,7 +92,7 @@ fn word_of(alloc: Global, error: Error) -> Result<String, AllocError> {
     }
 }
 
-// Streams of 64 bits with one segment of 0x1000 bytes at 0, and what they list.
+// Streams of 64 bits with one segment of 0x1000 bytes at 0, and their lists.
 const ROWS: &[(&str, &[u8], &str)] = &[
     (
         "bind_after_done",
@@ -215,7 +215,7 @@ fn other_segments_and_widths(rt: HostRuntime) -> Result<(), Fail> {
     Ok(())
 }
 
-// Streams of 64 bits with one segment of so many bytes at 0, and what they list.
+// Streams of 64 bits with one segment of so many bytes at 0, and their lists.
 const ENDS: &[(&[u8], u64, &str)] = &[
     (
         &[0x11, 0x70, 0, 0x90, 0x90],
@@ -242,7 +242,7 @@ fn ends_of_segments(rt: HostRuntime) -> Result<(), Fail> {
     Ok(())
 }
 
-// What an iterator answers when it is asked so often.
+// Returns what an iterator gives when `next` is called `often` times.
 fn answers(alloc: Global, given: BindIterator<'_, '_>, often: u32) -> Result<String, AllocError> {
     let mut left = given;
     let mut text = String::new(alloc);
@@ -257,7 +257,7 @@ fn answers(alloc: Global, given: BindIterator<'_, '_>, often: u32) -> Result<Str
     Ok(text)
 }
 
-// How many imports an iterator gives, and the word of the error after them.
+// Returns how many imports an iterator gives, and the word of the error after them.
 fn counted(alloc: Global, left: BindIterator<'_, '_>) -> Result<String, AllocError> {
     let mut found = 0u64;
     let mut word = String::new(alloc);

@@ -1,4 +1,4 @@
-//! The look-up of one name beside the list: rows, tries by chance, and ways that lead back.
+//! The look-up of one name compared with the list: rows, random tries, and paths that lead back.
 
 use mach_base::{Error, ScrollError};
 use mach_dyld::exports::{ExportInfo, ExportTrie};
@@ -8,7 +8,7 @@ use std::alloc::Global;
 use std::fmt::Write;
 use std::test::Fail;
 
-// The trie of all the bytes.
+// Returns the trie of all the bytes.
 fn trie(bytes: &[u8]) -> ExportTrie<'_> {
     let command = DyldInfoCommand {
         export_size: (bytes.len() & 0xf_ffff) as u32,
@@ -17,7 +17,7 @@ fn trie(bytes: &[u8]) -> ExportTrie<'_> {
     ExportTrie::new(bytes, &command)
 }
 
-// The address of what is found, or why there is none.
+// Returns the address of what is found, or the error.
 fn shown(alloc: Global, bytes: &[u8], name: &str) -> Result<String, Fail> {
     let mut text = String::new(alloc);
     match trie(bytes).find(alloc, &["self", "L"], name) {
@@ -33,12 +33,12 @@ fn shown(alloc: Global, bytes: &[u8], name: &str) -> Result<String, Fail> {
     Ok(text)
 }
 
-// "a" leads to a node with nothing behind it, "ab" to one with "c".
+// "a" leads to a node without branches, "ab" to one with "c".
 const TWO_FIT: [u8; 21] = [
     0, 2, 0x61, 0, 10, 0x61, 0x62, 0, 12, 0, 0, 0, 0, 1, 0x63, 0, 17, 2, 0, 7, 0,
 ];
 
-// One label for two nodes; behind the second a character of two bytes.
+// One label for two nodes; after the second a character of two bytes.
 const ONE_LABEL: [u8; 24] = [
     0, 2, 0x61, 0, 8, 0x61, 0, 12, 2, 0, 5, 0, 2, 0, 6, 1, 0xc3, 0xa9, 0, 20, 2, 0, 7, 0,
 ];
@@ -49,13 +49,13 @@ const FAULT_ASIDE: [u8; 14] = [0, 2, 0x61, 0, 8, 0x62, 0, 12, 2, 0, 5, 0, 0, 0x7
 // The second of the root's labels can't be read.
 const FAULT_PASSED: [u8; 11] = [0, 2, 0x61, 0, 9, 0xff, 0, 9, 0, 0, 0x7f];
 
-// The export stands before the node that leads to it.
+// The export is before the node that leads to it.
 const CHILD_BEFORE: [u8; 14] = [0, 1, 0x61, 0, 9, 2, 0, 6, 0, 0, 1, 0x62, 0, 5];
 
-// A node that two branches lead to: it has no list.
+// A node that two branches lead to: the trie has no list.
 const SHARED: [u8; 12] = [0, 2, 0x61, 0, 8, 0x62, 0, 8, 2, 0, 5, 0];
 
-// An own export of the empty name, and one of "a".
+// An export of the empty name, and one of "a".
 const WITH_CHILD: [u8; 11] = [2, 0, 7, 1, 0x61, 0, 7, 2, 0, 9, 0];
 
 // A trie, a name, and what is found.
@@ -125,7 +125,7 @@ fn next(seed: &mut u64, below: u64) -> u64 {
     (*seed >> 33) % below.max(1)
 }
 
-// A child of a node: the next ones that no other leads to, or any, or none.
+// Returns a child of a node: the next one that no other leads to, or any, or none.
 fn child(seed: &mut u64, node: u64, used: &mut [bool; 8], anywhere: bool) -> u64 {
     if anywhere {
         return next(seed, 8);
@@ -151,7 +151,7 @@ fn push_branch(bytes: &mut Vec<u8>, seed: &mut u64, start: u64) -> Result<(), Fa
     Ok(())
 }
 
-// Seven nodes of 16 bytes, with up to three branches each.
+// Returns seven nodes of 16 bytes, with up to three branches each.
 fn by_chance(alloc: Global, seed: &mut u64, anywhere: bool) -> Result<Vec<u8>, Fail> {
     let mut bytes = Vec::new(alloc);
     let mut used = [false; 8];
@@ -176,7 +176,7 @@ fn by_chance(alloc: Global, seed: &mut u64, anywhere: bool) -> Result<Vec<u8>, F
     Ok(bytes)
 }
 
-// What the list says of a name: the address of the first export that has it.
+// Returns what the list has for a name: the address of the first export with it.
 fn first_of(alloc: Global, bytes: &[u8], name: &str) -> Result<String, Fail> {
     let mut text = String::new(alloc);
     let exports = trie(bytes).exports(alloc, &["self", "L"])?;
@@ -220,7 +220,7 @@ fn agrees_with_the_list(rt: HostRuntime) -> Result<(), Fail> {
     Ok(())
 }
 
-// A root with 20,000 branches that don't fit, and one of an empty label that leads back to it.
+// A root with 20,000 branches that don't fit, and one with an empty label that leads back to it.
 #[test]
 fn loops_end(rt: HostRuntime) -> Result<(), Fail> {
     let mut bytes = Vec::new(rt.alloc());

@@ -1,4 +1,4 @@
-//! Far more items than a row has, their count, and iterators over nothing.
+//! Far more items than the rows have, their count, and iterators over nothing.
 
 use crate::tests::stream_image::{STREAM, context, image, rebases_text, segments, weak_binds_text};
 use mach_base::{BE, Container, Ctx, Steps};
@@ -7,7 +7,7 @@ use mach_parts::segment::Segment;
 use mach_records::DyldInfoCommand;
 use std::test::Fail;
 
-// One instruction makes 2^64 - 1 binds at one place: after each it goes back to it.
+// One instruction makes 2^64 - 1 binds at one place: it goes back to it after each.
 const FOR_EVER: [u8; 28] = [
     0x40, 0x5f, 0x61, 0x00, 0x51, 0x71, 0x10, 0xc0, 0xff, 0xff, 0xff, 0xff, 0xff, 0xff, 0xff, 0xff,
     0xff, 0x01, 0xf8, 0xff, 0xff, 0xff, 0xff, 0xff, 0xff, 0xff, 0xff, 0x01,
@@ -65,7 +65,7 @@ fn many_rebases(rt: HostRuntime) -> Result<(), Fail> {
     Ok(())
 }
 
-// Numbers of an image whose bytes go from the highest on.
+// Numbers of a big-endian image.
 #[test]
 fn big_endian(rt: HostRuntime) -> Result<(), Fail> {
     let alloc = rt.alloc();

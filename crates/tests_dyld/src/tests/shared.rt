@@ -6,7 +6,7 @@ use mach_dyld::exports::ExportTrie;
 use std::alloc::Allocator;
 use std::test::Fail;
 
-// A number in three bytes.
+// Adds a number in three bytes.
 fn put(bytes: &mut Vec<u8>, n: usize) -> std::result::Result<(), Fail> {
     bytes.push((n % 128 + 128) as u8)?;
     bytes.push((n / 128 % 128 + 128) as u8)?;
@@ -14,8 +14,8 @@ fn put(bytes: &mut Vec<u8>, n: usize) -> std::result::Result<(), Fail> {
     Ok(())
 }
 
-// A root with so many branches, each to a node of five bytes; all of them share one list of so many branches, the last
-// of which leads to the first node or, as the others, to the end.
+// Returns a trie whose root has `nodes` branches, each to a node of five bytes. All of them share one list of `many` branches,
+// the last of which leads to the first node or, as the others, to the end.
 fn made(rt: &HostRuntime, nodes: u8, many: u8, leads: bool) -> std::result::Result<Vec<u8>, Fail> {
     let (nodes, many) = (usize::from(nodes), usize::from(many));
     let mut bytes = Vec::new(rt.alloc());
@@ -43,7 +43,7 @@ fn made(rt: &HostRuntime, nodes: u8, many: u8, leads: bool) -> std::result::Resu
     Ok(bytes)
 }
 
-// How many exports are listed.
+// Returns how many exports are listed.
 fn listed<A: Allocator + Clone>(alloc: A, bytes: &[u8], upto: usize) -> Result<usize> {
     let found = ExportTrie::at(bytes, 0, upto).exports(alloc, &[])?;
     Ok(found.len())
@@ -63,7 +63,7 @@ fn lists_to_nothing(rt: HostRuntime) -> std::result::Result<(), Fail> {
     Ok(())
 }
 
-// The list stands behind the end of the trie: first of no node of the range but the root, then of two.
+// The list is after the end of the trie: first of no node of the range but the root, then of two.
 #[test]
 fn lists_behind_the_end(rt: HostRuntime) -> std::result::Result<(), Fail> {
     let bytes = made(&rt, 7, 5, false)?;
@@ -81,7 +81,7 @@ fn lists_behind_the_end(rt: HostRuntime) -> std::result::Result<(), Fail> {
     Ok(())
 }
 
-// Where memory is refused that is answered, and else all is listed.
+// A refused allocation is reported; otherwise all is listed.
 #[test]
 fn refused_marks_are_answered(rt: HostRuntime) -> std::result::Result<(), Fail> {
     let bytes = made(&rt, 7, 5, false)?;
@@ -119,9 +119,9 @@ fn lists_to_a_node(rt: HostRuntime) -> std::result::Result<(), Fail> {
     Ok(())
 }
 
-// A root with so many branches, each to a node of five bytes, and a row of as many branches that lead to the end. The label of
-// each of these begins with how many there are from it on: read as a count it makes them a list, the first of whose labels is
-// a byte shorter. That is the list of a node; all have the same name, "aa".
+// Returns a trie whose root has `nodes` branches, each to a node of five bytes, and a row of as many branches that lead to the
+// end. The label of each of these begins with the number of those from it on. Read as a count it makes them a list, whose first
+// label is a byte shorter. That is the list of a node; all have the same name, "aa".
 fn made_within(rt: &HostRuntime, nodes: u8, label: &[u8]) -> std::result::Result<Vec<u8>, Fail> {
     let count = usize::from(nodes);
     let mut bytes = Vec::new(rt.alloc());
@@ -149,7 +149,7 @@ fn made_within(rt: &HostRuntime, nodes: u8, label: &[u8]) -> std::result::Result
     Ok(bytes)
 }
 
-// Lists that begin within each other, of labels of ASCII and of others.
+// Lists that begin within each other, with ASCII labels and others.
 #[test]
 fn lists_within_lists(rt: HostRuntime) -> std::result::Result<(), Fail> {
     for label in &["", "b", "bbbbbbbbb", "é", "€b", "😀", "b😀é"] {
@@ -171,7 +171,7 @@ fn lists_within_lists(rt: HostRuntime) -> std::result::Result<(), Fail> {
     Ok(())
 }
 
-// Where a label isn't UTF-8 no list can be read in which it stands, whatever is known of those before.
+// If a label isn't UTF-8, no list with it can be read, whatever is known of the lists before.
 #[test]
 fn labels_within_lists(rt: HostRuntime) -> std::result::Result<(), Fail> {
     for label in &[

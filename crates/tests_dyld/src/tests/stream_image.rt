@@ -1,4 +1,4 @@
-//! Image F: the bytes and the segments that streams are read over, and what comes of them as text.
+//! Image F: the bytes and the segments over which streams are read, and their items as text.
 
 use mach_base::{Container, Ctx, Error, LE, ScrollError};
 use mach_dyld::{OpcodeRebaseIterator, Rebase, RebaseKind, WeakBind, WeakBindIterator};
@@ -6,10 +6,10 @@ use mach_parts::segment::Segment;
 use std::alloc::{AllocError, Global};
 use std::fmt::Write;
 
-/// Where a stream stands in the bytes.
+/// The offset of a stream in the bytes.
 pub const STREAM: usize = 0x2400;
 
-/// A context of 64 bits, or of 32.
+/// Returns a context of 64 bits, or of 32.
 pub fn context(is_wide: bool) -> Ctx {
     Ctx {
         container: if is_wide {
@@ -21,7 +21,7 @@ pub fn context(is_wide: bool) -> Ctx {
     }
 }
 
-/// The bytes of the image, with a stream at their end.
+/// Returns the bytes of the image, with a stream at their end.
 pub fn image(alloc: Global, stream: &[u8]) -> Result<Vec<u8>, AllocError> {
     let mut bytes = Vec::new(alloc);
     for place in 0..STREAM {
@@ -51,7 +51,7 @@ pub fn image(alloc: Global, stream: &[u8]) -> Result<Vec<u8>, AllocError> {
     Ok(bytes)
 }
 
-// A segment of 0x1000 bytes in memory, with its data.
+// Returns a segment of 0x1000 bytes in memory, with its data.
 fn segment(bytes: &[u8], place: usize, size: usize) -> Segment<'_> {
     let mut segment = Segment::new(context(true), &[]);
     segment.vmaddr = (place as u64).wrapping_add(0x1_0000_0000);
@@ -62,7 +62,7 @@ fn segment(bytes: &[u8], place: usize, size: usize) -> Segment<'_> {
     segment
 }
 
-/// The segments of the image.
+/// Returns the segments of the image.
 pub fn segments(bytes: &[u8]) -> [Segment<'_>; 3] {
     [
         segment(bytes, 0, 0x1000),
@@ -75,7 +75,7 @@ pub fn segments(bytes: &[u8]) -> [Segment<'_>; 3] {
     ]
 }
 
-// An error as a text.
+// Returns an error as a text.
 fn error_text(alloc: Global, error: Error) -> Result<String, AllocError> {
     match error {
         Error::Malformed(_) => String::from_str(alloc, "Malformed"),
@@ -85,7 +85,7 @@ fn error_text(alloc: Global, error: Error) -> Result<String, AllocError> {
     }
 }
 
-// A row of weak binds as a text.
+// Returns a row of weak binds as a text.
 fn weak_text(alloc: Global, row: &WeakBind<'_>) -> Result<String, AllocError> {
     let binding = match row {
         WeakBind::Strong { name } => return format!(in alloc; "strong {name}"),
@@ -107,7 +107,7 @@ fn weak_text(alloc: Global, row: &WeakBind<'_>) -> Result<String, AllocError> {
     Ok(text)
 }
 
-// A rebase as a text.
+// Returns a rebase as a text.
 fn rebase_text(alloc: Global, rebase: &Rebase) -> Result<String, AllocError> {
     let kind = match rebase.kind {
         RebaseKind::Pointer => "pointer",
@@ -127,7 +127,7 @@ fn rebase_text(alloc: Global, rebase: &Rebase) -> Result<String, AllocError> {
     Ok(text)
 }
 
-/// What an iterator over weak binds answers up to its end, and then once more.
+/// Returns what an iterator over weak binds gives up to its end, and then once more.
 pub fn weak_binds_text(
     alloc: Global,
     given: WeakBindIterator<'_, '_>,
@@ -149,7 +149,7 @@ pub fn weak_binds_text(
     Ok(text)
 }
 
-/// What an iterator over rebases answers up to its end, and then once more.
+/// Returns what an iterator over rebases gives up to its end, and then once more.
 pub fn rebases_text(
     alloc: Global,
     given: OpcodeRebaseIterator<'_, '_>,

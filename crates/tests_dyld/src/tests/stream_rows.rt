@@ -1,6 +1,6 @@
-//! The worked rows of docs/FORMAT.md on streams of weak binds and of rebases: streams at 0x2400 of image F, and what comes of them.
+//! The worked rows of docs/FORMAT-DYLD.md on streams of weak binds and of rebases: streams at 0x2400 of image F, and their items.
 
-/// A stream of image F, and its items, set apart by `;`.
+/// A stream of image F, and its items, separated by `;`.
 #[derive(Clone, Copy)]
 pub struct Row {
     pub off: u32,

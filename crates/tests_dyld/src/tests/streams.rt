@@ -8,7 +8,7 @@ use mach_records::DyldInfoCommand;
 use std::alloc::{AllocError, Global};
 use std::test::Fail;
 
-// What the weak binds of a row are.
+// Returns the weak binds of a row.
 fn weak_row(alloc: Global, row: &Row) -> Result<String, AllocError> {
     let bytes = image(alloc, row.stream)?;
     let segments = segments(bytes.as_slice());
@@ -31,7 +31,7 @@ fn weak_binds(rt: HostRuntime) -> Result<(), Fail> {
     Ok(())
 }
 
-// What the rebases of a row are.
+// Returns the rebases of a row.
 fn rebase_row(alloc: Global, row: &Row) -> Result<String, AllocError> {
     let bytes = image(alloc, row.stream)?;
     let segments = segments(bytes.as_slice());

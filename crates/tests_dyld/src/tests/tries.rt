@@ -1,4 +1,4 @@
-//! Tries as they are listed: long chains, tries that are no trees, and memory refused.
+//! Lists of tries: long chains, tries that are not trees, and refused allocations.
 
 use crate::tests::same::{same, same_of};
 use linked_list_allocator::LocalHeap;
@@ -10,7 +10,7 @@ use std::alloc::Global;
 use std::fmt::Write;
 use std::test::Fail;
 
-// The trie of all the bytes.
+// Returns the trie of all the bytes.
 fn trie(bytes: &[u8]) -> ExportTrie<'_> {
     let command = DyldInfoCommand {
         export_size: (bytes.len() & 0xf_ffff) as u32,
@@ -19,7 +19,7 @@ fn trie(bytes: &[u8]) -> ExportTrie<'_> {
     ExportTrie::new(bytes, &command)
 }
 
-// The names and addresses of a trie's exports, or why there are none.
+// Returns the names and addresses of a trie's exports, or the error.
 fn shown(alloc: Global, bytes: &[u8]) -> Result<String, Fail> {
     let mut text = String::new(alloc);
     match trie(bytes).exports(alloc, &["self", "L"]) {
@@ -37,7 +37,7 @@ fn shown(alloc: Global, bytes: &[u8]) -> Result<String, Fail> {
     Ok(text)
 }
 
-// Tries, and the exports that they list.
+// Tries, and their lists of exports.
 const LISTS: &[(&str, &[u8], &str)] = &[
     (
         "exports_vector",
@@ -90,7 +90,7 @@ fn lists(rt: HostRuntime) -> Result<(), Fail> {
     Ok(())
 }
 
-// Tries that are refused, and why.
+// Tries that are refused, and the error.
 const REFUSALS: &[(&str, &[u8], &str)] = &[
     ("back_to_root", &[0, 1, 0x61, 0, 0], "malformed"),
     (
@@ -139,7 +139,7 @@ fn refusals(rt: HostRuntime) -> Result<(), Fail> {
     Ok(())
 }
 
-// The groups of an offset, in so many bytes.
+// Adds an offset as ULEB128 in `width` bytes.
 fn push_offset(bytes: &mut Vec<u8>, offset: u32, width: u32) -> Result<(), Fail> {
     let mut rest = offset;
     for _ in 1..width {
@@ -150,7 +150,7 @@ fn push_offset(bytes: &mut Vec<u8>, offset: u32, width: u32) -> Result<(), Fail>
     Ok(())
 }
 
-// A chain of nodes, one branch each, and a terminal node.
+// Returns a chain of nodes, one branch each, and a terminal node.
 fn chain(alloc: Global, count: u32, width: u32) -> Result<Vec<u8>, Fail> {
     let mut bytes = Vec::new(alloc);
     let mut start = 0u32;
@@ -179,7 +179,7 @@ fn chains(rt: HostRuntime) -> Result<(), Fail> {
     Ok(())
 }
 
-// Nodes of two branches to the next, and a terminal node.
+// Returns nodes of two branches to the next, and a terminal node.
 fn ladder(alloc: Global, count: u32, width: u32) -> Result<Vec<u8>, Fail> {
     let mut bytes = Vec::new(alloc);
     let mut start = 0u32;
@@ -194,8 +194,8 @@ fn ladder(alloc: Global, count: u32, width: u32) -> Result<Vec<u8>, Fail> {
     Ok(bytes)
 }
 
-// That the longer one is refused within 41 visits is said by the contract, and not by a test: a count takes
-// no bytes when the program runs. `laws::rows::visits_of_ladder_of_40` says it of these bytes.
+// A contract, and not this test, says that the longer one is refused within 41 visits: a count takes no bytes when the program
+// runs. `laws::rows::visits_of_ladder_of_40` says it of these bytes.
 #[test]
 fn ladders(rt: HostRuntime) -> Result<(), Fail> {
     for (count, width, len) in [(10u32, 1u32, 84usize), (40, 2, 404)] {

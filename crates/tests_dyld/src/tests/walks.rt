@@ -1,4 +1,4 @@
-//! Walks over tries: each export as it is given, its name lent; a fault in the middle; nothing after the end.
+//! Walks over tries: each export as it is given, with its name lent; a fault in the middle; nothing after the end.
 
 use mach_base::Error;
 use mach_dyld::exports::{ExportInfo, ExportTrie};
@@ -8,7 +8,7 @@ use std::alloc::Global;
 use std::fmt::Write;
 use std::test::Fail;
 
-// What a walk over all the bytes gives, up to its end, and the two answers behind that.
+// Returns what a walk over all the bytes gives, up to its end, and the two answers after that.
 fn walked(alloc: Global, bytes: &[u8]) -> Result<String, Fail> {
     let command = DyldInfoCommand {
         export_size: (bytes.len() & 0xf_ffff) as u32,
@@ -34,7 +34,7 @@ fn walked(alloc: Global, bytes: &[u8]) -> Result<String, Fail> {
     Ok(text)
 }
 
-// Tries, and what is given of them.
+// Tries, and what a walk gives of them.
 const WALKS: &[(&str, &[u8], &str)] = &[
     (
         "exports_vector",

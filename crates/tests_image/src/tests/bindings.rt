@@ -1,4 +1,4 @@
-//! What dyld binds of an image, by opcodes and by chains: strict, in lossy mode, and inside a fat file.
+//! The bindings of an image, by opcodes and by chains: strict, in lossy mode, and inside a fat file.
 
 use crate::tests::answers::answers;
 use crate::tests::same::{same, same_of};
@@ -12,7 +12,7 @@ use std::fmt::Write;
 use std::process::Abort;
 use std::test::Fail;
 
-// A fixup: its segment, place and address, and what is asked for.
+// Writes a fixup: its segment, place and address, and what it stores.
 fn write_fixup(text: &mut String, fixup: &Fixup) -> Result<(), AllocError> {
     let Fixup {
         segment,
@@ -29,7 +29,7 @@ fn write_fixup(text: &mut String, fixup: &Fixup) -> Result<(), AllocError> {
     Ok(())
 }
 
-// The fixups up to the fault, which stands last as its kind; behind it nothing comes.
+// Returns the fixups up to the fault, which comes last as its kind; nothing comes after it.
 fn fixups(
     rt: &impl Abort,
     alloc: Global,
@@ -47,7 +47,7 @@ fn fixups(
     Ok(text)
 }
 
-// A binding: its name, its provider, its places and its addend.
+// Writes a binding: its name, its provider, its places and its addend.
 fn write_binding(text: &mut String, binding: &Binding<'_>) -> Result<(), AllocError> {
     let Binding {
         name,
@@ -67,7 +67,7 @@ fn write_binding(text: &mut String, binding: &Binding<'_>) -> Result<(), AllocEr
     Ok(())
 }
 
-// The same of bindings.
+// Returns the bindings in the same way.
 fn bindings(
     rt: &impl Abort,
     alloc: Global,
@@ -85,7 +85,7 @@ fn bindings(
     Ok(text)
 }
 
-// The fixups of an image and then its bindings.
+// Returns the fixups of an image and then its bindings.
 fn of_image<A: Allocator>(
     rt: &impl Abort,
     alloc: Global,
@@ -96,7 +96,7 @@ fn of_image<A: Allocator>(
     format!(in alloc; "{front}| {back}")
 }
 
-// That an image answers so, opened strictly, in lossy mode, and as the entry of a fat file.
+// Asserts that an image gives this if it is opened strictly, in lossy mode, and as the entry of a fat file.
 fn three_times(
     rt: &impl Abort,
     alloc: Global,
@@ -120,7 +120,7 @@ fn three_times(
     Ok(())
 }
 
-// File D with some bytes in place of its own.
+// Returns file D with some of its bytes changed.
 fn changed(changes: &[(usize, u8)]) -> [u8; 436] {
     let mut bytes = FILE_D;
     for (place, byte) in changes {
@@ -135,7 +135,7 @@ fn changed(changes: &[(usize, u8)]) -> [u8; 436] {
 const FIXUPS: &str =
     "0 0x0 0x100000000 bind 0 5; 0 0x8 0x100000008 rebase 0x1000; 1 0x0 0x100004000 rebase 0x1000; 1 0x8 0x100004008 bind 0 5; ";
 
-// What its opcodes bind, and what its chains bind.
+// The bindings of its opcodes, and those of its chains.
 const BY_OPCODES: &str = "b 1 L 0x140 0x100004000 0; _c flat 0x148 0x100004008 0; ";
 
 const BY_CHAINS: &str = "_a 1 L 0x130 0x100000000 5; _a 1 L 0x148 0x100004008 5; ";
@@ -172,7 +172,7 @@ fn nothing_is_bound(rt: HostRuntime) -> Result<(), Fail> {
     Ok(())
 }
 
-// One of the two.
+// An image with only one of the two.
 #[test]
 fn opcodes_or_chains(rt: HostRuntime) -> Result<(), Fail> {
     let alloc = rt.alloc();
@@ -190,7 +190,7 @@ fn opcodes_or_chains(rt: HostRuntime) -> Result<(), Fail> {
     Ok(())
 }
 
-// A front that can't be read: the opcodes' bindings come first, and then its error.
+// A header that can't be read: the bindings of the opcodes come first, and then its error.
 #[test]
 fn bad_fronts(rt: HostRuntime) -> Result<(), Fail> {
     let alloc = rt.alloc();
@@ -206,7 +206,7 @@ fn bad_fronts(rt: HostRuntime) -> Result<(), Fail> {
     Ok(())
 }
 
-// Faults among the bindings, of which the first ends them.
+// Faults among the bindings; the first one ends them.
 #[test]
 fn first_faults(rt: HostRuntime) -> Result<(), Fail> {
     let alloc = rt.alloc();
@@ -229,7 +229,7 @@ fn first_faults(rt: HostRuntime) -> Result<(), Fail> {
     Ok(())
 }
 
-// Of two commands that bring chained fixups the last counts.
+// Of two commands with chained fixups the last one is used.
 #[test]
 fn last_command(rt: HostRuntime) -> Result<(), Fail> {
     let alloc = rt.alloc();
@@ -263,7 +263,7 @@ fn bases(rt: HostRuntime) -> Result<(), Fail> {
     Ok(())
 }
 
-// In lossy mode data that are not there are empty, so that no fixup lies in them.
+// In lossy mode missing data are empty, so that no fixup lies in them.
 #[test]
 fn lossy_alone(rt: HostRuntime) -> Result<(), Fail> {
     let alloc = rt.alloc();
@@ -277,13 +277,13 @@ fn lossy_alone(rt: HostRuntime) -> Result<(), Fail> {
     Ok(())
 }
 
-// Where nothing but opcodes of one library binds, and the binds have types, the bindings are the imports.
+// If only opcodes of one library bind, and the binds have types, the bindings are the imports.
 #[test]
 fn bindings_of_file_b(rt: HostRuntime) -> Result<(), Fail> {
     let alloc = rt.alloc();
     let image = MachO::parse(alloc, &FILE_B, 0)?;
     answers(&rt, of_image(&rt, alloc, &image), "| malformed")?;
-    // The name is shorter by a byte, and a type stands in its place.
+    // The name is shorter by a byte, and a type takes its place.
     let mut typed = FILE_B;
     for (place, byte) in [(314, 0x61), (315, 0), (316, 0x51)] {
         if let Some(there) = typed.get_mut(place) {

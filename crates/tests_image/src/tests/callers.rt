@@ -1,5 +1,5 @@
-//! Small callers of goblin_mach: each states what it answers by a fact on the bytes, or on a list of
-//! exports, and cites the law that gives it.
+//! Small callers of goblin_mach: each states its answer by a fact about the bytes, or about a list of exports, and cites the law
+//! that gives it.
 
 ghost use Rattle.std.specs.Prelude.{◌≡◌, ◌<◌, ℕ, List, Bool, Result, Some, IfOk, MatchOption, option_map, slice_get};
 ghost use Rattle.mach_base.specs.Fault.{Fault};
@@ -28,7 +28,7 @@ use mach_samples::files::{FILE_B, FILE_D, file_c};
 use std::alloc::{Allocator, Global};
 use std::test::Fail;
 
-// The image at the front of the bytes, which opens in lossy mode all the more.
+// Opens the image at the start of the bytes; if it opens, it also opens in lossy mode.
 fn image(alloc: Global, bytes: &[u8]) -> Result<MachO<'_>>
     ensures { IfOk result (IsLossyImage bytes.now 0) }
 {
@@ -37,7 +37,7 @@ fn image(alloc: Global, bytes: &[u8]) -> Result<MachO<'_>>
     Ok(image)
 }
 
-// The paths on which the libraries of the image there are sought.
+// Returns the run paths of the image.
 fn run_paths(alloc: Global, bytes: &[u8]) -> Result<Vec<&str>>
     ensures { IfOk result (λ paths. HasRunPaths bytes.now 0 (texts paths.items)) }
 {
@@ -46,7 +46,7 @@ fn run_paths(alloc: Global, bytes: &[u8]) -> Result<Vec<&str>>
     Ok(image.rpaths)
 }
 
-// Where the image there begins to run.
+// Returns the entry point of the image.
 fn entry_point(alloc: Global, bytes: &[u8]) -> Result<u64>
     ensures { IfOk result (λ address. (old_style : Bool) × HasEntryPoint bytes.now 0 (record { address = address; old_style = old_style })) }
 {
@@ -55,7 +55,7 @@ fn entry_point(alloc: Global, bytes: &[u8]) -> Result<u64>
     Ok(image.entry)
 }
 
-// The imports of an image one at a time, which are those of the bytes in which it was opened.
+// Returns the imports of an image one at a time, which are those of the bytes in which it was opened.
 fn import_items<'a, 'b>(image: &'b MachO<'a>) -> BindIterator<'a, 'b>
     ensures { (bytes : List ℕ) (o : ℕ) → IsImage bytes o image.now → HasImportItems bytes o (imports_left result) }
 {
@@ -63,7 +63,7 @@ fn import_items<'a, 'b>(image: &'b MachO<'a>) -> BindIterator<'a, 'b>
     image.iter_imports()
 }
 
-// What dyld binds of an image one at a time, which is what it binds of the bytes in which it was opened.
+// Returns the bindings of an image one at a time, which are those of the bytes in which it was opened.
 fn bindings<'a, 'b>(image: &'b MachO<'a>) -> BindingIterator<'a, 'b>
     ensures { (bytes : List ℕ) (o : ℕ) → IsLossyImage bytes o image.now → HasBindings bytes o (bindings_left result) }
 {
@@ -71,7 +71,7 @@ fn bindings<'a, 'b>(image: &'b MachO<'a>) -> BindingIterator<'a, 'b>
     image.bindings()
 }
 
-// Its fixups.
+// Returns the fixups of an image.
 fn fixups<'a, 'b>(image: &'b MachO<'a>) -> FixupIterator<'a, 'b>
     ensures { (bytes : List ℕ) (o : ℕ) → IsLossyImage bytes o image.now → HasFixups bytes o (image_fixups_left result) }
 {
@@ -79,7 +79,7 @@ fn fixups<'a, 'b>(image: &'b MachO<'a>) -> FixupIterator<'a, 'b>
     image.fixups()
 }
 
-// The libraries of an image by their kinds, which are those of the bytes in which it was opened.
+// Returns the libraries of an image by their kinds, which are those of the bytes in which it was opened.
 fn libraries<'a, 'b>(image: &'b MachO<'a>) -> LibraryIterator<'a, 'b>
     ensures { (bytes : List ℕ) (o : ℕ) → IsImage bytes o image.now → HasLibrariesByKind bytes o (libraries_left result) }
 {
@@ -87,7 +87,7 @@ fn libraries<'a, 'b>(image: &'b MachO<'a>) -> LibraryIterator<'a, 'b>
     image.libraries()
 }
 
-// What the image there exports a name as: by the paths of its trie, and by the list of its exports, where there is one.
+// Returns the export of the image with a name: by the paths of its trie, and by the list of its exports, if there is one.
 fn exported_as<'a>(alloc: Global, bytes: &'a [u8], name: &str) -> Result<Option<ExportInfo<'a>>>
     ensures by_paths { IfOk result (λ o. HasExportOf bytes.now 0 name.now (option_map info_of o)) }
     ensures by_list { (list : List Entry) → HasExports bytes.now 0 list → IfOk result (λ o. IsFirstOf name.now list (option_map info_of o)) }
@@ -98,7 +98,7 @@ fn exported_as<'a>(alloc: Global, bytes: &'a [u8], name: &str) -> Result<Option<
     image.find_export(alloc, name)
 }
 
-// The entry of an index, which is the one at that place among all entries.
+// Returns the entry with an index, which is the one at that place among all entries.
 fn entry<'a>(container: &MultiArch<'a>, index: usize) -> Result<SingleArch<'a>>
     requires { index < container.now.narches }
     ensures { (found : Result FatEntry Fault) × (slice_get (entries_of (file_held container.now)) index ≡ Some found) × OpensEntry found result }
@@ -107,7 +107,7 @@ fn entry<'a>(container: &MultiArch<'a>, index: usize) -> Result<SingleArch<'a>>
     container.get(index)
 }
 
-// The address of the first export of a name, at which the list has that name; None where it has none.
+// Returns the address of the first export with a name, at which the list has that name; None if it has none.
 fn address_of<A: Allocator>(exports: &[Export<'_, A>], name: &str) -> Option<u64>
     ensures { MatchOption result (IsNotExported name.now (entries exports.now)) (λ address. IsExportedAt name.now address (entries exports.now)) }
 {

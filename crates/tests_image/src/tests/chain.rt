@@ -7,7 +7,7 @@ use mach_samples::files::{BARE, FILE_A, FILE_B, File};
 use std::alloc::{AllocError, Global};
 use std::test::Fail;
 
-// What the bytes open as, or why they don't.
+// Returns what the bytes open as, or the error.
 fn opened(alloc: Global, bytes: &[u8]) -> Result<String, AllocError> {
     match Mach::parse(alloc, bytes) {
         Ok(Mach::Binary(image)) => tests_texts::image(alloc, &image),

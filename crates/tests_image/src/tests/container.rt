@@ -1,4 +1,4 @@
-//! Fat files: what first bytes hint at, records, entries.
+//! Fat files: hints of first bytes, records, entries.
 
 use crate::tests::answers::answers;
 use crate::tests::same::{same, same_of};
@@ -9,7 +9,7 @@ use std::alloc::{AllocError, Global};
 use std::fmt::Write;
 use std::test::Fail;
 
-// What the first bytes hint at.
+// Returns what the first bytes hint at.
 fn hint(alloc: Global, bytes: &[u8]) -> Result<String, AllocError> {
     let Some(front) = take_hint_bytes(bytes) else {
         return String::from_str(alloc, "none");
@@ -23,7 +23,7 @@ fn hint(alloc: Global, bytes: &[u8]) -> Result<String, AllocError> {
     }
 }
 
-// What the bytes open as: the count and all entries of a fat file.
+// Returns what the bytes open as: the count and all entries of a fat file.
 fn opened(alloc: Global, bytes: &[u8]) -> Result<String, AllocError> {
     match Mach::parse(alloc, bytes) {
         Ok(Mach::Fat(file)) => {
@@ -39,7 +39,7 @@ fn opened(alloc: Global, bytes: &[u8]) -> Result<String, AllocError> {
     }
 }
 
-// The cpus of all records.
+// Returns the cpus of all records.
 fn arches(alloc: Global, answer: &Read<Vec<FatArch>>) -> Result<String, AllocError> {
     match answer {
         Ok(list) => tests_texts::arches(alloc, list),
@@ -47,7 +47,7 @@ fn arches(alloc: Global, answer: &Read<Vec<FatArch>>) -> Result<String, AllocErr
     }
 }
 
-// The record of a cpu.
+// Returns the record of a cpu.
 fn of_cpu(alloc: Global, file: &MultiArch<'_>, cputype: u32) -> Result<String, AllocError> {
     match file.find_cputype(cputype) {
         Ok(Some(arch)) => format!(in alloc; "{:#x} at {}", arch.cputype, arch.offset),

@@ -11,7 +11,7 @@ use std::fmt::Write;
 use std::process::Abort;
 use std::test::Fail;
 
-// A 64-bit little-endian image of a thread's state that has no words, for some cpu.
+// Returns a 64-bit little-endian image for some cpu, with a thread command without words.
 fn with_thread(alloc: Global, cputype: [u8; 4]) -> Result<Vec<u8>, AllocError> {
     let [a, b, c, d] = cputype;
     let bytes = vec![in alloc;
@@ -21,7 +21,7 @@ fn with_thread(alloc: Global, cputype: [u8; 4]) -> Result<Vec<u8>, AllocError> {
     Ok(bytes)
 }
 
-// Some bytes and others after them.
+// Returns some bytes with others after them.
 fn joined(alloc: Global, front: &[u8], rest: &[u8]) -> Result<Vec<u8>, AllocError> {
     let mut bytes = Vec::new(alloc);
     bytes.extend_from_slice(front)?;
@@ -29,7 +29,7 @@ fn joined(alloc: Global, front: &[u8], rest: &[u8]) -> Result<Vec<u8>, AllocErro
     Ok(bytes)
 }
 
-// The command of a segment of text.
+// Returns the command of a text segment.
 fn text(vmaddr: [u8; 8], fileoff: [u8; 8], filesize: u8) -> [u8; 72] {
     let mut command = [0; 72];
     command[0] = 0x19;
@@ -41,7 +41,7 @@ fn text(vmaddr: [u8; 8], fileoff: [u8; 8], filesize: u8) -> [u8; 72] {
     command
 }
 
-// A command that names the main program.
+// Returns a command that names the entry point (LC_MAIN).
 fn main_at(entryoff: u8) -> [u8; 24] {
     let mut command = [0; 24];
     command[..4].copy_from_slice(&[0x28, 0, 0, 0x80]);
@@ -50,7 +50,7 @@ fn main_at(entryoff: u8) -> [u8; 24] {
     command
 }
 
-// What the bytes open as, strictly or in lossy mode, or why they don't.
+// Returns what the bytes open as, strictly or in lossy mode, or the error.
 fn opened(alloc: Global, bytes: &[u8], lossy: bool) -> Result<String, AllocError> {
     let answer = if lossy {
         Mach::parse_lossy(alloc, bytes)
@@ -63,14 +63,14 @@ fn opened(alloc: Global, bytes: &[u8], lossy: bool) -> Result<String, AllocError
     }
 }
 
-// What the bytes open as strictly, and then in lossy mode.
+// Returns what the bytes open as strictly, and then in lossy mode.
 fn both(alloc: Global, bytes: &[u8]) -> Result<String, AllocError> {
     let strict = opened(alloc, bytes, false)?;
     let lossy = opened(alloc, bytes, true)?;
     format!(in alloc; "{strict} | {lossy}")
 }
 
-// What two parts of an image open as, behind a header that counts so many commands of so many bytes.
+// Returns what two parts of an image open as, after a header that counts so many commands of so many bytes.
 fn of_parts(
     alloc: Global,
     counts: (u8, u8),
@@ -172,7 +172,7 @@ fn file_b(rt: HostRuntime) -> Result<(), Fail> {
     Ok(())
 }
 
-// Each import with its address and its size.
+// Returns each import with its address and its size.
 fn sized(alloc: Global, imports: &[Import<'_>]) -> Result<String, AllocError> {
     let mut text = String::new(alloc);
     for import in imports {
@@ -212,7 +212,7 @@ fn relocation_of_file_b(rt: HostRuntime) -> Result<(), Fail> {
     one_relocation(&rt, items)
 }
 
-// That the only relocation is the one of file B.
+// Asserts that the only relocation is the one of file B.
 fn one_relocation(rt: &impl Abort, mut items: RelocationIterator<'_>) -> Result<(), Fail> {
     let Some(Ok(relocation)) = items.next() else {
         return Err(Fail::from("a relocation"));

@@ -7,17 +7,17 @@ use std::alloc::{AllocError, Allocator, Global};
 use std::fmt::Write;
 use std::test::Fail;
 
-// The command of a library: its number, its timestamp, where its name stands, and eight bytes for the name.
+// The command of a library: its number, its timestamp, the offset of its name, and eight bytes for the name.
 #[derive(Clone, Copy)]
 struct Row(u32, u32, u32, &'static [u8; 8]);
 
-// The numbers of the command, of which the versions are the same in each.
+// Returns the numbers of the command; the versions are the same in each.
 fn numbers(row: Row) -> [u32; 6] {
     let Row(cmd, timestamp, name, _) = row;
     [cmd, 32, name, timestamp, 0x2_0304, 0x1_0000]
 }
 
-// Commands behind a header of 64 bits, little-endian.
+// Returns commands after a header of 64 bits, little-endian.
 fn commands(alloc: Global, rows: &[Row]) -> Result<Vec<u8>, AllocError> {
     let mut bytes = Vec::new(alloc);
     for row in rows {
@@ -31,7 +31,7 @@ fn commands(alloc: Global, rows: &[Row]) -> Result<Vec<u8>, AllocError> {
     image(alloc, count, 32 * count, &bytes)
 }
 
-// The same behind a header of 32 bits, big-endian.
+// Returns the same after a header of 32 bits, big-endian.
 fn big_commands(alloc: Global, rows: &[Row]) -> Result<Vec<u8>, AllocError> {
     let count = (rows.len() & 7) as u8;
     let mut bytes = vec![in alloc;
@@ -74,7 +74,7 @@ fn big_commands(alloc: Global, rows: &[Row]) -> Result<Vec<u8>, AllocError> {
     Ok(bytes)
 }
 
-// The libraries of an image: what it says of each.
+// Returns the fields of each library of an image.
 fn shown<A: Allocator>(alloc: Global, image: &MachO<'_, A>) -> Result<String, Fail> {
     let mut text = String::new(alloc);
     for library in image.libraries() {
@@ -92,7 +92,7 @@ fn shown<A: Allocator>(alloc: Global, image: &MachO<'_, A>) -> Result<String, Fa
     Ok(text)
 }
 
-// The names of `libs`, from ordinal 0 on.
+// Returns the names of `libs`, from ordinal 0 on.
 fn names<A: Allocator>(alloc: Global, image: &MachO<'_, A>) -> Result<String, AllocError> {
     let mut text = String::new(alloc);
     for name in &image.libs {
@@ -130,7 +130,7 @@ fn of_each_kind(rt: HostRuntime) -> Result<(), Fail> {
     Ok(())
 }
 
-// The second name stands past the end of the bytes, and the fourth is no text.
+// The second name is past the end of the bytes, and the fourth is no text.
 const UNREADABLE: &[Row] = &[
     Row(0xc, 0, 24, b"A\0\0\0\0\0\0\0"),
     Row(0xc, 0, 1000, b"B\0\0\0\0\0\0\0"),

@@ -1,4 +1,4 @@
-//! The look-up of one name in an image: what is found, what isn't, and images without a trie.
+//! The look-up of one name in an image: found, not found, and images without a trie.
 
 use crate::tests::same::{same, same_of};
 use goblin_mach::MachO;
@@ -8,7 +8,7 @@ use std::alloc::{AllocError, Global};
 use std::fmt::Write;
 use std::test::Fail;
 
-// An image of a library L and of a trie, which stands behind its commands.
+// Returns an image with a library L and a trie, which follows its commands.
 fn with_trie(alloc: Global, trie: &[u8]) -> Result<Vec<u8>, AllocError> {
     let mut bytes = vec![in alloc;
         0xc,
@@ -64,7 +64,7 @@ fn with_trie(alloc: Global, trie: &[u8]) -> Result<Vec<u8>, AllocError> {
     image(alloc, 2, 48, &bytes)
 }
 
-// What an image exports a name as, or why it doesn't say.
+// Returns the export of an image with a name, or the error.
 fn shown(alloc: Global, bytes: &[u8], name: &str) -> Result<String, Fail> {
     let image = MachO::parse(alloc, bytes, 0)?;
     let mut text = String::new(alloc);
@@ -98,7 +98,7 @@ const REEXPORTED: [u8; 10] = [0, 1, 0x61, 0, 5, 3, 8, 1, 0, 0];
 // There is no library 2.
 const OF_LIBRARY_2: [u8; 10] = [0, 1, 0x61, 0, 5, 3, 8, 2, 0, 0];
 
-// A node that two branches lead to: it has no list, and either name has an answer.
+// A node that two branches lead to: the trie has no list, and both names are found.
 const SHARED: [u8; 12] = [0, 2, 0x61, 0, 8, 0x62, 0, 8, 2, 0, 5, 0];
 
 // A trie, a name, and what is found.

@@ -6,7 +6,7 @@ use std::alloc::{AllocError, Global};
 use std::process::Abort;
 use std::test::Fail;
 
-// What is asked of the bytes.
+// A call on the bytes.
 #[derive(Clone, Copy, Debug)]
 enum Call {
     Strict,
@@ -16,22 +16,22 @@ enum Call {
     View,
 }
 
-// What is answered.
+// A wanted answer.
 #[derive(Clone, Copy)]
 enum Want {
     // This.
     Gives(&'static str),
     // This fault.
     Fault(&'static str),
-    // So many bytes are to be read at a place, and the bytes end before they do.
+    // A read of so many bytes at a place, which end before that.
     Cut { size: usize, place: usize },
-    // A fault, whichever.
+    // Any fault.
     Refused,
 }
 
 use Want::{Cut, Fault, Gives, Refused};
 
-// The answers of a call on the first n bytes of a file, each for every n from its own up to the next.
+// The answers of a call on the first n bytes of a file; each is for every n from its own up to the next.
 #[derive(Drop)]
 struct Table<'a> {
     name: &'static str,
@@ -62,7 +62,7 @@ const B_STRICT: &[(usize, Want)] = &[
     (376, Gives("0x100000138 self L, segment of 376, symbols")),
 ];
 
-// The last command, at 288, has 24 bytes; the one before it, at 264, as many. The symbols stand at 352.
+// The last command, at 288, has 24 bytes; the one before it, at 264, has 24 too. The symbols are at 352.
 const B_LOSSY: &[(usize, Want)] = &[
     (0, Fault("malformed")),
     (32, Fault("too short 5 load commands")),
@@ -119,7 +119,7 @@ const C_VIEW: &[(usize, Want)] = &[
     ),
 ];
 
-// What a call answers of some bytes.
+// Returns the answer of a call on some bytes.
 fn answer(alloc: Global, call: Call, bytes: &[u8]) -> Read<String> {
     let text = match call {
         Call::Strict => tests_texts::file(alloc, &Mach::parse(alloc, bytes)?)?,
@@ -138,7 +138,7 @@ fn answer(alloc: Global, call: Call, bytes: &[u8]) -> Read<String> {
 }
 
 impl Want {
-    // Whether an answer of the first n bytes is the one that is wanted.
+    // Whether an answer for the first n bytes is the wanted one.
     fn is(self, alloc: Global, n: usize, answer: &Read<String>) -> Result<bool, AllocError> {
         match (self, answer) {
             (Gives(want), Ok(text)) => Ok(text.as_str() == want),
@@ -153,7 +153,7 @@ impl Want {
 }
 
 impl<'a> Table<'a> {
-    // What is wanted of the first n bytes.
+    // Returns the answer that is wanted for the first n bytes.
     fn want(&self, n: usize) -> Option<Want> {
         let mut found = None;
         for (first, want) in self.wants {
@@ -164,7 +164,7 @@ impl<'a> Table<'a> {
         found
     }
 
-    // Asks about each beginning of the bytes, the empty one and the whole among them.
+    // Tests each prefix of the bytes, also the empty one and the whole.
     fn holds(&self, rt: &impl Abort, alloc: Global) -> Result<(), Fail> {
         for n in 0..=self.bytes.len() {
             let Some(bytes) = self.bytes.get(..n) else {

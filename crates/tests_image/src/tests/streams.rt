@@ -1,4 +1,4 @@
-//! What dyld rebases of a whole image, and what it binds weakly.
+//! The rebases and the weak binds of a whole image.
 
 use goblin_mach::chained_fixups::FixupKind;
 use goblin_mach::{MachO, WeakBind};
@@ -12,7 +12,7 @@ const STREAMS: [u8; 16] = [
     0x11, 0x21, 0x08, 0x51, 0x48, 0x5f, 0x61, 0x00, 0x40, 0x5f, 0x62, 0x00, 0x51, 0x71, 0x00, 0x90,
 ];
 
-// File D, whose command says that the streams stand behind it.
+// Returns file D with the streams after it, as its command says.
 fn with_streams(alloc: Global) -> Result<Vec<u8>, AllocError> {
     let mut file = FILE_D;
     file[216..220].copy_from_slice(&436u32.to_le_bytes());
@@ -25,7 +25,7 @@ fn with_streams(alloc: Global) -> Result<Vec<u8>, AllocError> {
     Ok(bytes)
 }
 
-// Its rebases: their addresses and targets, or the word of a fault.
+// Returns its rebases: their addresses and targets, or the word of a fault.
 fn rebases(alloc: Global, image: &MachO<'_>) -> Result<String, AllocError> {
     let mut text = String::new(alloc);
     for item in image.rebases() {
@@ -37,7 +37,7 @@ fn rebases(alloc: Global, image: &MachO<'_>) -> Result<String, AllocError> {
     Ok(text)
 }
 
-// The fixups of its chains that are rebases.
+// Returns the fixups of its chains that are rebases.
 fn chained(alloc: Global, image: &MachO<'_>) -> Result<String, AllocError> {
     let mut text = String::new(alloc);
     for item in image.fixups() {
@@ -53,7 +53,7 @@ fn chained(alloc: Global, image: &MachO<'_>) -> Result<String, AllocError> {
     Ok(text)
 }
 
-// Its weak binds: their names, and the addresses of those that bind.
+// Returns its weak binds: their names, and the addresses of those that bind.
 fn weak_binds(alloc: Global, image: &MachO<'_>) -> Result<String, AllocError> {
     let mut text = String::new(alloc);
     for item in image.weak_binds() {

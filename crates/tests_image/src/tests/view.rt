@@ -1,4 +1,4 @@
-//! What whole files link.
+//! Views of whole files.
 
 use crate::tests::same::same_of;
 use goblin_mach::link_view;
@@ -6,7 +6,7 @@ use mach_samples::files::{ARCHIVE, BARE, FILE_A, FILE_B, File, file_c};
 use std::alloc::{AllocError, Global};
 use std::test::Fail;
 
-// The items of a file, or why it has none.
+// Returns the items of a file, or the error.
 fn viewed(alloc: Global, bytes: &[u8]) -> Result<String, AllocError> {
     match link_view(alloc, bytes) {
         Ok(items) => tests_texts::view(alloc, &items),

@@ -112,7 +112,7 @@ const EXECUTABLE: [u32; 40] = [
     0,
 ];
 
-// An object file of 32 bits with a segment of the other width.
+// An object file of 32 bits with a segment command of 64 bits.
 const NARROW: [u32; 25] = [
     0xfeed_face,
     7,
@@ -141,7 +141,7 @@ const NARROW: [u32; 25] = [
     0,
 ];
 
-// A core file with the three words of a thread.
+// A core file with a thread command of three words.
 const CORE: [u32; 15] = [
     0xfeed_facf,
     0x0100_0007,
@@ -160,7 +160,7 @@ const CORE: [u32; 15] = [
     0,
 ];
 
-// Words that are put in the place of others, by number, and what is told then.
+// Words that replace others, by number, and the faults that are reported then.
 struct Row {
     changes: &'static [(usize, u32)],
     want: &'static str,
@@ -314,7 +314,7 @@ const OF_CORE: &[Row] = &[
     },
 ];
 
-// The bytes of some words, with some of them changed.
+// Returns the bytes of some words, some of them changed.
 fn changed(alloc: Global, words: &[u32], changes: &[(usize, u32)]) -> Result<Vec<u8>, AllocError> {
     let mut bytes = Vec::new(alloc);
     for (number, word) in words.iter().enumerate() {
@@ -331,7 +331,7 @@ fn changed(alloc: Global, words: &[u32], changes: &[(usize, u32)]) -> Result<Vec
     Ok(bytes)
 }
 
-/// A line of some faults: of each its rule, the place of its command, what is found and the limit, and the place of the
+/// Returns a line of some faults: of each its rule, the offset of its command, what is found and the limit, and the offset of the
 /// other command.
 pub fn line(alloc: Global, faults: &[LayoutFault]) -> Result<String, AllocError> {
     let mut text = String::new(alloc);
@@ -352,7 +352,7 @@ pub fn line(alloc: Global, faults: &[LayoutFault]) -> Result<String, AllocError>
     Ok(text)
 }
 
-// The rules that these rows are of.
+// The rules of these rows.
 const RULES: &[Rule] = &[
     Rule::FileKind,
     Rule::CommandsOutOfFile,
@@ -372,7 +372,7 @@ const RULES: &[Rule] = &[
     Rule::IdUnexpected,
 ];
 
-// What is told of an image by these rules.
+// Returns the faults that these rules report of an image.
 fn told(alloc: Global, bytes: &[u8]) -> Result<Vec<LayoutFault>, goblin_mach::Error> {
     let image = MachO::parse_lossy(alloc, bytes, 0)?;
     let mut faults = Vec::new(alloc);
@@ -412,7 +412,7 @@ fn faults_of_other_files(rt: HostRuntime) -> Result<(), Fail> {
     rows_hold(rt.alloc(), &CORE, OF_CORE)
 }
 
-// An object file of so many numbers (LC_UUID).
+// Returns an object file with `count` UUIDs (LC_UUID).
 fn of_numbers(alloc: Global, count: u32) -> Result<Vec<u8>, AllocError> {
     let header = [
         0xfeed_facf,

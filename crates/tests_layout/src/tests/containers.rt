@@ -7,8 +7,7 @@ use mach_parts::{ArchRecord, FatArch64};
 use std::alloc::{AllocError, Global};
 use std::test::Fail;
 
-// A fat file of two images of 32 bytes, at 64 and at 96, in words of four bytes with the highest first. The records end
-// at 48.
+// A fat file of two images of 32 bytes, at 64 and at 96, as big-endian words of four bytes. The records end at 48.
 const TWO_IMAGES: [u32; 32] = [
     0xcafe_babe,
     2,
@@ -88,7 +87,7 @@ const TWO_IMAGES_64: [u32; 40] = [
     0,
 ];
 
-// Words that are put in the place of others, by number, how many words there are, and what is told then.
+// Words that replace others, by number, how many words there are, and the faults that are reported then.
 struct Row {
     changes: &'static [(usize, u32)],
     words: usize,
@@ -206,7 +205,7 @@ const ROWS_64: &[Row] = &[
     },
 ];
 
-// The bytes of some words, with some of them changed.
+// Returns the bytes of some words, some of them changed.
 fn changed(alloc: Global, words: &[u32], changes: &[(usize, u32)]) -> Result<Vec<u8>, AllocError> {
     let mut bytes = Vec::new(alloc);
     for (number, word) in words.iter().enumerate() {
@@ -223,7 +222,7 @@ fn changed(alloc: Global, words: &[u32], changes: &[(usize, u32)]) -> Result<Vec
     Ok(bytes)
 }
 
-// That each row of a table of words is told what it wants, by records of a form.
+// Asserts the faults of each row of a table of words, by records of a form.
 fn tell_rows<R: ArchRecord>(alloc: Global, words: &[u32], rows: &[Row]) -> Result<(), Fail> {
     for row in rows {
         let words = words.get(..row.words).unwrap_or(&[]);
@@ -247,8 +246,8 @@ fn faults_of_a_fat_file_of_64_bits(rt: HostRuntime) -> Result<(), Fail> {
     tell_rows::<FatArch64>(rt.alloc(), &TWO_IMAGES_64, ROWS_64)
 }
 
-// Of each of 2000 slices without bytes, at 0 and of one cpu, that it has none and where it begins; of all but the first
-// that it is a second one.
+// Of 2000 slices without bytes, at 0 and for one cpu, each is reported to be empty and for where it begins; all but the first
+// also to be a second one.
 #[test]
 fn faults_of_many_slices(rt: HostRuntime) -> Result<(), Fail> {
     let alloc = rt.alloc();

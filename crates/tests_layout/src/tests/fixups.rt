@@ -7,9 +7,8 @@ use mach_layout::{LayoutFault, Rule};
 use std::alloc::Global;
 use std::test::Fail;
 
-// A library of 64 bits with __TEXT and __DATA, which has a page of pointers. It brings in one library. Behind the commands,
-// from 224 on, stand the chained fixups: the header, the starts at 32, those of __DATA at 44, two imports at 68 and their
-// names at 76.
+// A library of 64 bits with __TEXT and __DATA, which has a page of pointers. It loads one library. The chained fixups follow the
+// commands, from 224 on: the header, the starts at 32, those of __DATA at 44, two imports at 68 and their names at 76.
 const CHAINED: [u8; 308] = [
     0xcf, 0xfa, 0xed, 0xfe, 0xc, 0, 0, 1, 0, 0, 0, 0, 6, 0, 0, 0, 4, 0, 0, 0, 0xc0, 0, 0, 0, 0x85,
     0, 0, 0, 0, 0, 0, 0, 0x19, 0, 0, 0, 0x48, 0, 0, 0, 0x5f, 0x5f, 0x54, 0x45, 0x58, 0x54, 0, 0, 0,
@@ -25,7 +24,7 @@ const CHAINED: [u8; 308] = [
     0x62, 0, 0,
 ];
 
-// What is changed: a name, the place, the bytes that stand there then, and what is told: rule, number, found and limit.
+// A change: a name, the place, the new bytes there, and the faults: rule, number, found and limit.
 type Row<'r> = (&'r str, usize, &'r [u8], &'r [(Rule, u64, u64, u64)]);
 
 const ROWS: &[Row<'static>] = &[
@@ -150,10 +149,10 @@ const ROWS: &[Row<'static>] = &[
     ),
 ];
 
-// The rules that these rows are of.
+// The rules of these rows.
 const RULES: &[Rule] = &[Rule::ChainedFixups, Rule::ImportLibrary, Rule::ImportName];
 
-// What is told of an image by these rules.
+// Returns the faults that these rules report of an image.
 fn told(alloc: Global, bytes: &[u8]) -> Result<Vec<LayoutFault>, Fail> {
     let image = MachO::parse(alloc, bytes, 0)?;
     let mut faults = Vec::new(alloc);
@@ -191,7 +190,7 @@ fn names_without_an_end(rt: HostRuntime) -> Result<(), Fail> {
     if !are(&faults, &[(Rule::ImportName, 1, 80, 84)]) {
         return Err(Fail::from("another answer of names"));
     }
-    // compressed names have none
+    // there are no compressed names
     put(&mut bytes, 248, &[1]);
     let faults = told(alloc, &bytes)?;
     if !faults.is_empty() {
@@ -205,7 +204,7 @@ fn many_imports(rt: HostRuntime) -> Result<(), Fail> {
     let alloc = rt.alloc();
     let mut bytes = Vec::new(alloc);
     bytes.extend_from_slice(&CHAINED)?;
-    // 5,000 imports of library 9 behind all, and one byte of names
+    // 5,000 imports of library 9 after all, and one byte of names
     for _ in 0..5_000 {
         bytes.extend_from_slice(&[9, 0, 0, 0])?;
     }

@@ -1,4 +1,4 @@
-//! Rows of the lists that an image gives one at a time, and of data in code: the smallest sound library, with other bytes.
+//! Rows of the lists that an image gives one item at a time, and of data in code: the smallest sound library, with other bytes.
 
 use crate::tests::symbols::{are, library, put};
 use goblin_mach::MachO;
@@ -10,10 +10,10 @@ use std::test::Fail;
 // Other bytes of the library, from a place on.
 type Change<'r> = (usize, &'r [u8]);
 
-// A rule that is told, with the index and the numbers.
+// The rule of a fault, with the index and the numbers.
 type Told = (Rule, u64, u64, u64);
 
-// What is changed, and what is told then.
+// A change, and the faults that are reported then.
 type Row<'r> = (&'r str, &'r [Change<'r>], &'r [Told]);
 
 const REBASES: &[Told] = &[(Rule::Rebases, 0, 0, 0)];
@@ -22,7 +22,7 @@ const WEAK_BINDS: &[Told] = &[(Rule::WeakBinds, 0, 0, 0)];
 
 const STARTS: &[Told] = &[(Rule::FunctionStarts, 0, 0, 0)];
 
-// 32 bytes in __TEXT, as the range of the rebases; of the weak binds.
+// 32 bytes in __TEXT, as the range of the rebases; and as that of the weak binds.
 const MORE_REBASES: Change<'static> = (576, &[0, 4, 0, 0, 32, 0, 0, 0]);
 
 const MORE_WEAK_BINDS: Change<'static> = (592, &[0, 4, 0, 0, 32, 0, 0, 0]);
@@ -156,7 +156,7 @@ const RULES: &[Rule] = &[
     Rule::DataShared,
 ];
 
-// What is told of an image by these rules.
+// Returns the faults that these rules report of an image.
 fn told(alloc: Global, bytes: &[u8]) -> Result<Vec<LayoutFault>, Fail> {
     let image = MachO::parse_lossy(alloc, bytes, 0)?;
     let mut faults = Vec::new(alloc);

@@ -7,10 +7,10 @@ use mach_layout::{LayoutFault, Part, Rule};
 use std::alloc::{AllocError, Global};
 use std::test::Fail;
 
-// What is told of an image: rule, the place of the command, number, found and limit.
+// A fault of an image: rule, the offset of the command, number, found and limit.
 type Told = (Rule, u64, u64, u64, u64);
 
-// What is changed: a name, the place, the bytes that stand there then, and all that is told.
+// A change: a name, the place, the new bytes there, and all faults.
 type Row<'r> = (&'r str, usize, &'r [u8], &'r [Told]);
 
 const ROWS: &[Row<'static>] = &[
@@ -69,7 +69,7 @@ const ROWS: &[Row<'static>] = &[
     ),
 ];
 
-// Whether these are what is told.
+// Whether these faults are reported.
 fn are(faults: &[LayoutFault], wanted: &[Told]) -> bool {
     faults.len() == wanted.len()
         && faults.iter().zip(wanted).all(|(f, w)| (
@@ -141,7 +141,7 @@ fn claims_of_a_library(rt: HostRuntime) -> Result<(), Fail> {
     Ok(())
 }
 
-// An object file of so many segments of one byte of memory at one address.
+// Returns an object file of `count` segments with one byte of memory at one address.
 fn one_address(alloc: Global, count: u32) -> Result<Vec<u8>, AllocError> {
     let mut bytes = Vec::new(alloc);
     let size = count.wrapping_mul(72);

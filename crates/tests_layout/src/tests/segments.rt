@@ -1,4 +1,4 @@
-//! Rows of the rules of segments, of sections and of what is encrypted.
+//! Rows of the rules of segments, of sections and of encrypted ranges.
 
 use goblin_mach::MachO;
 use goblin_mach::layout::{claims, layout_faults};
@@ -7,7 +7,7 @@ use std::alloc::{AllocError, Global};
 use std::fmt::Write;
 use std::test::Fail;
 
-// How many words of four bytes the file has.
+// The number of words of four bytes in the file.
 const WORDS: usize = 0x804;
 
 // A library: words from a number on. The others are 0.
@@ -28,11 +28,11 @@ const LIBRARY: &[(usize, &[u32])] = &[
     // __LINKEDIT.
     (104, &[0x19, 72, 0x494c_5f5f, 0x4445_4b4e, 0x5449]),
     (110, &[0x2000, 0, 0x1000, 0, 0x2000, 0, 0x10, 0, 1, 1]),
-    // What is encrypted.
+    // The encrypted range.
     (122, &[0x2c, 24, 0xf00, 16]),
 ];
 
-// Words that are put in the place of others, by number, and what is told then.
+// Words that replace others, by number, and the faults that are reported then.
 struct Row {
     changes: &'static [(usize, u32)],
     want: &'static str,
@@ -116,7 +116,7 @@ const OF_SECTIONS: &[Row] = &[
         changes: &[(92, 0x1ff8), (94, 0)],
         want: "",
     },
-    // Nothing of a segment of vmsize 0 is mapped.
+    // A segment of vmsize 0 maps nothing.
     Row {
         changes: &[(54, 0), (72, 0x9000), (92, 0x9001)],
         want: "",
@@ -129,7 +129,7 @@ const OF_SECTIONS: &[Row] = &[
         changes: &[(54, 0), (92, 0x1004)],
         want: "",
     },
-    // The command has the record of one section, and what follows is the next command.
+    // The command has the record of one section, and the next command follows.
     Row {
         changes: &[(24, 2)],
         want: "",
@@ -196,7 +196,7 @@ const OF_SECTIONS: &[Row] = &[
     },
 ];
 
-// The word of a number among runs of words; 0 where it is in none.
+// Returns the word with a number among runs of words; 0 if it is in none.
 fn word_of(runs: &[(usize, &[u32])], number: usize) -> u32 {
     for (first, words) in runs {
         if number < *first {
@@ -209,7 +209,7 @@ fn word_of(runs: &[(usize, &[u32])], number: usize) -> u32 {
     0
 }
 
-// The bytes of the library, with some of its words changed.
+// Returns the bytes of the library, with some of its words changed.
 fn changed(alloc: Global, changes: &[(usize, u32)]) -> Result<Vec<u8>, AllocError> {
     let mut bytes = Vec::new(alloc);
     for number in 0..WORDS {
@@ -226,8 +226,8 @@ fn changed(alloc: Global, changes: &[(usize, u32)]) -> Result<Vec<u8>, AllocErro
     Ok(bytes)
 }
 
-// A line of some faults: of each its rule, the place of its command and its number there, what is found and the limit,
-// and the place of the other command.
+// Returns a line of some faults: of each its rule, the offset of its command and its number there, what is found and the limit,
+// and the offset of the other command.
 fn line(alloc: Global, faults: &[LayoutFault]) -> Result<String, AllocError> {
     let mut text = String::new(alloc);
     for fault in faults {
@@ -248,7 +248,7 @@ fn line(alloc: Global, faults: &[LayoutFault]) -> Result<String, AllocError> {
     Ok(text)
 }
 
-// The rules that these rows are of.
+// The rules of these rows.
 const RULES: &[Rule] = &[
     Rule::SegmentBeyondAddresses,
     Rule::SegmentFileLarger,
@@ -267,7 +267,7 @@ const RULES: &[Rule] = &[
     Rule::EncryptedNotExecutable,
 ];
 
-// What is told of an image by these rules.
+// Returns the faults that these rules report of an image.
 fn told(alloc: Global, bytes: &[u8]) -> Result<Vec<LayoutFault>, goblin_mach::Error> {
     let image = MachO::parse_lossy(alloc, bytes, 0)?;
     let mut faults = Vec::new(alloc);
@@ -301,7 +301,7 @@ fn faults_of_sections(rt: HostRuntime) -> Result<(), Fail> {
     rows_hold(rt.alloc(), OF_SECTIONS)
 }
 
-// A library of so many segments without a name, each of which is said to have so many sections, for which it has no room.
+// Returns a library of `count` segments without a name, each of which claims `sections` sections, for which it has no room.
 fn of_segments(alloc: Global, count: u32, sections: u32) -> Result<Vec<u8>, AllocError> {
     let header = [
         0xfeed_facf,

@@ -1,4 +1,4 @@
-//! Rows of symbols and of what dyld binds by opcodes: the smallest sound library, with one change each.
+//! Rows of symbols and of the bind opcodes: the smallest sound library, with one change each.
 
 use goblin_mach::MachO;
 use goblin_mach::layout::layout_faults;
@@ -6,8 +6,8 @@ use mach_layout::{LayoutFault, Rule};
 use std::alloc::{AllocError, Global};
 use std::test::Fail;
 
-// A library of 64 bits with __TEXT (__text, __stubs), __DATA (__got, __bss) and __LINKEDIT: its header and commands, and
-// its tables at 0x2000. It brings in one library and has three symbols: a local one, an external one and one of the library.
+// A library of 64 bits with __TEXT (__text, __stubs), __DATA (__got, __bss) and __LINKEDIT: its header and commands, and its
+// tables at 0x2000. It loads one library and has three symbols: a local one, an external one and one of the library.
 const LIBRARY_FRONT: [u8; 853] = [
     0xcf, 0xfa, 0xed, 0xfe, 7, 0, 0, 1, 3, 0, 0, 0, 6, 0, 0, 0, 0xc, 0, 0, 0, 0x38, 3, 0, 0, 0x85,
     0, 0, 0, 0, 0, 0, 0, 0x19, 0, 0, 0, 0xe8, 0, 0, 0, 0x5f, 0x5f, 0x54, 0x45, 0x58, 0x54, 0, 0, 0,
@@ -53,7 +53,7 @@ const LIBRARY_TABLES: [u8; 160] = [
     0, 0, 0, 0, 0, 0, 0, 0, 0, 0, 0,
 ];
 
-// What is changed: a name, the place, the bytes that stand there then, and what is told: rule, number, found and limit.
+// A change: a name, the place, the new bytes there, and the faults: rule, number, found and limit.
 type Row<'r> = (&'r str, usize, &'r [u8], &'r [(Rule, u64, u64, u64)]);
 
 const ROWS: &[Row<'static>] = &[
@@ -180,7 +180,7 @@ const ROWS: &[Row<'static>] = &[
     ),
 ];
 
-// The bytes of the library.
+// Returns the bytes of the library.
 pub fn library(alloc: Global) -> Result<Vec<u8>, AllocError> {
     let mut bytes = Vec::new(alloc);
     bytes.extend_from_slice(&LIBRARY_FRONT)?;
@@ -189,7 +189,7 @@ pub fn library(alloc: Global) -> Result<Vec<u8>, AllocError> {
     Ok(bytes)
 }
 
-// Puts bytes in the place of others.
+// Overwrites bytes at a place.
 pub fn put(bytes: &mut [u8], place: usize, others: &[u8]) {
     for (byte, other) in bytes.iter_mut().skip(place).zip(others) {
         *byte = *other;
@@ -207,7 +207,7 @@ pub fn are(faults: &[LayoutFault], wanted: &[(Rule, u64, u64, u64)]) -> bool {
         })
 }
 
-// The rules that these rows are of.
+// The rules of these rows.
 const RULES: &[Rule] = &[
     Rule::SymbolSection,
     Rule::SymbolName,
@@ -220,7 +220,7 @@ const RULES: &[Rule] = &[
     Rule::Binds,
 ];
 
-// What is told of an image by these rules.
+// Returns the faults that these rules report of an image.
 fn told(alloc: Global, bytes: &[u8]) -> Result<Vec<LayoutFault>, Fail> {
     let image = MachO::parse(alloc, bytes, 0)?;
     let mut faults = Vec::new(alloc);
@@ -246,7 +246,7 @@ fn rows_of_symbols(rt: HostRuntime) -> Result<(), Fail> {
     Ok(())
 }
 
-// The entries for debuggers of which `n_sect` numbers a section, by `mach-o/stab.h`.
+// The debugging entries whose `n_sect` is the number of a section, by `mach-o/stab.h`.
 const NUMBERING: [u8; 10] = [0x24, 0x26, 0x28, 0x2e, 0x44, 0x4e, 0x64, 0xa4, 0xc0, 0xe0];
 
 #[test]
@@ -268,7 +268,7 @@ fn sections_of_entries(rt: HostRuntime) -> Result<(), Fail> {
     Ok(())
 }
 
-// A symbol of section 9, which there is not.
+// A symbol of section 9, which doesn't exist.
 const STRAY: [u8; 16] = [0, 0, 0, 0, 0xe, 9, 0, 0, 0, 0, 0, 0, 0, 0, 0, 0];
 
 #[test]
@@ -278,7 +278,7 @@ fn many_symbols(rt: HostRuntime) -> Result<(), Fail> {
     for _ in 0..5_000 {
         bytes.extend_from_slice(&STRAY)?;
     }
-    // The table is said to have 2^32 - 1 symbols from there on, of which 5,000 lie in the bytes.
+    // The table claims 2^32 - 1 symbols from there on, 5,000 of which lie in the bytes.
     put(&mut bytes, 624, &8352u32.to_le_bytes());
     put(&mut bytes, 628, &[0xff; 4]);
     put(&mut bytes, 632, &8352u32.to_le_bytes());
@@ -290,9 +290,8 @@ fn many_symbols(rt: HostRuntime) -> Result<(), Fail> {
     Ok(())
 }
 
-// The bind opcodes, and whether a fault is told: a bind of the library of a number; one without a type, a name or a
-// segment; opcodes that are none, before a DONE and behind it; the segment's last pointer, half of one, and one without
-// an ordinal.
+// Bind opcodes, and whether a fault is reported: a bind of the library with a number; one without a type, a name or a segment;
+// unknown opcodes, before a DONE and after it; the segment's last pointer, half of one, and one without an ordinal.
 const BINDS: [(&[u8], bool); 12] = [
     (&[0; 8], false),
     (&[0x11, 0x40, 0x61, 0, 0x51, 0x71, 0, 0x90], false),
@@ -327,9 +326,9 @@ fn rows_of_binds(rt: HostRuntime) -> Result<(), Fail> {
     Ok(())
 }
 
-// The turns of one bind instruction, of which the library is set, the name, the type and __DATA, which has 0x1000 bytes: an
-// offset, a count and what is skipped behind each pointer; whether __DATA is made to have 2^64 - 1 bytes, of which those
-// that no address of 64 bits has are 0x1000; and whether a fault is told.
+// The repeated binds of one instruction, after opcodes that set the library, the name, the type and __DATA, which has 0x1000
+// bytes: a name; whether __DATA gets 2^64 - 1 bytes, 0x1000 of which have no address of 64 bits; an offset, a count and what is
+// skipped after each pointer; and whether a fault is reported.
 type Turns<'r> = (&'r str, bool, &'r [u8], bool);
 
 const TURNS: &[Turns<'static>] = &[
@@ -439,7 +438,7 @@ const TURNS: &[Turns<'static>] = &[
     ),
 ];
 
-// The library with these opcodes behind its end, in a range of 40 bytes.
+// Returns the library with these opcodes after its end, in a range of 40 bytes.
 fn with_turns(alloc: Global, is_vast: bool, turns: &[u8]) -> Result<Vec<u8>, AllocError> {
     let mut bytes = library(alloc)?;
     if is_vast {

@@ -1,8 +1,8 @@
-//! What large files are made of.
+//! Parts of large files.
 
 use std::alloc::{AllocError, Global};
 
-/// Numbers of four bytes, the low byte first.
+/// Adds little-endian numbers of four bytes.
 pub fn words(bytes: &mut Vec<u8>, numbers: &[u32]) -> Result<(), AllocError> {
     for number in numbers {
         bytes.extend_from_slice(&number.to_le_bytes())?;
@@ -10,7 +10,7 @@ pub fn words(bytes: &mut Vec<u8>, numbers: &[u32]) -> Result<(), AllocError> {
     Ok(())
 }
 
-/// Numbers of four bytes, the high byte first.
+/// Adds big-endian numbers of four bytes.
 pub fn big_words(bytes: &mut Vec<u8>, numbers: &[u32]) -> Result<(), AllocError> {
     for number in numbers {
         bytes.extend_from_slice(&number.to_be_bytes())?;
@@ -18,7 +18,7 @@ pub fn big_words(bytes: &mut Vec<u8>, numbers: &[u32]) -> Result<(), AllocError>
     Ok(())
 }
 
-/// The header of a 64-bit little-endian image: how many commands it has, and how many bytes they have.
+/// Returns the header of a 64-bit little-endian image with so many commands of so many bytes.
 pub fn header(alloc: Global, ncmds: u32, sizeofcmds: u32) -> Result<Vec<u8>, AllocError> {
     let mut bytes = Vec::new(alloc);
     let numbers = [0xfeed_facf, 0x0100_0007, 3, 2, ncmds, sizeofcmds, 0, 0];
@@ -26,12 +26,12 @@ pub fn header(alloc: Global, ncmds: u32, sizeofcmds: u32) -> Result<Vec<u8>, All
     Ok(bytes)
 }
 
-// The last decimal digit of a number.
+// Returns the last decimal digit of a number.
 fn digit(number: u32) -> u8 {
     b'0' + (number % 10) as u8
 }
 
-/// The last four decimal digits of a number.
+/// Returns the last four decimal digits of a number.
 pub fn digits(number: u32) -> [u8; 4] {
     [
         digit(number / 1000),
@@ -41,7 +41,7 @@ pub fn digits(number: u32) -> [u8; 4] {
     ]
 }
 
-/// A number below 2,097,152 as a ULEB128 number of three bytes.
+/// Returns a number below 2,097,152 as a ULEB128 number of three bytes.
 pub fn groups(number: u32) -> [u8; 3] {
     [
         (number % 128 + 128) as u8,

@@ -8,7 +8,7 @@ use mach_samples::files::{EXPORTS, FILE_B};
 use std::alloc::{AllocError, Global};
 use std::test::Fail;
 
-// The command whose range is all the bytes.
+// Returns the command whose range is all the bytes.
 fn whole(bytes: &[u8]) -> DyldInfoCommand {
     DyldInfoCommand {
         export_size: (bytes.len() & 0xffff) as u32,
@@ -16,7 +16,7 @@ fn whole(bytes: &[u8]) -> DyldInfoCommand {
     }
 }
 
-// The exports of a trie, or why there are none.
+// Returns the exports of a trie, or the error.
 fn listed(alloc: Global, trie: &ExportTrie<'_>, libs: &[&str]) -> Result<String, AllocError> {
     match trie.exports(alloc, libs) {
         Ok(exports) => tests_texts::exports(alloc, &exports),

@@ -1,6 +1,5 @@
-//! Each growth refused in turn: a refused run is answered by want of memory and by nothing else, and the
-//! same call made again gives its row. Each call has as many refused runs as growths, so one that swallows
-//! a refusal has too few.
+//! Each growth refused in turn: a refused run returns the error of a refused allocation and nothing else, and the same call made
+//! again returns its row. Each call has as many refused runs as growths, so one that swallows a refusal has too few.
 
 use crate::tests::refusing::Refusing;
 use crate::tests::same::same;
@@ -36,7 +35,7 @@ enum Call {
     View,
 }
 
-// What is refused of a call, beside its answer with memory to spare.
+// What a call returns if its growths are refused, and its answer with memory to spare.
 struct Row {
     call: Call,
     growths: u64,
@@ -148,7 +147,7 @@ const ROWS: &[Row] = &[
     },
 ];
 
-// What the calls are made on.
+// The values on which the calls are made.
 #[derive(Drop)]
 struct Subjects<'a> {
     image: MachO<'a>,
@@ -156,7 +155,7 @@ struct Subjects<'a> {
 }
 
 impl<'a> Subjects<'a> {
-    // What a call answers, or why it is refused.
+    // Returns the answer of a call, or its error.
     fn answer<A: Allocator + Clone>(
         &self,
         call: Call,
@@ -279,7 +278,7 @@ fn imports<A: Allocator>(
     }
 }
 
-// The trie of three exports.
+// Returns the trie of three exports.
 fn vector() -> ExportTrie<'static> {
     let command = DyldInfoCommand {
         export_size: 64,
@@ -288,7 +287,7 @@ fn vector() -> ExportTrie<'static> {
     ExportTrie::new(&EXPORTS, &command)
 }
 
-// A bind that is repeated three times, by room for the whole count.
+// A bind that is repeated three times, with room for the whole count.
 const TIMES_SKIPPING: [u8; 11] = [0x11, 0x40, 0x5f, 0x61, 0, 0x70, 0, 0xc0, 3, 8, 0];
 
 fn times_skipping<A: Allocator>(heap: A) -> Read<Vec<Import<'static>, A>> {
@@ -300,7 +299,7 @@ fn times_skipping<A: Allocator>(heap: A) -> Read<Vec<Import<'static>, A>> {
     binds.imports(heap, &["self", "L"], &[segment(0)], Ctx::default())
 }
 
-// A segment of a page at an address.
+// Returns a segment of a page at an address.
 fn segment(vmaddr: u64) -> Segment<'static> {
     let mut segment = Segment::new(Ctx::default(), &[]);
     segment.vmaddr = vmaddr;
@@ -308,13 +307,13 @@ fn segment(vmaddr: u64) -> Segment<'static> {
     segment
 }
 
-// Asserts what a call answers around a growth.
+// Asserts the answer of a call when a growth is or isn't refused.
 fn gives(rt: &impl Abort, row: &Row, when: (&str, u64), got: &str, want: &str) {
     let (place, number) = when;
     assert_eq!(rt; got, want, "{:?} {place} growth {number}", row.call);
 }
 
-// How many runs of a call are refused, one growth in each.
+// Returns how many runs of a call are refused, with one growth refused in each.
 fn refused_runs(
     rt: &impl Abort,
     alloc: Global,
@@ -336,7 +335,7 @@ fn refused_runs(
     Err(Fail::from("no run without a refusal"))
 }
 
-// Asserts that a call is refused where all growths from a number on are.
+// Asserts that a call is refused if all growths from a number on are.
 fn refused_from(
     rt: &impl Abort,
     alloc: Global,
@@ -365,7 +364,7 @@ fn each_growth_refused(rt: HostRuntime) -> Result<(), Fail> {
     Ok(())
 }
 
-// The addresses of a list's segments.
+// Returns the addresses of a list's segments.
 fn addresses<A: Allocator>(alloc: Global, list: &Segments<'_, A>) -> Result<String, AllocError> {
     let mut text = String::new(alloc);
     for segment in list.as_slice() {
@@ -377,7 +376,7 @@ fn addresses<A: Allocator>(alloc: Global, list: &Segments<'_, A>) -> Result<Stri
 // The growths of a list to which twelve segments are pushed.
 const GROWTHS_OF_TWELVE: u64 = 3;
 
-// Pushes a segment to a list whose segments are these; 1 where the push is refused and made again, else 0.
+// Pushes a segment to a list with these segments. Returns 1 if the push is refused and made again, else 0.
 fn pushed<A: Allocator>(
     rt: &impl Abort,
     alloc: Global,

@@ -1,4 +1,4 @@
-//! Look-ups that take no memory: where one branch alone fits at each node, and in a trie of thousands of exports.
+//! Look-ups that take no memory: if only one branch fits at each node, and in a trie of thousands of exports.
 
 use crate::tests::refusing::Refusing;
 use mach_base::Error;
@@ -8,7 +8,7 @@ use mach_samples::files::EXPORTS;
 use std::alloc::{Allocator, Global};
 use std::test::Fail;
 
-// The trie of all the bytes.
+// Returns the trie of all the bytes.
 fn trie(bytes: &[u8]) -> ExportTrie<'_> {
     let command = DyldInfoCommand {
         export_size: (bytes.len() & 0xf_ffff) as u32,
@@ -17,7 +17,7 @@ fn trie(bytes: &[u8]) -> ExportTrie<'_> {
     ExportTrie::new(bytes, &command)
 }
 
-// "a" leads to a node with nothing behind it, "ab" to one with "c".
+// "a" leads to a node without branches, "ab" to one with "c".
 const TWO_FIT: [u8; 21] = [
     0, 2, 0x61, 0, 10, 0x61, 0x62, 0, 12, 0, 0, 0, 0, 1, 0x63, 0, 17, 2, 0, 7, 0,
 ];
@@ -47,7 +47,7 @@ fn memory(rt: HostRuntime) -> Result<(), Fail> {
     Ok(())
 }
 
-// An offset or an address in three bytes.
+// Adds an offset or an address in three bytes.
 fn push_number(bytes: &mut Vec<u8>, number: u32) -> Result<(), Fail> {
     let low = (number % 128 + 128) as u8;
     let middle = (number / 128 % 128 + 128) as u8;
@@ -56,7 +56,7 @@ fn push_number(bytes: &mut Vec<u8>, number: u32) -> Result<(), Fail> {
     Ok(())
 }
 
-// The label of a leaf.
+// Returns the label of a leaf.
 fn letters(leaf: u32) -> [u8; 3] {
     let first = (leaf / 400 % 20) as u8;
     let second = (leaf / 20 % 20) as u8;
@@ -64,7 +64,7 @@ fn letters(leaf: u32) -> [u8; 3] {
     [first + 0x61, second + 0x61, third + 0x61]
 }
 
-// A root with 2,000 leaves, whose labels are of three letters.
+// Returns a root with 2,000 leaves, whose labels have three letters.
 fn wide(alloc: Global) -> Result<Vec<u8>, Fail> {
     let mut bytes = Vec::new(alloc);
     bytes.extend_from_slice(&[0, 0xd0, 0x0f])?;
@@ -81,7 +81,7 @@ fn wide(alloc: Global) -> Result<Vec<u8>, Fail> {
     Ok(bytes)
 }
 
-// The address of a regular export of that name.
+// Returns the address of a regular export with that name.
 fn address_of<A: Allocator + Clone>(alloc: A, bytes: &[u8], name: &str) -> Option<u64> {
     match trie(bytes).find(alloc, &[], name) {
         Ok(Some(ExportInfo::Regular { address, .. })) => Some(address),

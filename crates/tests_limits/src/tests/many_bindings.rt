@@ -9,7 +9,7 @@ use std::test::Fail;
 // How many bytes of pointers there are, at 152 of the file.
 const POINTERS: u32 = 24_000;
 
-// A segment of these pointers, the fixups behind them, and a library, "L".
+// Adds a segment with these pointers, the fixups after them, and a library, "L".
 fn commands(bytes: &mut Vec<u8>) -> Result<(), AllocError> {
     words(bytes, &[0x19, 72])?;
     bytes.extend_from_slice(b"__TEXT\0\0\0\0\0\0\0\0\0\0")?;
@@ -20,8 +20,8 @@ fn commands(bytes: &mut Vec<u8>) -> Result<(), AllocError> {
     Ok(())
 }
 
-// 3,000 binds of import 0 and 5. The next one is 8 bytes further, but for the last of each page of 512 and
-// the last of all.
+// Adds 3,000 binds of import 0 with addend 5. The next one is 8 bytes further, except for the last of each page of 512 and the
+// last of all.
 fn pointers(bytes: &mut Vec<u8>) -> Result<(), AllocError> {
     for number in 1..3001 {
         let ends = number % 512 == 0 || number == 3000;
@@ -31,7 +31,7 @@ fn pointers(bytes: &mut Vec<u8>) -> Result<(), AllocError> {
     Ok(())
 }
 
-// The data of the chained fixups: six pages, each starting at 0, and one import, "_a" of library 1.
+// Adds the data of the chained fixups: six pages, each starting at 0, and one import, "_a" of library 1.
 fn payload(bytes: &mut Vec<u8>) -> Result<(), AllocError> {
     words(bytes, &[0, 32, 76, 80, 1, 1, 0, 0])?;
     words(bytes, &[1, 8, 34, 0x2_1000])?;
@@ -40,7 +40,7 @@ fn payload(bytes: &mut Vec<u8>) -> Result<(), AllocError> {
     Ok(())
 }
 
-// The whole image.
+// Returns the whole image.
 fn image(alloc: Global) -> Result<Vec<u8>, AllocError> {
     let mut bytes = header(alloc, 3, 120)?;
     commands(&mut bytes)?;

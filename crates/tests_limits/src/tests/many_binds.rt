@@ -9,8 +9,8 @@ use std::alloc::{AllocError, Global};
 use std::process::Abort;
 use std::test::Fail;
 
-// A stream that sets the library 1, the name "_a" and the start of segment 0, and then has so many times the
-// same instruction.
+// Returns a stream that sets the library 1, the name "_a" and the start of segment 0, and then has the same instruction so many
+// times.
 fn stream(alloc: Global, instruction: &[u8], times: usize) -> Result<Vec<u8>, AllocError> {
     let mut bytes = vec![in alloc; 0x11, 0x40, 0x5f, 0x61, 0, 0x70, 0]?;
     for _ in 0..times {
@@ -19,8 +19,8 @@ fn stream(alloc: Global, instruction: &[u8], times: usize) -> Result<Vec<u8>, Al
     Ok(bytes)
 }
 
-// That a stream has 5,000 binds in a segment at 0x1000, of which the first, the one of number 2,500 and the
-// last are at these places of the segment.
+// Asserts that a stream has 5,000 binds in a segment at 0x1000, and that the first, number 2,500 and the last are at these
+// offsets in the segment.
 fn binds_at(rt: &impl Abort, alloc: Global, bytes: &[u8], places: [u64; 3]) -> Result<(), Fail> {
     let command = DyldInfoCommand {
         bind_size: (bytes.len() & 0xffff) as u32,

@@ -7,7 +7,7 @@ use goblin_mach::{LibraryKind, MachO};
 use std::alloc::{AllocError, Global};
 use std::test::Fail;
 
-// An image of 3,000 commands of 24 bytes each. Command k is the UUID that begins with the number k.
+// Returns an image of 3,000 commands of 24 bytes each. Command k is the UUID that begins with the number k.
 fn uuids(alloc: Global) -> Result<Vec<u8>, AllocError> {
     let mut bytes = header(alloc, 3000, 72_000)?;
     for number in 0..3000u32 {
@@ -16,7 +16,7 @@ fn uuids(alloc: Global) -> Result<Vec<u8>, AllocError> {
     Ok(bytes)
 }
 
-// An image of 300 libraries, each named by its number, at 24 of a command of 32 bytes.
+// Returns an image of 300 libraries, each named by its number, at 24 of a command of 32 bytes.
 fn libraries(alloc: Global) -> Result<Vec<u8>, AllocError> {
     let mut bytes = header(alloc, 300, 9600)?;
     for number in 0..300u32 {

@@ -6,8 +6,8 @@ use goblin_mach::{LinkView, MultiArch, SingleArch, link_view};
 use std::alloc::{AllocError, Global};
 use std::test::Fail;
 
-// The record of entry k is at 8 + 20k, of the cpu k; its archive has 16 bytes, at 40,008 + 16k, with the
-// number k behind the magic.
+// Returns the file. The record of entry k is at 8 + 20k, for the cpu k; its archive has 16 bytes, at 40,008 + 16k, with the
+// number k after the magic.
 fn archives(alloc: Global) -> Result<Vec<u8>, AllocError> {
     let mut bytes = Vec::new(alloc);
     big_words(&mut bytes, &[0xcafe_babe, 2000])?;
@@ -21,7 +21,7 @@ fn archives(alloc: Global) -> Result<Vec<u8>, AllocError> {
     Ok(bytes)
 }
 
-// The bytes of an archive with this number.
+// Returns the bytes of an archive with this number.
 fn archive(number: u32) -> [u8; 16] {
     let mut bytes = *b"!<arch>\n\0\0\0\0\0\0\0\0";
     bytes[8..12].copy_from_slice(&number.to_le_bytes());

@@ -8,8 +8,8 @@ use goblin_mach::load_command::DyldInfoCommand;
 use std::alloc::{AllocError, Global};
 use std::test::Fail;
 
-/// A trie whose root has 5,000 branches of 8 bytes, from 3 on. Child k has 6 bytes, at 40,003 + 6k; its label
-/// is the digits of k, and its export's address is k.
+/// Returns a trie whose root has 5,000 branches of 8 bytes, from 3 on. Child k has 6 bytes, at 40,003 + 6k; its label is the
+/// digits of k, and its export's address is k.
 pub fn below_one_node(alloc: Global) -> Result<Vec<u8>, AllocError> {
     let mut bytes = vec![in alloc; 0, 0x88, 0x27]?;
     for number in 0..5000u32 {
@@ -25,8 +25,8 @@ pub fn below_one_node(alloc: Global) -> Result<Vec<u8>, AllocError> {
     Ok(bytes)
 }
 
-/// A chain of 5,000 nodes. Node k stands at 11k; its export's address is k, and its only branch, of the label
-/// "a", leads to the next node. The last node has no branch, and 6 bytes.
+/// Returns a chain of 5,000 nodes. Node k is at 11k; its export's address is k, and its only branch, with the label "a", leads to
+/// the next node. The last node has no branch, and 6 bytes.
 pub fn along_a_path(alloc: Global) -> Result<Vec<u8>, AllocError> {
     let mut bytes = Vec::new(alloc);
     for number in 0..4999u32 {
@@ -82,8 +82,8 @@ fn exports_along_a_path(rt: HostRuntime) -> Result<(), Fail> {
     Ok(())
 }
 
-// An image whose trie stands behind its one command and has 3,000 names: below the root a branch for each of the
-// first two digits, and below each of these 30 nodes one for each of the last two. The export of k has address k.
+// Returns an image with 3,000 names, whose trie follows its one command: below the root there is a branch for each of the first
+// two digits, and below each of these 30 nodes one for each of the last two. The export of k has address k.
 fn of_3000_names(alloc: Global) -> Result<Vec<u8>, AllocError> {
     let mut bytes = header(alloc, 1, 16)?;
     words(&mut bytes, &[0x8000_0033, 16, 48, 36_242])?;

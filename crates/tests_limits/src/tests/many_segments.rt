@@ -6,7 +6,7 @@ use goblin_mach::MachO;
 use std::alloc::{AllocError, Global};
 use std::test::Fail;
 
-// The command of a segment of a page, with so many sections.
+// Adds the command of a segment of a page, with so many sections.
 fn push_segment(bytes: &mut Vec<u8>, vmaddr: u32, nsects: u32) -> Result<(), AllocError> {
     let cmdsize = 72 + 80 * nsects.min(300);
     words(bytes, &[0x19, cmdsize, 0x5f5f, 0, 0, 0])?;
@@ -14,7 +14,7 @@ fn push_segment(bytes: &mut Vec<u8>, vmaddr: u32, nsects: u32) -> Result<(), All
     words(bytes, &[0, 0, nsects, 0])
 }
 
-// The record of a section at an address, with so many relocations from a place on.
+// Adds the record of a section at an address, with so many relocations from an offset on.
 fn push_section(
     bytes: &mut Vec<u8>,
     addr: u32,
@@ -25,7 +25,7 @@ fn push_section(
     words(bytes, &[addr, 0, 0, 0, 0, 0, reloff, nreloc, 0, 0, 0, 0])
 }
 
-// An image of 300 segments; segment k is at k pages, and segment 150 has 300 sections, section i at i.
+// Returns an image of 300 segments. Segment k is at k pages, and segment 150 has 300 sections, section i at i.
 fn segments(alloc: Global) -> Result<Vec<u8>, AllocError> {
     let mut bytes = header(alloc, 300, 45_600)?;
     for number in 0..300u32 {
@@ -41,7 +41,7 @@ fn segments(alloc: Global) -> Result<Vec<u8>, AllocError> {
     Ok(bytes)
 }
 
-// An image of one section, with 3,000 relocations behind the commands; relocation k is at the address k.
+// Returns an image of one section, with 3,000 relocations after the commands; relocation k is at the address k.
 fn relocations(alloc: Global) -> Result<Vec<u8>, AllocError> {
     let mut bytes = header(alloc, 1, 152)?;
     push_segment(&mut bytes, 0, 1)?;

@@ -6,8 +6,8 @@ use goblin_mach::MachO;
 use std::alloc::{AllocError, Global};
 use std::test::Fail;
 
-// The symbols stand at 56, of 16 bytes each, and their names at 48,056, of 5 bytes each. Symbol k has the value
-// k, and is named by its digits.
+// Returns the image. The symbols are at 56, of 16 bytes each, and their names at 48,056, of 5 bytes each. Symbol k has the value
+// k, and its name is the digits of k.
 fn symbols(alloc: Global) -> Result<Vec<u8>, AllocError> {
     let mut bytes = header(alloc, 1, 24)?;
     words(&mut bytes, &[2, 24, 56, 3000, 48_056, 15_000])?;

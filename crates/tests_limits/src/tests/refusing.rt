@@ -5,8 +5,8 @@ ghost use Rattle.std.specs.Prelude.{◌≡◌, IfSome};
 use std::alloc::{AllocError, Allocator};
 use std::cell::Cell;
 
-/// An allocator over another. It counts what it is asked for, refuses the growths of some numbers,
-/// counted from 1, and gives every other.
+/// An allocator over another one. It counts the requested growths, refuses those of some numbers, counted from 1, and grants the
+/// others.
 #[derive(Drop)]
 pub struct Refusing<A> {
     inner: A,
@@ -16,7 +16,7 @@ pub struct Refusing<A> {
 }
 
 impl<A> Refusing<A> {
-    // The allocator that refuses the growths from one number up to another.
+    // Returns the allocator that refuses the growths from one number up to another.
     fn between(inner: A, first: u64, last: u64) -> Refusing<A> {
         Refusing {
             inner,
@@ -26,22 +26,22 @@ impl<A> Refusing<A> {
         }
     }
 
-    /// The allocator that refuses the growth of one number alone.
+    /// Returns the allocator that refuses only the growth with this number.
     pub fn one(inner: A, number: u64) -> Refusing<A> {
         Refusing::between(inner, number, number)
     }
 
-    /// The allocator that refuses the growth of a number and each after it.
+    /// Returns the allocator that refuses the growth with this number and each after it.
     pub fn from(inner: A, number: u64) -> Refusing<A> {
         Refusing::between(inner, number, u64::MAX)
     }
 
-    /// The allocator that refuses nothing.
+    /// Returns the allocator that refuses nothing.
     pub fn none(inner: A) -> Refusing<A> {
         Refusing::between(inner, u64::MAX, u64::MAX)
     }
 
-    /// How many growths it was asked for.
+    /// Returns how many growths were requested.
     pub fn asked(&self) -> u64 {
         self.asked.get()
     }
@@ -51,13 +51,13 @@ impl<A> Refusing<A> {
         self.asked.get() >= self.first.get()
     }
 
-    /// Refuses whatever comes.
+    /// Refuses everything from now on.
     pub fn refuse_all(&self) {
         self.first.set(0);
         self.last.set(u64::MAX);
     }
 
-    // The allocator that gives the next growth, unless that one is refused.
+    // Returns the allocator that grants the next growth, unless that growth is refused.
     fn giver(&self) -> Option<&A>
         ensures { IfSome result (λ giver. giver.now ≡ self.now.inner) }
     {

@@ -9,7 +9,7 @@ use std::alloc::{AllocError, Global};
 use std::process::Abort;
 use std::test::Fail;
 
-// An image of one command, which brings this trie.
+// Returns an image of one command, which names this trie.
 fn image_of(alloc: Global, trie: &[u8]) -> Result<Vec<u8>, AllocError> {
     let mut bytes = header(alloc, 1, 16)?;
     let size = (trie.len() & 0xf_ffff) as u32;
@@ -18,7 +18,7 @@ fn image_of(alloc: Global, trie: &[u8]) -> Result<Vec<u8>, AllocError> {
     Ok(bytes)
 }
 
-// The address and the flags of a regular export.
+// Returns the address and the flags of a regular export.
 fn regular(info: &ExportInfo<'_>) -> Option<(u64, u64)> {
     match info {
         ExportInfo::Regular { address, flags } => Some((*address, *flags)),
@@ -26,7 +26,7 @@ fn regular(info: &ExportInfo<'_>) -> Option<(u64, u64)> {
     }
 }
 
-// Takes an export of a walk, which is to be this one of the list.
+// Asserts that an export of a walk is this one of the list.
 fn takes(rt: &impl Abort, list: &[Export<'_>], number: usize, name: &str, info: &ExportInfo<'_>) {
     let export = list.get(number);
     same_at(rt, number, Some(name), export.map(|e| e.name.as_str()));
@@ -39,8 +39,7 @@ fn takes(rt: &impl Abort, list: &[Export<'_>], number: usize, name: &str, info: 
     same_at(rt, number, regular(info).is_some(), true);
 }
 
-// A walk over the exports of the image of a trie: they are those of the list, one after the other, and then there
-// is nothing.
+// Walks over the exports of the image of a trie: they are those of the list, one after the other, and nothing follows.
 fn walks(rt: &impl Abort, alloc: Global, trie: &[u8]) -> Result<(), Fail> {
     let bytes = image_of(alloc, trie)?;
     let image = MachO::parse(alloc, &bytes, 0)?;

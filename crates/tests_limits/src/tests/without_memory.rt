@@ -1,6 +1,6 @@
-//! The calls that take no memory, a line each: they succeed where each growth would be refused. Most are
-//! handed no allocator and so have none to ask. Those that are handed one, or are made on what keeps one,
-//! have one that refuses everything, and it isn't even asked.
+//! The calls that take no memory, a line each: they succeed if each growth would be refused. Most are given no allocator and so
+//! have none to use. Those that are given one, or are made on a value that holds one, have an allocator that refuses everything,
+//! and never use it.
 
 use crate::tests::refusing::Refusing;
 use crate::tests::same::same;
@@ -26,7 +26,7 @@ use mach_samples::files::{EXPORTS, FILE_A, FILE_B, FILE_D, file_c};
 use std::alloc::AllocError;
 use std::test::Fail;
 
-// The state of a thread without words.
+// A thread command without words.
 const THREAD: [u8; 16] = [5, 0, 0, 0, 16, 0, 0, 0, 0, 0, 0, 0, 0, 0, 0, 0];
 
 #[test]
@@ -53,13 +53,13 @@ fn readers_and_writers(rt: HostRuntime) {
     same(&rt, Ctx::new(Container::Little, LE).size(), 4);
 }
 
-// The number and the size of the command of file A.
+// Returns the number and the size of the command of file A.
 fn command_of_a() -> Read<(u32, usize)> {
     let found = LoadCommand::parse(&FILE_A, &mut 32, LE)?;
     Ok((found.command.cmd(), found.command.cmdsize()))
 }
 
-// The instruction pointer of the thread.
+// Returns the instruction pointer of the thread.
 fn pointer() -> Read<u64> {
     let (thread, _) = ThreadCommand::try_from_ctx(&THREAD, LE)?;
     thread.instruction_pointer(7)
@@ -133,7 +133,7 @@ fn headers_and_records(rt: HostRuntime) {
     same(&rt, reloc_to_str(2, 0x0100_0007), "X86_64_RELOC_BRANCH");
 }
 
-// The segment of file B.
+// Returns the segment of file B.
 fn segment_of_b() -> Read<Segment<'static>> {
     let command = SegmentCommand64::read(&FILE_B, 32, LE)?;
     Segment::from_64(&FILE_B, &command, 32, Ctx::default())

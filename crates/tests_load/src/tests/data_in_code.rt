@@ -1,4 +1,4 @@
-//! Data among code.
+//! Data in code.
 
 use crate::tests::made::{STREAM, command, made};
 use crate::tests::text::data_text;
@@ -8,8 +8,7 @@ const TWO: [u8; 16] = [
     0x00, 0x06, 0x00, 0x00, 0x0c, 0x00, 0x01, 0x00, 0x10, 0x06, 0x00, 0x00, 0x04, 0x00, 0x02, 0x00,
 ];
 
-// How many bytes of a stream of two entries there are, what kind the first is of, how many bytes the command says there are,
-// and the entries.
+// The number of bytes of a stream of two entries, the kind of the first, the number of bytes in the command, and the entries.
 const ROWS: &[(usize, u8, u32, &str)] = &[
     (16, 1, 16, "0x600 12 1; 0x610 4 2; "),
     (12, 1, 12, "0x600 12 1; "),
@@ -19,7 +18,7 @@ const ROWS: &[(usize, u8, u32, &str)] = &[
         24,
         "0x600 12 153; TooBig 8 of 4; BadOffset 0x2410; ",
     ),
-    // What is behind the last whole one isn't looked at.
+    // What follows the last whole one is not read.
     (16, 1, 15, "0x600 12 1; "),
     (16, 1, 7, ""),
     (16, 1, 0, ""),

@@ -1,5 +1,5 @@
-//! Images that the tests make: a 64-bit library of three segments with two symbol tables, two libraries and three more
-//! commands, behind which those of a row stand; what they place stands from 0x2400 on.
+//! Images that the tests build: a 64-bit library of three segments with two symbol tables, two libraries and three more commands,
+//! followed by those of a row. Their data are from 0x2400 on.
 
 use mach_base::{LE, read_u32};
 use mach_load::LoadCommand;
@@ -9,10 +9,10 @@ use std::test::Fail;
 /// The address of the image's first byte.
 pub const BASE: u64 = 0x1_0000_0000;
 
-/// Where the stream of a row stands.
+/// The offset of a row's stream.
 pub const STREAM: u32 = 0x2400;
 
-// How many commands stand before those of a row, and how many bytes they have.
+// The number of commands before those of a row, and of their bytes.
 const COMMANDS: u32 = 10;
 
 const SIZE: u32 = 3 * 72 + 24 + 80 + 2 * 32 + 24 + 16 + 24;
@@ -24,7 +24,7 @@ fn push_numbers(bytes: &mut Vec<u8>, numbers: &[u32]) -> Result<(), AllocError> 
     Ok(())
 }
 
-// A segment of this name, with 0x1000 bytes in memory.
+// Adds a segment with this name and 0x1000 bytes in memory.
 fn push_segment(
     bytes: &mut Vec<u8>,
     name: &[u8; 16],
@@ -39,13 +39,13 @@ fn push_segment(
     push_numbers(bytes, &[7, 3, 0, 0])
 }
 
-// A library of this name, which is at most eight bytes long.
+// Adds a library with this name, which has at most eight bytes.
 fn push_library(bytes: &mut Vec<u8>, name: &[u8; 8]) -> Result<(), AllocError> {
     push_numbers(bytes, &[0xc, 32, 24, 2, 0x1_0000, 0x1_0000])?;
     bytes.extend_from_slice(name)
 }
 
-// Bytes of one value up to a place.
+// Adds bytes of one value up to an offset.
 fn fill(bytes: &mut Vec<u8>, end: usize, value: u8) -> Result<(), AllocError> {
     for _ in bytes.len()..end {
         bytes.push(value)?;
@@ -53,7 +53,7 @@ fn fill(bytes: &mut Vec<u8>, end: usize, value: u8) -> Result<(), AllocError> {
     Ok(())
 }
 
-/// The image with so many commands of a row's, and its stream.
+/// Returns the image with the commands of a row, and its stream.
 pub fn made(
     alloc: Global,
     (count, commands): (u32, &[u8]),
@@ -104,7 +104,7 @@ pub fn made(
     Ok(bytes)
 }
 
-/// A command of these numbers, with bytes behind them.
+/// Returns a command of these numbers, with bytes after them.
 pub fn command(alloc: Global, numbers: &[u32], behind: &[u8]) -> Result<Vec<u8>, AllocError> {
     let mut bytes = Vec::new(alloc);
     push_numbers(&mut bytes, numbers)?;
@@ -112,7 +112,7 @@ pub fn command(alloc: Global, numbers: &[u32], behind: &[u8]) -> Result<Vec<u8>,
     Ok(bytes)
 }
 
-/// The commands of an image.
+/// Returns the commands of an image.
 pub fn commands(alloc: Global, bytes: &[u8]) -> Result<Vec<LoadCommand>, Fail> {
     let mut found = Vec::new(alloc);
     let mut place = 32;

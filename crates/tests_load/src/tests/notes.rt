@@ -5,7 +5,7 @@ use crate::tests::text::notes_text;
 use std::alloc::{AllocError, Global};
 use std::test::Fail;
 
-/// A note.
+/// Returns a note.
 pub fn note(
     alloc: Global,
     owner: &[u8; 16],
@@ -21,7 +21,7 @@ const O: &[u8; 16] = b"o\0\0\0\0\0\0\0\0\0\0\0\0\0\0\0";
 
 const NO_TEXT: &[u8; 16] = b"o\xff\0\0\0\0\0\0\0\0\0\0\0\0\0\0";
 
-// An owner, the place and the size of the bytes, and the note.
+// An owner, the offset and the size of the bytes, and the note.
 const ROWS: &[(&[u8; 16], (u64, u64), &str)] = &[
     (O, (0x1f00, 8), "[o] ee ee ee ee ee ee ee ee; "),
     (O, (u64::MAX, 0), "[o]; "),

@@ -1,17 +1,17 @@
-//! Options for the linker.
+//! Linker options.
 
 use crate::tests::made::{command, made};
 use crate::tests::text::options_text;
 use std::test::Fail;
 
-// The size of a command and how many texts it has, the bytes behind its record, and the options.
+// The size of a command and its number of texts, the bytes after its record, and the options.
 const ROWS: &[((u32, u32), &[u8], &str)] = &[
     ((24, 2), b"-a\0b\0\0\0\0\0\0\0\0", "10 [-a]; 10 [b]; "),
     ((24, 2), b"-a\0\0b\0\0\0\0\0\0\0", "10 [-a]; 10 []; "),
     ((24, 1), b"-a\0b\0\0\0\0\0\0\0\0", "10 [-a]; "),
     ((16, 2), b"-a\0b", "10 [-a]; Malformed; "),
     ((16, 2), b"-ab\0", "10 [-ab]; Malformed; "),
-    // The text would go on behind the command.
+    // The text would go on after the command.
     ((16, 1), b"abcd", "Malformed; "),
     ((16, 0), b"abcd", ""),
     ((16, 4), b"\0\0\0\0", "10 []; 10 []; 10 []; 10 []; "),
@@ -22,7 +22,7 @@ const ROWS: &[((u32, u32), &[u8], &str)] = &[
     ),
     ((16, 0xffff_ffff), b"a\0b\0", "10 [a]; 10 [b]; Malformed; "),
     ((16, 2), &[0x61, 0, 0xff, 0], "10 [a]; BadInput 2; "),
-    // What is no text is told before the missing zero.
+    // A fault of the text is reported before the missing zero.
     ((16, 1), &[0x61, 0xff, 0x61, 0x61], "BadInput 4; "),
     ((16, 1), &[0xc3, 0xa9, 0, 0xff], "10 [é]; "),
 ];
@@ -39,7 +39,7 @@ fn rows(rt: HostRuntime) -> Result<(), Fail> {
     Ok(())
 }
 
-// Two commands, each of 16 bytes: how many texts each has, and their bytes.
+// Two commands of 16 bytes: the number of texts and the bytes of each.
 const TWO: &[((u32, u32), &[u8; 4], &[u8; 4], &str)] = &[
     ((1, 1), b"abcd", b"e\0f\0", "Malformed; "),
     ((1, 1), b"a\0c\0", b"e\0f\0", "10 [a]; 11 [e]; "),

@@ -1,4 +1,4 @@
-//! Every prefix of an image, with the commands of the whole one: what is given is what the whole one gives, up to a fault.
+//! Every prefix of an image, with the commands of the whole one: a prefix gives what the whole one gives, up to a fault.
 
 use crate::tests::made::{BASE, STREAM, command, commands, made};
 use crate::tests::notes::note;
@@ -28,7 +28,7 @@ fn test_starts(rt: &impl Abort, prefix: &[u8], bytes: &[u8], commands: &[LoadCom
     }
 }
 
-// How many items of all kinds are no faults.
+// Returns how many items of all kinds are no faults.
 fn readable(prefix: &[u8], commands: &[LoadCommand]) -> usize {
     let mut count: usize = 0;
     if let (Some(starts), Some(entries)) = places(commands) {

@@ -1,4 +1,4 @@
-//! Where functions begin.
+//! Function starts.
 
 use crate::tests::made::{STREAM, command, made};
 use crate::tests::text::starts_text;
@@ -6,7 +6,7 @@ use std::alloc::Global;
 use std::process::Abort;
 use std::test::Fail;
 
-// Streams, how many bytes the command says there are, and the functions.
+// Streams, the number of bytes in the command, and the functions.
 const ROWS: &[(&[u8], u32, &str)] = &[
     (
         &[0x80, 0x0c, 0x10, 0x90, 0x01, 0x00, 0x10],
@@ -28,7 +28,7 @@ const ROWS: &[(&[u8], u32, &str)] = &[
         "Malformed; ",
     ),
     (&[0x81, 0x80, 0x00, 0x10], 4, "0x100000001; 0x100000011; "),
-    // Nothing behind the range is read, nor behind a 0, nor behind a fault.
+    // Nothing after the range is read, nor after a 0, nor after a fault.
     (&[0x80, 0x0c, 0x10], 2, "0x100000600; "),
     (&[0x80, 0x0c, 0x10], 0, ""),
     (&[0x80, 0x80, 0x00, 0x10], 4, ""),
@@ -65,7 +65,7 @@ fn rows(rt: HostRuntime) -> Result<(), Fail> {
     Ok(())
 }
 
-// Tests what functions these commands place, where there is no stream.
+// Tests which functions these commands give, if there is no stream.
 fn test_placed(
     rt: &impl Abort,
     alloc: Global,

@@ -1,4 +1,4 @@
-//! What the tables of an image say, as short texts.
+//! The tables of an image as short texts.
 
 use goblin_mach::MachO;
 use mach_base::{Error, Result as Read, ScrollError};
@@ -21,7 +21,7 @@ fn write_error(text: &mut String, error: &Error) -> Result<(), AllocError> {
     }
 }
 
-/// The last place and size of the data of function starts, and of data among code.
+/// Returns the last offset and size of the data of function starts, and of data in code.
 pub fn places(
     commands: &[LoadCommand],
 ) -> (Option<LinkeditDataCommand>, Option<LinkeditDataCommand>) {
@@ -37,7 +37,7 @@ pub fn places(
     (starts, entries)
 }
 
-/// The starts of functions of an image.
+/// Returns the function starts of an image.
 pub fn starts_text(alloc: Global, bytes: &[u8]) -> Result<String, Fail> {
     let mut text = String::new(alloc);
     let image = MachO::parse(alloc, bytes, 0)?;
@@ -50,7 +50,7 @@ pub fn starts_text(alloc: Global, bytes: &[u8]) -> Result<String, Fail> {
     Ok(text)
 }
 
-/// Its entries of data among code.
+/// Returns its entries of data in code.
 pub fn data_text(alloc: Global, bytes: &[u8]) -> Result<String, Fail> {
     let mut text = String::new(alloc);
     let image = MachO::parse(alloc, bytes, 0)?;
@@ -74,7 +74,7 @@ fn write_option(text: &mut String, item: Read<(usize, &str)>) -> Result<(), Allo
     }
 }
 
-/// Its options for the linker.
+/// Returns its linker options.
 pub fn options_text(alloc: Global, bytes: &[u8]) -> Result<String, Fail> {
     let mut text = String::new(alloc);
     let image = MachO::parse(alloc, bytes, 0)?;
@@ -84,7 +84,7 @@ pub fn options_text(alloc: Global, bytes: &[u8]) -> Result<String, Fail> {
     Ok(text)
 }
 
-/// Its tools.
+/// Returns its tools.
 pub fn tools_text(alloc: Global, bytes: &[u8]) -> Result<String, Fail> {
     let mut text = String::new(alloc);
     let image = MachO::parse(alloc, bytes, 0)?;
@@ -99,7 +99,7 @@ pub fn tools_text(alloc: Global, bytes: &[u8]) -> Result<String, Fail> {
     Ok(text)
 }
 
-/// Its notes.
+/// Returns its notes.
 pub fn notes_text(alloc: Global, bytes: &[u8]) -> Result<String, Fail> {
     let mut text = String::new(alloc);
     let image = MachO::parse(alloc, bytes, 0)?;

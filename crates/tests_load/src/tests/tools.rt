@@ -6,7 +6,7 @@ use std::test::Fail;
 
 const TWO: &str = "10 3 0x2d00000; 10 4 0x130107; ";
 
-// The size of the command and how many tools it has, and the tools.
+// The size of the command and its number of tools, and the tools.
 const ROWS: &[(u32, u32, &str)] = &[
     (40, 2, TWO),
     (32, 2, "10 3 0x2d00000; Malformed; "),

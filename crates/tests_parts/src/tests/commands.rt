@@ -7,7 +7,7 @@ use mach_records::cputype::CPU_TYPE_X86_64;
 use std::alloc::{AllocError, Global};
 use std::test::Fail;
 
-// A command, its flavor and its count, and so many words that are zero.
+// Returns a command with its flavor, its count, and `words` words that are zero.
 fn thread(alloc: Global, cmdsize: u16, count: u8, words: usize) -> Result<Vec<u8>, AllocError> {
     let [low, high] = cmdsize.to_le_bytes();
     let mut bytes = vec![in alloc; 5, 0, 0, 0, low, high, 0, 0, 0, 0, 0, 0, count, 0, 0, 0]?;
@@ -17,7 +17,7 @@ fn thread(alloc: Global, cmdsize: u16, count: u8, words: usize) -> Result<Vec<u8
     Ok(bytes)
 }
 
-// What the bytes are as a thread, and its instruction pointer for a cpu.
+// Returns what the bytes are as a thread, and its instruction pointer for a cpu.
 fn shown(bytes: &[u8], cputype: u32) -> (&'static str, Option<u64>) {
     let mut offset = 0;
     match LoadCommand::parse(bytes, &mut offset, Endian::Little) {

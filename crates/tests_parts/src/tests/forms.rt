@@ -8,7 +8,7 @@ use mach_records::cputype::{
     CPU_TYPE_X86_64, CpuType,
 };
 
-// A plain relocation by symbol 1 with length 2 and kind 2.
+// Returns a plain relocation by symbol 1 with length 2 and kind 2.
 fn plain(address: u32, is_pcrel: bool, is_extern: bool) -> Relocation {
     Relocation::Plain {
         address,
@@ -20,7 +20,7 @@ fn plain(address: u32, is_pcrel: bool, is_extern: bool) -> Relocation {
     }
 }
 
-// A cpu, a byte order, the two words of a relocation, and what it says.
+// A cpu, a byte order, the two words of a relocation, and its fields.
 const SCATTERED: &[(CpuType, Endian, (u32, u32), Relocation)] = &[
     (
         CPU_TYPE_X86,
@@ -60,7 +60,7 @@ const SCATTERED: &[(CpuType, Endian, (u32, u32), Relocation)] = &[
     ),
 ];
 
-// The same, whether the distance is meant, and whether it is by a symbol.
+// The same, whether it is relative to the pc, and whether it is by a symbol.
 const PLAIN: &[(CpuType, Endian, (u32, u32), (bool, bool))] = &[
     (
         CPU_TYPE_X86_64,

@@ -1,4 +1,4 @@
-//! Rows of how libraries are used.
+//! Rows of library attributes.
 
 use crate::tests::same::same;
 use goblin_mach::{LibraryAttributes, MachO};
@@ -6,10 +6,10 @@ use std::alloc::{AllocError, Global};
 use std::fmt::Write;
 use std::test::Fail;
 
-// A library command: its number, its timestamp, the place of its name, and its flags, if it has some.
+// A library command: its number, its timestamp, the offset of its name, and its flags, if it has some.
 type Command = (u32, u32, u32, Option<u32>);
 
-// An image of such commands, whose libraries are named by letters.
+// Returns an image of such commands, whose libraries are named by letters.
 fn image(alloc: Global, commands: &[Command]) -> Result<Vec<u8>, AllocError> {
     let mut body: Vec<u8> = Vec::new(alloc);
     let mut count: u32 = 0;
@@ -45,7 +45,7 @@ fn image(alloc: Global, commands: &[Command]) -> Result<Vec<u8>, AllocError> {
     Ok(out)
 }
 
-// The names of an image's libraries, and how each is used.
+// Returns the names of an image's libraries, and how each is used.
 fn text(alloc: Global, bytes: &[u8]) -> Result<String, AllocError> {
     let mut text = String::new(alloc);
     let image = match MachO::parse(alloc, bytes, 0) {

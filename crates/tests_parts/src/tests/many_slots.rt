@@ -1,4 +1,4 @@
-//! Every prefix of the made image, and more slots and indirect symbols than its rows have.
+//! Every prefix of the built image, and more slots and indirect symbols than its rows have.
 
 use crate::tests::same::same;
 use crate::tests::slot_image::{DYSYMTAB, INDIRECT, LEN, STUBS, changed, made};
@@ -7,7 +7,7 @@ use goblin_mach::MachO;
 use std::alloc::{AllocError, Global};
 use std::test::Fail;
 
-// Asks a prefix for all that it says.
+// Reads all tables of a prefix.
 fn ask(alloc: Global, prefix: &[u8]) -> Result<(), AllocError> {
     let _ = slots_text(alloc, prefix)?;
     let _ = indirect_text(alloc, prefix)?;
@@ -34,7 +34,7 @@ fn prefixes(rt: HostRuntime) -> Result<(), Fail> {
     Ok(())
 }
 
-// 20,000 entries behind the image, and as many stubs of four bytes.
+// 20,000 entries after the image, and as many stubs of four bytes.
 #[test]
 fn many_slots(rt: HostRuntime) -> Result<(), Fail> {
     let alloc = rt.alloc();

@@ -1,4 +1,4 @@
-//! Rows of who gives undefined symbols.
+//! Rows of the providers of undefined symbols.
 
 use crate::tests::same::same;
 use crate::tests::slot_image::{Change, SYMBOLS, changed};
@@ -12,7 +12,7 @@ const ROWS: &[(&[Change], &str)] = &[
     (&[], "_z library 2 M; "),
     (&[(SYMBOLS + 0x66, &[0, 3])], "Malformed; "),
     (&[(SYMBOLS + 0x66, &[0, 0xfd])], "Malformed; "),
-    // a stab, and a symbol that was bound beforehand
+    // a debugging entry, and a prebound symbol
     (
         &[(SYMBOLS + 0x64, &[0x20]), (SYMBOLS + 0x74, &[0xd, 0, 0, 2])],
         "_m library 2 M; ",
@@ -34,7 +34,7 @@ fn providers(rt: HostRuntime) -> Result<(), Fail> {
             wanted.as_str(),
         );
     }
-    // no image of two levels
+    // no image with a two-level namespace
     let bytes = changed(alloc, &[(24, &[5])])?;
     same(&rt, providers_text(alloc, bytes.as_slice())?.as_str(), "");
     Ok(())

@@ -65,7 +65,7 @@ impl Record for Pair {
     ghost lawful = { Prim.search rules };
 }
 
-// Bytes that say themselves how wide they are.
+// Bytes that hold their own width.
 #[derive(Clone, Copy, Debug)]
 struct Held<'a> {
     bytes: &'a [u8],
@@ -291,7 +291,7 @@ fn writes_at_an_offset(rt: HostRuntime) -> Result<()> {
     Ok(())
 }
 
-// The bytes of a value that is written into one buffer, which is the test that another holds it.
+// Returns the bytes of a value, written into a second buffer after a write into the first has shown that it fits.
 fn written_again<T: IntoCtx<C> + SizeWith<C> + Copy, C: Copy>(
     value: T,
     ctx: C,

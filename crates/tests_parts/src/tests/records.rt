@@ -10,7 +10,7 @@ use mach_records::{
 use std::process::Abort;
 use std::test::Fail;
 
-// The record at the front of some bytes, which is written back as it stood.
+// Returns the record at the start of some bytes, and asserts that it is written back unchanged.
 fn read_and_write<R: Record>(rt: &impl Abort, bytes: &[u8], le: Endian) -> Result<R, Fail> {
     let record = R::read(bytes, 0, le)?;
     let mut written = [0xff; 80];

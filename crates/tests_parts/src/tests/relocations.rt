@@ -60,12 +60,12 @@ fn bytes_of_a_relocation(rt: HostRuntime) -> Result<(), Fail> {
     Ok(())
 }
 
-// Three relocations, of the addresses 1, 2 and 3.
+// Three relocations, at the addresses 1, 2 and 3.
 const THREE: [u8; 24] = [
     1, 0, 0, 0, 1, 0, 0, 0x2d, 2, 0, 0, 0, 1, 0, 0, 0x2d, 3, 0, 0, 0, 1, 0, 0, 0x2d,
 ];
 
-// The address of the next relocation, if there is one.
+// Returns the address of the next relocation, if there is one.
 fn address(items: &mut RelocationIterator<'_>) -> Option<i32> {
     match items.next() {
         Some(Ok(relocation)) => Some(relocation.r_address),

@@ -5,7 +5,7 @@ use crate::tests::slot_image::{Change, DATA_SEGMENT, changed};
 use crate::tests::slot_text::section_text;
 use std::test::Fail;
 
-// Changes, an address and a number, and the sections that they mean.
+// Changes, an address and a number, and the sections that are found.
 const ROWS: &[(&[Change], u64, usize, &str)] = &[
     (&[], 0x1_0000_0600, 0, "0 0 __text 0 0; none"),
     (&[], 0x1_0000_0700, 1, "0 1 __stubs 0 6; 0 0 __text 0 0"),
@@ -15,7 +15,7 @@ const ROWS: &[(&[Change], u64, usize, &str)] = &[
     (&[], 0x1_0000_1fff, 8, "1 5 __bss 0 0; 1 5 __bss 0 0"),
     (&[], 0x1_0000_2000, 9, "none; none"),
     (&[], 0xffff_ffff_ffff_ffff, 255, "none; none"),
-    // as many sections as a command can say
+    // as many sections as a command can claim
     (
         &[(DATA_SEGMENT + 64, &[0xff, 0xff, 0xff, 0xff])],
         0x1_0000_1ff0,

@@ -12,7 +12,7 @@ use mach_samples::files::FILE_B;
 use std::process::Abort;
 use std::test::Fail;
 
-// The one segment of file B.
+// Returns the one segment of file B.
 fn segment_of_file_b() -> Result<Segment<'static>, Error> {
     let command = SegmentCommand64::read(&FILE_B, 32, LE)?;
     Segment::from_64(&FILE_B, &command, 32, Ctx::default())
@@ -73,7 +73,7 @@ fn segment_shown(rt: HostRuntime) -> Result<(), Fail> {
     Ok(())
 }
 
-// The address of a section, if there is one.
+// Returns the address of a section, if there is one.
 fn address(item: Option<Result<(Section, SectionData<'_>), Error>>) -> Option<u64> {
     match item {
         Some(Ok((section, _))) => Some(section.addr),
@@ -81,8 +81,8 @@ fn address(item: Option<Result<(Section, SectionData<'_>), Error>>) -> Option<u6
     }
 }
 
-// The second section is read from the commands behind the first: there is a command of the number 0x80000022 and
-// of 0x30 bytes where its address stands.
+// The second section is read from the commands after the first: its address is at a command with the number 0x80000022 and 0x30
+// bytes.
 #[test]
 fn sections_left(rt: HostRuntime) -> Result<(), Fail> {
     let mut segment = segment_of_file_b()?;
@@ -135,7 +135,7 @@ fn relocations_past_the_end(rt: HostRuntime) -> Result<(), Fail> {
     Ok(())
 }
 
-// A section whose address has 33 bits.
+// Returns a section whose address has 33 bits.
 fn high_section() -> Section {
     let mut section = Section::default();
     section.addr = 0x1_0000_0001;

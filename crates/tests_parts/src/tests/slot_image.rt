@@ -1,11 +1,11 @@
-//! A made image: two segments with stubs and pointers, two libraries, eight symbols and seven indirect symbols.
+//! A built image: two segments with stubs and pointers, two libraries, eight symbols and seven indirect symbols.
 
 use std::alloc::{AllocError, Global};
 
-/// Bytes that stand in the place of others.
+/// Bytes that replace others.
 pub type Change = (usize, &'static [u8]);
 
-/// A section of the made image: its name, address, size, place and flags, and two words more.
+/// A section of the built image: its name, address, size, offset and flags, and two more words.
 #[derive(Clone, Copy)]
 struct Part {
     name: &'static str,
@@ -38,7 +38,7 @@ const TEXT: &[Part] = &[
     },
 ];
 
-// A section of the second segment.
+// Returns a section of the second segment.
 fn data(name: &'static str, addr: u64, size: u64, flags: u32, first: u32) -> Part {
     Part {
         name,
@@ -62,28 +62,28 @@ fn data_parts() -> [Part; 6] {
     ]
 }
 
-/// Where the record of `__stubs` stands, its command's others before it.
+/// The offset of the record of `__stubs`, after the others of its command.
 pub const STUBS: usize = 184;
 
-/// Where the record of `__got` stands.
+/// The offset of the record of `__got`.
 pub const GOT: usize = 496;
 
-/// Where the command of the second segment stands, and the record of `__data`.
+/// The offset of the command of the second segment, which holds the record of `__data`.
 pub const DATA_SEGMENT: usize = 264;
 
-/// Where the command of the symbols stands.
+/// The offset of the command of the symbols.
 pub const SYMTAB: usize = 888;
 
-/// Where the command of the indirect symbols stands.
+/// The offset of the command of the indirect symbols.
 pub const DYSYMTAB: usize = 912;
 
-/// Where the symbols stand.
+/// The offset of the symbols.
 pub const SYMBOLS: usize = 0x2000;
 
-/// Where the indirect symbols stand.
+/// The offset of the indirect symbols.
 pub const INDIRECT: usize = 0x2080;
 
-/// How many bytes the image has.
+/// The number of bytes of the image.
 pub const LEN: usize = 0x2400;
 
 fn push_u32(out: &mut Vec<u8>, n: u32) -> Result<(), AllocError> {
@@ -101,7 +101,7 @@ fn push_words(out: &mut Vec<u8>, words: &[u32]) -> Result<(), AllocError> {
     Ok(())
 }
 
-// A name in 16 bytes.
+// Adds a name in 16 bytes.
 fn push_name(out: &mut Vec<u8>, name: &str) -> Result<(), AllocError> {
     out.extend_from_slice(name.as_bytes())?;
     for _ in name.len()..16 {
@@ -121,7 +121,7 @@ fn push_section(out: &mut Vec<u8>, segment: &str, part: &Part) -> Result<(), All
     )
 }
 
-// The command of a segment: its name, its address and size in memory, its place and size in the file, and its sections.
+// Adds the command of a segment: its name, its address and size in memory, its offset and size in the file, and its sections.
 fn push_segment(
     out: &mut Vec<u8>,
     name: &str,
@@ -152,7 +152,7 @@ fn push_symbol(out: &mut Vec<u8>, name: u32, kind: [u8; 4], value: u64) -> Resul
     push_u64(out, value)
 }
 
-// The header and the commands.
+// Returns the header and the commands.
 fn front(alloc: Global) -> Result<Vec<u8>, AllocError> {
     let mut out = Vec::new(alloc);
     push_words(&mut out, &[0xfeed_facf, 0x100_0007, 3, 2, 7, 1024, 0x85, 0])?;
@@ -188,7 +188,7 @@ fn front(alloc: Global) -> Result<Vec<u8>, AllocError> {
     Ok(out)
 }
 
-/// The made image.
+/// Returns the built image.
 pub fn made(alloc: Global) -> Result<Vec<u8>, AllocError> {
     let mut out = front(alloc)?;
     out.resize(SYMBOLS, 0)?;
@@ -207,7 +207,7 @@ pub fn made(alloc: Global) -> Result<Vec<u8>, AllocError> {
     Ok(out)
 }
 
-/// The made image with some of its bytes changed.
+/// Returns the built image with some of its bytes changed.
 pub fn changed(alloc: Global, changes: &[Change]) -> Result<Vec<u8>, AllocError> {
     let mut out = made(alloc)?;
     for (place, bytes) in changes {

@@ -1,4 +1,4 @@
-//! What an image says of slots, providers and sections, as short texts.
+//! The slots, providers and sections of an image as short texts.
 
 use goblin_mach::MachO;
 use mach_base::{Error, ScrollError, read_text};
@@ -29,7 +29,7 @@ fn kind_text(kind: SlotKind) -> &'static str {
     }
 }
 
-/// Writes a slot: its address, its kind, and whose it is.
+/// Writes a slot: its address, its kind, and its symbol.
 pub fn write_slot(text: &mut String, slot: &SymbolSlot<'_>) -> Result<(), AllocError> {
     write!(text, "{:#x} {} ", slot.address, kind_text(slot.kind))?;
     match slot.symbol {
@@ -40,7 +40,7 @@ pub fn write_slot(text: &mut String, slot: &SymbolSlot<'_>) -> Result<(), AllocE
     }
 }
 
-/// The slots of the image at the front of some bytes.
+/// Returns the slots of the image at the start of some bytes.
 pub fn slots_text(alloc: Global, bytes: &[u8]) -> Result<String, AllocError> {
     let mut text = String::new(alloc);
     let image = match MachO::parse(alloc, bytes, 0) {
@@ -61,7 +61,7 @@ pub fn slots_text(alloc: Global, bytes: &[u8]) -> Result<String, AllocError> {
     Ok(text)
 }
 
-/// The slot at an address, and the numbers of its segment, section and entry.
+/// Returns the slot at an address, and the numbers of its segment, section and entry.
 pub fn slot_text(alloc: Global, bytes: &[u8], address: u64) -> Result<String, AllocError> {
     let mut text = String::new(alloc);
     let image = match MachO::parse(alloc, bytes, 0) {
@@ -89,7 +89,7 @@ pub fn slot_text(alloc: Global, bytes: &[u8], address: u64) -> Result<String, Al
     Ok(text)
 }
 
-/// The indirect symbols of the image.
+/// Returns the indirect symbols of the image.
 pub fn indirect_text(alloc: Global, bytes: &[u8]) -> Result<String, AllocError> {
     let mut text = String::new(alloc);
     let image = match MachO::parse(alloc, bytes, 0) {
@@ -124,7 +124,7 @@ fn write_provider(text: &mut String, provider: &Provider<'_>) -> Result<(), Allo
     }
 }
 
-/// Who gives the symbols of the image of which that was written down.
+/// Returns the recorded providers of the image's symbols.
 pub fn providers_text(alloc: Global, bytes: &[u8]) -> Result<String, AllocError> {
     let mut text = String::new(alloc);
     let image = match MachO::parse(alloc, bytes, 0) {
@@ -163,7 +163,7 @@ pub fn write_section(text: &mut String, found: &NumberedSection) -> Result<(), A
     write!(text, " {first} {second}")
 }
 
-/// The section of an address, and the one of a number.
+/// Returns the section that holds an address, and the one with a number.
 pub fn section_text(
     alloc: Global,
     bytes: &[u8],

@@ -5,14 +5,14 @@ use crate::tests::slot_image::{Change, DYSYMTAB, GOT, INDIRECT, STUBS, changed};
 use crate::tests::slot_text::{indirect_text, slot_text, slots_text};
 use std::test::Fail;
 
-// The first segment's slots of the made image, and the second one's.
+// The slots of the built image's first segment, and those of the second.
 const STUBS_OF_IT: &str = "0x100000700 stub _a; 0x100000706 stub _b; 0x10000070c stub _d; ";
 
 const POINTERS_OF_IT: &str =
     "0x100001700 lazy pointer _a; 0x100001708 lazy pointer _b; 0x100001710 pointer local; \
     0x100001718 thread-local pointer _c; ";
 
-// Changes, and the slots of the first segment; those of the second are as ever.
+// Changes, and the slots of the first segment; those of the second are unchanged.
 const STUB_ROWS: &[(&[Change], &str)] = &[
     (&[], STUBS_OF_IT),
     (
@@ -64,13 +64,13 @@ fn stubs(rt: HostRuntime) -> Result<(), Fail> {
             wanted.as_str(),
         );
     }
-    // no command places indirect symbols
+    // no command has indirect symbols
     let bytes = changed(alloc, &[(DYSYMTAB, &[0x1c])])?;
     same(&rt, slots_text(alloc, bytes.as_slice())?.as_str(), "");
     Ok(())
 }
 
-// Changes, and the slots of the second segment; those of the first are as ever.
+// Changes, and the slots of the second segment; those of the first are unchanged.
 const POINTER_ROWS: &[(&[Change], &str)] = &[
     (
         &[(GOT + 40, &[0, 2])],
@@ -108,7 +108,7 @@ fn pointers(rt: HostRuntime) -> Result<(), Fail> {
     Ok(())
 }
 
-// A change, an address, and the slot in which it lies.
+// A change, an address, and the slot that holds it.
 const ADDRESS_ROWS: &[(&[Change], u64, &str)] = &[
     (
         &[],

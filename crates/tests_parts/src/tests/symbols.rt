@@ -8,7 +8,7 @@ use mach_records::SymtabCommand;
 use mach_samples::files::FILE_B;
 use std::test::Fail;
 
-// The command of its symbols, said to be so many.
+// Returns the command of its symbols, with `nsyms` for their number.
 fn command(nsyms: u32) -> SymtabCommand {
     let mut command = SymtabCommand::new();
     command.symoff = 352;
@@ -18,7 +18,7 @@ fn command(nsyms: u32) -> SymtabCommand {
     command
 }
 
-// The place of a read that found nothing, and the bytes it wanted and had.
+// Returns the offset of a read that failed, and the bytes that it needed and had.
 fn missed(answer: Result<(&str, Nlist)>) -> Option<(usize, usize, usize)> {
     match answer {
         Err(Error::Scroll(ScrollError::BadOffset(place))) => Some((place, 0, 0)),
@@ -97,7 +97,7 @@ const THREE: [u8; 57] = [
     0,
 ];
 
-// The name of the next symbol, if there is one.
+// Returns the name of the next symbol, if there is one.
 fn name<'a>(items: &mut SymbolIterator<'a>) -> Option<&'a str> {
     match items.next() {
         Some(Ok((name, _))) => Some(name),

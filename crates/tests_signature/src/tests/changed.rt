@@ -1,4 +1,5 @@
-//! Each byte of a small signed image changed in turn: it is told exactly where a hash covers it, or a reader needs it.
+//! Each byte of a small signed image changed in turn: a fault is reported exactly if a hash covers the byte, or a reader needs
+//! it.
 
 use crate::tests::same::same;
 use crate::tests::signer::{PLAN, Plan, changed, signed, told_at};
@@ -7,9 +8,9 @@ use std::test::Fail;
 // An image of four pages of 16 bytes each.
 const CODE_LEN: usize = 0x40;
 
-// The places of the directory that are under no hash but its own: the low bytes of the version, the flags, the low byte of
-// the place of the identifier and of the count of special slots, the platform, spare fields, the executable segment, and the
-// letters of the identifier.
+// The places of the directory that no hash but its own covers: the low bytes of the version, the flags, the low bytes of the
+// offset of the identifier and of the count of special slots, the platform, spare fields, the executable segment, and the letters
+// of the identifier.
 const FREE: &[(usize, usize)] = &[
     (10, 16),
     (23, 24),
@@ -20,7 +21,7 @@ const FREE: &[(usize, usize)] = &[
     (64, 90),
 ];
 
-// Where the directory stands, and its code slots in it.
+// The offset of the directory, and that of its code slots in it.
 const DIRECTORY: usize = CODE_LEN + 20;
 
 const SLOTS: usize = DIRECTORY + 91;
@@ -34,7 +35,7 @@ fn is_free(place: usize) -> bool {
         .any(|range| range.0 <= inside && inside < range.1)
 }
 
-// The page that a place belongs to, or that the code slot at a place is of.
+// Returns the page of a place, or that of the code slot at a place.
 fn page_of(place: usize) -> Option<usize> {
     if place < CODE_LEN {
         return Some(place / 16);

@@ -1,4 +1,4 @@
-//! What a signature and its directories say, and the readers over blobs and slots.
+//! The contents of a signature and its directories, and the readers over blobs and slots.
 
 use crate::tests::rows::{E, R};
 use crate::tests::same::same;
@@ -112,7 +112,7 @@ fn blobs_by_slots(rt: HostRuntime) -> Result<(), Fail> {
     Ok(())
 }
 
-// The index names one directory a thousand times: nothing is hashed, since no two may have one hash.
+// The index names one directory a thousand times: nothing is hashed, since no two directories may have one hash.
 #[test]
 fn one_directory_many_times(rt: HostRuntime) -> Result<(), Fail> {
     let alloc = rt.alloc();

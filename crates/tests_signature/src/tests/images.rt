@@ -1,5 +1,5 @@
-//! Two small images for arm64, 431 bytes each, as runs of bytes with their places; the rest is zeros. A segment `__TEXT` has the section
-//! `__info_plist`, eight bytes at 0xd0, and the signature stands at 0x100: one page of 256 bytes by SHA-256, identifier `id`.
+//! Two small images for arm64, 431 bytes each, as runs of bytes with their offsets; the rest is zeros. A segment `__TEXT` has the
+//! section `__info_plist`, eight bytes at 0xd0, and the signature is at 0x100: one page of 256 bytes by SHA-256, identifier `id`.
 
 use std::alloc::{AllocError, Global};
 
@@ -75,7 +75,7 @@ pub const UNSEALED: &[(usize, &[u8])] = &[
     (0x1a7, b"\xdf^\x0b\xf7LN\xe5\xfe"),
 ];
 
-/// The whole of such an image, and then other bytes at places of it.
+/// Returns the whole of such an image, with other bytes at some places.
 pub fn image_of(
     alloc: Global,
     len: usize,

@@ -1,7 +1,7 @@
-//! Images that linkers signed: a library with one function, `int answer(void) { return 42; }`, that
-//! `clang-19 --target=x86_64-apple-macos11 -c` compiled, `ld64.lld-16` and `ld64.lld-19` linked with `-arch x86_64
-//! -platform_version macos 11.0 11.0 -dylib -adhoc_codesign`, and `llvm-strip-19` stripped. They are Debian's. Each is
-//! kept as its runs of bytes, with their places; the rest is zeros.
+//! Images that linkers signed: a library with one function, `int answer(void) { return 42; }`. `clang-19
+//! --target=x86_64-apple-macos11 -c` compiled it, `ld64.lld-16` and `ld64.lld-19` linked it with `-arch x86_64 -platform_version
+//! macos 11.0 11.0 -dylib -adhoc_codesign`, and `llvm-strip-19` stripped it. These tools are Debian's. Each image is kept as its
+//! runs of bytes, with their offsets; the rest is zeros.
 
 use crate::tests::same::same;
 use crate::tests::signer::changed;
@@ -401,7 +401,7 @@ const STRIPPED: &[(usize, &[u8])] = &[
     ),
 ];
 
-// The image of so many bytes that has these runs.
+// Returns the image of `len` bytes with these runs.
 fn image_of(alloc: Global, len: usize, runs: &[(usize, &[u8])]) -> Result<Vec<u8>, AllocError> {
     let mut image = vec![in alloc; 0u8; len]?;
     for (place, bytes) in runs {
@@ -410,7 +410,7 @@ fn image_of(alloc: Global, len: usize, runs: &[(usize, &[u8])]) -> Result<Vec<u8
     Ok(image)
 }
 
-// All that is told of the signature at a place, in words.
+// Returns the faults of the signature at an offset, in words.
 fn told_at(alloc: Global, image: &[u8], dataoff: u32) -> Result<String, Fail> {
     let mut text = String::new(alloc);
     for fault in signature_faults(image, dataoff, 224, None)? {
@@ -419,7 +419,7 @@ fn told_at(alloc: Global, image: &[u8], dataoff: u32) -> Result<String, Fail> {
     Ok(text)
 }
 
-// What linkers sign is as signed, and one byte more is seen.
+// What linkers sign is as signed, and one more byte is reported.
 #[test]
 fn linked(rt: HostRuntime) -> Result<(), Fail> {
     let alloc = rt.alloc();

@@ -1,4 +1,4 @@
-//! The worked rows on what is told of a signature.
+//! The worked rows of the faults of a signature.
 
 use crate::tests::same::same;
 use crate::tests::signer::{PLAN, Plan, changed, signed, told, with_signature};
@@ -6,24 +6,24 @@ use std::alloc::{AllocError, Global};
 use std::process::Abort;
 use std::test::Fail;
 
-/// Entitlements, requirements and a CMS of no byte.
+/// Entitlements, requirements and a CMS without bytes.
 pub const E: &[u8] = b"\xfa\xde\x71\x71\x00\x00\x00\x10<plist/>";
 
 pub const R: &[u8] = b"\xfa\xde\x0c\x01\x00\x00\x00\x0c\x00\x00\x00\x00";
 
 const CMS: &[u8] = b"\xfa\xde\x0b\x01\x00\x00\x00\x08";
 
-// Where the only directory of a signed image stands.
+// The offset of the only directory of a signed image.
 const DIRECTORY: usize = 0x1200 + 20;
 
-// Asserts what is told of an image that is signed by a plan.
+// Asserts the faults of an image that is signed by a plan.
 fn is_told(rt: &impl Abort, alloc: Global, plan: &Plan<'_>, want: &str) -> Result<(), AllocError> {
     let image = signed(alloc, plan)?;
     same(rt, told(alloc, image.as_slice(), None)?.as_str(), want);
     Ok(())
 }
 
-// Asserts what is told of the plan's image with other bytes at a place.
+// Asserts the faults of the plan's image with other bytes at a place.
 fn is_told_changed(
     rt: &impl Abort,
     alloc: Global,
@@ -36,7 +36,7 @@ fn is_told_changed(
     Ok(())
 }
 
-// Asserts what is told of an image with a signature of these bytes.
+// Asserts the faults of an image with a signature of these bytes.
 fn is_told_bytes(
     rt: &impl Abort,
     alloc: Global,

@@ -12,7 +12,7 @@ use std::fmt::Write;
 use std::process::Abort;
 use std::test::Fail;
 
-// What is told of the signature of an image, in words, each with a semicolon behind.
+// Returns the faults of an image's signature, in words, each with a semicolon after it.
 fn told(alloc: Global, image: &MachO<'_>) -> Result<String, AllocError> {
     let mut text = String::new(alloc);
     match signature_faults(image) {
@@ -27,7 +27,7 @@ fn told(alloc: Global, image: &MachO<'_>) -> Result<String, AllocError> {
     Ok(text)
 }
 
-// Asserts what is told of an image.
+// Asserts the faults of an image.
 fn is_told(rt: &impl Abort, alloc: Global, bytes: &[u8], want: &str) -> Result<(), Fail> {
     let image = MachO::parse(alloc, bytes, 0)?;
     same(rt, told(alloc, &image)?.as_str(), want);
@@ -49,11 +49,12 @@ fn sealed(rt: HostRuntime) -> Result<(), Fail> {
             &[(0xd0, b"[")],
             "page 0: 0x0..0x100 is not what was signed;info.plist: not what was signed;",
         ),
-        // the section has another name, or is of another segment, or its bytes are not in the file: the slot is of another file
+        // the section has another name, or belongs to another segment, or its bytes are not in the file: the slot seals another
+        // file
         (&[(0x68, b"__info_qlist")], PAGE),
         (&[(0x78, b"__DATA")], PAGE),
         (&[(0x90, b"\0\x10")], PAGE),
-        // the segment claims 2^32 - 1 sections, of which few are in the bytes: the search ends, with the section and without
+        // the segment claims 2^32 - 1 sections, few of which are in the bytes: the search ends, with the section and without it
         (&[(0x60, b"\xff\xff\xff\xff")], PAGE),
         (
             &[(0x60, b"\xff\xff\xff\xff"), (0x68, b"__info_qlist")],
@@ -129,7 +130,7 @@ fn a_signature(rt: HostRuntime) -> Result<(), Fail> {
     Ok(())
 }
 
-// A segment of 3,000 sections, of which the last is the one that is sealed.
+// A segment of 3,000 sections, the last of which is the sealed one.
 #[test]
 fn the_last_of_many_sections(rt: HostRuntime) -> Result<(), Fail> {
     let alloc = rt.alloc();

@@ -1,4 +1,4 @@
-//! A small signer, and what is told of what it signed.
+//! A small signer, and the faults of what it signed.
 
 ghost use Rattle.std.specs.Prelude.{◌<◌};
 
@@ -9,13 +9,13 @@ use sha2::{Digest, Sha256, Sha384};
 use std::alloc::{AllocError, Global};
 use std::fmt::Write;
 
-/// How many bytes the image of the rows has before its signature.
+/// The number of bytes of the rows' image before its signature.
 pub const CODE_LEN: usize = 0x1200;
 
 /// What is signed, and how.
 #[derive(Clone, Copy)]
 pub struct Plan<'a> {
-    /// How many bytes the image has before its signature.
+    /// The number of bytes of the image before its signature.
     pub code_len: usize,
     pub version: u32,
     pub hash_type: u8,
@@ -24,13 +24,13 @@ pub struct Plan<'a> {
     pub code_limit64: u64,
     pub scatter: u32,
     pub team: &'a str,
-    /// What the special slots seal, from 1 on; nothing where there are no bytes.
+    /// What the special slots seal, from 1 on; a slot without bytes seals nothing.
     pub special: &'a [&'a [u8]],
-    /// The blobs behind the directories, by slots.
+    /// The blobs after the directories, by slots.
     pub blobs: &'a [(u32, &'a [u8])],
     /// The hash of an alternate directory; 0 for none.
     pub alternate: u8,
-    /// How many bytes of the command's range lie behind the signature.
+    /// The number of bytes of the command's range after the signature.
     pub behind: u8,
 }
 
@@ -50,7 +50,7 @@ pub const PLAN: Plan<'static> = Plan {
     behind: 0,
 };
 
-// A length of less than 65,536 bytes.
+// Returns a length of less than 65,536 bytes.
 fn short(len: usize) -> u32
     ensures { result < 65536 }
 {
@@ -61,7 +61,7 @@ fn push_u32(out: &mut Vec<u8>, n: u32) -> Result<(), AllocError> {
     out.extend_from_slice(&n.to_be_bytes())
 }
 
-// The hash of some bytes, of a type by its number.
+// Returns the hash of some bytes, of the type with a number.
 fn hash(alloc: Global, hash_type: u8, bytes: &[u8]) -> Result<Vec<u8>, AllocError> {
     match hash_type {
         1 => Sha1::digest(bytes).to_vec(alloc),
@@ -75,7 +75,7 @@ fn hash(alloc: Global, hash_type: u8, bytes: &[u8]) -> Result<Vec<u8>, AllocErro
     }
 }
 
-// How many bytes such a hash has.
+// Returns the number of bytes of such a hash.
 fn hash_len(hash_type: u8) -> u8 {
     match hash_type {
         1 | 3 => 20,
@@ -84,7 +84,7 @@ fn hash_len(hash_type: u8) -> u8 {
     }
 }
 
-// How many bytes the fields of a version have.
+// Returns the number of bytes of the fields of a version.
 fn fields_len(version: u32) -> u8 {
     match version {
         0..0x20100 => 44,
@@ -96,7 +96,7 @@ fn fields_len(version: u32) -> u8 {
     }
 }
 
-// The hashes of special slots, the first last, and of pages.
+// Returns the hashes of special slots, the first slot last, and those of pages.
 fn hashes(
     alloc: Global,
     image: &[u8],
@@ -129,7 +129,7 @@ fn hashes(
     Ok(out)
 }
 
-/// A code directory with the identifier `id`.
+/// Returns a code directory with the identifier `id`.
 fn directory(
     alloc: Global,
     image: &[u8],
@@ -173,7 +173,7 @@ fn directory(
     Ok(out)
 }
 
-/// The blobs behind an index.
+/// Returns blobs with an index before them.
 pub fn super_blob(alloc: Global, blobs: &[(u32, &[u8])]) -> Result<Vec<u8>, AllocError> {
     let count = short(blobs.len());
     let mut place = 12 + 8 * count;
@@ -194,7 +194,7 @@ pub fn super_blob(alloc: Global, blobs: &[(u32, &[u8])]) -> Result<Vec<u8>, Allo
     Ok(out)
 }
 
-// The signature of an image by a plan.
+// Returns the signature of an image by a plan.
 fn signature(alloc: Global, image: &[u8], plan: &Plan<'_>) -> Result<Vec<u8>, AllocError> {
     let first = directory(alloc, image, plan, plan.hash_type)?;
     let other = directory(alloc, image, plan, plan.alternate.max(1))?;
@@ -209,7 +209,7 @@ fn signature(alloc: Global, image: &[u8], plan: &Plan<'_>) -> Result<Vec<u8>, Al
     super_blob(alloc, blobs.as_slice())
 }
 
-/// An image without its signature, of which the command says that it has so many bytes.
+/// Returns an image without its signature, whose command gives the signature so many bytes.
 fn unsigned(alloc: Global, code_len: usize, signature_len: u32) -> Result<Vec<u8>, AllocError> {
     let mut out = Vec::new(alloc);
     for n in [
@@ -233,14 +233,14 @@ fn unsigned(alloc: Global, code_len: usize, signature_len: u32) -> Result<Vec<u8
     Ok(out)
 }
 
-/// An image with a signature of these bytes.
+/// Returns an image with a signature of these bytes.
 pub fn with_signature(alloc: Global, signature: &[u8]) -> Result<Vec<u8>, AllocError> {
     let mut image = unsigned(alloc, CODE_LEN, short(signature.len()))?;
     image.extend_from_slice(signature)?;
     Ok(image)
 }
 
-/// An image that is signed by a plan.
+/// Returns an image that is signed by a plan.
 pub fn signed(alloc: Global, plan: &Plan<'_>) -> Result<Vec<u8>, AllocError> {
     let draft = signature(alloc, unsigned(alloc, plan.code_len, 0)?.as_slice(), plan)?;
     let len = short(draft.len()) + u32::from(plan.behind);
@@ -251,7 +251,7 @@ pub fn signed(alloc: Global, plan: &Plan<'_>) -> Result<Vec<u8>, AllocError> {
     Ok(image)
 }
 
-/// The same image, with other bytes from a place on.
+/// Returns the same image, with other bytes from a place on.
 pub fn changed(
     alloc: Global,
     image: &[u8],
@@ -267,7 +267,7 @@ pub fn changed(
     Ok(out)
 }
 
-// The number of bytes that the command says.
+// Returns the number of bytes in the command.
 fn datasize(image: &[u8]) -> u32 {
     match image.get(44..48) {
         Some([a, b, c, d]) => u32::from_le_bytes([*a, *b, *c, *d]),
@@ -275,7 +275,7 @@ fn datasize(image: &[u8]) -> u32 {
     }
 }
 
-/// All that is told of the signature at a place, of so many bytes, in words, one behind the other.
+/// Returns the faults of the signature at an offset, of so many bytes, in words, one after the other.
 pub fn told_at(
     alloc: Global,
     image: &[u8],
@@ -298,12 +298,12 @@ pub fn told_at(
     Ok(text)
 }
 
-/// All that is told of the signature of an image of the rows.
+/// Returns the faults of the signature of an image of the rows.
 pub fn told(alloc: Global, image: &[u8], plist: Option<&[u8]>) -> Result<String, AllocError> {
     told_at(alloc, image, CODE_LEN, datasize(image), plist)
 }
 
-/// The signature of an image.
+/// Returns the signature of an image.
 pub fn signature_of(image: &[u8]) -> mach_base::Result<CodeSignature<'_>> {
     code_signature(image, 0x1200, datasize(image))
 }

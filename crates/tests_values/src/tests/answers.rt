@@ -1,10 +1,10 @@
-//! What asserts a text that is made.
+//! An assertion about a text.
 
 use crate::tests::same::same;
 use std::alloc::AllocError;
 use std::process::Abort;
 
-/// Asserts that a text is the one that is wanted.
+/// Asserts that a text is the wanted one.
 pub fn answers(
     rt: &impl Abort,
     got: Result<String, AllocError>,

@@ -20,13 +20,13 @@ use std::alloc::{AllocError, Global};
 use std::process::Abort;
 use std::test::Fail;
 
-// A place past all that 64 bits hold.
+// A place above all numbers of 64 bits.
 const FAR: &str = "bad offset 18446744073709551615";
 
 // The relocation of file B.
 const FIRST: &str = "4 0x2d000001";
 
-// Why there is no answer.
+// Returns the fault of an answer.
 fn fault<T: Drop>(alloc: Global, answer: Read<T>) -> Result<String, AllocError> {
     match answer {
         Ok(_) => String::from_str(alloc, "an answer"),
@@ -82,7 +82,7 @@ const OF_ALL: [u8; 15] = [
     0x11, 0x70, 0, 0xc0, 255, 255, 255, 255, 255, 255, 255, 255, 255, 1, 0,
 ];
 
-// A count of 2^64 - 1 asks for more room than there is; of a segment of 4,096 bytes 512 binds come first.
+// A count of 2^64 - 1 needs more room than there is; of a segment of 4,096 bytes 512 binds come first.
 #[test]
 fn binds(rt: HostRuntime) -> Result<(), Fail> {
     let command = DyldInfoCommand {
@@ -105,14 +105,14 @@ fn binds(rt: HostRuntime) -> Result<(), Fail> {
     Ok(())
 }
 
-// A segment of 4,096 bytes of memory.
+// Returns a segment of 4,096 bytes of memory.
 fn page() -> Segment<'static> {
     let mut segment = Segment::new(Ctx::default(), &[]);
     segment.vmsize = 0x1000;
     segment
 }
 
-// What an image answers by its segments: imports, relocations, the sections and the name of the first.
+// Returns what an image gives by its segments: imports, relocations, the sections and the name of the first.
 fn of_segments(alloc: Global, image: &MachO<'_>) -> Result<[String; 4], AllocError> {
     let imports = match image.imports(alloc) {
         Ok(list) => tests_texts::imports(alloc, &list)?,
@@ -184,7 +184,7 @@ impl Field {
         }
     }
 
-    // What the image then answers by its segments.
+    // Returns what the image then gives by its segments.
     fn answers(self) -> [&'static str; 4] {
         let imports = "_a of L at 0x10; _b of L at 0x18; ";
         let relocations = "0 __text of 1; ";
@@ -222,7 +222,7 @@ fn fields_of_a_segment(rt: HostRuntime) -> Result<(), Fail> {
     Ok(())
 }
 
-// A segment whose fields are all at their largest.
+// Returns a segment whose fields are all at their largest.
 fn filled() -> Segment<'static> {
     let mut segment = Segment::new(Ctx::default(), &[]);
     for field in Field::ALL {
@@ -269,7 +269,7 @@ const HEADER: Header = Header {
     reserved: 0,
 };
 
-// A header, and what it says of its cpu.
+// A header, and its cpu.
 struct HeaderRow {
     header: Header,
     cputype: u32,
@@ -464,7 +464,7 @@ const RECORD: FatArch = FatArch {
     align: 4,
 };
 
-// A record, how many bytes of file B it has, and what it says of its cpu.
+// A record, the number of its bytes in file B, and its cpu.
 struct RecordRow {
     arch: FatArch,
     length: usize,
@@ -702,7 +702,7 @@ fn a_wide_section(rt: HostRuntime) {
     same(&rt, (wide.addr, wide.size), (u64::MAX, 8));
 }
 
-// A name, or why it can't be read.
+// Returns a name, or the error.
 fn named(alloc: Global, name: Read<&str>) -> Result<String, AllocError> {
     match name {
         Ok(name) => String::from_str(alloc, name),
@@ -710,7 +710,7 @@ fn named(alloc: Global, name: Read<&str>) -> Result<String, AllocError> {
     }
 }
 
-// A relocation, if there is one.
+// Returns a relocation, if there is one.
 fn relocation(alloc: Global, item: Option<Read<RelocationInfo>>) -> Result<String, AllocError> {
     match item {
         Some(item) => tests_texts::relocation(alloc, &item),
@@ -756,7 +756,7 @@ fn fields_of_a_symbols_ctx(rt: HostRuntime) -> Result<(), Fail> {
     Ok(())
 }
 
-// The name of a symbol, if there is one.
+// Returns the name of a symbol, if there is one.
 fn symbol(alloc: Global, item: Option<Read<(&str, Nlist)>>) -> Result<String, AllocError> {
     match item {
         Some(Ok((name, _))) => String::from_str(alloc, name),

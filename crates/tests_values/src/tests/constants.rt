@@ -1,4 +1,4 @@
-//! Every public constant of docs/FORMAT.md, with its value and its type.
+//! Every public constant, with its value and its type.
 
 use crate::tests::same::same;
 use goblin_mach::{
@@ -6,7 +6,7 @@ use goblin_mach::{
     relocation, symbols,
 };
 
-// What the library says of each constant, and its value.
+// Each constant of the library, and its value.
 macro_rules! rows {
     ($($module:ident: $($name:ident = $want:literal),*;)*) => {
         ([$($($module::$name,)*)*], [$($($want,)*)*])

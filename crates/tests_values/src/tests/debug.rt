@@ -1,4 +1,4 @@
-//! What Debug shows of types that borrow the file: how many bytes there are, and not the bytes.
+//! What Debug shows of types that borrow the file: the number of bytes, and not the bytes.
 
 use crate::tests::same::same;
 use goblin_mach::exports::ExportTrie;
@@ -8,7 +8,7 @@ use goblin_mach::{LinkView, MachO, MultiArch, SingleArch, link_view};
 use mach_samples::files::{FILE_B, file_c};
 use std::test::Fail;
 
-// The ranges that file B's command brings.
+// Returns a command with the ranges of file B's.
 fn command() -> DyldInfoCommand {
     DyldInfoCommand {
         bind_off: 312,

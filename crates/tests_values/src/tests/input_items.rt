@@ -4,7 +4,7 @@ use crate::tests::input_text::items_text;
 use crate::tests::made_files::{LIBRARY, Piece, X86_64, made};
 use std::test::Fail;
 
-// The header of a member of 32 bytes, of one of bitcode, and of one that is cut.
+// The header of a member of 32 bytes, that of one of bitcode, and that of one that is cut off.
 const IMAGE: &[u8] = b"i.o/            0           0     0     644     32        `\n";
 
 const BITCODE: &[u8] = b"b.o/            0           0     0     644     4         `\nBC\xc0\xde";

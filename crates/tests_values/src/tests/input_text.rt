@@ -1,4 +1,4 @@
-//! What files and their tables are, as short texts.
+//! Files and their tables as short texts.
 
 use goblin_mach::{
     Content, FatArch64, Input, InputItem, Mach, MultiArch64, Result as Read, SingleArch, describe,
@@ -6,7 +6,7 @@ use goblin_mach::{
 use std::alloc::{AllocError, Global};
 use std::fmt::Write;
 
-// What an entry opens as.
+// Adds what an entry opens as.
 fn push_entry(text: &mut String, entry: &Read<SingleArch<'_>>) -> Result<(), AllocError> {
     match entry {
         Ok(SingleArch::MachO(image)) => write!(text, "image 0x{:x}; ", image.header.cputype),
@@ -15,7 +15,7 @@ fn push_entry(text: &mut String, entry: &Read<SingleArch<'_>>) -> Result<(), All
     }
 }
 
-/// What a file opens as, and all entries of a fat one.
+/// Returns what a file opens as, and all entries of a fat file.
 pub fn input_text(alloc: Global, bytes: &[u8]) -> Result<String, AllocError> {
     let mut text = String::new(alloc);
     match Input::parse(alloc, bytes) {
@@ -44,7 +44,7 @@ pub fn input_text(alloc: Global, bytes: &[u8]) -> Result<String, AllocError> {
     Ok(text)
 }
 
-/// What `Mach::parse` answers, in the same words.
+/// Returns the answer of `Mach::parse`, in the same words.
 pub fn mach_text(alloc: Global, bytes: &[u8]) -> Result<String, AllocError> {
     let mut text = String::new(alloc);
     match Mach::parse(alloc, bytes) {
@@ -60,7 +60,7 @@ pub fn mach_text(alloc: Global, bytes: &[u8]) -> Result<String, AllocError> {
     Ok(text)
 }
 
-// A record, with how many bytes it has in the file.
+// Adds a record, with the number of its bytes in the file.
 fn push_record(text: &mut String, file: &[u8], found: &Read<FatArch64>) -> Result<(), AllocError> {
     match found {
         Ok(arch) => {
@@ -77,7 +77,7 @@ fn push_record(text: &mut String, file: &[u8], found: &Read<FatArch64>) -> Resul
     }
 }
 
-/// The records of a fat file of 64 bits, one at a time.
+/// Returns the records of a fat file of 64 bits, one at a time.
 pub fn records_text(alloc: Global, bytes: &[u8]) -> Result<String, AllocError> {
     let mut text = String::new(alloc);
     match MultiArch64::new(alloc, bytes) {
@@ -91,7 +91,7 @@ pub fn records_text(alloc: Global, bytes: &[u8]) -> Result<String, AllocError> {
     Ok(text)
 }
 
-/// All records at once, or the first of a cpu.
+/// Returns all records at once, or the first for a cpu.
 pub fn table_text(alloc: Global, bytes: &[u8], cputype: Option<u32>) -> Result<String, AllocError> {
     let mut text = String::new(alloc);
     match (MultiArch64::new(alloc, bytes), cputype) {
@@ -109,7 +109,7 @@ pub fn table_text(alloc: Global, bytes: &[u8], cputype: Option<u32>) -> Result<S
     Ok(text)
 }
 
-// Where an item stands, and what stands there: of what may be an image, whether it opens.
+// Adds the place of an item, and its contents; for a possible image, whether it opens.
 fn push_item(alloc: Global, text: &mut String, item: &InputItem<'_>) -> Result<(), AllocError> {
     if let Some(index) = item.place.entry {
         write!(text, "entry {index} ")?;
@@ -144,7 +144,7 @@ fn push_content(alloc: Global, text: &mut String, content: &Content<'_>) -> Resu
     }
 }
 
-/// What is within a file.
+/// Returns the items within a file.
 pub fn items_text(alloc: Global, bytes: &[u8]) -> Result<String, AllocError> {
     let mut text = String::new(alloc);
     match Input::parse(alloc, bytes) {

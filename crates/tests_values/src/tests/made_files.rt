@@ -1,4 +1,4 @@
-//! Files that the tests make.
+//! Files that the tests build.
 
 use std::alloc::{AllocError, Global};
 
@@ -18,7 +18,7 @@ pub enum Piece<'a> {
     Bytes(&'a [u8]),
     /// The header of a fat file of 64 bits, with its count.
     Front64(u32),
-    /// A record of it: cpu and its kind, place and length, the power of its alignment, and what says nothing.
+    /// A record of it: cpu and its kind, offset and length, the power of its alignment, and a reserved number.
     Record64(u32, u32, u64, u64, u32, u32),
 }
 
@@ -40,7 +40,7 @@ fn push_piece(bytes: &mut Vec<u8>, piece: &Piece<'_>) -> Result<(), AllocError> 
     }
 }
 
-/// The bytes of these parts, one behind the other.
+/// Returns the bytes of these parts, one after the other.
 pub fn made(alloc: Global, pieces: &[Piece<'_>]) -> Result<Vec<u8>, AllocError> {
     let mut bytes = Vec::new(alloc);
     for piece in pieces {

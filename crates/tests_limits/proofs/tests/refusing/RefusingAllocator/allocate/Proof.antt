@@ -1,4 +1,4 @@
--- It asks for the giver, and refuses where there is none. Assumes `Logic`.
+-- It asks for the giver, and refuses if there is none. Assumes `Logic`.
 use mathlib.Core.Path.{◌≡◌, refl, ap, ◌∙◌, sym, subst}
 use mathlib.Core.List.{List, [], ◌∷◌, ◌++◌}
 use lib.Dec.{T, lit<}
