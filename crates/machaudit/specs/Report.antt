@@ -59,8 +59,8 @@ pub record TellsImage {A : Type 0} (limit : ℕ) (bytes : List ℕ) (p : Parts A
   pub layout : HasLayoutFaults bytes p.layout.items
 
 -- The report of some bytes as an image. If they open strictly, it has the parts of the image. Otherwise it has a fault that holds
--- of them, and the parts that lossy mode reads, exactly if lossy mode opens them. No list has more items visited than there are
--- bytes.
+-- of them, and the parts that lossy mode reads, exactly if lossy mode opens them. At most as many items of a
+-- list are visited as there are bytes.
 abbrev pub IsImageReport : {A : Type 0} → ℕ → List ℕ → ImageReport A → Type 0
 IsImageReport limit bytes (images.Opens parts) = Opens bytes 0 × TellsImage (most_items limit bytes) bytes parts
 IsImageReport limit bytes (images.OpensLossily e parts) = IsTold e × Stands (MachFault ImageFault bytes) e × TellsImage (most_items limit bytes) bytes parts
