@@ -1,4 +1,4 @@
-/* A caller of C on a large file: maps it, opens the image, and goes over its commands and its symbols. */
+/* Maps a large file from C, opens the image, and reads its commands and its symbols. */
 #include <fcntl.h>
 #include <goblin_mach.h>
 #include <stdio.h>

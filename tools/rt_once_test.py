@@ -62,7 +62,7 @@ class RunsOnce(unittest.TestCase):
         self.assert_passes(True, "--anew")
         self.write("crates/trial_once/src/lib.rt", SOURCE.replace("BODY", "{ number }"))
         self.assertFalse(self.has_archive(), "the archive of other sources")
-        # (`rt ci` removes what earlier runs built, and takes the verdict from what it kept)
+        # (`rt ci` removes what earlier runs built, and reads the verdict from what it kept)
         self.write("crates/trial_once/src/lib.rt", SOURCE.replace("BODY", "number"))
         self.assert_passes(False)
 

@@ -17,7 +17,7 @@ import shutil
 import subprocess
 import tempfile
 
-# How many edited bodies one check has, since each takes memory until the end.
+# How many edited bodies one check has, as each takes memory until the end.
 BODIES = 16
 STUB = "unreachable!()"
 HOLE = """use Rattle.{module}.Statement as stated
@@ -68,7 +68,7 @@ class Body:
         self.is_of_cycle = any(it.lstrip().startswith("#[cycle(") for it in lines[self.top : head])
         block = self.block_head(lines) if self.indent else ""
         self.trait = block.split()[-1] if block.startswith("trait ") else None
-        # (beside a method of a trait no other name can be, and an attribute of several lines isn't read)
+        # (a method of a trait can have no copy under another name, and an attribute of several lines isn't read)
         is_whole = not lines[self.top - 1].rstrip().endswith("]")
         self.can_be_copied = is_whole and (not block or block.startswith("impl") and len(self.indent) == 4 and " for " not in block)
 
@@ -265,7 +265,7 @@ class Said:
     NOT_PROVED = re.compile(r"not proved|no proof")
     ONLY_ITS_CALL = re.compile(r"(?:not proved|no proof)[;:] it (?:calls|passes)")
     ERROR = re.compile(r"(?:\./)?(\S+?):\d+:\d+: error: ")
-    # What antt says of an answer that is of another type than its goal, and of one with a name that it doesn't know.
+    # antt's messages about an answer of another type than its goal, and about one with an unknown name.
     OTHER_TYPE = re.compile(
         r"the two types (?:first differ|differ|are) |expected type `|does not follow from what it read|is a declared record, built with"
         r"|no occurrence of the path's"
@@ -280,7 +280,7 @@ class Said:
         refused = [it[1] for it in map(self.ERROR.match, self.lines) if it]
         ended = status in (0, 1) and re.match(r"only=\d+ holes=\d+", self.lines[-1])
         self.is_over = bool(ended) and not any(it.startswith("src/") for it in refused)
-        # (an error elsewhere can be why a body isn't proved)
+        # (an error elsewhere can be the reason why a body isn't proved)
         own = tuple(f"proofs/{file_of(it.asked)}/" for it in trials)
         self.is_clean = self.is_over and all(it.startswith(own) for it in refused) and not rt.rtlib.STALE.search("\n".join(self.lines))
 
@@ -323,7 +323,7 @@ def refused(rt, trials, names):
         half = len(trials) // 2
         return refused(rt, trials[:half], names) | refused(rt, trials[half:], names)
     found = {it.edit for it in trials if said.refuses(it)}
-    # (what calls a function that is edited in its place is tried again, next to the stub of that)
+    # (a caller of a function that is edited in its place is tried again, next to the stub of that function)
     hidden = [it for it in trials if said.hides(it, trials)]
     again = hidden if len(hidden) < len(trials) else []
     for it in trials:

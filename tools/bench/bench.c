@@ -1,9 +1,10 @@
 /* bench FILE.. times the calls of the C library on a file, each for about half a second: what an export, an import, a symbol .. of it costs.
-   bench --hostile FOLDER times them on files that hurt readers, which shapes.py makes, and says where the time a byte grows with their size.
-   docs/SPEED.md has how it is built and called, and what was measured.
+   bench --hostile FOLDER times them on files that are costly to read, written by shapes.py, and reports where the time per byte grows with size.
+   docs/SPEED.md says how it is built and called, and has the results.
 
-   A file is an image, or a fat file or an archive: then a run of a call goes over all of its images that open. Two lists of the Rattle crate have no
-   call of their own in C, and so no line: iter_imports (gm_imports gives batches alone) and link_view (it is gm_exports and gm_imports of each image). */
+   A file is an image, or a fat file or an archive; of the latter a run of a call visits all images that open. Two lists of the Rattle crate have no
+   call of their own in C, and so no line: iter_imports (gm_imports only gives batches) and link_view (it is gm_exports and gm_imports of each
+   image). */
 #define _POSIX_C_SOURCE 200809L
 #include "goblin_mach.h"
 #include <dirent.h>
@@ -18,7 +19,7 @@ enum { FINE, FAULT, STOPPED }; /* exit statuses */
 enum { LEAST_RUNS = 2, MOST_RUNS = 100000, MOST_SIZES = 8, MOST_BATCH = 1 << 20, MOST_MS = 60000, MOST_NAME = 64, MOST_SOUGHT = 100 };
 #define MOST_BYTES (UINT64_C(1) << 32)
 #define NANOS_OF_MS UINT64_C(1000000)
-#define LONGEST (10000 * NANOS_OF_MS) /* a call isn't made of a larger file where it may take longer */
+#define LONGEST (10000 * NANOS_OF_MS) /* a call is not made on a larger file if it may take longer */
 #define NOT_RUN UINT64_MAX
 #define NOT_GIVEN UINT64_MAX
 
@@ -43,14 +44,14 @@ static _Noreturn void stop(const char *what, const char *why) {
     exit(STOPPED);
 }
 
-/* Makes a block larger, or ends the program. */
+/* Grows a block, or ends the program. */
 static void *resized(void *block, size_t count, size_t each) {
     void *made = count <= SIZE_MAX / each ? realloc(block, count * each) : NULL;
     if (!made) stop("out of memory", NULL);
     return made;
 }
 
-/* Makes room for `wanted` items, and more where there was too little. */
+/* Makes room for `wanted` items, and for more if there was too little. */
 static void *with_room(void *block, size_t *cap, size_t wanted, size_t each) {
     if (wanted <= *cap) return block;
     *cap = wanted <= SIZE_MAX / 2 ? 2 * wanted : wanted;
@@ -82,13 +83,13 @@ typedef struct {
     char *texts;
     name_place *names;
     size_t texts_len, texts_cap, name_count, name_cap;
-    /* what calls write into */
+    /* the buffers of calls */
     void *rows;
     gm_export_room room;
     gm_error error;
 } subject;
 
-/* what a run did: how many items it gave, and a sum over what they hold, so that no run leaves work out */
+/* what a run did: how many items it gave, and a sum over their contents, so that no run skips work */
 typedef struct { uint64_t items, sum; size_t left; bool more; uint32_t code; } work;
 
 static void release(subject *s) {
@@ -96,13 +97,13 @@ static void release(subject *s) {
     for (size_t i = 0; i < sizeof blocks / sizeof *blocks; i++) free(blocks[i]);
 }
 
-/* How many rows a call may write: where no item is left, one, which says that there are more. */
+/* How many rows a call may write: one if no item is left, which shows that there are more. */
 static size_t cap_of(const subject *s, const work *w) {
     size_t cap = w->left < s->batch ? w->left : s->batch;
     return cap ? cap : 1;
 }
 
-/* Whether so many rows may be gone over; where not, there are more than may be. */
+/* Whether so many rows may be visited; if not, there are more than the limit. */
 static bool takes(work *w, size_t rows) {
     w->more |= rows > w->left;
     w->left -= w->more ? 0 : rows;
@@ -114,7 +115,7 @@ static void add(work *w, uint64_t sum) {
     w->sum += sum;
 }
 
-/* Keeps why a row can't be read. */
+/* Keeps the fault of a row. */
 static uint32_t refused(subject *s, uint32_t code) {
     s->error.code = code;
     snprintf(s->error.text, sizeof s->error.text, "%s", gm_code_name(code) ? gm_code_name(code) : "unknown");
@@ -125,7 +126,7 @@ static uint32_t refused(subject *s, uint32_t code) {
 
 #define OF o->bytes, o->len, &o->image
 
-/* the rows of a list that is called by number; those that can't be read are passed over */
+/* the rows of a list that is called by number; those that can't be read are skipped */
 #define NUMBERED(list, row, is_read, sum) \
     static uint32_t list(subject *s, const opened *o, work *w) { \
         row *rows = s->rows; \
@@ -161,7 +162,7 @@ BEHIND(imports, gm_import, gm_bind_cursor, rows[i].address + rows[i].name_len)
 BEHIND(bindings, gm_binding, gm_binding_cursor, rows[i].address + rows[i].name_len)
 BEHIND(fixups, gm_fixup, gm_fixup_cursor, rows[i].address + (rows[i].kind == GM_BIND ? rows[i].import : rows[i].target))
 
-/* The relocations of a section; whether more may be gone over. */
+/* Visits the relocations of a section; returns whether more may be visited. */
 static bool section_relocations(subject *s, const opened *o, const gm_section *section, work *w) {
     gm_relocation *rows = s->rows;
     for (size_t first = 0, n; (n = gm_relocations(OF, section->reloff, section->nreloc, first, rows, cap_of(s, w))) != 0; first += n) {
@@ -188,7 +189,7 @@ static uint32_t relocations(subject *s, const opened *o, work *w) {
     return GM_OK;
 }
 
-/* Makes the room that a batch of exports says it needs. */
+/* Makes the room that a batch of exports needs. */
 static void make_room(gm_export_room *room, const gm_export_batch *batch) {
     if (batch->end == GM_NAME_SHORT) room->name = with_room(room->name, &room->name_cap, batch->needed, 1);
     if (batch->end == GM_STACK_SHORT) room->stack = with_room(room->stack, &room->stack_cap, batch->needed, sizeof *room->stack);
@@ -203,7 +204,7 @@ static void keep_name(subject *s, const char *text, size_t len) {
     s->texts_len += len;
 }
 
-/* Goes over the exports of an image, and keeps their names where that is said. */
+/* Visits the exports of an image, and keeps their names if requested. */
 static uint32_t walk(subject *s, const opened *o, work *w, bool keeps) {
     gm_listed_export *rows = s->rows;
     gm_export_walk at = {0};
@@ -238,7 +239,7 @@ static uint32_t find_export(subject *s, const opened *o, work *w) {
     return GM_OK;
 }
 
-/* One item: whether all exports can be read, and no two paths of the trie meet. That they meet is no refusal here. */
+/* One item: whether all exports can be read, and no two paths of the trie meet. Paths that meet are no refusal here. */
 static uint32_t tree(subject *s, const opened *o, work *w) {
     uint32_t code = gm_exports_are_a_tree(OF, NULL, &s->error);
     add(w, code);
@@ -256,7 +257,7 @@ static uint32_t layout(subject *s, const opened *o, work *w) {
 
 /* ---- a file and its images */
 
-/* Opens it as an image, if it is one. Memory that is refused is a fault, and so is any refusal where it `must` be one. */
+/* Opens it as an image, if it is one. Refused memory is a fault, and so is any refusal if it `must` be an image. */
 static uint32_t add_image(subject *s, const uint8_t *bytes, size_t len, bool must) {
     opened o = {.bytes = bytes, .len = len};
     uint32_t code = gm_open(bytes, len, 0, GM_STRICT, NULL, &o.image, &s->error);
@@ -266,7 +267,7 @@ static uint32_t add_image(subject *s, const uint8_t *bytes, size_t len, bool mus
     return GM_OK;
 }
 
-/* Goes over the entries of a fat file, and opens them where that is said. */
+/* Visits the entries of a fat file, and opens them if requested. */
 static uint32_t entries(subject *s, work *w, bool opens) {
     gm_fat_entry64 *rows = s->rows;
     for (size_t first = 0, n; (n = gm_fat_entries64(s->bytes, s->len, first, rows, s->batch)) != 0; first += n)
@@ -280,7 +281,7 @@ static uint32_t entries(subject *s, work *w, bool opens) {
     return GM_OK;
 }
 
-/* The same of the members of an archive, whose data lie in the bytes. */
+/* The same for the members of an archive, whose data are in the bytes. */
 static uint32_t members(subject *s, work *w, bool opens) {
     gm_archive_member *rows = s->rows;
     for (size_t first = 0, n; (n = gm_archive_members(s->bytes, s->len, first, rows, s->batch)) != 0; first += n)
@@ -303,7 +304,7 @@ static uint32_t parse(subject *s, work *w) {
     return code;
 }
 
-/* Opens the images of a file, whose bytes the subject then has. */
+/* Opens the images of a file; the subject owns its bytes then. */
 static uint32_t open_subject(subject *s, const settings *set, uint8_t *bytes, size_t len, uint64_t limit) {
     *s = (subject){.bytes = bytes, .len = len, .limit = (size_t)limit};
     s->batch = (size_t)given_or(set->batch, set->folder ? MOST_BATCH : 1000);
@@ -347,8 +348,8 @@ static work run(subject *s, size_t call) {
 
 static bool is_same(const work *a, const work *b) { return a->items == b->items && a->sum == b->sum && a->more == b->more && a->code == b->code; }
 
-/* Runs a call until so many milliseconds are over, and fills the times in order; how many they are. Each run does what the first one did, which may have
-   had to make room for names: so there are two at least. */
+/* Runs a call until so many milliseconds are over, and fills in the times in order; returns their number. Each run does what the first one did, which
+   may have had to make room for names; so there are at least two. */
 static size_t timed(subject *s, size_t call, uint64_t ms, uint64_t *times, work *first) {
     uint64_t start = now(), before, after;
     size_t count = 0;
@@ -372,7 +373,7 @@ static int by_size(const void *a, const void *b) {
 
 /* ---- the lines of a file */
 
-/* Reads a file, at most MOST_BYTES of it; `-` is standard input. NULL, after a line that says why, where it can't be read. */
+/* Reads a file, at most MOST_BYTES of it; `-` is standard input. Returns NULL, after a line with the reason, if it can't be read. */
 static uint8_t *read_file(const char *name, size_t *len) {
     FILE *file = strcmp(name, "-") ? fopen(name, "rb") : stdin;
     uint8_t *bytes = NULL;
@@ -402,7 +403,7 @@ static void write_line(const subject *s, size_t call, const work *w, const uint6
            (double)s->len * 1000 / (least > 0 ? least : 1));
 }
 
-/* Keeps the names of the first exports, which are looked up: few, since each look-up opens the image again. */
+/* Keeps the names of the first exports, which are looked up: few, as each look-up opens the image again. */
 static uint32_t keep_names(subject *s) {
     work w = {.left = s->limit < MOST_SOUGHT ? s->limit : MOST_SOUGHT};
     uint32_t code = GM_OK;
@@ -414,7 +415,7 @@ static uint32_t keep_names(subject *s) {
     return code;
 }
 
-/* Writes the line of each call; whether one has more items than the limit. */
+/* Writes the line of each call; returns whether one has more items than the limit. */
 static uint32_t write_lines(subject *s, uint64_t ms, bool *more) {
     for (size_t call = 0; call < CALL_COUNT; call++) {
         work w = run(s, call);
@@ -443,15 +444,15 @@ static int time_file(const settings *set, const char *name) {
     return code || more ? FAULT : FINE;
 }
 
-/* ---- how the time a byte grows */
+/* ---- the growth of the time per byte */
 
-/* what is known of the calls on a shape: hundredths of a nanosecond a byte, at each size; and the time at the last one */
+/* the calls on a shape: hundredths of a nanosecond per byte at each size, and the time at the last size */
 typedef struct { uint64_t cells[CALL_COUNT][MOST_SIZES], last[CALL_COUNT], last_open; } shape_rows;
 
-/* Whether what took so long may take too long where the size is so many times as large, if it grows with the square of it. */
+/* Whether a call that took so long may take too long at a size so many times as large, if its time grows with the square of the size. */
 static bool is_over(uint64_t time, double times) { return time == NOT_RUN || (double)time * times * times > (double)LONGEST; }
 
-/* The least time of some runs of a call, which may end with a fault. */
+/* Returns the least time of some runs of a call, which may end with a fault. */
 static uint64_t least_run(subject *s, size_t call, uint64_t ms) {
     work first;
     size_t count = timed(s, call, ms, times_of_runs, &first);
@@ -461,7 +462,7 @@ static uint64_t least_run(subject *s, size_t call, uint64_t ms) {
     return least;
 }
 
-/* Has one name looked up in each image: as long as that of the deep trie. */
+/* Selects one name to look up in each image, as long as that of the deep trie. */
 static void seek_long_name(subject *s) {
     char *text = resized(NULL, s->len / 8 + 1, 1);
     memset(text, 'a', s->len / 8);
@@ -489,14 +490,14 @@ static void measure(const settings *set, const char *file, size_t at, double tim
     release(&s);
 }
 
-/* Whether the last cell is more than one and a half times the one before, and a tenth of a nanosecond or more; one that wasn't run is. */
+/* Whether the last cell is more than one and a half times the one before, and at least a tenth of a nanosecond; true if it wasn't run. */
 static bool grows(const uint64_t *cells, size_t count) {
     if (count < 2 || cells[count - 1] == NOT_RUN) return count > 1;
     uint64_t before = cells[count - 2], after = cells[count - 1];
     return before != NOT_RUN && after >= 10 && after * 2 > before * 3;
 }
 
-/* Writes the line of each call on a shape; how many grow. */
+/* Writes the line of each call on a shape; returns how many grow. */
 static size_t write_rows(const char *shape, const shape_rows *rows, size_t sizes) {
     size_t grown = 0;
     for (size_t call = 0; call < CALL_COUNT; call++) {
@@ -513,7 +514,7 @@ static size_t write_rows(const char *shape, const shape_rows *rows, size_t sizes
     return grown;
 }
 
-/* Times the calls on a shape at each size; how many lines grow. */
+/* Times the calls on a shape at each size; returns how many lines grow. */
 static size_t time_shape(const settings *set, const char *shape) {
     shape_rows rows = {0};
     for (size_t i = 0; i < set->size_count; i++) {
@@ -531,7 +532,7 @@ static size_t time_shape(const settings *set, const char *shape) {
     return write_rows(shape, &rows, set->size_count);
 }
 
-/* The name of a shape, where the file is one of this size: SHAPE.SIZE. */
+/* Returns the name of a shape, if the file is one of this size: SHAPE.SIZE. */
 static bool is_shape(const char *file, uint64_t size, char *shape) {
     char end[MOST_NAME];
     size_t cut = (size_t)snprintf(end, sizeof end, ".%" PRIu64, size), len = strlen(file);
@@ -563,14 +564,14 @@ static int time_shapes(const settings *set) {
     return grown ? FAULT : FINE;
 }
 
-/* ---- words */
+/* ---- arguments */
 
 static _Noreturn void misused(const char *what, const char *word) {
     fprintf(stderr, "bench: %s '%s'\n%s", what, word, USAGE);
     exit(STOPPED);
 }
 
-/* The number behind an option. */
+/* Returns the number after an option. */
 static uint64_t number(char **words, int *at, int count, uint64_t least, uint64_t most) {
     const char *option = words[*at], *word = ++*at < count ? words[*at] : "";
     char *end;
@@ -580,7 +581,7 @@ static uint64_t number(char **words, int *at, int count, uint64_t least, uint64_
     return value;
 }
 
-/* Takes an option; whether it is one. */
+/* Takes an option; returns whether it is one. */
 static bool take_option(settings *set, char **words, int *at, int count) {
     const char *word = words[*at];
     if (!strcmp(word, "--limit")) set->limit = number(words, at, count, 0, SIZE_MAX / 2);
@@ -612,7 +613,7 @@ static settings understood(int count, char **words) {
     return set;
 }
 
-/* Does what the words ask for, but for what they may ask alone. */
+/* Runs the arguments, but for those that must be alone. */
 static int timed_by(const settings *set) {
     if (set->folder) return time_shapes(set);
     int worst = FINE;

@@ -11,7 +11,7 @@ import struct
 import sys
 
 LEAST, MOST = 4000, 100_000_000
-NOWHERE = 0x0FFFFFFF  # where branches of a trie lead that lead nowhere
+NOWHERE = 0x0FFFFFFF  # where a branch of a trie leads if it leads nowhere
 
 
 class Maker:
@@ -200,7 +200,7 @@ def binds_again(made, size):
     made.text((b"\xc0" + b"\x80" * 8 + b"\x10\xf8" + b"\xff" * 8 + b"\x01") * binds + b"\0")
 
 
-# ---- tries of exports, and names that run on
+# ---- tries of exports, and names that overlap
 
 
 def trie_command(made, length):

@@ -13,7 +13,7 @@ import sys
 
 MANY = 0xFFFFFFFF
 
-# Load commands, by their numbers in mach-o/loader.h.
+# The numbers of load commands (mach-o/loader.h).
 SEGMENT, SYMTAB, DYSYMTAB, DYLIB, ID_DYLIB, TWOLEVEL_HINTS, SEGMENT_64 = 0x1, 0x2, 0xB, 0xC, 0xD, 0x16, 0x19
 THREAD, UNIXTHREAD, PREBOUND_DYLIB, LINKER_OPTION, ENCRYPTION_INFO_64 = 0x4, 0x5, 0x10, 0x2D, 0x2C
 DYLD_INFO_ONLY, FUNCTION_STARTS, DATA_IN_CODE, NOTE, BUILD_VERSION = 0x80000022, 0x26, 0x29, 0x31, 0x32
@@ -319,17 +319,17 @@ def pages(size):
 def growing(size):
     """Files of some bytes, with what a reader goes over in 1,000,000 of them that reads each list and each name from its beginning to its end."""
     return {
-        # 7 * 10^9 branches, in lists that are one list; 2.8 * 10^9, in lists that overlap.
+        # 7 * 10^9 branches in lists that are the same list; 2.8 * 10^9 in lists that overlap.
         "trie_shared_%d" % size: shared_branches(size, 2**21 - 1),
         "trie_overlaid_%d" % size: overlaid_branches(size),
         # 3.4 * 10^10 bytes of labels.
         "trie_labels_%d" % size: far_labels(size),
-        # 1.6 * 10^10 bytes of names, of which all are one, or each begins behind the one before.
+        # 1.6 * 10^10 bytes of names: all are the same name, or each begins within the one before.
         "symbols_same_%d" % size: symbol_names(size, 0),
         "symbols_far_%d" % size: symbol_names(size, 2),
         # 10^10 bytes of names of libraries.
         "libraries_far_%d" % size: far_libraries(size),
-        # 1.2 * 10^11 bytes, of one name that is read for each of many commands.
+        # 1.2 * 10^11 bytes of one name that is read for each of many commands.
         "names_%d" % size: read_again(size),
     }
 
@@ -338,16 +338,16 @@ def files(size):
     """The files: small ones, and large ones of up to so many bytes."""
     one = struct.pack("<IBBHQ", 1, 1, 0, 0, 0) + b"\0_a\0"
     return {
-        # One bind instruction of 2^60 turns at one place, which lies in its segment; and outside of it; and lazy.
+        # One instruction that binds 2^60 times at one place: within its segment, outside of it, and lazily.
         "repeat_32": repeated(2**60, again(32), 32),
         "repeat_64": repeated(2**60, again(64)),
         "repeat_outside": repeated(2**60, again(64), offset=0x1001),
         "repeat_lazy": repeated(2**60, again(64), lazy=True),
-        # Of turns that go on by 0, by a byte, and so far that they come round again.
+        # Binds whose places advance by 0, by a byte, and so far that they wrap around.
         "repeat_most": repeated(2**64 - 1, again(64)),
         "repeat_byte": repeated(2**60, 2**64 - 7),
         "repeat_round": repeated(2**60, 2**63 - 8),
-        # Counts of 2^32 - 1, or as many as the field holds.
+        # Counts of 2^32 - 1, or the largest number of the field.
         "symbols_2_32": symbol_table(MANY, one),
         "dynamic_2_32": dynamic_symbols(),
         "fat_2_32": struct.pack(">2I", 0xCAFEBABE, MANY) + bytes(56),
@@ -375,7 +375,7 @@ def files(size):
         "note_2_64": image([words(NOTE, 40) + b"n".ljust(16, b"\0") + struct.pack("<2Q", 2**64 - 1, 2**64 - 1)]),
         # A trie whose paths are 2^60, over 60 nodes.
         "trie_ladder": ladder(60),
-        # Of up to `size` bytes.
+        # Files of up to `size` bytes.
         "trie_deep_%d" % size: deep_trie(size),
         "fat_overlaid_%d" % size: overlaid(size),
         "archive_members_%d" % size: archive_of_members(size),
@@ -388,8 +388,8 @@ def files(size):
         "binds_%d" % size: bind_again(size),
         "imports_%d" % size: chain_of_imports(size),
         "pages_%d" % size: pages(size),
-        # Lists that overlap otherwise; names of re-exports, which are all told; and names that a reader doesn't find again which keeps the
-        # last one that it could read.
+        # Lists that overlap in another way; names of re-exports, which are all printed; and names that a reader doesn't find again if it
+        # keeps only the last one that it could read.
         "trie_windows_%d" % size: overlaid_branches(size, ends_together=False),
         "trie_reexports_%d" % size: far_reexports(size),
         "symbols_back_%d" % size: symbol_names(size, -2),

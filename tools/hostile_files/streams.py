@@ -258,7 +258,7 @@ def starts_of(image, file, place, size):
     return lines
 
 
-# Sound streams, and what is done to them.
+# Sound streams, and how they are damaged.
 
 
 def uleb(value, width=1):
@@ -382,7 +382,7 @@ def main():
             for number_of_image, (_, (rebases, weak), wanted_starts) in enumerate(made):
                 same = True
                 for wanted, got in ((rebases, told[0]), (weak, told[1]), (wanted_starts, starts)):
-                    # (a name may hold an end of a line)
+                    # (a name may contain a line feed)
                     wanted, got = [part for line in wanted for part in line.split("\n") if part], got[number_of_image]
                     items, faults = items + len(got), faults + any(it.startswith(("unreadable", "refused")) for it in got)
                     if wanted[: LIMIT + 1] != got[: LIMIT + 1]:
