@@ -17,7 +17,7 @@ use Rattle.mach_cli.specs.Listings.{hex_text, told_by}
 use Rattle.machinfo.specs.declared.segments.SectionList.{SectionList}
 use Rattle.machinfo.specs.declared.segments.SectionObjects.{SectionObjects}
 
--- a name, `-` where it is empty
+-- a name, `-` if it is empty
 abbrev pub field_text : List ℕ → List ℕ
 field_text [] = codes "-"
 field_text (b ∷ bs) = escaped_bytes (b ∷ bs)

@@ -246,8 +246,8 @@ fn faults_of_a_fat_file_of_64_bits(rt: HostRuntime) -> Result<(), Fail> {
     tell_rows::<FatArch64>(rt.alloc(), &TWO_IMAGES_64, ROWS_64)
 }
 
-// Of 2000 slices without bytes, at 0 and for one cpu, each is reported to be empty and for where it begins; all but the first
-// also to be a second one.
+// 2000 slices without bytes, at 0 and for one cpu: each is reported for having no bytes and for where it begins, and all but the
+// first for being a second one.
 #[test]
 fn faults_of_many_slices(rt: HostRuntime) -> Result<(), Fail> {
     let alloc = rt.alloc();
