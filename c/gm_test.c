@@ -948,7 +948,7 @@ static void data_by_bytes(const given *g) {
     for (uint64_t k = 0; k < n && k < LIMIT; k++) {
         if (gm_data_in_code(OF, k, &r, 1) != 1) DIE("too few data among code");
         if ((r.code == GM_OK) != stand(g, at + 8 * k, 8)) DIE("data among code that stand elsewhere");
-        if ((k < gm_begun(g->len, at, 8, n)) != (at + 8 * k < g->len)) DIE("data among code that begin elsewhere");
+        if ((k < gm_in_bounds(g->len, at, 8, n)) != (at + 8 * k < g->len)) DIE("data among code that begin elsewhere");
         if (r.code ? r.offset || r.length || r.kind : r.offset != word_at(g, g->bytes + at + 8 * k)) DIE("other data among code");
         const uint8_t *e = g->bytes + at + 8 * k + 4;
         uint32_t both = g->image.is_little_endian ? r.length | (uint32_t)r.kind << 16 : r.kind | (uint32_t)r.length << 16;
@@ -964,7 +964,7 @@ static void indirect_by_bytes(const given *g) {
     for (uint64_t k = 0; k < n && k < LIMIT; k++) {
         if (gm_indirect_symbols(OF, k, &r, 1) != 1) DIE("too few indirect symbols");
         if ((r.code == GM_OK) != stand(g, at + 4 * k, 4)) DIE("indirect symbols that stand elsewhere");
-        if ((k < gm_begun(g->len, at, 4, n)) != (at + 4 * k < g->len)) DIE("indirect symbols that begin elsewhere");
+        if ((k < gm_in_bounds(g->len, at, 4, n)) != (at + 4 * k < g->len)) DIE("indirect symbols that begin elsewhere");
         uint32_t word = r.code ? 0 : word_at(g, g->bytes + at + 4 * k);
         uint32_t kind = word == 0x80000000 ? GM_INDIRECT_LOCAL : word == 0x40000000 ? GM_INDIRECT_ABSOLUTE
             : word == 0xc0000000 ? GM_INDIRECT_LOCAL_ABSOLUTE : GM_INDIRECT_SYMBOL;
@@ -1541,7 +1541,7 @@ static void check_edges(void) {
     for (uint32_t mode = 0; mode < 4; mode++)
         if (gm_open(g.bytes, g.len, 0, mode == 3 ? UINT32_MAX : mode, NULL, &g.image, &e) != (mode <= GM_LOSSY ? GM_OK : GM_MALFORMED)) DIE("mode %u", mode);
     if (gm_open(g.bytes, 31, 0, GM_STRICT, NULL, &g.image, NULL) != GM_MALFORMED) DIE("a refusal that nobody reads");
-    if (gm_begun(9, 1, 4, UINT32_MAX) != 2 || gm_begun(10, 1, 4, 2) != 2 || gm_begun(8, 8, 4, 1) || gm_begun(8, 0, 0, 1)) DIE("records that begin there");
+    if (gm_in_bounds(9, 1, 4, UINT32_MAX) != 2 || gm_in_bounds(10, 1, 4, 2) != 2 || gm_in_bounds(8, 8, 4, 1) || gm_in_bounds(8, 0, 0, 1)) DIE("records that begin there");
     gm_fixup_cursor f = {0};
     gm_bind_cursor i = {0};
     gm_binding_cursor b = {0};

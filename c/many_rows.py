@@ -97,6 +97,7 @@ lines = {
     "bindings": ["%x /l _i%03d" % (0x1000 + 8 * k, k) for k in range(COUNT)],
     "exports": ["%x _e%03d" % (k, k) for k in range(COUNT)],
     "memory": ["%d symbols" % COUNT],
+    "entries": ["x86_64, %d symbols" % COUNT] * ENTRIES,
     "faults": ["symbol section: symbols at 0x%x: 0xff against 0x%x" % (table, SEGMENTS * SECTIONS)] * COUNT,
 }
 with open(folder + "/many", "wb") as file:

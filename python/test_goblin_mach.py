@@ -330,7 +330,7 @@ def ignores_ctrl_c():
 
 
 class Program(Case):
-    def begun(self, words, before):
+    def in_bounds(self, words, before):
         """A program that writes without end, once it has written a line; and the words of that line."""
         program = subprocess.Popen(words, stdin=subprocess.DEVNULL, stdout=subprocess.PIPE, stderr=subprocess.PIPE, env=surroundings(),
                                    preexec_fn=before)
@@ -338,21 +338,21 @@ class Program(Case):
         return program, program.stdout.readline()
 
     def test_a_closed_pipe_ends_it_quietly(self):
-        program, line = self.begun(words_of(["bindings", self.path(many_binds())]), answers_ctrl_c)
+        program, line = self.in_bounds(words_of(["bindings", self.path(many_binds())]), answers_ctrl_c)
         self.assertIn(b"_far", line)
         program.stdout.close()
         self.assertEqual(program.wait(SECONDS), -signal.SIGPIPE)
         self.assertEqual(program.stderr.read(), b"")
 
     def test_ctrl_c_ends_it_quietly(self):
-        program, line = self.begun(words_of(["bindings", self.path(many_binds())]), answers_ctrl_c)
+        program, line = self.in_bounds(words_of(["bindings", self.path(many_binds())]), answers_ctrl_c)
         self.assertIn(b"_far", line)
         program.send_signal(signal.SIGINT)
         self.assertEqual(program.wait(SECONDS), -signal.SIGINT)
         self.assertEqual(program.stderr.read(), b"")
 
     def test_ctrl_c_that_is_ignored_stays_so(self):
-        program, line = self.begun(words_of(["bindings", self.path(many_binds())]), ignores_ctrl_c)
+        program, line = self.in_bounds(words_of(["bindings", self.path(many_binds())]), ignores_ctrl_c)
         program.send_signal(signal.SIGINT)
         more = [each.split(b" ")[-1] for each in itertools.islice(program.stdout, 20000)]  # far more than a pipe holds
         self.assertEqual(more, 20000 * [line.split(b" ")[-1]])
@@ -360,7 +360,7 @@ class Program(Case):
     def test_ctrl_c_ends_a_list(self):
         code = ("import goblin_mach, sys\ntry:\n    for image in goblin_mach.open(sys.argv[1]):\n        print('begun', flush=True)\n"
                 "        for b in image.bindings(): pass\nexcept KeyboardInterrupt:\n    print('ended', flush=True)")
-        program, line = self.begun([sys.executable, "-c", code, self.path(many_binds())], answers_ctrl_c)
+        program, line = self.in_bounds([sys.executable, "-c", code, self.path(many_binds())], answers_ctrl_c)
         self.assertEqual(line, b"begun\n")
         program.send_signal(signal.SIGINT)
         said = program.communicate(timeout=SECONDS)

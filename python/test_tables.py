@@ -103,15 +103,15 @@ class Tables(unittest.TestCase):
             lists += [(lambda: one.sections(segment), segment.command + 40 + 4 * p, 56 + 3 * p, many),
                       (lambda: one.relocations(section), len(data) - 12, 8, many)]
             for rows, start, size, count in lists:
-                begun, there = rows().begun(), sum(1 for _ in range(start, len(data), size))
-                self.assertEqual((len(rows()), len(begun), len(begun.begun())), (count, there, there))
+                begun, there = rows().in_bounds(), sum(1 for _ in range(start, len(data), size))
+                self.assertEqual((len(rows()), len(begun), len(begun.in_bounds())), (count, there, there))
                 self.assertEqual(list(begun), rows()[:there])
                 past = rows()[there]
                 self.assertEqual((past.error, past in rows(), rows()[-1] == past, None in rows()), (goblin_mach.ERRORS[3], True, True, False))
                 self.assertEqual((begun[-1], begun[there - 1:]), (rows()[there - 1], [rows()[there - 1]]))
                 with self.assertRaises(IndexError):
                     begun[there]
-            self.assertEqual(len(one.commands().begun()), len(one.commands()))
+            self.assertEqual(len(one.commands().in_bounds()), len(one.commands()))
 
     def test_linker_options(self):
         for _, image in self.of_both():

@@ -129,7 +129,7 @@ enum { GM_STRICT, GM_LOSSY };
 
 /* How many of `count` records of `size` bytes each, from `start` on, begin within `len` bytes. A file may claim any count of records. The rows
    after those that begin there can't be read. */
-static inline uint64_t gm_begun(size_t len, uint64_t start, uint64_t size, uint64_t count) {
+static inline uint64_t gm_in_bounds(size_t len, uint64_t start, uint64_t size, uint64_t count) {
     uint64_t begun = start < len && size != 0 ? (len - start - 1) / size + 1 : 0;
     return begun < count ? begun : count;
 }
@@ -267,10 +267,10 @@ uint32_t gm_slots(const uint8_t *bytes, size_t len, const gm_image *image, size_
 uint32_t gm_slot_at(const uint8_t *bytes, size_t len, const gm_image *image, uint64_t address, gm_slot *slot, const gm_memory *memory, gm_error *error);
 
 /* ---- the provider of an undefined symbol, as the linker recorded it in images with GM_MH_TWOLEVEL: from a number of the symbol alone, which
-   dyld need not follow. For any other symbol `is_told` and everything else is 0. */
+   dyld need not follow. For any other symbol `is_reported` and everything else is 0. */
 typedef struct gm_provider {
     uint64_t library;           /* the ordinal of a library, else 0 */
-    uint32_t provider, is_told; /* GM_OF_LIBRARY, GM_OF_ITSELF, GM_OF_PROGRAM or GM_OF_ANY; 0 or 1 */
+    uint32_t provider, is_reported; /* GM_OF_LIBRARY, GM_OF_ITSELF, GM_OF_PROGRAM or GM_OF_ANY; 0 or 1 */
     uint32_t code, reserved;    /* code: GM_OK, or GM_MALFORMED if the ordinal is past the last library */
 } gm_provider;
 void gm_symbol_provider(const gm_image *image, const gm_symbol *symbol, gm_provider *found);
@@ -558,18 +558,18 @@ const char *gm_platform_name(uint32_t platform);                      /* "MACOS"
 
 /* ---- constants: written by c/constants.py */
 /* the magic numbers: `magic` of a gm_image, and the first four bytes of a fat file */
-#define GM_FAT_CIGAM    UINT32_C(0xbebafeca) /* the magic of a fat file, its bytes reversed */
+#define GM_FAT_CIGAM    UINT32_C(0xbebafeca) /* the magic of a fat file, with its bytes reversed */
 #define GM_FAT_MAGIC    UINT32_C(0xcafebabe) /* the magic of a fat file */
-#define GM_FAT_MAGIC_64 UINT32_C(0xcafebabf) /* the magic of a fat file of 64 bits */
-#define GM_MH_CIGAM     UINT32_C(0xcefaedfe) /* the magic of a 32-bit image, its bytes reversed */
-#define GM_MH_CIGAM_64  UINT32_C(0xcffaedfe) /* the magic of a 64-bit image, its bytes reversed */
+#define GM_FAT_MAGIC_64 UINT32_C(0xcafebabf) /* the magic of a 64-bit fat file */
+#define GM_MH_CIGAM     UINT32_C(0xcefaedfe) /* the magic of a 32-bit image, with its bytes reversed */
+#define GM_MH_CIGAM_64  UINT32_C(0xcffaedfe) /* the magic of a 64-bit image, with its bytes reversed */
 #define GM_MH_MAGIC     UINT32_C(0xfeedface) /* the magic of a 32-bit image */
 #define GM_MH_MAGIC_64  UINT32_C(0xfeedfacf) /* the magic of a 64-bit image */
 /* cpus: `cputype` */
 #define GM_CPU_TYPE_X86       UINT32_C(0x7)
 #define GM_CPU_TYPE_ARM       UINT32_C(0xc)
 #define GM_CPU_TYPE_POWERPC   UINT32_C(0x12)
-#define GM_CPU_ARCH_ABI64     UINT32_C(0x01000000) /* the bit of a cpu whose addresses have 64 bits */
+#define GM_CPU_ARCH_ABI64     UINT32_C(0x01000000) /* the bit of a CPU type whose addresses have 64 bits */
 #define GM_CPU_TYPE_X86_64    UINT32_C(0x01000007)
 #define GM_CPU_TYPE_ARM64     UINT32_C(0x0100000c)
 #define GM_CPU_TYPE_POWERPC64 UINT32_C(0x01000012)
@@ -577,7 +577,7 @@ const char *gm_platform_name(uint32_t platform);                      /* "MACOS"
 #define GM_CPU_TYPE_ARM64_32  UINT32_C(0x0200000c) /* an ARM64 whose addresses have 32 bits */
 /* `cpusubtype`: the bits of capabilities; the others are the kind of the cpu */
 #define GM_CPU_SUBTYPE_LIB64 UINT32_C(0x80000000) /* a capability: an executable for libraries of 64 bits */
-#define GM_CPU_SUBTYPE_MASK  UINT32_C(0xff000000) /* the bits of a cpu's kind that hold its capabilities */
+#define GM_CPU_SUBTYPE_MASK  UINT32_C(0xff000000) /* the bits of a CPU subtype that hold its capabilities */
 /* the kinds of GM_CPU_TYPE_X86 and GM_CPU_TYPE_X86_64 */
 #define GM_CPU_SUBTYPE_I386_ALL   UINT32_C(3)
 #define GM_CPU_SUBTYPE_X86_64_ALL UINT32_C(3)
@@ -605,43 +605,43 @@ const char *gm_platform_name(uint32_t platform);                      /* "MACOS"
 #define GM_MH_OBJECT      UINT32_C(0x1) /* A relocatable object file */
 #define GM_MH_EXECUTE     UINT32_C(0x2) /* an executable */
 #define GM_MH_FVMLIB      UINT32_C(0x3) /* A shared library at a fixed address */
-#define GM_MH_CORE        UINT32_C(0x4) /* what is left of a crashed process */
-#define GM_MH_PRELOAD     UINT32_C(0x5) /* an executable that isn't started by the kernel */
+#define GM_MH_CORE        UINT32_C(0x4) /* the memory of a crashed process */
+#define GM_MH_PRELOAD     UINT32_C(0x5) /* an executable that the kernel does not start */
 #define GM_MH_DYLIB       UINT32_C(0x6) /* A dynamic library */
 #define GM_MH_DYLINKER    UINT32_C(0x7) /* A dynamic linker */
 #define GM_MH_BUNDLE      UINT32_C(0x8) /* A bundle, loaded at run time */
-#define GM_MH_DYLIB_STUB  UINT32_C(0x9) /* A library to link against, without contents */
-#define GM_MH_DSYM        UINT32_C(0xa) /* debug sections of another file */
+#define GM_MH_DYLIB_STUB  UINT32_C(0x9) /* A library without contents, to link against */
+#define GM_MH_DSYM        UINT32_C(0xa) /* debug sections for another file */
 #define GM_MH_KEXT_BUNDLE UINT32_C(0xb) /* A kernel extension */
-#define GM_MH_FILESET     UINT32_C(0xc) /* A set of images */
+#define GM_MH_FILESET     UINT32_C(0xc) /* A file set of images */
 #define GM_MH_GPU_EXECUTE UINT32_C(0xd) /* A program for a graphics processor */
 #define GM_MH_GPU_DYLIB   UINT32_C(0xe) /* A library for a graphics processor */
 /* the bits of `flags` of a gm_image */
 #define GM_MH_NOUNDEFS                      UINT32_C(0x1) /* there are no undefined references */
 #define GM_MH_INCRLINK                      UINT32_C(0x2) /* it is the output of an incremental link against a base file */
-#define GM_MH_DYLDLINK                      UINT32_C(0x4) /* it is input for the dynamic linker, and isn't linked again */
+#define GM_MH_DYLDLINK                      UINT32_C(0x4) /* it is input for the dynamic linker and is not linked again statically */
 #define GM_MH_BINDATLOAD                    UINT32_C(0x8) /* undefined references are bound when it is loaded */
-#define GM_MH_PREBOUND                      UINT32_C(0x10) /* its undefined references are bound beforehand */
-#define GM_MH_SPLIT_SEGS                    UINT32_C(0x20) /* read-only and writable segments are apart */
-#define GM_MH_LAZY_INIT                     UINT32_C(0x40) /* obsolete: a library is set up at its first use */
-#define GM_MH_TWOLEVEL                      UINT32_C(0x80) /* undefined references name the library they are bound to */
-#define GM_MH_FORCE_FLAT                    UINT32_C(0x100) /* all images are bound by names alone */
-#define GM_MH_NOMULTIDEFS                   UINT32_C(0x200) /* no symbol is defined twice in the images beneath it */
-#define GM_MH_NOFIXPREBINDING               UINT32_C(0x400) /* the prebinding agent isn't told of it */
-#define GM_MH_PREBINDABLE                   UINT32_C(0x800) /* it isn't prebound, and could be */
-#define GM_MH_ALLMODSBOUND                  UINT32_C(0x1000) /* it is bound to every module of the libraries it needs */
-#define GM_MH_SUBSECTIONS_VIA_SYMBOLS       UINT32_C(0x2000) /* sections may be cut up at symbols */
+#define GM_MH_PREBOUND                      UINT32_C(0x10) /* its undefined references are prebound */
+#define GM_MH_SPLIT_SEGS                    UINT32_C(0x20) /* read-only and writable segments are separate */
+#define GM_MH_LAZY_INIT                     UINT32_C(0x40) /* obsolete: a library is initialized at its first use */
+#define GM_MH_TWOLEVEL                      UINT32_C(0x80) /* it uses two-level namespaces: undefined references name the library they are bound to */
+#define GM_MH_FORCE_FLAT                    UINT32_C(0x100) /* all images use flat namespaces: they are bound by name only */
+#define GM_MH_NOMULTIDEFS                   UINT32_C(0x200) /* no symbol is defined twice in its sub-images */
+#define GM_MH_NOFIXPREBINDING               UINT32_C(0x400) /* the prebinding agent is not notified of it */
+#define GM_MH_PREBINDABLE                   UINT32_C(0x800) /* it is not prebound but can be */
+#define GM_MH_ALLMODSBOUND                  UINT32_C(0x1000) /* it is bound to all modules of the libraries it needs */
+#define GM_MH_SUBSECTIONS_VIA_SYMBOLS       UINT32_C(0x2000) /* sections may be divided at symbols */
 #define GM_MH_CANONICAL                     UINT32_C(0x4000) /* its prebinding was undone */
 #define GM_MH_WEAK_DEFINES                  UINT32_C(0x8000) /* it defines weak symbols */
 #define GM_MH_BINDS_TO_WEAK                 UINT32_C(0x00010000) /* it uses weak symbols */
-#define GM_MH_ALLOW_STACK_EXECUTION         UINT32_C(0x00020000) /* stacks may be run, in an executable */
-#define GM_MH_ROOT_SAFE                     UINT32_C(0x00040000) /* it may run as root */
-#define GM_MH_SETUID_SAFE                   UINT32_C(0x00080000) /* it may run with another user's rights */
-#define GM_MH_NO_REEXPORTED_DYLIBS          UINT32_C(0x00100000) /* no library beneath it is given out again */
+#define GM_MH_ALLOW_STACK_EXECUTION         UINT32_C(0x00020000) /* stacks may be executed, in an executable */
+#define GM_MH_ROOT_SAFE                     UINT32_C(0x00040000) /* it is safe in a process that runs as root */
+#define GM_MH_SETUID_SAFE                   UINT32_C(0x00080000) /* it is safe in a process that runs with the rights of another user */
+#define GM_MH_NO_REEXPORTED_DYLIBS          UINT32_C(0x00100000) /* it re-exports no library */
 #define GM_MH_PIE                           UINT32_C(0x00200000) /* it is loaded at a random address, in an executable */
-#define GM_MH_DEAD_STRIPPABLE_DYLIB         UINT32_C(0x00400000) /* it need not be loaded where nothing of it is used */
-#define GM_MH_HAS_TLV_DESCRIPTORS           UINT32_C(0x00800000) /* it has a section of variables of threads */
-#define GM_MH_NO_HEAP_EXECUTION             UINT32_C(0x01000000) /* the heap may not be run, in an executable */
+#define GM_MH_DEAD_STRIPPABLE_DYLIB         UINT32_C(0x00400000) /* it need not be loaded if nothing of it is used */
+#define GM_MH_HAS_TLV_DESCRIPTORS           UINT32_C(0x00800000) /* it has a section of thread-local variables */
+#define GM_MH_NO_HEAP_EXECUTION             UINT32_C(0x01000000) /* the heap may not be executed, in an executable */
 #define GM_MH_APP_EXTENSION_SAFE            UINT32_C(0x02000000) /* it may be used in an extension of an application */
 #define GM_MH_NLIST_OUTOFSYNC_WITH_DYLDINFO UINT32_C(0x04000000) /* symbols and what dyld reads say different things */
 #define GM_MH_SIM_SUPPORT                   UINT32_C(0x08000000) /* it may be used in a simulator */
@@ -692,7 +692,7 @@ const char *gm_platform_name(uint32_t platform);                      /* "MACOS"
 #define GM_LC_VERSION_MIN_WATCHOS      UINT32_C(0x30)
 #define GM_LC_NOTE                     UINT32_C(0x31)
 #define GM_LC_BUILD_VERSION            UINT32_C(0x32)
-#define GM_LC_REQ_DYLD                 UINT32_C(0x80000000) /* the bit of a command that the dynamic linker has to understand */
+#define GM_LC_REQ_DYLD                 UINT32_C(0x80000000) /* the bit of a command number that the dynamic linker must understand */
 #define GM_LC_LOAD_WEAK_DYLIB          UINT32_C(0x80000018)
 #define GM_LC_RPATH                    UINT32_C(0x8000001c)
 #define GM_LC_REEXPORT_DYLIB           UINT32_C(0x8000001f)
@@ -726,13 +726,13 @@ const char *gm_platform_name(uint32_t platform);                      /* "MACOS"
 #define GM_S_MOD_INIT_FUNC_POINTERS              UINT32_C(0x9) /* pointers to functions to call at the start */
 #define GM_S_MOD_TERM_FUNC_POINTERS              UINT32_C(0xa) /* pointers to functions to call at the end */
 #define GM_S_COALESCED                           UINT32_C(0xb) /* symbols of which one definition stays */
-#define GM_S_GB_ZEROFILL                         UINT32_C(0xc) /* the type of a section of zeros that may have more than 4 gigabytes */
+#define GM_S_GB_ZEROFILL                         UINT32_C(0xc) /* the type of a section of zeros that may be larger than 4 gigabytes */
 #define GM_S_INTERPOSING                         UINT32_C(0xd) /* pairs of functions, of which one takes the other's place */
 #define GM_S_16BYTE_LITERALS                     UINT32_C(0xe) /* literals of 16 bytes */
 #define GM_S_DTRACE_DOF                          UINT32_C(0xf) /* what DTrace reads */
 #define GM_S_LAZY_DYLIB_SYMBOL_POINTERS          UINT32_C(0x10) /* pointers to symbols of libraries that are loaded at their first use */
 #define GM_S_THREAD_LOCAL_REGULAR                UINT32_C(0x11) /* first values of variables that every thread has for itself */
-#define GM_S_THREAD_LOCAL_ZEROFILL               UINT32_C(0x12) /* the type of a section of zeros that every thread has for itself */
+#define GM_S_THREAD_LOCAL_ZEROFILL               UINT32_C(0x12) /* the type of a section of zeros of which each thread has its own copy */
 #define GM_S_THREAD_LOCAL_VARIABLES              UINT32_C(0x13) /* descriptors of such variables */
 #define GM_S_THREAD_LOCAL_VARIABLE_POINTERS      UINT32_C(0x14) /* pointers to such descriptors */
 #define GM_S_THREAD_LOCAL_INIT_FUNCTION_POINTERS UINT32_C(0x15) /* pointers to functions that make such values */
@@ -753,37 +753,37 @@ const char *gm_platform_name(uint32_t platform);                      /* "MACOS"
 #define GM_SECTION_ATTRIBUTES_USR     UINT32_C(0xff000000) /* those that a user may set */
 #define GM_SECTION_ATTRIBUTES         UINT32_C(0xffffff00) /* all of them */
 /* the parts of `n_type` of a gm_symbol */
-#define GM_NLIST_TYPE_LOCAL  UINT8_C(0x0) /* known inside the image */
-#define GM_N_EXT             UINT8_C(0x1) /* known outside the image */
-#define GM_NLIST_TYPE_GLOBAL UINT8_C(0x1) /* known outside the image */
+#define GM_NLIST_TYPE_LOCAL  UINT8_C(0x0) /* visible inside the image */
+#define GM_N_EXT             UINT8_C(0x1) /* visible outside the image (external) */
+#define GM_NLIST_TYPE_GLOBAL UINT8_C(0x1) /* visible outside the image */
 #define GM_N_TYPE            UINT8_C(0xe) /* the bits of a symbol's type */
 #define GM_NLIST_TYPE_MASK   UINT8_C(0xe) /* the bits of a symbol's type */
-#define GM_N_PEXT            UINT8_C(0x10) /* known outside its object file, and not outside the image */
-#define GM_N_STAB            UINT8_C(0xe0) /* the bits of a type that only entries for a debugger have */
+#define GM_N_PEXT            UINT8_C(0x10) /* visible outside its object file but not outside the image (private external) */
+#define GM_N_STAB            UINT8_C(0xe0) /* the bits of a type that only debugging entries have */
 /* the types of symbols: `n_type` in the bits of GM_N_TYPE, where none of GM_N_STAB is set */
-#define GM_N_UNDF UINT8_C(0x0) /* undefined: found in another image */
-#define GM_N_ABS  UINT8_C(0x2) /* an absolute number */
-#define GM_N_INDR UINT8_C(0xa) /* the same as another symbol */
-#define GM_N_PBUD UINT8_C(0xc) /* undefined, and bound beforehand */
+#define GM_N_UNDF UINT8_C(0x0) /* undefined: defined in another image */
+#define GM_N_ABS  UINT8_C(0x2) /* an absolute value */
+#define GM_N_INDR UINT8_C(0xa) /* an alias of another symbol (indirect) */
+#define GM_N_PBUD UINT8_C(0xc) /* undefined, and prebound */
 #define GM_N_SECT UINT8_C(0xe) /* defined in a section */
 /* `section` of a gm_symbol */
 #define GM_NO_SECT  UINT8_C(0x0) /* no section */
-#define GM_MAX_SECT UINT8_C(0xff) /* the highest number of a section */
+#define GM_MAX_SECT UINT8_C(0xff) /* the highest section number */
 /* how an undefined symbol is referred to: `desc` of a gm_symbol in the bits of GM_REFERENCE_TYPE */
 #define GM_REFERENCE_FLAG_UNDEFINED_NON_LAZY         UINT16_C(0x0) /* an undefined symbol, bound when the image is loaded */
 #define GM_REFERENCE_FLAG_UNDEFINED_LAZY             UINT16_C(0x1) /* an undefined symbol, bound at its first use */
 #define GM_REFERENCE_FLAG_DEFINED                    UINT16_C(0x2) /* A symbol defined in this module */
-#define GM_REFERENCE_FLAG_PRIVATE_DEFINED            UINT16_C(0x3) /* A symbol defined in this module, and known in its image alone */
+#define GM_REFERENCE_FLAG_PRIVATE_DEFINED            UINT16_C(0x3) /* A symbol defined in this module, and visible only in its image */
 #define GM_REFERENCE_FLAG_PRIVATE_UNDEFINED_NON_LAZY UINT16_C(0x4) /* A symbol of another module of the image, bound when it is loaded */
 #define GM_REFERENCE_FLAG_PRIVATE_UNDEFINED_LAZY     UINT16_C(0x5) /* A symbol of another module of the image, bound at its first use */
-#define GM_REFERENCE_TYPE                            UINT16_C(0xf) /* the bits of `n_desc` that say how an undefined symbol is referred to */
+#define GM_REFERENCE_TYPE                            UINT16_C(0xf) /* the bits of `n_desc` that hold the kind of reference of an undefined symbol */
 /* the other bits of `desc` */
 #define GM_N_ARM_THUMB_DEF        UINT16_C(0x0008) /* it is Thumb code */
-#define GM_REFERENCED_DYNAMICALLY UINT16_C(0x10) /* looked up by name at run time, so it isn't stripped */
+#define GM_REFERENCED_DYNAMICALLY UINT16_C(0x10) /* looked up by name at run time, so it is not stripped */
 #define GM_N_DESC_DISCARDED       UINT16_C(0x20) /* for the dynamic linker at run time */
 #define GM_N_NO_DEAD_STRIP        UINT16_C(0x20) /* never stripped as unused, in an object file */
-#define GM_N_WEAK_REF             UINT16_C(0x40) /* A weak reference: 0 where nothing defines it */
-#define GM_N_WEAK_DEF             UINT16_C(0x80) /* A weak definition: another one takes its place */
+#define GM_N_WEAK_REF             UINT16_C(0x40) /* A weak reference: 0 if nothing defines it */
+#define GM_N_WEAK_DEF             UINT16_C(0x80) /* A weak definition: another definition replaces it */
 #define GM_N_REF_TO_WEAK          UINT16_C(0x0080) /* of an undefined symbol: its definition is weak */
 #define GM_N_SYMBOL_RESOLVER      UINT16_C(0x0100) /* a function that answers the address to use */
 #define GM_N_ALT_ENTRY            UINT16_C(0x0200) /* a place inside of what the symbol before it names */
@@ -797,7 +797,7 @@ const char *gm_platform_name(uint32_t platform);                      /* "MACOS"
 #define GM_N_BNSYM   UINT8_C(0x2e) /* the beginning of a section's symbol */
 #define GM_N_PC      UINT8_C(0x30) /* A global Pascal symbol */
 #define GM_N_AST     UINT8_C(0x32) /* the path of a syntax tree */
-#define GM_N_OPT     UINT8_C(0x3c) /* what the compiler was told */
+#define GM_N_OPT     UINT8_C(0x3c) /* options of the compiler */
 #define GM_N_RSYM    UINT8_C(0x40) /* A variable in a register */
 #define GM_N_SLINE   UINT8_C(0x44) /* A line of the source */
 #define GM_N_ENSYM   UINT8_C(0x4e) /* the end of a section's symbol */
@@ -812,70 +812,70 @@ const char *gm_platform_name(uint32_t platform);                      /* "MACOS"
 #define GM_N_OLEVEL  UINT8_C(0x8a) /* the compiler's level of optimization */
 #define GM_N_PSYM    UINT8_C(0xa0) /* A parameter */
 #define GM_N_EINCL   UINT8_C(0xa2) /* the end of an included file */
-#define GM_N_ENTRY   UINT8_C(0xa4) /* another entry of a procedure */
+#define GM_N_ENTRY   UINT8_C(0xa4) /* an alternate entry of a procedure */
 #define GM_N_LBRAC   UINT8_C(0xc0) /* A left bracket */
-#define GM_N_EXCL    UINT8_C(0xc2) /* an included file that was left out */
+#define GM_N_EXCL    UINT8_C(0xc2) /* an included file that is omitted */
 #define GM_N_RBRAC   UINT8_C(0xe0) /* A right bracket */
 #define GM_N_BCOMM   UINT8_C(0xe2) /* the beginning of a common block */
 #define GM_N_ECOMM   UINT8_C(0xe4) /* the end of a common block */
 #define GM_N_ECOML   UINT8_C(0xe8) /* the end of a local common block */
-#define GM_N_LENG    UINT8_C(0xfe) /* how long the entry before it is */
+#define GM_N_LENG    UINT8_C(0xfe) /* the length of the preceding entry */
 /* the library of an undefined symbol: the high 8 bits of `desc`, where the image has GM_MH_TWOLEVEL */
 #define GM_SELF_LIBRARY_ORDINAL   UINT8_C(0) /* the image itself */
 #define GM_MAX_LIBRARY_ORDINAL    UINT8_C(0xfd) /* the last one that is an ordinal */
 #define GM_DYNAMIC_LOOKUP_ORDINAL UINT8_C(0xfe) /* any image */
 #define GM_EXECUTABLE_ORDINAL     UINT8_C(0xff) /* the main executable */
 /* `flags` of a gm_export */
-#define GM_EXPORT_SYMBOL_FLAGS_KIND_REGULAR      UINT64_C(0x00) /* the kind of a symbol like most */
-#define GM_EXPORT_SYMBOL_FLAGS_KIND_THREAD_LOCAL UINT64_C(0x01) /* the kind of a symbol that every thread has for itself */
+#define GM_EXPORT_SYMBOL_FLAGS_KIND_REGULAR      UINT64_C(0x00) /* the kind of an ordinary symbol */
+#define GM_EXPORT_SYMBOL_FLAGS_KIND_THREAD_LOCAL UINT64_C(0x01) /* the kind of a symbol of which every thread has its own copy */
 #define GM_EXPORT_SYMBOL_FLAGS_KIND_ABSOLUTE     UINT64_C(0x02) /* the kind of a symbol whose address doesn't move with the image */
-#define GM_EXPORT_SYMBOL_FLAGS_KIND_MASK         UINT64_C(0x03) /* the bits of an export's flags that tell its kind */
-#define GM_EXPORT_SYMBOL_FLAGS_WEAK_DEFINITION   UINT64_C(0x04) /* the definition is weak: another may stand in its place */
-#define GM_EXPORT_SYMBOL_FLAGS_REEXPORT          UINT64_C(0x08) /* the export is one of another library */
+#define GM_EXPORT_SYMBOL_FLAGS_KIND_MASK         UINT64_C(0x03) /* the bits of an export's flags that hold its kind */
+#define GM_EXPORT_SYMBOL_FLAGS_WEAK_DEFINITION   UINT64_C(0x04) /* the definition is weak: another may replace it */
+#define GM_EXPORT_SYMBOL_FLAGS_REEXPORT          UINT64_C(0x08) /* the export comes from another library */
 #define GM_EXPORT_SYMBOL_FLAGS_STUB_AND_RESOLVER UINT64_C(0x10) /* the export is a stub with a resolver */
 /* relocations of GM_CPU_TYPE_X86_64: bits 28 to 31 of `info` of a gm_relocation */
 #define GM_X86_64_RELOC_UNSIGNED   UINT8_C(0) /* an absolute address */
-#define GM_X86_64_RELOC_SIGNED     UINT8_C(1) /* A displacement of 32 bits, signed */
+#define GM_X86_64_RELOC_SIGNED     UINT8_C(1) /* A signed 32-bit displacement */
 #define GM_X86_64_RELOC_BRANCH     UINT8_C(2) /* the displacement of a call or a jump */
-#define GM_X86_64_RELOC_GOT_LOAD   UINT8_C(3) /* A load of an entry of the global offset table */
+#define GM_X86_64_RELOC_GOT_LOAD   UINT8_C(3) /* A load of an entry in the global offset table */
 #define GM_X86_64_RELOC_GOT        UINT8_C(4) /* another use of the global offset table */
-#define GM_X86_64_RELOC_SUBTRACTOR UINT8_C(5) /* what is subtracted; a GM_X86_64_RELOC_UNSIGNED follows */
-#define GM_X86_64_RELOC_SIGNED_1   UINT8_C(6) /* as GM_X86_64_RELOC_SIGNED, with the addend -1 */
-#define GM_X86_64_RELOC_SIGNED_2   UINT8_C(7) /* as GM_X86_64_RELOC_SIGNED, with the addend -2 */
-#define GM_X86_64_RELOC_SIGNED_4   UINT8_C(8) /* as GM_X86_64_RELOC_SIGNED, with the addend -4 */
-#define GM_X86_64_RELOC_TLV        UINT8_C(9) /* A variable that each thread has for itself */
+#define GM_X86_64_RELOC_SUBTRACTOR UINT8_C(5) /* the subtrahend of a difference; a GM_X86_64_RELOC_UNSIGNED follows */
+#define GM_X86_64_RELOC_SIGNED_1   UINT8_C(6) /* like GM_X86_64_RELOC_SIGNED, with the addend -1 */
+#define GM_X86_64_RELOC_SIGNED_2   UINT8_C(7) /* like GM_X86_64_RELOC_SIGNED, with the addend -2 */
+#define GM_X86_64_RELOC_SIGNED_4   UINT8_C(8) /* like GM_X86_64_RELOC_SIGNED, with the addend -4 */
+#define GM_X86_64_RELOC_TLV        UINT8_C(9) /* A thread-local variable */
 /* relocations of GM_CPU_TYPE_X86 */
 #define GM_GENERIC_RELOC_VANILLA        UINT8_C(0) /* A plain address */
-#define GM_GENERIC_RELOC_PAIR           UINT8_C(1) /* the second of two that belong together */
+#define GM_GENERIC_RELOC_PAIR           UINT8_C(1) /* the second relocation of a pair */
 #define GM_GENERIC_RELOC_SECTDIFF       UINT8_C(2) /* the difference of two addresses; a pair follows */
-#define GM_GENERIC_RELOC_PB_LA_PTR      UINT8_C(3) /* A lazy pointer that is bound beforehand */
+#define GM_GENERIC_RELOC_PB_LA_PTR      UINT8_C(3) /* A prebound lazy pointer */
 #define GM_GENERIC_RELOC_LOCAL_SECTDIFF UINT8_C(4) /* the difference of two local addresses; a pair follows */
-#define GM_GENERIC_RELOC_TLV            UINT8_C(5) /* A variable that each thread has for itself */
+#define GM_GENERIC_RELOC_TLV            UINT8_C(5) /* A thread-local variable */
 /* relocations of GM_CPU_TYPE_ARM */
 #define GM_ARM_RELOC_VANILLA        UINT8_C(0) /* A plain address */
-#define GM_ARM_RELOC_PAIR           UINT8_C(1) /* the second of two that belong together */
+#define GM_ARM_RELOC_PAIR           UINT8_C(1) /* the second relocation of a pair */
 #define GM_ARM_RELOC_SECTDIFF       UINT8_C(2) /* the difference of two addresses; a pair follows */
 #define GM_ARM_RELOC_LOCAL_SECTDIFF UINT8_C(3) /* the difference of two local addresses; a pair follows */
-#define GM_ARM_RELOC_PB_LA_PTR      UINT8_C(4) /* A lazy pointer that is bound beforehand */
+#define GM_ARM_RELOC_PB_LA_PTR      UINT8_C(4) /* A prebound lazy pointer */
 #define GM_ARM_RELOC_BR24           UINT8_C(5) /* the 24-bit displacement of a branch */
 #define GM_ARM_THUMB_RELOC_BR22     UINT8_C(6) /* the 22-bit displacement of a Thumb branch */
-#define GM_ARM_THUMB_32BIT_BRANCH   UINT8_C(7) /* A Thumb branch of 32 bits, no longer used */
+#define GM_ARM_THUMB_32BIT_BRANCH   UINT8_C(7) /* A 32-bit Thumb branch; obsolete */
 #define GM_ARM_RELOC_HALF           UINT8_C(8) /* half of an address, in a `movw` or a `movt` */
 #define GM_ARM_RELOC_HALF_SECTDIFF  UINT8_C(9) /* half of the difference of two addresses */
 /* relocations of GM_CPU_TYPE_ARM64 and GM_CPU_TYPE_ARM64_32 */
 #define GM_ARM64_RELOC_UNSIGNED            UINT8_C(0) /* A pointer */
-#define GM_ARM64_RELOC_SUBTRACTOR          UINT8_C(1) /* what is subtracted; a GM_ARM64_RELOC_UNSIGNED follows */
+#define GM_ARM64_RELOC_SUBTRACTOR          UINT8_C(1) /* the subtrahend of a difference; a GM_ARM64_RELOC_UNSIGNED follows */
 #define GM_ARM64_RELOC_BRANCH26            UINT8_C(2) /* the 26-bit displacement of a branch */
 #define GM_ARM64_RELOC_PAGE21              UINT8_C(3) /* the distance to the page of the target */
-#define GM_ARM64_RELOC_PAGEOFF12           UINT8_C(4) /* the offset inside that page */
+#define GM_ARM64_RELOC_PAGEOFF12           UINT8_C(4) /* the offset within that page */
 #define GM_ARM64_RELOC_GOT_LOAD_PAGE21     UINT8_C(5) /* the distance to the page of an entry of the global offset table */
-#define GM_ARM64_RELOC_GOT_LOAD_PAGEOFF12  UINT8_C(6) /* the offset of that entry inside its page */
+#define GM_ARM64_RELOC_GOT_LOAD_PAGEOFF12  UINT8_C(6) /* the offset of that entry within its page */
 #define GM_ARM64_RELOC_POINTER_TO_GOT      UINT8_C(7) /* A pointer to an entry of the global offset table */
-#define GM_ARM64_RELOC_TLVP_LOAD_PAGE21    UINT8_C(8) /* the distance to the page of a variable that each thread has for itself */
-#define GM_ARM64_RELOC_TLVP_LOAD_PAGEOFF12 UINT8_C(9) /* the offset of that variable inside its page */
+#define GM_ARM64_RELOC_TLVP_LOAD_PAGE21    UINT8_C(8) /* the distance to the page of a thread-local variable */
+#define GM_ARM64_RELOC_TLVP_LOAD_PAGEOFF12 UINT8_C(9) /* the offset of that variable within its page */
 #define GM_ARM64_RELOC_ADDEND              UINT8_C(10) /* the addend of the GM_ARM64_RELOC_PAGE21 or GM_ARM64_RELOC_PAGEOFF12 that follows */
 /* bits 0 to 23 of `info` */
-#define GM_R_ABS UINT8_C(0) /* no symbol and no section, but an absolute value */
+#define GM_R_ABS UINT8_C(0) /* an absolute value, without a symbol or a section */
 /* platforms, of GM_LC_BUILD_VERSION */
 #define GM_PLATFORM_MACOS             UINT32_C(1)
 #define GM_PLATFORM_IOS               UINT32_C(2)
@@ -904,10 +904,10 @@ const char *gm_platform_name(uint32_t platform);                      /* "MACOS"
 #define GM_BIND_IMMEDIATE_MASK UINT8_C(0x0f) /* the half of a byte that is the immediate */
 #define GM_BIND_OPCODE_MASK    UINT8_C(0xf0) /* the half of a byte that is the opcode */
 /* the opcodes */
-#define GM_BIND_OPCODE_DONE                             UINT8_C(0x00) /* to `imports` the fresh values; to `bindings` the end of the non-lazy stream */
+#define GM_BIND_OPCODE_DONE                             UINT8_C(0x00) /* for `imports`, resets all settings; for `bindings`, ends the non-lazy stream */
 #define GM_BIND_OPCODE_SET_DYLIB_ORDINAL_IMM            UINT8_C(0x10) /* the library is the immediate */
 #define GM_BIND_OPCODE_SET_DYLIB_ORDINAL_ULEB           UINT8_C(0x20) /* the library is a ULEB128 number */
-#define GM_BIND_OPCODE_SET_DYLIB_SPECIAL_IMM            UINT8_C(0x30) /* the library is a special one, which no import shows */
+#define GM_BIND_OPCODE_SET_DYLIB_SPECIAL_IMM            UINT8_C(0x30) /* the library is a special ordinal, which no import shows */
 #define GM_BIND_OPCODE_SET_SYMBOL_TRAILING_FLAGS_IMM    UINT8_C(0x40) /* the flags are the immediate, and the name is a text */
 #define GM_BIND_OPCODE_SET_TYPE_IMM                     UINT8_C(0x50) /* the type is the immediate */
 #define GM_BIND_OPCODE_SET_ADDEND_SLEB                  UINT8_C(0x60) /* the addend is an SLEB128 number */
@@ -915,36 +915,36 @@ const char *gm_platform_name(uint32_t platform);                      /* "MACOS"
 #define GM_BIND_OPCODE_ADD_ADDR_ULEB                    UINT8_C(0x80) /* advance by a ULEB128 number */
 #define GM_BIND_OPCODE_DO_BIND                          UINT8_C(0x90) /* bind, then advance by a pointer */
 #define GM_BIND_OPCODE_DO_BIND_ADD_ADDR_ULEB            UINT8_C(0xa0) /* bind, then advance by a ULEB128 number and a pointer */
-#define GM_BIND_OPCODE_DO_BIND_ADD_ADDR_IMM_SCALED      UINT8_C(0xb0) /* bind, then advance by as many pointers as the immediate says, and one more */
-/* so many times as a ULEB128 number says: bind, then advance by a second one and a pointer */
+#define GM_BIND_OPCODE_DO_BIND_ADD_ADDR_IMM_SCALED      UINT8_C(0xb0) /* bind, then advance by one pointer more than the immediate counts */
+/* as many times as a ULEB128 number says: bind, then advance by a second number and a pointer */
 #define GM_BIND_OPCODE_DO_BIND_ULEB_TIMES_SKIPPING_ULEB UINT8_C(0xc0)
-#define GM_BIND_OPCODE_THREADED                         UINT8_C(0xd0) /* threaded binds, by an operand that would have to be read with it */
+#define GM_BIND_OPCODE_THREADED                         UINT8_C(0xd0) /* threaded binds: without effect in `imports`, a fault in `bindings` */
 /* the immediates of GM_BIND_OPCODE_SET_TYPE_IMM */
 #define GM_BIND_TYPE_POINTER         UINT8_C(1) /* bind a pointer */
 #define GM_BIND_TYPE_TEXT_ABSOLUTE32 UINT8_C(2) /* bind an absolute address of 32 bits in code */
 #define GM_BIND_TYPE_TEXT_PCREL32    UINT8_C(3) /* bind a relative address of 32 bits in code */
 /* those of GM_BIND_OPCODE_SET_DYLIB_SPECIAL_IMM */
 #define GM_BIND_SPECIAL_DYLIB_SELF            UINT8_C(0) /* the image itself */
-#define GM_BIND_SPECIAL_DYLIB_FLAT_LOOKUP     UINT8_C(0xe) /* any image, which the immediate -2 stands for */
-#define GM_BIND_SPECIAL_DYLIB_MAIN_EXECUTABLE UINT8_C(0xf) /* the program, which the immediate -1 stands for */
+#define GM_BIND_SPECIAL_DYLIB_FLAT_LOOKUP     UINT8_C(0xe) /* any image, which the immediate -2 means */
+#define GM_BIND_SPECIAL_DYLIB_MAIN_EXECUTABLE UINT8_C(0xf) /* the main executable, which the immediate -1 means */
 /* the bits of those of GM_BIND_OPCODE_SET_SYMBOL_TRAILING_FLAGS_IMM */
 #define GM_BIND_SYMBOL_FLAGS_WEAK_IMPORT         UINT8_C(0x1) /* the symbol may be missing */
 #define GM_BIND_SYMBOL_FLAGS_NON_WEAK_DEFINITION UINT8_C(0x8) /* the image defines the symbol itself, and not weakly */
 /* how the imports of chained fixups are laid out */
-#define GM_DYLD_CHAINED_IMPORT          UINT32_C(1) /* the import's library, whether it may be missing, and its name */
-#define GM_DYLD_CHAINED_IMPORT_ADDEND   UINT32_C(2) /* the same, with an addend of 32 bits */
-#define GM_DYLD_CHAINED_IMPORT_ADDEND64 UINT32_C(3) /* the same in wider fields, with an addend of 64 bits */
+#define GM_DYLD_CHAINED_IMPORT          UINT32_C(1) /* the library of the import, whether it may be missing, and its name */
+#define GM_DYLD_CHAINED_IMPORT_ADDEND   UINT32_C(2) /* the same, with a 32-bit addend */
+#define GM_DYLD_CHAINED_IMPORT_ADDEND64 UINT32_C(3) /* the same in wider fields, with a 64-bit addend */
 /* how the pointers of chained fixups are laid out, of those that are read */
 #define GM_DYLD_CHAINED_PTR_ARM64E            UINT16_C(1) /* targets are addresses */
 #define GM_DYLD_CHAINED_PTR_64                UINT16_C(2) /* targets are addresses */
-#define GM_DYLD_CHAINED_PTR_32                UINT16_C(3) /* targets are addresses, and there are numbers among the pointers */
-#define GM_DYLD_CHAINED_PTR_64_OFFSET         UINT16_C(6) /* targets count from the image's base */
-#define GM_DYLD_CHAINED_PTR_ARM64E_KERNEL     UINT16_C(7) /* as GM_DYLD_CHAINED_PTR_ARM64E_USERLAND, in steps of 4 bytes */
-#define GM_DYLD_CHAINED_PTR_ARM64E_USERLAND   UINT16_C(9) /* targets count from the image's base */
-#define GM_DYLD_CHAINED_PTR_ARM64E_FIRMWARE   UINT16_C(10) /* as GM_DYLD_CHAINED_PTR_ARM64E, in steps of 4 bytes */
-#define GM_DYLD_CHAINED_PTR_ARM64E_USERLAND24 UINT16_C(12) /* as GM_DYLD_CHAINED_PTR_ARM64E_USERLAND, with 24 bits for an import's number */
+#define GM_DYLD_CHAINED_PTR_32                UINT16_C(3) /* targets are addresses, and some pointers are plain numbers */
+#define GM_DYLD_CHAINED_PTR_64_OFFSET         UINT16_C(6) /* targets are relative to the image's base */
+#define GM_DYLD_CHAINED_PTR_ARM64E_KERNEL     UINT16_C(7) /* like GM_DYLD_CHAINED_PTR_ARM64E_USERLAND, in steps of 4 bytes */
+#define GM_DYLD_CHAINED_PTR_ARM64E_USERLAND   UINT16_C(9) /* targets are relative to the image's base */
+#define GM_DYLD_CHAINED_PTR_ARM64E_FIRMWARE   UINT16_C(10) /* like GM_DYLD_CHAINED_PTR_ARM64E, in steps of 4 bytes */
+#define GM_DYLD_CHAINED_PTR_ARM64E_USERLAND24 UINT16_C(12) /* like GM_DYLD_CHAINED_PTR_ARM64E_USERLAND, with 24 bits for an import's number */
 /* where the chain of a page starts */
-/* the bit of a page's start that says that the page has several, which stand behind those of the pages */
+/* the bit of a page's start that means that the page has several. These follow the starts of all pages */
 #define GM_DYLD_CHAINED_PTR_START_MULTI UINT16_C(0x8000)
 #define GM_DYLD_CHAINED_PTR_START_LAST  UINT16_C(0x8000) /* the bit of the last of several starts */
 #define GM_DYLD_CHAINED_PTR_START_NONE  UINT16_C(0xffff) /* the start of a page that has no chain */
@@ -1216,7 +1216,7 @@ GM_FIELD(gm_open_node, name_len, 16, 8);
 GM_SIZE(gm_open_node, 24);
 GM_FIELD(gm_provider, library, 0, 8);
 GM_FIELD(gm_provider, provider, 8, 4);
-GM_FIELD(gm_provider, is_told, 12, 4);
+GM_FIELD(gm_provider, is_reported, 12, 4);
 GM_FIELD(gm_provider, code, 16, 4);
 GM_FIELD(gm_provider, reserved, 20, 4);
 GM_SIZE(gm_provider, 24);

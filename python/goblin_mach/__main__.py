@@ -29,7 +29,7 @@ def _segments(image: Image) -> Iterator[str]:
 
 
 def _symbols(image: Image) -> Iterator[str]:
-    for s in image.symbols().begun():
+    for s in image.symbols().in_bounds():
         yield f"{s.value:0{16 if image.is_64 else 8}x} {s.n_type:x} {s.section} {s.desc:x} {code_of(s.error)} {s.name}"
 
 
@@ -46,12 +46,12 @@ def _function_starts(image: Image) -> Iterator[str]:
 
 
 def _data_in_code(image: Image) -> Iterator[str]:
-    for d in image.data_in_code().begun():
+    for d in image.data_in_code().in_bounds():
         yield f"{d.offset:x} {d.length} {d.kind} {code_of(d.error)}"
 
 
 def _indirect_symbols(image: Image) -> Iterator[str]:
-    for i in image.indirect_symbols().begun():
+    for i in image.indirect_symbols().in_bounds():
         yield f"{goblin_mach.INDIRECT.index(i.kind)} {i.symbol or 0} {code_of(i.error)}"
 
 
@@ -168,7 +168,7 @@ def _left_out(image: Image, word: str, lines: Iterator[str]) -> Iterator[str]:
     """What isn't printed of a list: the records past the end, and the lines beyond the limit."""
     if word in TABLES:
         called, table = TABLES[word]
-        past = len(table(image)) - len(table(image).begun())
+        past = len(table(image)) - len(table(image).in_bounds())
         if past:
             yield f"{past} more {called} past the end"
     if next(lines, None) is not None:

@@ -190,7 +190,7 @@ def slots(held: Held, raws: Raws, first: int) -> List[SymbolSlot]:
 
 def provider(found: s.gm_provider) -> Optional[SymbolProvider]:
     """The provider of a symbol, if the linker recorded it."""
-    return SymbolProvider(PROVIDERS[found.provider], found.library, _error(found.code)) if found.is_told else None
+    return SymbolProvider(PROVIDERS[found.provider], found.library, _error(found.code)) if found.is_reported else None
 
 
 def numbered_section(found: s.gm_found_section) -> Optional[NumberedSection]:

@@ -55,7 +55,7 @@ class Rows(Generic[T]):
         self._kind, self._live, self._given, self._length, self._table, self._end = kind, live, given, length, table, end
         self._walk = self._items(0, None)
 
-    def begun(self) -> Rows[T]:
+    def in_bounds(self) -> Rows[T]:
         """Those whose record begins within the bytes, as a list of its own. A file may claim 2^32 records when it has few. Lists without
         a table of records are returned whole."""
         if self._table is None:
@@ -100,7 +100,7 @@ class Rows(Generic[T]):
 
     def __contains__(self, item: object) -> bool:
         # All items past the end are equal, so one of them is enough.
-        end = None if self._table is None else len(self.begun()) + 1
+        end = None if self._table is None else len(self.in_bounds()) + 1
         return any(item == each for each in self._items(0, end))
 
     @overload

@@ -129,7 +129,7 @@ class gm_slot(ctypes.Structure):
 
 
 class gm_provider(ctypes.Structure):
-    _fields_ = _u64("library") + _u32("provider is_told code reserved")
+    _fields_ = _u64("library") + _u32("provider is_reported code reserved")
 
 
 class gm_found_section(ctypes.Structure):

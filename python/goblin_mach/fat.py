@@ -47,7 +47,7 @@ def _cpu(view: memoryview) -> Tuple[int, int]:
     if order is None:
         raise Refused(ErrorCode.BAD_MAGIC, f"bad magic 0x{bytes(view[:4]).hex()}")
     if len(view) < 28:
-        raise Refused(ErrorCode.SHORT, f"28 bytes are wanted and {len(view)} are left")
+        raise Refused(ErrorCode.SHORT, f"28 bytes are needed and {len(view)} are left")
     read = int.from_bytes
     return (read(view[4:8], "big"), read(view[8:12], "big")) if order == "big" else (read(view[4:8], "little"), read(view[8:12], "little"))
 

@@ -9,7 +9,7 @@ use Rattle.mach_load.specs.declared.load_command.LoadCommand.{LoadCommand}
 use Rattle.mach_load.specs.Command.{Command}
 use Rattle.mach_load.specs.Variants.{command_of}
 use Rattle.mach_base.specs.Among.{IsAmong}
-use Rattle.goblin_mach.specs.Readings.{Reading, keep, said, read_of, last_or, last_of, first_of, IsRead, IsRefused, AllRead, IsUnread, seen_of}
+use Rattle.goblin_mach.specs.Readings.{Reading, keep, values_read, read_of, last_or, last_of, first_of, IsRead, IsRefused, AllRead, IsUnread, view_of_read}
 
 -- the commands from one on begin with it
 pub from_here : (xs : List LoadCommand) (i : ℕ) (d : LoadCommand) → i < length xs
@@ -25,21 +25,21 @@ among_here (x ∷ xs) (suc i) d lt = inr (among_here xs i d (omega arith))
 
 -- how the reading continues at the next of some commands, by its result
 module _ {X V : Type 0} (view : X → V) (reading : Reading V) (xs : List LoadCommand) (i : ℕ) (d : LoadCommand) (lt : i < length xs)
-    (r s : Option (Result X Error)) (seen : seen_of view r ≡ reading (command_of (get_or xs i d))) (is : r ≡ s) where
+    (r s : Option (Result X Error)) (seen : view_of_read view r ≡ reading (command_of (get_or xs i d))) (is : r ≡ s) where
   abbrev left : ℕ → List Command
   left k = drop k (map command_of xs)
 
-  this : reading (command_of (get_or xs i d)) ≡ seen_of view s
-  this = sym seen ∙ ap (seen_of view) is
+  this : reading (command_of (get_or xs i d)) ≡ view_of_read view s
+  this = sym seen ∙ ap (view_of_read view) is
 
-  pub stepped : read_of reading (left i) ≡ keep (seen_of view s) (read_of reading (left (i + 1)))
+  pub stepped : read_of reading (left i) ≡ keep (view_of_read view s) (read_of reading (left (i + 1)))
   stepped = ap (read_of reading) (from_here xs i d lt) ∙ ap (λ x. keep x (read_of reading (left (i + 1)))) this
 
-  pub all_stepped : IsRead (seen_of view s) → AllRead reading (left (i + 1)) → AllRead reading (left i)
+  pub all_stepped : IsRead (view_of_read view s) → AllRead reading (left (i + 1)) → AllRead reading (left i)
   all_stepped one rest = subst (AllRead reading) (sym (from_here xs i d lt)) (subst IsRead (sym this) one, rest)
 
   -- or it can't be read
-  pub missed : (f : Fault) → seen_of view s ≡ Some (Err f) → IsUnread reading (map command_of xs) f
+  pub missed : (f : Fault) → view_of_read view s ≡ Some (Err f) → IsUnread reading (map command_of xs) f
   missed f e = record { command = command_of (get_or xs i d); among = among_here xs i d lt; fault = this ∙ e }
 
 -- the first commands and the next one
@@ -62,23 +62,24 @@ keep-append (Some (Ok v)) xs ys = refl
 keep-append (Some (Err f)) xs ys = refl
 
 module _ {V : Type 0} (reading : Reading V) where
-  read-more : (cs : List Command) (c : Command) → read_of reading (cs ++ c ∷ []) ≡ read_of reading cs ++ said (reading c)
+  read-more : (cs : List Command) (c : Command) → read_of reading (cs ++ c ∷ []) ≡ read_of reading cs ++ values_read (reading c)
   read-more [] c = refl
-  read-more (d ∷ cs) c = ap (keep (reading d)) (read-more cs c) ∙ keep-append (reading d) (read_of reading cs) (said (reading c))
+  read-more (d ∷ cs) c = ap (keep (reading d)) (read-more cs c) ∙ keep-append (reading d) (read_of reading cs) (values_read (reading c))
 
   last-more : (d : Option V) (xs ys : List V) → last_or d (xs ++ ys) ≡ last_or (last_or d xs) ys
   last-more d [] ys = refl
   last-more d (x ∷ xs) ys = last-more (Some x) xs ys
 
   -- what was read from some commands and one more
-  pub kept_more : (cs : List Command) (c : Command) (old new : List V) → old ≡ read_of reading cs → new ≡ old ++ said (reading c)
+  pub kept_more : (cs : List Command) (c : Command) (old new : List V) → old ≡ read_of reading cs → new ≡ old ++ values_read (reading c)
       → new ≡ read_of reading (cs ++ c ∷ [])
-  kept_more cs c old new was is = is ∙ ap (λ (vs : List V). vs ++ said (reading c)) was ∙ sym (read-more cs c)
+  kept_more cs c old new was is = is ∙ ap (λ (vs : List V). vs ++ values_read (reading c)) was ∙ sym (read-more cs c)
 
-  pub last_kept : (cs : List Command) (c : Command) (old new : Option V) → old ≡ last_of (read_of reading cs) → new ≡ last_or old (said (reading c))
+  pub last_kept : (cs : List Command) (c : Command) (old new : Option V) → old ≡ last_of (read_of reading cs) → new ≡ last_or old (values_read (reading c))
       → new ≡ last_of (read_of reading (cs ++ c ∷ []))
   last_kept cs c old new was is =
-      is ∙ ap (λ (d : Option V). last_or d (said (reading c))) was ∙ sym (ap last_of (read-more cs c) ∙ last-more None (read_of reading cs) (said (reading c)))
+      is ∙ ap (λ (d : Option V). last_or d (values_read (reading c))) was ∙ sym (ap last_of (read-more cs c)
+      ∙ last-more None (read_of reading cs) (values_read (reading c)))
 
   pub all_more : (cs : List Command) (c : Command) → AllRead reading cs → AllRead reading (c ∷ []) → AllRead reading (cs ++ c ∷ [])
   all_more [] c all one = one
@@ -99,9 +100,9 @@ seen_itself None = refl
 seen_itself (Some v) = refl
 
 pub put_itself : {V : Type 0} (new old : Option V) (found : Option (Result V Fault))
-    → option_map (λ (v : V). v) new ≡ last_or (option_map (λ (v : V). v) old) (said found) → new ≡ last_or old (said found)
+    → option_map (λ (v : V). v) new ≡ last_or (option_map (λ (v : V). v) old) (values_read found) → new ≡ last_or old (values_read found)
 put_itself new old found is =
-    sym (seen_itself new) ∙ is ∙ ap (λ (o : Option _). last_or o (said found)) (seen_itself old)
+    sym (seen_itself new) ∙ is ∙ ap (λ (o : Option _). last_or o (values_read found)) (seen_itself old)
 
 -- if every command can be read, none has a fault
 pub unread-excludes_all : {V : Type 0} (reading : Reading V) (cs : List Command) (f : Fault) → IsUnread reading cs f → AllRead reading cs → ⊥

@@ -22,8 +22,8 @@ exported-excludes_none name address list some none =
     none some.0 some.1 some.2 (ap (λ (e : Entry). e.name) some.3 ∙ some.4.0)
 
 by_test : (b : Bool) (P : Type 0) → Decides b P → P ⊎ ¬ P
-by_test true P tells = inl (tells.0 refl)
-by_test false P tells = inr (λ p. let wrong = tells.1 p in cc)
+by_test true P reports = inl (reports.0 refl)
+by_test false P reports = inr (λ p. let wrong = reports.1 p in cc)
 
 -- each name has a first export or none
 pub first-or_none : (name : List ℕ) (list : List Entry) → ((i : ℕ) × (e : Entry) × IsFirstExport name list i e) ⊎ IsNotExported name list

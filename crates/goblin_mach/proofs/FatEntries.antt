@@ -5,9 +5,9 @@ use Rattle.std.specs.Prelude.{option_map}
 use Rattle.std.specs.Borrow.{Bor}
 use Rattle.mach_base.specs.declared.error.Error.{Error}
 use Rattle.mach_base.specs.declared.hint.Hint.{Hint}
-use Rattle.mach_base.specs.Answer.{◌>>=◌, Stands}
+use Rattle.mach_base.specs.Answer.{◌>>=◌, ErrorMeets}
 use Rattle.mach_base.specs.Fault.{Fault, malformed, fault_of}
-use Rattle.mach_base.proofs.Faults.{Stands-reported, Stands-in}
+use Rattle.mach_base.proofs.Faults.{ErrorMeets-reported, ErrorMeets-in}
 use Rattle.mach_parts.specs.Fat.{part_of}
 use Rattle.mach_parts.specs.ArchForms.{ArchForm, arch_in}
 use Rattle.goblin_mach.specs.FatFile.{FatFile}
@@ -24,7 +24,7 @@ use Rattle.goblin_mach.proofs.OpenedImages.{ok_where_opens}
 pub OpensEntry-refused : {A : Type 0} (entry : Result FatEntry Fault) (e : Error) → entry ≡ Err (fault_of e) → OpensEntry {A = A} entry (Err e)
 OpensEntry-refused {A} entry e none =
     subst (λ (x : Result FatEntry Fault). OpensEntry {A = A} x (Err e)) (sym none)
-    (record { opened = tt; only = λ opens. absurd opens; refused = Stands-reported (FatEntryFault (Err (fault_of e))) e (no_entry (fault_of e)) })
+    (record { opened = tt; only = λ opens. absurd opens; refused = ErrorMeets-reported (FatEntryFault (Err (fault_of e))) e (no_entry (fault_of e)) })
 
 -- the bytes of an archive
 pub OpensEntry-archive : {A : Type 0} (entry : Result FatEntry Fault) (bytes : Bor (List ℕ)) → entry ≡ Ok (archive bytes.now)
@@ -38,14 +38,15 @@ pub OpensEntry-image : {A : Type 0} (entry : Result FatEntry Fault) (slice : Lis
 OpensEntry-image entry slice m is opened = record { opened = (image slice, is, opened); only = λ opens. tt; refused = tt }
 
 -- an image that did not open
-pub OpensEntry-no_image : {A : Type 0} (entry : Result FatEntry Fault) (slice : List ℕ) (e : Error) → entry ≡ Ok (image slice) → Stands (ImageFault slice 0) e
+pub OpensEntry-no_image : {A : Type 0} (entry : Result FatEntry Fault) (slice : List ℕ) (e : Error) → entry ≡ Ok (image slice)
+    → ErrorMeets (ImageFault slice 0) e
     → OpensEntry {A = A} entry (Err e)
-OpensEntry-no_image {A} entry slice e is stands =
+OpensEntry-no_image {A} entry slice e is occurs =
     subst (λ (x : Result FatEntry Fault). OpensEntry {A = A} x (Err e)) (sym is)
     (record {
       opened = tt;
-      only = ok_where_opens {X = SingleArch A} (Err e) slice 0 stands;
-      refused = Stands-in (ImageFault slice 0) (FatEntryFault (Ok (image slice))) e (no_image slice) stands;
+      only = ok_where_opens {X = SingleArch A} (Err e) slice 0 occurs;
+      refused = ErrorMeets-in (ImageFault slice 0) (FatEntryFault (Ok (image slice))) e (no_image slice) occurs;
     })
 
 not_hinted : (b : Bool) (front : List ℕ) (found : Result FatEntry Fault) → None ≡ cond b (Some front) None → cond b found (Err malformed) ≡ Err malformed

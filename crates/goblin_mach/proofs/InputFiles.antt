@@ -2,9 +2,9 @@
 use Rattle.std.proofs.Common.{◌≡◌, ℕ, List, Result, Ok, Err, true, false, refl, sym, ◌∙◌, subst}
 use Rattle.std.specs.Prelude.{IsOk, IfErr}
 use Rattle.mach_base.specs.declared.error.Error.{Error}
-use Rattle.mach_base.specs.Answer.{Stands, IsOkUnlessMemory}
+use Rattle.mach_base.specs.Answer.{ErrorMeets, IsOkUnlessMemory}
 use Rattle.mach_base.specs.Fault.{Fault}
-use Rattle.mach_base.proofs.Faults.{Stands-in}
+use Rattle.mach_base.proofs.Faults.{ErrorMeets-in}
 use Rattle.mach_archive.specs.Archives.{archive_in}
 use Rattle.goblin_mach.specs.Image.{Opens, ImageFault}
 use Rattle.goblin_mach.specs.OpenImage.{IsImage}
@@ -37,9 +37,9 @@ fault-excludes_input bytes _ (of_mach f neither fault) (opens_fat_64 fat) = neit
 fault-excludes_input bytes _ (of_mach f neither fault) (opens_mach same opens) = fault-excludes_mach bytes f fault opens
 
 -- a result whose errors are faults is Ok if the bytes open
-pub ok_where_input : {X : Type 0} (r : Result X Error) (bytes : List ℕ) → IfErr r (Stands (InputFault bytes)) → InputOpens bytes → IsOkUnlessMemory r
+pub ok_where_input : {X : Type 0} (r : Result X Error) (bytes : List ℕ) → IfErr r (ErrorMeets (InputFault bytes)) → InputOpens bytes → IsOkUnlessMemory r
 ok_where_input (Ok x) bytes h opens = tt
-ok_where_input (Err e) bytes h opens = Stands-in (InputFault bytes) (λ _. ⊥) e (λ f fault. fault-excludes_input bytes f fault opens) h
+ok_where_input (Err e) bytes h opens = ErrorMeets-in (InputFault bytes) (λ _. ⊥) e (λ f fault. fault-excludes_input bytes f fault opens) h
 
 -- bytes of neither kind open as `Mach::parse` opens them
 pub opens_as_mach : (bytes : List ℕ) → IsNeither bytes → InputOpens bytes → MachOpens Opens bytes

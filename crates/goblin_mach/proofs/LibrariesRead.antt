@@ -12,7 +12,7 @@ use Rattle.goblin_mach.specs.declared.libraries.LibraryKind.{LibraryKind}
 use Rattle.goblin_mach.specs.declared.macho.MachO.{MachO}
 use Rattle.goblin_mach.proofs.ImageFacts.{both_modes}
 use Rattle.goblin_mach.specs.Modes.{InBothModes}
-use Rattle.goblin_mach.specs.OpenImage.{commands_held, bytes_held, ctx_held}
+use Rattle.goblin_mach.specs.OpenImage.{commands_view, bytes_view, ctx_view}
 use Rattle.mach_base.specs.Text.{texts}
 use Rattle.std.specs.Option.{is_some}
 use Rattle.std.proofs.lemmas.Option.{slice_get-map}
@@ -162,8 +162,8 @@ in_libs le bytes cs k l e =
     ∙ ap (option_map (λ (v : LibraryView). v.name)) e
 
 pub in_held_libs : {A : Type 0} (m : MachO A) → InBothModes m (λ bytes o. (k : ℕ) (l : LibraryView)
-    → slice_get (libraries_in (ctx_held m).le (bytes_held m) (commands_held m)) k ≡ Some l → slice_get (texts m.libs.items) l.ordinal ≡ Some l.name)
+    → slice_get (libraries_in (ctx_view m).le (bytes_view m) (commands_view m)) k ≡ Some l → slice_get (texts m.libs.items) l.ordinal ≡ Some l.name)
 in_held_libs m = both_modes m _ (λ bytes o p k l e.
     ap (λ (xs : List (List ℕ)). slice_get xs l.ordinal)
-    (p.fields.libs ∙ ap (λ (bs : List ℕ). libs_in bs (commands_held m)) (sym p.fields.bytes_is))
-    ∙ in_libs (ctx_held m).le (bytes_held m) (commands_held m) k l e)
+    (p.fields.libs ∙ ap (λ (bs : List ℕ). libs_in bs (commands_view m)) (sym p.fields.bytes_is))
+    ∙ in_libs (ctx_view m).le (bytes_view m) (commands_view m) k l e)

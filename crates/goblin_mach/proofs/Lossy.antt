@@ -13,7 +13,7 @@ use Rattle.goblin_mach.specs.Image.{LossyOpensAs}
 use Rattle.mach_load.specs.Subjects.{segment_command_by}
 use Rattle.goblin_mach.specs.Subjects.{segment_by, lossy_segment_by, binds_in, trie_in, own_name_in, libs_in, run_path_by, table_in}
 use Rattle.mach_parts.specs.Magic.{cputype_at}
-use Rattle.goblin_mach.specs.OpenImage.{IsImage, IsLossyImage, HasFields, commands_held, SameFields}
+use Rattle.goblin_mach.specs.OpenImage.{IsImage, IsLossyImage, HasFields, commands_view, SameFields}
 use Rattle.goblin_mach.specs.Readings.{read_of, keep, IsRead, AllRead}
 use Rattle.goblin_mach.specs.declared.macho.MachO.{MachO}
 use Rattle.goblin_mach.proofs.Chains.{same_chain}
@@ -41,7 +41,7 @@ same_segments ctx bytes (c ∷ cs) all =
     ∙ ap (keep (lossy_segment_by ctx bytes c)) (same_segments ctx bytes cs all.1)
 
 -- fields that the same context, commands and segments determine
-same_fields : {A B : Type 0} (bytes : List ℕ) (o : ℕ) (ctx : Ctx) (parts : List SegmentView) (m : MachO A) (n : MachO B) → commands_held m ≡ commands_held n
+same_fields : {A B : Type 0} (bytes : List ℕ) (o : ℕ) (ctx : Ctx) (parts : List SegmentView) (m : MachO A) (n : MachO B) → commands_view m ≡ commands_view n
     → HasFields bytes o ctx parts m → HasFields bytes o ctx parts n → SameFields m n
 same_fields bytes o ctx parts m n cs p q =
     let entry : record { address = m.entry; old_style = m.old_style_entry } ≡ record { address = n.entry; old_style = n.old_style_entry } =
@@ -65,8 +65,8 @@ same_fields bytes o ctx parts m n cs p q =
 pub lossy_fields : {A B : Type 0} (bytes : List ℕ) (o : ℕ) (m : MachO A) (n : MachO B) → IsImage bytes o m → IsLossyImage bytes o n → SameFields m n
 lossy_fields bytes o m n p q =
     let ctx = p.ctx in
-    let cs = commands_held m in
-    let ds = commands_held n in
+    let cs = commands_view m in
+    let ds = commands_view n in
     let same_ctx = same_header bytes o q.ctx ctx q.opens.header p.opens.lossy.header in
     let opened : LossyOpensAs bytes o ctx ds = subst (λ (x : Ctx). LossyOpensAs bytes o x ds) same_ctx q.opens in
     let held : HasFields bytes o ctx (read_of (lossy_segment_by ctx bytes) ds) n =

@@ -9,7 +9,7 @@ use Rattle.mach_dyld.specs.TrieRange.{TrieRange, trie_there}
 use Rattle.mach_dyld.proofs.TerminalPaths.{lists_paths}
 use Rattle.mach_dyld.proofs.TriePaths.{same_node, same_some, leads_to_one}
 use Rattle.goblin_mach.specs.Facts.{HasExports, HasExportOf}
-use Rattle.goblin_mach.specs.LookUp.{StandsInImage, IsListedAs}
+use Rattle.goblin_mach.specs.LookUp.{IsAnswerInImage, IsListedAs}
 use Rattle.goblin_mach.specs.Subjects.{ListsImageExports, trie_in, libs_in}
 use Rattle.goblin_mach.proofs.ImageFacts.{one_image}
 
@@ -32,22 +32,22 @@ module _ (t : Trie) where
 
   module _ (root : ℕ) where
     -- the meaning of a listed export holds by its path
-    belongs_stands : (p : List ℕ) (e : Entry) → BelongsTo t root [] p e → IsExportOf t root e.name e.info
-    belongs_stands p e b =
+    belongs_occurs : (p : List ℕ) (e : Entry) → BelongsTo t root [] p e → IsExportOf t root e.name e.info
+    belongs_occurs p e b =
         let info : b.info ≡ e.info = sym (ap (λ (x : Entry). x.info) b.is) in
         let name : b.name ≡ e.name = sym (ap (λ (x : Entry). x.name) b.is) in
         (p, subst (EndsWith t root p) info b.ends, subst (IsNameOf t root p) name b.named)
 
-    first_stands : (ps : List (List ℕ)) (es : List Entry) (name : List ℕ) (info : Info) → EachBelongs t root [] ps es → IsFirstOf name es (Some info)
+    first_occurs : (ps : List (List ℕ)) (es : List Entry) (name : List ℕ) (info : Info) → EachBelongs t root [] ps es → IsFirstOf name es (Some info)
         → IsExportOf t root name info
-    first_stands [] [] name info each first = absurd (cc)
-    first_stands [] (e ∷ es) name info each first = absurd each
-    first_stands (p ∷ ps) [] name info each first = absurd each
-    first_stands (p ∷ ps) (e ∷ es) name info each first = elim first [
+    first_occurs [] [] name info each first = absurd (cc)
+    first_occurs [] (e ∷ es) name info each first = absurd each
+    first_occurs (p ∷ ps) [] name info each first = absurd each
+    first_occurs (p ∷ ps) (e ∷ es) name info each first = elim first [
       | inl hit ↦
           let same : e.info ≡ info = same_some hit.1 refl in
-          subst (λ (n : List ℕ). IsExportOf t root n info) hit.0 (subst (IsExportOf t root e.name) same (belongs_stands p e each.0))
-      | inr miss ↦ first_stands ps es name info each.1 miss.1
+          subst (λ (n : List ℕ). IsExportOf t root n info) hit.0 (subst (IsExportOf t root e.name) same (belongs_occurs p e each.0))
+      | inr miss ↦ first_occurs ps es name info each.1 miss.1
     ]
 
     -- what holds by a path is in the list
@@ -67,13 +67,13 @@ module _ (t : Trie) where
     ]
 
     -- if no export has the name, no path does, and the converse
-    none_stands : (es : List Entry) (name : List ℕ) (info : Info) → IsFirstOf name es None → IsListedAs name info es → ⊥
-    none_stands [] name info none listed = absurd listed.1
-    none_stands (e ∷ es) name info none listed = elim none [
+    none_occurs : (es : List Entry) (name : List ℕ) (info : Info) → IsFirstOf name es None → IsListedAs name info es → ⊥
+    none_occurs [] name info none listed = absurd listed.1
+    none_occurs (e ∷ es) name info none listed = elim none [
       | inl hit ↦ absurd (let wrong = hit.1 in cc)
       | inr miss ↦ elim listed.1 [
         | inl here ↦ absurd (miss.0 (ap (λ (x : Entry). x.name) (sym here) ∙ listed.2))
-        | inr later ↦ none_stands es name info miss.1 (listed.0, later, listed.2, listed.3)
+        | inr later ↦ none_occurs es name info miss.1 (listed.0, later, listed.2, listed.3)
       ]
     ]
 
@@ -83,37 +83,37 @@ module _ (t : Trie) where
     none_first [] (e ∷ es) name each none = absurd each
     none_first (p ∷ ps) [] name each none = refl
     none_first (p ∷ ps) (e ∷ es) name each none = inr (
-      λ h. none e.info (subst (λ (n : List ℕ). IsExportOf t root n e.info) h (belongs_stands p e each.0)),
+      λ h. none e.info (subst (λ (n : List ℕ). IsExportOf t root n e.info) h (belongs_occurs p e each.0)),
       none_first ps es name each.1 none,
     )
 
 -- the first export of a name in the trie of an image, if it has one
 
 first_in : (t : Option TrieRange) (libs : List (List ℕ)) (list : List Entry) (name : List ℕ) (found : Option Info) → ListsImageExports t libs list
-    → IsFirstOf name list found → StandsInImage t libs name found
+    → IsFirstOf name list found → IsAnswerInImage t libs name found
 first_in None libs list name found lists first = subst (λ (es : List Entry). IsFirstOf name es found) lists first
-first_in (Some t) libs list name None lists first = λ info stands.
+first_in (Some t) libs list name None lists first = λ info occurs.
     let there = trie_there t libs in
     let paths = lists_paths there t.from [] list lists.1 in
-    none_stands there t.from list name info first
-    (standing_listed there t.from paths.0 list stands.0 name info paths.1.exports (paths.1.each stands.0 (info, stands.1)) stands.1 stands.2)
+    none_occurs there t.from list name info first
+    (standing_listed there t.from paths.0 list occurs.0 name info paths.1.exports (paths.1.each occurs.0 (info, occurs.1)) occurs.1 occurs.2)
 first_in (Some t) libs list name (Some info) lists first =
     let paths = lists_paths (trie_there t libs) t.from [] list lists.1 in
-    first_stands (trie_there t libs) t.from paths.0 list name info paths.1.exports first
+    first_occurs (trie_there t libs) t.from paths.0 list name info paths.1.exports first
 
 missing_in : (t : Option TrieRange) (libs : List (List ℕ)) (list : List Entry) (name : List ℕ) → ListsImageExports t libs list
-    → StandsInImage t libs name None → IsFirstOf name list None
-missing_in None libs list name lists stands = subst (λ (es : List Entry). IsFirstOf name es None) (sym lists) refl
-missing_in (Some t) libs list name lists stands =
+    → IsAnswerInImage t libs name None → IsFirstOf name list None
+missing_in None libs list name lists occurs = subst (λ (es : List Entry). IsFirstOf name es None) (sym lists) refl
+missing_in (Some t) libs list name lists occurs =
     let paths = lists_paths (trie_there t libs) t.from [] list lists.1 in
-    none_first (trie_there t libs) t.from paths.0 list name paths.1.exports stands
+    none_first (trie_there t libs) t.from paths.0 list name paths.1.exports occurs
 
 listed_in : (t : Option TrieRange) (libs : List (List ℕ)) (list : List Entry) (name : List ℕ) (info : Info) → ListsImageExports t libs list
-    → StandsInImage t libs name (Some info) → IsListedAs name info list
-listed_in None libs list name info lists stands = absurd (cc)
-listed_in (Some t) libs list name info lists stands =
+    → IsAnswerInImage t libs name (Some info) → IsListedAs name info list
+listed_in None libs list name info lists occurs = absurd (cc)
+listed_in (Some t) libs list name info lists occurs =
     let paths = lists_paths (trie_there t libs) t.from [] list lists.1 in
-    standing_listed (trie_there t libs) t.from paths.0 list stands.0 name info paths.1.exports (paths.1.each stands.0 (info, stands.1)) stands.1 stands.2
+    standing_listed (trie_there t libs) t.from paths.0 list occurs.0 name info paths.1.exports (paths.1.each occurs.0 (info, occurs.1)) occurs.1 occurs.2
 
 -- the same of the bytes, in which at most one image opens
 module _ (bytes : List ℕ) (o : ℕ) where
@@ -130,10 +130,10 @@ module _ (bytes : List ℕ) (o : ℕ) where
   pub missing_export : (list : List Entry) (name : List ℕ) → HasExports bytes o list → HasExportOf bytes o name None → IsFirstOf name list None
   missing_export list name p q =
       missing_in (trie_in bytes p.cs) (libs_in bytes p.cs) list name p.holds
-      (one_image bytes o (λ ctx cs. StandsInImage (trie_in bytes cs) (libs_in bytes cs) name None) p.ctx p.cs p.opens q)
+      (one_image bytes o (λ ctx cs. IsAnswerInImage (trie_in bytes cs) (libs_in bytes cs) name None) p.ctx p.cs p.opens q)
 
   pub listed_export : (list : List Entry) (name : List ℕ) (info : Info) → HasExports bytes o list → HasExportOf bytes o name (Some info)
       → IsListedAs name info list
   listed_export list name info p q =
       listed_in (trie_in bytes p.cs) (libs_in bytes p.cs) list name info p.holds
-      (one_image bytes o (λ ctx cs. StandsInImage (trie_in bytes cs) (libs_in bytes cs) name (Some info)) p.ctx p.cs p.opens q)
+      (one_image bytes o (λ ctx cs. IsAnswerInImage (trie_in bytes cs) (libs_in bytes cs) name (Some info)) p.ctx p.cs p.opens q)

@@ -17,7 +17,7 @@ use Rattle.mach_chained.specs.Bindings.{bindings_of}
 use Rattle.mach_chained.specs.Chained.{PlacedFixup, AreFixups, AreFixupItems, fixup_items}
 use Rattle.mach_chained.specs.Fixups.{FixupInput, Fixup}
 use Rattle.mach_chained.specs.Header.{Fixups}
-use Rattle.goblin_mach.specs.BindingLaws.{HasOneListOfFixups, HasOneListOfBindings, AreAlike, TellTheSame}
+use Rattle.goblin_mach.specs.BindingLaws.{HasOneListOfFixups, HasOneListOfBindings, AreAlike, ReportTheSame}
 use Rattle.goblin_mach.specs.Bindings.{AreOpcodeBindings, AreChainBindings, AreImageBindings}
 use Rattle.goblin_mach.specs.Fixups.{AreImageFixups, chained_at, chained_in, input_over}
 use Rattle.goblin_mach.specs.Readings.{read_of, last_or, keep}
@@ -116,7 +116,7 @@ last_lazy bytes (c ∷ cs) before h = one_more (bind_ranges_of c.kind bytes c.va
 binds_are_lazy : (bytes : List ℕ) (cs : List Command) → IsSecondLazy (binds_in bytes cs)
 binds_are_lazy bytes cs = last_lazy bytes cs None tt
 
-module _ (tell : dyld.StreamsTellTheSame) where
+module _ (report : dyld.StreamsReportTheSame) where
   -- the bindings are those of the opcodes, if there are no chains
   opcodes_alone : (b : BindRanges) (n : ℕ) (libs : List (List ℕ)) (segments : List SegmentView) (items by_opcodes by_chains : List (Result Binding Fault))
       → AreOpcodeBindings (Some b) n libs segments by_opcodes → by_chains ≡ [] → items ≡ upto_fault (by_opcodes ++ by_chains) → items ≡ by_opcodes
@@ -127,28 +127,29 @@ module _ (tell : dyld.StreamsTellTheSame) where
       ∙ ended_once _
       ∙ sym are.are
 
-  abbrev Tell : List ℕ → List (Result Import Fault) → List (Result Binding Fault) → Type 0
-  Tell first imports bindings = dyld.EachTells first imports bindings × dyld.TellOneForOne first imports bindings
+  abbrev SameReports : List ℕ → List (Result Import Fault) → List (Result Binding Fault) → Type 0
+  SameReports first imports bindings = dyld.EachReports first imports bindings × dyld.ReportOneForOne first imports bindings
 
-  told_of : (b : Option BindRanges) (n : ℕ) (first : List ℕ) (others libs : List (List ℕ)) (segments : List SegmentView) (imports : List (Result Import Fault))
+  reported_of : (b : Option BindRanges) (n : ℕ) (first : List ℕ) (others libs : List (List ℕ)) (segments : List SegmentView) (imports : List
+      (Result Import Fault))
       (bindings : List (Result Binding Fault)) → IsSecondLazy b → 0 < n → libs ≡ first ∷ others → AreAlike b n libs segments
-      → AreImageBindItems b n libs segments imports → AreImageBindings b (Ok None) n libs segments bindings → Tell first imports bindings
-  told_of None n first others libs segments imports bindings second more are_libs alike none h =
+      → AreImageBindItems b n libs segments imports → AreImageBindings b (Ok None) n libs segments bindings → SameReports first imports bindings
+  reported_of None n first others libs segments imports bindings second more are_libs alike none h =
       let nothing : bindings ≡ [] =
       h.are ∙ ap (λ (xs : List (Result Binding Fault)). upto_fault (xs ++ h.by_chains)) h.opcodes ∙ ap upto_fault h.chains in
-      subst (Tell first imports) (sym nothing) (subst (λ (is : List (Result Import Fault)). Tell first is []) (sym none) (refl, no_list first))
+      subst (SameReports first imports) (sym nothing) (subst (λ (is : List (Result Import Fault)). SameReports first is []) (sym none) (refl, no_list first))
     where
-      no_list : (first : List ℕ) → dyld.TellOneForOne first [] []
+      no_list : (first : List ℕ) → dyld.ReportOneForOne first [] []
       no_list first [] e = refl
       no_list first (b ∷ list) e = absurd (cc)
-  told_of (Some b) n first others libs segments imports bindings second more are_libs (ps, qs, alike) (ps', qs', items) h =
+  reported_of (Some b) n first others libs segments imports bindings second more are_libs (ps, qs, alike) (ps', qs', items) h =
       let x = input_in b n libs segments in
       let same : bindings ≡ h.by_opcodes = opcodes_alone b n libs segments bindings h.by_opcodes h.by_chains h.opcodes h.chains h.are in
-      subst (Tell first imports) (sym same)
-      (tell x b.non_lazy b.lazy first others ps qs ps' qs' h.opcodes.0 h.opcodes.1 imports h.by_opcodes are_libs more second alike items h.opcodes.2)
+      subst (SameReports first imports) (sym same)
+      (report x b.non_lazy b.lazy first others ps qs ps' qs' h.opcodes.0 h.opcodes.1 imports h.by_opcodes are_libs more second alike items h.opcodes.2)
 
-  pub tell_the_same : TellTheSame
-  tell_the_same bytes o first others imports bindings libs alike listed bound =
+  pub report_the_same : ReportTheSame
+  report_the_same bytes o first others imports bindings libs alike listed bound =
       let ctx = alike.ctx in
       let cs = alike.cs in
       let n = pointer_size ctx.container in
@@ -160,5 +161,5 @@ module _ (tell : dyld.StreamsTellTheSame) where
       (lossy_segments_in c bytes ds) imports) ctx cs alike.opens listed in
       let here = one_image bytes o (λ c ds. AreImageBindings (binds_in bytes ds) (chained_in c bytes ds) (pointer_size c.container) (libs_in bytes ds)
       (lossy_segments_in c bytes ds) bindings) ctx cs alike.opens bound in
-      told_of b n first others names segments imports bindings (binds_are_lazy bytes cs) (more_than_none ctx.container) (sym named) alike.holds.0 items
+      reported_of b n first others names segments imports bindings (binds_are_lazy bytes cs) (more_than_none ctx.container) (sym named) alike.holds.0 items
       (subst (λ (place : Option (ℕ × ℕ)). AreImageBindings b (chained_at ctx.le bytes place) n names segments bindings) alike.holds.1 here)

@@ -20,7 +20,7 @@ use Rattle.goblin_mach.specs.ImageStreams.{AreImageWeakBinds, AreRebasesByOpcode
 use Rattle.goblin_mach.specs.Tables.{AreStartsAt, starts_place_in}
 use Rattle.goblin_mach.proofs.ImageFacts.{one_image}
 use Rattle.goblin_mach.specs.LayoutFacts.{HasLayoutFaults}
-use Rattle.goblin_mach.specs.ListFaults.{AreListFaults, laid_by, told_where}
+use Rattle.goblin_mach.specs.ListFaults.{AreListFaults, laid_by, reported_where}
 use Rattle.mach_layout.specs.Commands.{command_faults, text_faults}
 use Rattle.mach_layout.specs.DataInCode.{data_faults}
 use Rattle.mach_layout.specs.Entry.{entry_faults}
@@ -42,7 +42,8 @@ use Rattle.mach_layout.specs.declared.fault.Rule.TheVariants as rule
 
 -- the faults of ranges that share a place are one list
 abbrev pub OneShared : Type 0
-OneShared = (rule : Rule) (ranges : List Claim) (told others : List LayoutFault) → AreShared rule ranges told → AreShared rule ranges others → told ≡ others
+OneShared = (rule : Rule) (ranges : List Claim) (reported others : List LayoutFault) → AreShared rule ranges reported → AreShared rule ranges others
+    → reported ≡ others
 
 module _ (one_shared : OneShared) (laid : Laid) where
   segments_alike : (old list others : List LayoutFault) → AddsSegments laid old list → AddsSegments laid old others → list ≡ others
@@ -57,24 +58,24 @@ module _ (one_shared : OneShared) (laid : Laid) where
 
   sections_alike : (old before list others : List LayoutFault) → old ≡ before → AddsSections laid old list → AddsSections laid before others → list ≡ others
   sections_alike old before list others same h k =
-      let behind : List LayoutFault → List LayoutFault → List LayoutFault → List LayoutFault = λ first sections claims.
+      let following : List LayoutFault → List LayoutFault → List LayoutFault → List LayoutFault = λ first sections claims.
       first ++ section_faults laid ++ sections ++ claims ++ claim_faults laid ++ encrypted_faults laid in
       h.joined
-      ∙ ap (λ (first : List LayoutFault). behind first h.sections h.claims) same
-      ∙ ap (λ (sections : List LayoutFault). behind before sections h.claims) (one_shared _ _ h.sections k.sections h.sections_shared k.sections_shared)
-      ∙ ap (λ (claims : List LayoutFault). behind before k.sections claims) (one_shared _ _ h.claims k.claims h.claims_shared k.claims_shared)
+      ∙ ap (λ (first : List LayoutFault). following first h.sections h.claims) same
+      ∙ ap (λ (sections : List LayoutFault). following before sections h.claims) (one_shared _ _ h.sections k.sections h.sections_shared k.sections_shared)
+      ∙ ap (λ (claims : List LayoutFault). following before k.sections claims) (one_shared _ _ h.claims k.claims h.claims_shared k.claims_shared)
       ∙ sym k.joined
 
   module _ (AreOfLists : List LayoutFault → Type 0)
-      (one_of_lists : (told others : List LayoutFault) → AreOfLists told → AreOfLists others → told ≡ others) where
+      (one_of_lists : (reported others : List LayoutFault) → AreOfLists reported → AreOfLists others → reported ≡ others) where
     symbols_alike : (old before list others : List LayoutFault) → old ≡ before
         → AddsSymbols laid AreOfLists old list → AddsSymbols laid AreOfLists before others → list ≡ others
     symbols_alike old before list others same h k =
-        let behind : List LayoutFault → List LayoutFault → List LayoutFault = λ first lists.
+        let following : List LayoutFault → List LayoutFault → List LayoutFault = λ first lists.
         first ++ symbol_faults laid ++ entry_faults laid ++ text_faults laid ++ lists ++ fixup_faults laid ++ data_faults laid in
         h.joined
-        ∙ ap (λ (first : List LayoutFault). behind first h.of_lists) same
-        ∙ ap (λ (lists : List LayoutFault). behind before lists) (one_of_lists h.of_lists k.of_lists h.are_of_lists k.are_of_lists)
+        ∙ ap (λ (first : List LayoutFault). following first h.of_lists) same
+        ∙ ap (λ (lists : List LayoutFault). following before lists) (one_of_lists h.of_lists k.of_lists h.are_of_lists k.are_of_lists)
         ∙ sym k.joined
 
     faults_alike : (list others : List LayoutFault) → AreLayoutFaults laid AreOfLists list → AreLayoutFaults laid AreOfLists others → list ≡ others
@@ -106,23 +107,23 @@ module _ (one_run : StreamsHaveOneListOfBindings) (one_rebasing : StreamHasOneLi
   one_starts bytes None base items others h k = h ∙ sym k
   one_starts bytes (Some place) base items others h k = one_start (start_range_at bytes place.0 place.1) base items others h k
 
-  of_lists_alike : (f : Facts) (told others : List LayoutFault) → AreListFaults f told → AreListFaults f others → told ≡ others
-  of_lists_alike f told others h k =
+  of_lists_alike : (f : Facts) (reported others : List LayoutFault) → AreListFaults f reported → AreListFaults f others → reported ≡ others
+  of_lists_alike f reported others h k =
       let n = pointer_size f.ctx.container in
       let laid = laid_by f in
       let joined : Bool → Bool → Bool → Bool → List LayoutFault = λ a b c d.
-      told_where a (opcodes_fault rule.Binds part.Binds laid) ++ told_where b (opcodes_fault rule.Rebases part.RebaseOpcodes laid)
-      ++ told_where c (opcodes_fault rule.WeakBinds part.WeakBindOpcodes laid) ++ told_where d (function_starts_fault laid) in
+      reported_where a (opcodes_fault rule.Binds part.Binds laid) ++ reported_where b (opcodes_fault rule.Rebases part.RebaseOpcodes laid)
+      ++ reported_where c (opcodes_fault rule.WeakBinds part.WeakBindOpcodes laid) ++ reported_where d (function_starts_fault laid) in
       let a = ap has_fault (one_opcodes f.binds n f.libs f.segments h.bindings k.bindings h.are_bindings k.are_bindings) in
       let b = ap has_fault (one_rebases (rebase_stream_in f.bytes f.commands) f.ctx.le n f.segments h.rebases k.rebases h.are_rebases k.are_rebases) in
       let c = ap has_fault (one_weak_binds (weak_stream_in f.bytes f.commands) n f.segments h.weak_binds k.weak_binds h.are_weak_binds k.are_weak_binds) in
       let d = ap has_fault (one_starts f.bytes (starts_place_in f.commands) (base_of f.segments) h.starts k.starts h.are_starts k.are_starts) in
-      h.told
+      h.reported
       ∙ ap (λ (x : Bool). joined x (has_fault h.rebases) (has_fault h.weak_binds) (has_fault h.starts)) a
       ∙ ap (λ (x : Bool). joined (has_fault k.bindings) x (has_fault h.weak_binds) (has_fault h.starts)) b
       ∙ ap (λ (x : Bool). joined (has_fault k.bindings) (has_fault k.rebases) x (has_fault h.starts)) c
       ∙ ap (λ (x : Bool). joined (has_fault k.bindings) (has_fault k.rebases) (has_fault k.weak_binds) x) d
-      ∙ sym k.told
+      ∙ sym k.reported
 
   pub one_list : OneShared → (bytes : List ℕ) (list others : List LayoutFault) → HasLayoutFaults bytes list → HasLayoutFaults bytes others → list ≡ others
   one_list one_shared bytes list others h k =

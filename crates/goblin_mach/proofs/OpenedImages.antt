@@ -4,10 +4,10 @@ use Rattle.std.proofs.Common.{arith}
 use Rattle.std.specs.Prelude.{IfErr}
 use Rattle.mach_base.specs.declared.context.Ctx.{Ctx}
 use Rattle.mach_base.specs.declared.error.Error.{Error}
-use Rattle.mach_base.specs.Answer.{Stands, IsOkUnlessMemory}
+use Rattle.mach_base.specs.Answer.{ErrorMeets, IsOkUnlessMemory}
 use Rattle.mach_base.specs.Fault.{Fault}
 use Rattle.mach_base.proofs.Binds.{same_ok}
-use Rattle.mach_base.proofs.Faults.{Stands-in}
+use Rattle.mach_base.proofs.Faults.{ErrorMeets-in}
 use Rattle.mach_load.specs.Command.{Command}
 use Rattle.mach_parts.specs.Header.{header_size}
 use Rattle.mach_base.specs.Among.{IsAmong}
@@ -103,11 +103,11 @@ fault-excludes_image bytes o _ (unreadable c front f some unread) opens =
     let opened : OpensAs bytes o c opens.1 = subst (λ (x : Ctx). OpensAs bytes o x opens.1) same opens.2 in
     unreadable-excludes_image bytes o c front opens.1 f some opened unread
 
-pub ok_where_opens : {X : Type 0} (r : Result X Error) (bytes : List ℕ) (o : ℕ) → IfErr r (Stands (ImageFault bytes o)) → Opens bytes o → IsOkUnlessMemory r
+pub ok_where_opens : {X : Type 0} (r : Result X Error) (bytes : List ℕ) (o : ℕ) → IfErr r (ErrorMeets (ImageFault bytes o)) → Opens bytes o → IsOkUnlessMemory r
 ok_where_opens (Ok x) bytes o h opens = tt
-ok_where_opens (Err e) bytes o h opens = Stands-in (ImageFault bytes o) (λ _. ⊥) e (λ f k. fault-excludes_image bytes o f k opens) h
+ok_where_opens (Err e) bytes o h opens = ErrorMeets-in (ImageFault bytes o) (λ _. ⊥) e (λ f k. fault-excludes_image bytes o f k opens) h
 
-pub ok_where_opens_lossily : {X : Type 0} (r : Result X Error) (bytes : List ℕ) (o : ℕ) → IfErr r (Stands (LossyFault bytes o)) → LossyOpens bytes o
+pub ok_where_opens_lossily : {X : Type 0} (r : Result X Error) (bytes : List ℕ) (o : ℕ) → IfErr r (ErrorMeets (LossyFault bytes o)) → LossyOpens bytes o
     → IsOkUnlessMemory r
 ok_where_opens_lossily (Ok x) bytes o h opens = tt
-ok_where_opens_lossily (Err e) bytes o h opens = Stands-in (LossyFault bytes o) (λ _. ⊥) e (λ f k. fault-excludes_lossy bytes o f k opens) h
+ok_where_opens_lossily (Err e) bytes o h opens = ErrorMeets-in (LossyFault bytes o) (λ _. ⊥) e (λ f k. fault-excludes_lossy bytes o f k opens) h

@@ -17,13 +17,13 @@ use Rattle.mach_dyld.specs.Rebases.{Rebase}
 use Rattle.mach_dyld.specs.declared.rebases.RebaseKind.TheVariants.{Pointer}
 use Rattle.mach_dyld.specs.WeakBinds.{WeakBind}
 use Rattle.mach_dyld.specs.StreamLaws.{StreamHasOneListOfRebases, StreamHasOneListOfWeakBinds}
-use Rattle.goblin_mach.specs.Fixups.{AreImageFixups, chained_held, chained_in}
+use Rattle.goblin_mach.specs.Fixups.{AreImageFixups, chained_view, chained_in}
 use Rattle.goblin_mach.specs.ImageStreams.{AreImageRebases, AreImageWeakBinds, AreRebasesByOpcodes, rebase_by, rebase_in, rebases_among, rebases_before}
 use Rattle.goblin_mach.specs.ImageStreams.{rebase_stream_in, weak_stream_in}
 use Rattle.goblin_mach.specs.Modes.{Agrees}
-use Rattle.goblin_mach.specs.OpenImage.{bytes_held, commands_held, ctx_held, segments_held}
+use Rattle.goblin_mach.specs.OpenImage.{bytes_view, commands_view, ctx_view, segments_view}
 use Rattle.goblin_mach.specs.StreamFacts.{HasRebases, HasWeakBinds, HasOneListOfRebases, HasOneListOfWeakBinds, HasNoWeakBindsThen, HasRebasesOfFixups}
-use Rattle.goblin_mach.specs.StreamFacts.{IsToldOnce, told_nowhere, told_as_rebase, told_as_binding, EachIsToldOnce, RebasesComeOfFixups}
+use Rattle.goblin_mach.specs.StreamFacts.{IsReportedOnce, reported_nowhere, reported_as_rebase, reported_as_binding, EachIsReportedOnce, RebasesComeOfFixups}
 use Rattle.goblin_mach.specs.Subjects.{lossy_segments_in}
 use Rattle.goblin_mach.specs.declared.macho.MachO.{MachO}
 use Rattle.goblin_mach.proofs.ImageFacts.{one_image, said_of}
@@ -33,14 +33,14 @@ use Rattle.goblin_mach.proofs.OneList.{OneListOfFixups, one_fixups}
 
 module _ {A : Type 0} (m : MachO A) where
   pub rebases_are : Agrees m HasRebases
-      (AreImageRebases (rebase_stream_in (bytes_held m) (commands_held m)) (chained_held m) (ctx_held m).le (pointer_size (ctx_held m).container)
-      (segments_held m))
+      (AreImageRebases (rebase_stream_in (bytes_view m) (commands_view m)) (chained_view m) (ctx_view m).le (pointer_size (ctx_view m).container)
+      (segments_view m))
   rebases_are =
       said_of m (λ items f. AreImageRebases (rebase_stream_in f.bytes f.commands) (chained_in f.ctx f.bytes f.commands) f.ctx.le
       (pointer_size f.ctx.container) f.segments items)
 
   pub weak_binds_are : Agrees m HasWeakBinds
-      (AreImageWeakBinds (weak_stream_in (bytes_held m) (commands_held m)) (pointer_size (ctx_held m).container) (segments_held m))
+      (AreImageWeakBinds (weak_stream_in (bytes_view m) (commands_view m)) (pointer_size (ctx_view m).container) (segments_view m))
   weak_binds_are =
       said_of m (λ items f. AreImageWeakBinds (weak_stream_in f.bytes f.commands) (pointer_size f.ctx.container) f.segments items)
 
@@ -132,16 +132,16 @@ rebases_of_fixups fixed bytes o items fixups none h k =
 
 -- ---- each fixup
 
-told_by : (x : FixupInput) (libs : List (List ℕ)) (f : Fixup) (k : KindOfFixup) → f.kind ≡ k → IsToldOnce x libs f
-told_by x libs f (rebase target) e = told_as_rebase
+reported_by : (x : FixupInput) (libs : List (List ℕ)) (f : Fixup) (k : KindOfFixup) → f.kind ≡ k → IsReportedOnce x libs f
+reported_by x libs f (rebase target) e = reported_as_rebase
     (record { segment = f.segment; offset = f.offset; address = f.address; target = target; kind = Pointer; auth = f.auth })
     (ap (rebase_by f) e) (ap (binding_by x libs f) e)
-told_by x libs f (bind import addend) e =
-    told_as_binding (chained_binding_of x libs f import addend) (ap (rebase_by f) e) (ap (binding_by x libs f) e)
-told_by x libs f (value number) e = told_nowhere number e (ap (rebase_by f) e) (ap (binding_by x libs f) e)
+reported_by x libs f (bind import addend) e =
+    reported_as_binding (chained_binding_of x libs f import addend) (ap (rebase_by f) e) (ap (binding_by x libs f) e)
+reported_by x libs f (value number) e = reported_nowhere number e (ap (rebase_by f) e) (ap (binding_by x libs f) e)
 
-pub told_once : EachIsToldOnce
-told_once x libs f = told_by x libs f f.kind refl
+pub reported_once : EachIsReportedOnce
+reported_once x libs f = reported_by x libs f f.kind refl
 
 -- ---- all of them
 
@@ -167,15 +167,15 @@ later : (own : Option Rebase) (items : List (Result Rebase Fault)) (r : Rebase) 
 later None items r h = h
 later (Some s) items r h = inr h
 
-is_told : (fixups : List (Result Fixup Fault)) (f : Fixup) (r : Rebase) → IsAmong (Ok f) fixups → rebase_in f ≡ Some r
+is_reported : (fixups : List (Result Fixup Fault)) (f : Fixup) (r : Rebase) → IsAmong (Ok f) fixups → rebase_in f ≡ Some r
     → IsAmong (Ok r) (rebases_among fixups)
-is_told [] f r h e = absurd h
-is_told (Err g ∷ items) f r (inl h) e = absurd (cc)
-is_told (Err g ∷ items) f r (inr h) e = inr (is_told items f r h e)
-is_told (Ok x ∷ items) f r (inl h) e =
+is_reported [] f r h e = absurd h
+is_reported (Err g ∷ items) f r (inl h) e = absurd (cc)
+is_reported (Err g ∷ items) f r (inr h) e = inr (is_reported items f r h e)
+is_reported (Ok x ∷ items) f r (inl h) e =
     let own : rebase_in x ≡ Some r = ap rebase_in (sym (same_ok h)) ∙ e in
     subst (λ (o : Option Rebase). IsAmong (Ok r) (rebases_before o (rebases_among items))) (sym own) (inl refl)
-is_told (Ok x ∷ items) f r (inr h) e = later (rebase_in x) (rebases_among items) r (is_told items f r h e)
+is_reported (Ok x ∷ items) f r (inr h) e = later (rebase_in x) (rebases_among items) r (is_reported items f r h e)
 
 pub come_of_fixups : RebasesComeOfFixups
-come_of_fixups fixups r = (λ h. comes_of fixups r h, λ h. is_told fixups h.0 r h.1 h.2)
+come_of_fixups fixups r = (λ h. comes_of fixups r h, λ h. is_reported fixups h.0 r h.1 h.2)

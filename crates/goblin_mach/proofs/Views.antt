@@ -5,7 +5,7 @@ use Rattle.std.proofs.Common.{◌≡◌, ℕ, ◌+◌, ◌-◌, ◌<◌, ◌≤�
 use Rattle.std.proofs.lemmas.List.{append-nil}
 use Rattle.mach_base.specs.declared.error.Error.{Error}
 use Rattle.mach_base.specs.declared.error.Error.TheVariants as errors
-use Rattle.mach_base.specs.Answer.{Stands}
+use Rattle.mach_base.specs.Answer.{ErrorMeets}
 use Rattle.mach_base.specs.Context.{pointer_size}
 use Rattle.mach_base.specs.Fault.{Fault, malformed, bad_magic, too_short, fault_of_scroll}
 use Rattle.mach_base.specs.Text.{texts}
@@ -17,28 +17,28 @@ use Rattle.goblin_mach.specs.FatEntry.{FatEntry, archive, image, IsEntry}
 use Rattle.goblin_mach.specs.declared.fat_file.entry.SingleArch.TheVariants as entries
 use Rattle.goblin_mach.specs.declared.view.LinkView.TheVariants as views
 use Rattle.goblin_mach.specs.Subjects.{ListsImageImports, ListsImageExports}
-use Rattle.goblin_mach.specs.OpenImage.{IsImage, commands_held, trie_held, binds_held, ctx_held, segments_held}
-use Rattle.goblin_mach.specs.View.{LinksImage, LinksFault, ItemFault, of_links, FaultHeld, IsTold, Tells, IsViewItem, AreViewItems}
+use Rattle.goblin_mach.specs.OpenImage.{IsImage, commands_view, trie_view, binds_view, ctx_view, segments_view}
+use Rattle.goblin_mach.specs.View.{LinksImage, LinksFault, ItemFault, of_links, FaultHeld, IsReported, ReportsFault, IsViewItem, AreViewItems}
 use Rattle.goblin_mach.specs.declared.view.LinkView.{LinkView}
 use Rattle.goblin_mach.specs.declared.macho.MachO.{MachO}
 use Rattle.goblin_mach.proofs.ImageFacts.{exports_are, exports_fail, imports_are, imports_fail}
 
 -- an error for a fault that occurs is an item's error
-pub tells : (P Q : Fault → Type 0) (e : Error) → IsTold e → ((f : Fault) → P f → Q f) → Stands P e → Tells Q e
-tells P Q (errors.Malformed m) t to h = to malformed h
-tells P Q (errors.BadMagic n) t to h = to (bad_magic n) h
-tells P Q (errors.Scroll e) t to h = to (fault_of_scroll e) h
-tells P Q (errors.BufferTooShort n m) t to h = to (too_short n m.now) h
-tells P Q (errors.Memory e) t to h = absurd t
+pub reports : (P Q : Fault → Type 0) (e : Error) → IsReported e → ((f : Fault) → P f → Q f) → ErrorMeets P e → ReportsFault Q e
+reports P Q (errors.Malformed m) t to h = to malformed h
+reports P Q (errors.BadMagic n) t to h = to (bad_magic n) h
+reports P Q (errors.Scroll e) t to h = to (fault_of_scroll e) h
+reports P Q (errors.BufferTooShort n m) t to h = to (too_short n m.now) h
+reports P Q (errors.Memory e) t to h = absurd t
 
 -- the lists that an image holds are those that it links
 pub image-links : {A : Type 0} (bytes : List ℕ) (m : MachO A) (list : List trie.Entry) (imports : List Import) → IsImage bytes 0 m
-    → ListsImageExports (trie_held m) (texts m.libs.items) list
-    → ListsImageImports (binds_held m) (pointer_size (ctx_held m).container) (texts m.libs.items) (segments_held m) imports
+    → ListsImageExports (trie_view m) (texts m.libs.items) list
+    → ListsImageImports (binds_view m) (pointer_size (ctx_view m).container) (texts m.libs.items) (segments_view m) imports
     → LinksImage bytes list imports
 image-links bytes m list imports p exported imported =
     record {
-      opens = (p.ctx, commands_held m, p.opens);
+      opens = (p.ctx, commands_view m, p.opens);
       exports_are = ((exports_are m).strict bytes 0 p list).1 exported;
       imports_are = ((imports_are m).strict bytes 0 p imports).1 imported;
     }
@@ -47,7 +47,7 @@ image-links bytes m list imports p exported imported =
 pub image-fails : {A : Type 0} (bytes : List ℕ) (m : MachO A) (f : Fault) → IsImage bytes 0 m → FaultHeld m f → LinksFault bytes f
 image-fails bytes m f p fault =
     record {
-      opens = (p.ctx, commands_held m, p.opens);
+      opens = (p.ctx, commands_view m, p.opens);
       fault = elim fault [ inl e ↦ inl (((exports_fail m).strict bytes 0 p f).1 e) | inr i ↦ inr (((imports_fail m).strict bytes 0 p f).1 i) ];
     }
 

@@ -8,7 +8,7 @@ use Rattle.mach_dyld.specs.TrieRange.{TrieRange, empty_range, trie_there, ListsE
 use Rattle.mach_base.specs.Text.{texts}
 use Rattle.goblin_mach.specs.Facts.{HasExports, HasExportsFault, HasExportsEnd}
 use Rattle.goblin_mach.specs.Modes.{InBothModes}
-use Rattle.goblin_mach.specs.OpenImage.{trie_held}
+use Rattle.goblin_mach.specs.OpenImage.{trie_view}
 use Rattle.goblin_mach.specs.Subjects.{ListsImageExports, ImageExportsFault, trie_or_empty}
 use Rattle.goblin_mach.specs.declared.macho.MachO.{MachO}
 use Rattle.goblin_mach.proofs.ImageFacts.{both_modes, exports_are, exports_fail, facts_are}
@@ -31,16 +31,16 @@ walked_fault (Some t) libs f s = s
 
 -- the same of the bytes
 pub walked_exports : {A : Type 0} (m : MachO A)
-    → InBothModes m (λ bytes o. (list : List Entry) → ListsExports (trie_or_empty (trie_held m)) (texts m.libs.items) list → HasExports bytes o list)
+    → InBothModes m (λ bytes o. (list : List Entry) → ListsExports (trie_or_empty (trie_view m)) (texts m.libs.items) list → HasExports bytes o list)
 walked_exports m =
-    both_modes m _ (λ bytes o p list l. ((exports_are m).lossy bytes o p list).1 (walked_list (trie_held m) (texts m.libs.items) list l))
+    both_modes m _ (λ bytes o p list l. ((exports_are m).lossy bytes o p list).1 (walked_list (trie_view m) (texts m.libs.items) list l))
 
 pub walked_to_fault : {A : Type 0} (m : MachO A)
-    → InBothModes m (λ bytes o. (f : Fault) → ExportsFault (trie_or_empty (trie_held m)) (texts m.libs.items) f → HasExportsFault bytes o f)
+    → InBothModes m (λ bytes o. (f : Fault) → ExportsFault (trie_or_empty (trie_view m)) (texts m.libs.items) f → HasExportsFault bytes o f)
 walked_to_fault m =
-    both_modes m _ (λ bytes o p f s. ((exports_fail m).lossy bytes o p f).1 (walked_fault (trie_held m) (texts m.libs.items) f s))
+    both_modes m _ (λ bytes o p f s. ((exports_fail m).lossy bytes o p f).1 (walked_fault (trie_view m) (texts m.libs.items) f s))
 
 pub walked_to_end : {A : Type 0} (m : MachO A)
-    → InBothModes m (λ bytes o. (found : List Entry) (f : Fault) → ExportsEnd (trie_or_empty (trie_held m)) (texts m.libs.items) found f
+    → InBothModes m (λ bytes o. (found : List Entry) (f : Fault) → ExportsEnd (trie_or_empty (trie_view m)) (texts m.libs.items) found f
     → HasExportsEnd bytes o found f)
 walked_to_end m = both_modes m _ (λ bytes o p found f s. (facts_are bytes o m p (λ q. ExportsEnd (trie_or_empty q.trie) q.libs found f)).1 s)

@@ -3,10 +3,10 @@ use Rattle.std.proofs.Common.{◌≡◌, ℕ, ◌≤◌, inl, inr, List, [], ◌
 use Rattle.std.proofs.lemmas.Bool.{leb-true}
 use Rattle.std.specs.Prelude.{IfErr}
 use Rattle.mach_base.specs.declared.error.Error.{Error}
-use Rattle.mach_base.specs.Answer.{Stands, IsOkUnlessMemory}
+use Rattle.mach_base.specs.Answer.{ErrorMeets, IsOkUnlessMemory}
 use Rattle.mach_base.specs.Fault.{Fault}
 use Rattle.mach_base.proofs.Binds.{same_ok}
-use Rattle.mach_base.proofs.Faults.{Stands-in}
+use Rattle.mach_base.proofs.Faults.{ErrorMeets-in}
 use Rattle.mach_parts.specs.declared.fat.FatArch.{FatArch}
 use Rattle.goblin_mach.specs.FatEntry.{FatEntry, image}
 use Rattle.goblin_mach.specs.FatFile.{FatFile, fat_file_in, arches_in}
@@ -43,10 +43,10 @@ view_fault-excludes bytes _ entries (of_table file f fat is bad) (fat_table othe
     let same : other ≡ file = same_ok (sym is_2 ∙ is) in
     not_both (arches_in file) f (subst (λ (x : FatFile). IsOk (arches_in x)) same table) bad
 
-pub ok_where_viewed : {X : Type 0} (r : Result X Error) (bytes : List ℕ) (entries : List (Result FatEntry Fault)) → IfErr r (Stands (ViewFault bytes))
+pub ok_where_viewed : {X : Type 0} (r : Result X Error) (bytes : List ℕ) (entries : List (Result FatEntry Fault)) → IfErr r (ErrorMeets (ViewFault bytes))
     → HasEntries bytes entries → IsOkUnlessMemory r
 ok_where_viewed (Ok x) bytes entries h has = tt
-ok_where_viewed (Err e) bytes entries h has = Stands-in (ViewFault bytes) (λ _. ⊥) e (λ f k. view_fault-excludes bytes f entries k has) h
+ok_where_viewed (Err e) bytes entries h has = ErrorMeets-in (ViewFault bytes) (λ _. ⊥) e (λ f k. view_fault-excludes bytes f entries k has) h
 
 -- an image that opens at the start has another magic than a fat file
 pub entries_of_image : (bytes : List ℕ) → Opens bytes 0 → HasEntries bytes (Ok (image bytes) ∷ [])

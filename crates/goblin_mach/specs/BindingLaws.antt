@@ -4,7 +4,7 @@ use Rattle.mach_base.specs.Context.{pointer_size}
 use Rattle.mach_base.specs.Fault.{Fault}
 use Rattle.mach_parts.specs.Bindings.{Binding}
 use Rattle.mach_parts.specs.Segment.{SegmentView}
-use Rattle.mach_dyld.specs.BindingLaws.{AreReadAlike, EachTells, TellOneForOne}
+use Rattle.mach_dyld.specs.BindingLaws.{AreReadAlike, EachReports, ReportOneForOne}
 use Rattle.mach_dyld.specs.Imports.{BindRanges, Import, input_in}
 use Rattle.mach_dyld.specs.Streams.{Placed}
 use Rattle.mach_chained.specs.Fixups.{Fixup}
@@ -31,7 +31,7 @@ HasAlikeBinds bytes o = OfImage bytes o (λ ctx cs.
     AreAlike (binds_in bytes cs) (pointer_size ctx.container) (libs_in bytes cs) (lossy_segments_in ctx bytes cs) × (chained_place_in cs ≡ None))
 
 -- then each binding agrees with the import at its place; the image itself counts as the first of its libraries
-abbrev pub TellTheSame : Type 0
-TellTheSame = (bytes : List ℕ) (o : ℕ) (first : List ℕ) (libs : List (List ℕ)) (imports : List (Result Import Fault)) (bindings : List (Result Binding Fault))
+abbrev pub ReportTheSame : Type 0
+ReportTheSame = (bytes : List ℕ) (o : ℕ) (first : List ℕ) (libs : List (List ℕ)) (imports : List (Result Import Fault)) (bindings : List (Result Binding Fault))
     → HasLibraries bytes o (first ∷ libs) → HasAlikeBinds bytes o → HasImportItems bytes o imports → HasBindings bytes o bindings
-    → EachTells first imports bindings × TellOneForOne first imports bindings
+    → EachReports first imports bindings × ReportOneForOne first imports bindings

@@ -16,7 +16,7 @@ use Rattle.mach_parts.specs.Bindings.{Binding}
 use Rattle.goblin_mach.specs.Bindings.{AreImageBindings}
 use Rattle.goblin_mach.specs.Fixups.{AreImageFixups, base_of, chained_in}
 use Rattle.goblin_mach.specs.Libraries.{LibraryView, libraries_in}
-use Rattle.goblin_mach.specs.LookUp.{StandsInImage}
+use Rattle.goblin_mach.specs.LookUp.{IsAnswerInImage}
 use Rattle.goblin_mach.specs.EntryPoint.{EntryPoint, entry_point_in}
 use Rattle.goblin_mach.specs.Image.{LossyOpensAs}
 use Rattle.mach_parts.specs.Magic.{cputype_at}
@@ -87,7 +87,7 @@ HasExportsEnd bytes o found f = OfImage bytes o (λ ctx cs. ExportsEnd (trie_or_
 
 -- what it exports a name as, by the paths of its last trie, over its libraries: none if no path has the name
 abbrev pub HasExportOf : List ℕ → ℕ → List ℕ → Option trie.Info → Type 0
-HasExportOf bytes o name found = OfImage bytes o (λ ctx cs. StandsInImage (trie_in bytes cs) (libs_in bytes cs) name found)
+HasExportOf bytes o name found = OfImage bytes o (λ ctx cs. IsAnswerInImage (trie_in bytes cs) (libs_in bytes cs) name found)
 
 -- its imports: the list of its last binds, over its libraries and its segments
 abbrev pub HasImports : List ℕ → ℕ → List Import → Type 0

@@ -1,6 +1,6 @@
 -- The entries of a fat file: archives and images (`mach-o/fat.h`, `ar.h`).
 use Rattle.std.specs.Prelude.{◌≡◌, ℕ, List, length, take, nat_le, nat_lt, Result, Ok, Err, IfOk, IfErr, if◌then◌else◌, ◌-◌, [], ◌∷◌, Option, MatchOption}
-use Rattle.mach_base.specs.Answer.{◌>>=◌, Stands, IsOkUnlessMemory}
+use Rattle.mach_base.specs.Answer.{◌>>=◌, ErrorMeets, IsOkUnlessMemory}
 use Rattle.mach_base.specs.Fault.{Fault, malformed}
 use Rattle.mach_base.specs.declared.error.Error.{Error}
 use Rattle.mach_base.specs.declared.hint.Hint.TheVariants as hints
@@ -9,7 +9,7 @@ use Rattle.mach_parts.specs.Fat.{part_of}
 use Rattle.mach_base.specs.Items.{items_from}
 use Rattle.mach_parts.specs.declared.fat.FatArch.{FatArch}
 use Rattle.mach_parts.specs.ArchForms.{ArchForm, arch_form_32, arch_in}
-use Rattle.goblin_mach.specs.FatFile.{FatFile, file_held}
+use Rattle.goblin_mach.specs.FatFile.{FatFile, file_view}
 use Rattle.goblin_mach.specs.Image.{Opens, ImageFault}
 use Rattle.mach_parts.specs.Magic.{hint_in}
 use Rattle.goblin_mach.specs.OpenImage.{IsImage}
@@ -72,11 +72,11 @@ pub data FatEntryFault : Result FatEntry Fault → Fault → Type 0 where
 pub record OpensEntry {A : Type 0} (entry : Result FatEntry Fault) (answer : Result (SingleArch A) Error) : Type 0 where
   pub opened : IfOk answer (λ x. (e : FatEntry) × (entry ≡ Ok e) × IsEntry e x)
   pub only : EntryOpens entry → IsOkUnlessMemory answer
-  pub refused : IfErr answer (Stands (FatEntryFault entry))
+  pub refused : IfErr answer (ErrorMeets (FatEntryFault entry))
 
 -- the entries that are left
 abbrev pub entries_left_in : {R A : Type 0} → ArchForm R → EntryIterator R A → List (Result FatEntry Fault)
-entries_left_in form it = items_from (arch_entry_in form (file_held it.file.now)) it.index (it.file.now.narches - it.index)
+entries_left_in form it = items_from (arch_entry_in form (file_view it.file.now)) it.index (it.file.now.narches - it.index)
 
 abbrev pub entries_left : {A : Type 0} → EntryIterator FatArch A → List (Result FatEntry Fault)
 entries_left it = entries_left_in arch_form_32 it

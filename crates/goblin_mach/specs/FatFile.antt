@@ -60,7 +60,7 @@ IsAbout form Made bytes i (Ok arch) = arch_in form bytes i ≡ Ok arch
 IsAbout form Made bytes i (Err made) = (e : Error) × (arch_in form bytes i ≡ Err (fault_of e)) × Made e made
 
 -- entry i was tested, with this result
-pub record IsAsked {R E : Type 0} (form : ArchForm R) (Made : Error → E → Type 0) (Answers : Result R E → Bool → Type 0) (bytes : List ℕ) (i : ℕ)
+pub record IsSelected {R E : Type 0} (form : ArchForm R) (Made : Error → E → Type 0) (Answers : Result R E → Bool → Type 0) (bytes : List ℕ) (i : ℕ)
     (answer : Bool) : Type 0 where
   pub about : Result R E
   pub is_about : IsAbout form Made bytes i about
@@ -70,20 +70,20 @@ pub record IsAsked {R E : Type 0} (form : ArchForm R) (Made : Error → E → Ty
 pub record IsFirstTaken {R E : Type 0} (form : ArchForm R) (Made : Error → E → Type 0) (Answers : Result R E → Bool → Type 0) (file : FatFile) (i : ℕ)
     : Type 0 where
   pub inside : i < file.narches
-  pub taken : IsAsked form Made Answers file.bytes i true
-  pub before : (k : ℕ) → k < i → IsAsked form Made Answers file.bytes k false
+  pub taken : IsSelected form Made Answers file.bytes i true
+  pub before : (k : ℕ) → k < i → IsSelected form Made Answers file.bytes k false
 
 -- the test was false for each of them
 abbrev pub NoneTaken : {R E : Type 0} → ArchForm R → (Error → E → Type 0) → (Result R E → Bool → Type 0) → FatFile → Type 0
-NoneTaken form Made Answers file = (k : ℕ) → k < file.narches → IsAsked form Made Answers file.bytes k false
+NoneTaken form Made Answers file = (k : ℕ) → k < file.narches → IsSelected form Made Answers file.bytes k false
 
 -- the test may be called for each entry below the count
-abbrev pub MayAsk : {R E : Type 0} → ArchForm R → (Error → E → Type 0) → (Result R E → Type 0) → FatFile → Type 0
-MayAsk {R} {E} form Made May file = (i : ℕ) (about : Result R E) → i < file.narches → IsAbout form Made file.bytes i about → May about
+abbrev pub MaySelect : {R E : Type 0} → ArchForm R → (Error → E → Type 0) → (Result R E → Type 0) → FatFile → Type 0
+MaySelect {R} {E} form Made May file = (i : ℕ) (about : Result R E) → i < file.narches → IsAbout form Made file.bytes i about → May about
 
 -- the fat file that a container holds
-abbrev pub file_held : {R A : Type 0} → FatTable R A → FatFile
-file_held m = record { bytes = m.bytes.now; narches = m.narches }
+abbrev pub file_view : {R A : Type 0} → FatTable R A → FatFile
+file_view m = record { bytes = m.bytes.now; narches = m.narches }
 
 -- what was read, as a record or a fault
 abbrev pub arch_read : {R : Type 0} → Result R Error → Result R Fault

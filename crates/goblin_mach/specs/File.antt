@@ -4,7 +4,7 @@ use Rattle.mach_base.specs.declared.context.Endian.TheVariants.{Big}
 use Rattle.mach_base.specs.Fault.{Fault, malformed}
 use Rattle.mach_base.specs.Number.{number_at}
 use Rattle.goblin_mach.specs.declared.macho.MachO.{MachO}
-use Rattle.goblin_mach.specs.FatFile.{fat_file_in, file_held}
+use Rattle.goblin_mach.specs.FatFile.{fat_file_in, file_view}
 use Rattle.goblin_mach.specs.declared.fat_file.table.FatTable.{FatTable}
 use Rattle.mach_parts.specs.declared.fat.FatArch.{FatArch}
 use Rattle.goblin_mach.specs.declared.mach.Mach.TheVariants.{Fat, Binary}
@@ -35,7 +35,7 @@ pub data MachFault (InMode : List ℕ → ℕ → Fault → Type 0) (bytes : Lis
 -- the file is a fat file, with the count of its header
 pub record IsFatMach {A : Type 0} (bytes : List ℕ) (m : FatTable FatArch A) : Type 0 where
   pub magic : HasFatMagic bytes
-  pub file : fat_file_in bytes ≡ Ok (file_held m)
+  pub file : fat_file_in bytes ≡ Ok (file_view m)
 
 -- the file is a fat file, or the image at 0 as it opens in a mode: `IsImage` or `IsLossyImage`
 abbrev pub IsMach : {A : Type 0} → (List ℕ → ℕ → MachO A → Type 0) → List ℕ → Mach A → Type 0

@@ -17,7 +17,7 @@ use Rattle.mach_chained.specs.Views.{fixups_view}
 use Rattle.mach_chained.specs.declared.header.ChainedFixups.{ChainedFixups}
 use Rattle.goblin_mach.specs.EntryPoint.{is_text_name}
 use Rattle.goblin_mach.specs.Readings.{Reading, read_of, first_of, last_of}
-use Rattle.goblin_mach.specs.OpenImage.{bytes_held, commands_held, ctx_held, segments_held}
+use Rattle.goblin_mach.specs.OpenImage.{bytes_view, commands_view, ctx_view, segments_view}
 use Rattle.goblin_mach.specs.declared.macho.MachO.{MachO}
 
 -- ---- their place
@@ -70,12 +70,12 @@ AreImageFixups (Ok (Some fixups)) segments items = AreFixupItems (input_over fix
 -- ---- an image, as contracts see it
 
 -- its chained fixups, by the commands that it holds
-abbrev pub chained_held : {A : Type 0} → MachO A → Result (Option Fixups) Fault
-chained_held m = chained_in (ctx_held m) (bytes_held m) (commands_held m)
+abbrev pub chained_view : {A : Type 0} → MachO A → Result (Option Fixups) Fault
+chained_view m = chained_in (ctx_view m) (bytes_view m) (commands_view m)
 
 -- the address of its first byte, by the segments that it holds
-abbrev pub base_held : {A : Type 0} → MachO A → ℕ
-base_held m = base_of (segments_held m)
+abbrev pub base_view : {A : Type 0} → MachO A → ℕ
+base_view m = base_of (segments_view m)
 
-abbrev pub chained_seen : Option ChainedFixups → Option Fixups
-chained_seen fixups = option_map fixups_view fixups
+abbrev pub chained_option_view : Option ChainedFixups → Option Fixups
+chained_option_view fixups = option_map fixups_view fixups

@@ -7,9 +7,9 @@ use Rattle.mach_chained.specs.FixupsLeft as chains
 use Rattle.goblin_mach.specs.declared.fixups.FixupIterator.{FixupIterator}
 
 -- an error that is still to be returned
-abbrev pub told_first : {A : Type 0} → Option Error → List (Result A Fault)
-told_first None = []
-told_first (Some e) = Err (fault_of e) ∷ []
+abbrev pub reported_first : {A : Type 0} → Option Error → List (Result A Fault)
+reported_first None = []
+reported_first (Some e) = Err (fault_of e) ∷ []
 
 unfoldable pub image_fixups_left : FixupIterator → List (Result Fixup Fault)
-image_fixups_left it = told_first it.refusal ++ chains.fixups_left it.chains
+image_fixups_left it = reported_first it.refusal ++ chains.fixups_left it.chains

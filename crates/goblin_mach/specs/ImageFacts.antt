@@ -11,7 +11,7 @@ use Rattle.mach_dyld.specs.Exports.{text_in}
 use Rattle.mach_base.specs.Text.{texts}
 use Rattle.mach_dyld.specs.Imports.{BindRanges}
 use Rattle.mach_dyld.specs.TrieRange.{TrieRange}
-use Rattle.goblin_mach.specs.OpenImage.{commands_held, segments_held, trie_held, binds_held, ctx_held, bytes_held}
+use Rattle.goblin_mach.specs.OpenImage.{commands_view, segments_view, trie_view, binds_view, ctx_view, bytes_view}
 use Rattle.goblin_mach.specs.Readings.{read_of}
 use Rattle.goblin_mach.specs.Subjects.{binds_in, lossy_segments_in, trie_in, own_name_in, libs_in, run_path_by, table_in}
 use Rattle.goblin_mach.specs.declared.macho.MachO.{MachO}
@@ -48,19 +48,19 @@ facts_in ctx bytes o cs = record {
 }
 
 -- those of an image, as it holds them
-abbrev pub facts_held : {A : Type 0} → MachO A → Facts
-facts_held m = record {
-  ctx = ctx_held m;
-  bytes = bytes_held m;
+abbrev pub facts_view : {A : Type 0} → MachO A → Facts
+facts_view m = record {
+  ctx = ctx_view m;
+  bytes = bytes_view m;
   header = m.header;
-  commands = commands_held m;
-  segments = segments_held m;
+  commands = commands_view m;
+  segments = segments_view m;
   symbols = option_map table_of m.symbols;
   libs = texts m.libs.items;
   run_paths = texts m.rpaths.items;
   name = text_in m.name;
-  trie = trie_held m;
-  binds = binds_held m;
+  trie = trie_view m;
+  binds = binds_view m;
 }
 
 -- the image at o opens, at least in lossy mode, and this holds of it

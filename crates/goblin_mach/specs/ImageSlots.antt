@@ -19,7 +19,7 @@ use Rattle.mach_parts.specs.declared.indirect.IndirectSymbol.{IndirectSymbol}
 use Rattle.mach_parts.specs.SymbolViews.{table_of}
 use Rattle.mach_parts.specs.Symbols.{SymbolTable, is_stab, type_of}
 use Rattle.mach_parts.specs.declared.symbols.nlist.Nlist.{Nlist}
-use Rattle.goblin_mach.specs.OpenImage.{bytes_held, commands_held, ctx_held}
+use Rattle.goblin_mach.specs.OpenImage.{bytes_view, commands_view, ctx_view}
 use Rattle.goblin_mach.specs.Readings.{Reading, read_of, last_of}
 use Rattle.goblin_mach.specs.declared.macho.MachO.{MachO}
 
@@ -85,11 +85,11 @@ symbol_provider_of flags libs s = if names_library flags s then Some (provider_o
 
 -- ---- an image, as contracts see it
 
-abbrev pub indirect_table_held : {A : Type 0} → MachO A → Option IndirectTable
-indirect_table_held m = indirect_table_in (ctx_held m) (bytes_held m) (commands_held m)
+abbrev pub indirect_table_view : {A : Type 0} → MachO A → Option IndirectTable
+indirect_table_view m = indirect_table_in (ctx_view m) (bytes_view m) (commands_view m)
 
-abbrev pub symbol_table_held : {A : Type 0} → MachO A → Option SymbolTable
-symbol_table_held m = option_map table_of m.symbols
+abbrev pub symbol_table_view : {A : Type 0} → MachO A → Option SymbolTable
+symbol_table_view m = option_map table_of m.symbols
 
 -- what was returned, as a provider or a fault
 abbrev pub provider_read : Result declared.Provider Error → Result Provider Fault

@@ -9,7 +9,7 @@ use Rattle.mach_archive.specs.Archives.{archive_in}
 use Rattle.mach_archive.specs.ArchiveViews.{archive_of}
 use Rattle.goblin_mach.specs.Image.{Opens, ImageFault}
 use Rattle.goblin_mach.specs.OpenImage.{IsImage}
-use Rattle.goblin_mach.specs.FatFile.{fat_file_in, file_held}
+use Rattle.goblin_mach.specs.FatFile.{fat_file_in, file_view}
 use Rattle.goblin_mach.specs.File.{MachOpens, MachFault, IsMach}
 use Rattle.goblin_mach.specs.declared.mach.Mach.{Mach}
 use Rattle.goblin_mach.specs.declared.mach.Mach.TheVariants as files
@@ -46,7 +46,7 @@ pub data InputFault (bytes : List ℕ) : Fault → Type 0 where
 -- What they are: the archive, the fat file of 64 bits with the count in its header, or what `Mach::parse` opens.
 abbrev pub IsInput : {A : Type 0} → List ℕ → Input A → Type 0
 IsInput bytes (Archive a) = (begins_any_archive bytes ≡ true) × (archive_in bytes ≡ Ok (archive_of a))
-IsInput bytes (Fat64 m) = (begins_any_archive bytes ≡ false) × HasFat64Magic bytes × (fat_file_in bytes ≡ Ok (file_held m))
+IsInput bytes (Fat64 m) = (begins_any_archive bytes ≡ false) × HasFat64Magic bytes × (fat_file_in bytes ≡ Ok (file_view m))
 IsInput bytes (Fat m) = IsNeither bytes × IsMach IsImage bytes (files.Fat m)
 IsInput bytes (Image m) = IsNeither bytes × IsMach IsImage bytes (files.Binary m)
 

@@ -14,7 +14,7 @@ use Rattle.goblin_mach.specs.FatFile.{FatFile, fat_file_in}
 use Rattle.goblin_mach.specs.Inputs.{begins_any_archive}
 use Rattle.goblin_mach.specs.declared.item.Content.{Content}
 use Rattle.goblin_mach.specs.declared.item.Content.TheVariants as contents
-use Rattle.goblin_mach.specs.declared.item.Place.{Place}
+use Rattle.goblin_mach.specs.declared.item.ItemPlace.{ItemPlace}
 
 -- the content of an item: the bytes of a file or of an entry, a member of an archive, or an archive without members
 pub data ContentView : Type 0 where
@@ -24,7 +24,7 @@ pub data ContentView : Type 0 where
 
 -- an item: its place, and its content or why it can't be read
 pub record ItemView : Type 0 where
-  pub place : Place
+  pub place : ItemPlace
   pub content : Result ContentView Fault
 
 abbrev pub content_view : Content → ContentView
@@ -38,7 +38,7 @@ content_bytes (whole_file bytes) = bytes
 content_bytes (archive_member m) = m.bytes
 content_bytes no_member = []
 
-abbrev pub item_at : Place → Result ContentView Fault → ItemView
+abbrev pub item_at : ItemPlace → Result ContentView Fault → ItemView
 item_at place content = record { place = place; content = content }
 
 -- a member, or the fault of its header
@@ -46,31 +46,31 @@ abbrev pub member_content : Result MemberView Fault → Result ContentView Fault
 member_content (Ok m) = Ok (archive_member m)
 member_content (Err f) = Err f
 
-abbrev pub member_items : Place → List (Result MemberView Fault) → List ItemView
+abbrev pub member_items : ItemPlace → List (Result MemberView Fault) → List ItemView
 member_items place members = map (λ m. item_at place (member_content m)) members
 
 -- the items of an archive: its members, or one item if it has none
-abbrev pub items_of_members : Place → List (Result MemberView Fault) → List ItemView
+abbrev pub items_of_members : ItemPlace → List (Result MemberView Fault) → List ItemView
 items_of_members place [] = item_at place (Ok no_member) ∷ []
 items_of_members place (m ∷ ms) = member_items place (m ∷ ms)
 
 abbrev pub members_within : ArchiveView → List (Result MemberView Fault)
 members_within a = members_from a.bytes a.names (length a.bytes - a.begin) a.begin
 
-abbrev pub items_of_archive : Place → Result ArchiveView Fault → List ItemView
+abbrev pub items_of_archive : ItemPlace → Result ArchiveView Fault → List ItemView
 items_of_archive place (Ok a) = items_of_members place (members_within a)
 items_of_archive place (Err f) = item_at place (Err f) ∷ []
 
 -- the items of bytes that are not a fat file
-abbrev pub items_of_whole : Place → List ℕ → List ItemView
+abbrev pub items_of_whole : ItemPlace → List ℕ → List ItemView
 items_of_whole place bytes =
     if begins_any_archive bytes then items_of_archive place (archive_in bytes) else item_at place (Ok (whole_file bytes)) ∷ []
 
 -- the place of a whole file
-abbrev pub alone : Place
+abbrev pub alone : ItemPlace
 alone = record { entry = None; cpu = None; offset = 0 }
 
-abbrev pub place_of_arch : {R : Type 0} → ArchForm R → ℕ → R → Place
+abbrev pub place_of_arch : {R : Type 0} → ArchForm R → ℕ → R → ItemPlace
 place_of_arch form i arch =
     record { entry = Some i; cpu = Some (record { cputype = form.cputype arch; cpusubtype = form.cpusubtype arch }); offset = form.offset arch }
 

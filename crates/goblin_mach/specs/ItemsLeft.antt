@@ -14,14 +14,14 @@ use Rattle.goblin_mach.specs.declared.images.Table.{Table}
 use Rattle.goblin_mach.specs.declared.images.Whole.{Whole}
 use Rattle.goblin_mach.specs.declared.images.Whole.TheVariants as wholes
 use Rattle.goblin_mach.specs.declared.item.InputItem.{InputItem}
-use Rattle.goblin_mach.specs.declared.item.Place.{Place}
+use Rattle.goblin_mach.specs.declared.item.ItemPlace.{ItemPlace}
 
 -- an item that was returned, as definitions have it
 abbrev pub input_item_read : InputItem → ItemView
 input_item_read item = record { place = item.place; content = read_as content_view item.content }
 
 -- the items of what is at a place
-abbrev pub whole_items : Place → Whole → List ItemView
+abbrev pub whole_items : ItemPlace → Whole → List ItemView
 whole_items place (wholes.Bytes bytes) = items_of_whole place bytes.now
 whole_items place (wholes.Archive a) = items_of_archive place (Ok (archive_of a))
 whole_items place (wholes.Refused e) = item_at place (Err (fault_of e)) ∷ []
@@ -44,8 +44,8 @@ members_begun None = []
 members_begun (Some it) = members_left it
 
 -- the items of the current archive
-abbrev pub items_of_begun : Images → List ItemView
-items_of_begun it = member_items it.place (members_begun it.members)
+abbrev pub items_of_started : Images → List ItemView
+items_of_started it = member_items it.place (members_begun it.members)
 
 abbrev pub input_items_left : Images → List ItemView
-input_items_left it = items_of_begun it ++ entries_items it.entries
+input_items_left it = items_of_started it ++ entries_items it.entries

@@ -25,8 +25,8 @@ abbrev pub laid_by : Facts → Laid
 laid_by f = record { bytes = f.bytes; ctx = f.ctx; header = f.header; commands = f.commands }
 
 -- a fault, if it occurs
-abbrev pub told_where : Bool → LayoutFault → List LayoutFault
-told_where stands fault = if stands then fault ∷ [] else []
+abbrev pub reported_where : Bool → LayoutFault → List LayoutFault
+reported_where occurs fault = if occurs then fault ∷ [] else []
 
 -- these are the faults of its lists: one of each list that has one
 pub record AreListFaults (f : Facts) (list : List LayoutFault) : Type 0 where
@@ -38,8 +38,8 @@ pub record AreListFaults (f : Facts) (list : List LayoutFault) : Type 0 where
   pub are_rebases : AreRebasesByOpcodes (rebase_stream_in f.bytes f.commands) f.ctx.le (pointer_size f.ctx.container) f.segments rebases
   pub are_weak_binds : AreImageWeakBinds (weak_stream_in f.bytes f.commands) (pointer_size f.ctx.container) f.segments weak_binds
   pub are_starts : AreStartsAt f.bytes (starts_place_in f.commands) (base_of f.segments) starts
-  pub told : list
-      ≡ told_where (has_fault bindings) (opcodes_fault rule.Binds part.Binds (laid_by f))
-      ++ told_where (has_fault rebases) (opcodes_fault rule.Rebases part.RebaseOpcodes (laid_by f))
-      ++ told_where (has_fault weak_binds) (opcodes_fault rule.WeakBinds part.WeakBindOpcodes (laid_by f))
-      ++ told_where (has_fault starts) (function_starts_fault (laid_by f))
+  pub reported : list
+      ≡ reported_where (has_fault bindings) (opcodes_fault rule.Binds part.Binds (laid_by f))
+      ++ reported_where (has_fault rebases) (opcodes_fault rule.Rebases part.RebaseOpcodes (laid_by f))
+      ++ reported_where (has_fault weak_binds) (opcodes_fault rule.WeakBinds part.WeakBindOpcodes (laid_by f))
+      ++ reported_where (has_fault starts) (function_starts_fault (laid_by f))

@@ -20,8 +20,8 @@ read_of reading [] = []
 read_of reading (c ∷ cs) = keep (reading c) (read_of reading cs)
 
 -- what one command adds to that
-abbrev pub said : {V : Type 0} → Option (Result V Fault) → List V
-said found = keep found []
+abbrev pub values_read : {V : Type 0} → Option (Result V Fault) → List V
+values_read found = keep found []
 
 abbrev pub IsRead : {V : Type 0} → Option (Result V Fault) → Type 0
 IsRead None = Unit {0}
@@ -56,7 +56,7 @@ first_of [] = None
 first_of (x ∷ xs) = Some x
 
 -- a result, as contracts see it
-abbrev pub seen_of : {X V : Type 0} → (X → V) → Option (Result X Error) → Option (Result V Fault)
-seen_of view None = None
-seen_of view (Some (Ok x)) = Some (Ok (view x))
-seen_of view (Some (Err e)) = Some (Err (fault_of e))
+abbrev pub view_of_read : {X V : Type 0} → (X → V) → Option (Result X Error) → Option (Result V Fault)
+view_of_read view None = None
+view_of_read view (Some (Ok x)) = Some (Ok (view x))
+view_of_read view (Some (Err e)) = Some (Err (fault_of e))

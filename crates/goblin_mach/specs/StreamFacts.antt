@@ -51,13 +51,13 @@ HasRebasesOfFixups =
     → HasNoOpcodes bytes o → HasRebases bytes o items → HasFixups bytes o fixups → items ≡ rebases_among fixups
 
 -- what a fixup gives among bindings and among rebases: it is a number and gives neither, or it gives exactly one of the two
-pub data IsToldOnce (x : FixupInput) (libs : List (List ℕ)) (f : Fixup) : Type 0 where
-  told_nowhere : (number : ℕ) → f.kind ≡ value number → rebase_in f ≡ None → binding_in x libs f ≡ None → IsToldOnce x libs f
-  told_as_rebase : (r : Rebase) → rebase_in f ≡ Some r → binding_in x libs f ≡ None → IsToldOnce x libs f
-  told_as_binding : (b : Result Binding Fault) → rebase_in f ≡ None → binding_in x libs f ≡ Some b → IsToldOnce x libs f
+pub data IsReportedOnce (x : FixupInput) (libs : List (List ℕ)) (f : Fixup) : Type 0 where
+  reported_nowhere : (number : ℕ) → f.kind ≡ value number → rebase_in f ≡ None → binding_in x libs f ≡ None → IsReportedOnce x libs f
+  reported_as_rebase : (r : Rebase) → rebase_in f ≡ Some r → binding_in x libs f ≡ None → IsReportedOnce x libs f
+  reported_as_binding : (b : Result Binding Fault) → rebase_in f ≡ None → binding_in x libs f ≡ Some b → IsReportedOnce x libs f
 
-abbrev pub EachIsToldOnce : Type 0
-EachIsToldOnce = (x : FixupInput) (libs : List (List ℕ)) (f : Fixup) → IsToldOnce x libs f
+abbrev pub EachIsReportedOnce : Type 0
+EachIsReportedOnce = (x : FixupInput) (libs : List (List ℕ)) (f : Fixup) → IsReportedOnce x libs f
 
 -- the rebases among some fixups are those that the fixups give, and no others
 abbrev pub RebasesComeOfFixups : Type 0

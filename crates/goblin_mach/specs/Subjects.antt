@@ -83,8 +83,8 @@ symbols_in None = []
 symbols_in (Some t) = symbols_of t
 
 -- the symbols that are held
-abbrev pub symbols_held : Option Symbols → List (Result (List ℕ × Nlist) Fault)
-symbols_held symbols = symbols_in (option_map table_of symbols)
+abbrev pub symbols_view : Option Symbols → List (Result (List ℕ × Nlist) Fault)
+symbols_view symbols = symbols_in (option_map table_of symbols)
 
 -- the range that a command names, if it names one
 abbrev pub range_by : Kind → List ℕ → List Value → Option TrieRange

@@ -4,7 +4,7 @@ use Rattle.mach_base.specs.Context.{pointer_size}
 use Rattle.mach_base.specs.Fault.{Fault, bad_magic, malformed, too_short, fault_of_scroll}
 use Rattle.mach_base.specs.declared.error.Error.TheVariants as errors
 use Rattle.mach_base.specs.declared.error.Error.{Error}
-use Rattle.mach_dyld.specs.BindViews.{imports_seen}
+use Rattle.mach_dyld.specs.BindViews.{bind_imports_view}
 use Rattle.mach_dyld.specs.Exports.{entries}
 use Rattle.mach_base.specs.Text.{texts}
 use Rattle.mach_dyld.specs.Imports.{Import}
@@ -14,7 +14,7 @@ use Rattle.goblin_mach.specs.FatEntry.{FatEntry, image, entries_of, FatEntryFaul
 use Rattle.goblin_mach.specs.FatFile.{FatFile, fat_file_in, arches_in}
 use Rattle.goblin_mach.specs.Image.{Opens, ImageFault}
 use Rattle.goblin_mach.specs.File.{HasFatMagic, MachFault}
-use Rattle.goblin_mach.specs.OpenImage.{trie_held, binds_held, ctx_held, segments_held}
+use Rattle.goblin_mach.specs.OpenImage.{trie_view, binds_view, ctx_view, segments_view}
 use Rattle.goblin_mach.specs.Subjects.{ListsImageImports, ImageImportsFault, ListsImageExports, ImageExportsFault}
 use Rattle.goblin_mach.specs.declared.macho.MachO.{MachO}
 use Rattle.goblin_mach.specs.declared.view.LinkView.TheVariants.{Image, Archive}
@@ -49,40 +49,40 @@ pub data ViewFault (bytes : List ℕ) : Fault → Type 0 where
 
 -- the two lists are those of an image, as it holds them
 pub record LinksHeld {A B : Type 0} (m : MachO A) (l : Links B) : Type 0 where
-  pub exports : ListsImageExports (trie_held m) (texts m.libs.items) (entries l.exports.items)
-  pub imports : ListsImageImports (binds_held m) (pointer_size (ctx_held m).container) (texts m.libs.items) (segments_held m)
-      (imports_seen l.imports.items)
+  pub exports : ListsImageExports (trie_view m) (texts m.libs.items) (entries l.exports.items)
+  pub imports : ListsImageImports (binds_view m) (pointer_size (ctx_view m).container) (texts m.libs.items) (segments_view m)
+      (bind_imports_view l.imports.items)
 
 -- a fault occurs in one of them
 abbrev pub FaultHeld : {A : Type 0} → MachO A → Fault → Type 0
 FaultHeld m f =
-    ImageExportsFault (trie_held m) (texts m.libs.items) f
-    ⊎ ImageImportsFault (binds_held m) (pointer_size (ctx_held m).container) (texts m.libs.items) (segments_held m) f
+    ImageExportsFault (trie_view m) (texts m.libs.items) f
+    ⊎ ImageImportsFault (binds_view m) (pointer_size (ctx_view m).container) (texts m.libs.items) (segments_view m) f
 
 -- what an item holds of an entry: an archive's bytes, or the two lists of an image
-abbrev pub Shows : {A : Type 0} → FatEntry → LinkView A → Type 0
-Shows (archive slice) (Archive bytes) = bytes.now ≡ slice
-Shows (archive slice) (Image exports imports) = ⊥
-Shows (image slice) (Archive bytes) = ⊥
-Shows (image slice) (Image exports imports) = LinksImage slice (entries exports.items) (imports_seen imports.items)
+abbrev pub ImageView : {A : Type 0} → FatEntry → LinkView A → Type 0
+ImageView (archive slice) (Archive bytes) = bytes.now ≡ slice
+ImageView (archive slice) (Image exports imports) = ⊥
+ImageView (image slice) (Archive bytes) = ⊥
+ImageView (image slice) (Image exports imports) = LinksImage slice (entries exports.items) (bind_imports_view imports.items)
 
 -- the error is a fault of this kind; out of memory is an error of the whole file only
-abbrev pub Tells : (Fault → Type 0) → Error → Type 0
-Tells IsFault (errors.Malformed msg) = IsFault malformed
-Tells IsFault (errors.BadMagic magic) = IsFault (bad_magic magic)
-Tells IsFault (errors.Scroll e) = IsFault (fault_of_scroll e)
-Tells IsFault (errors.BufferTooShort count what) = IsFault (too_short count what.now)
-Tells IsFault (errors.Memory e) = ⊥
+abbrev pub ReportsFault : (Fault → Type 0) → Error → Type 0
+ReportsFault IsFault (errors.Malformed msg) = IsFault malformed
+ReportsFault IsFault (errors.BadMagic magic) = IsFault (bad_magic magic)
+ReportsFault IsFault (errors.Scroll e) = IsFault (fault_of_scroll e)
+ReportsFault IsFault (errors.BufferTooShort count what) = IsFault (too_short count what.now)
+ReportsFault IsFault (errors.Memory e) = ⊥
 
 -- it is not out of memory
-abbrev pub IsTold : Error → Type 0
-IsTold (errors.Memory e) = ⊥
-IsTold _ = Unit {0}
+abbrev pub IsReported : Error → Type 0
+IsReported (errors.Memory e) = ⊥
+IsReported _ = Unit {0}
 
 -- an item of the view is that of an entry, or a fault in it
 abbrev pub IsViewItem : {A : Type 0} → Result FatEntry Fault → Result (LinkView A) Error → Type 0
-IsViewItem entry (Ok view) = (e : FatEntry) × (entry ≡ Ok e) × Shows e view
-IsViewItem entry (Err e) = Tells (ItemFault entry) e
+IsViewItem entry (Ok view) = (e : FatEntry) × (entry ≡ Ok e) × ImageView e view
+IsViewItem entry (Err e) = ReportsFault (ItemFault entry) e
 
 -- there is an item for each entry, in order
 abbrev pub AreViewItems : {A : Type 0} → List (Result FatEntry Fault) → List (Result (LinkView A) Error) → Type 0

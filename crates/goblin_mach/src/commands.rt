@@ -1,7 +1,7 @@
 //! The chain of an image's load commands.
 
 ghost use Rattle.std.specs.Prelude.{◌≡◌, IfOk, IfErr, OnOk, map, length};
-ghost use Rattle.mach_base.specs.Answer.{FailsAs, Stands};
+ghost use Rattle.mach_base.specs.Answer.{FailsAs, ErrorMeets};
 ghost use Rattle.mach_load.specs.Command.{command_at};
 ghost use Rattle.mach_load.specs.Variants.{command_of};
 ghost use Rattle.goblin_mach.specs.Chain.{IsChain, IsBroken, IsPushed};
@@ -54,7 +54,7 @@ pub fn read_commands<A: Allocator>(
 ) -> Result<Vec<LoadCommand, A>>
     ensures chain { IfOk result (λ v. IsChain le bytes.now first (map command_of v.items)) }
     ensures count { IfOk result (λ v. length (map command_of v.items) ≡ count) }
-    ensures refused { IfErr result (Stands (IsBroken le bytes.now first count)) }
+    ensures refused { IfErr result (ErrorMeets (IsBroken le bytes.now first count)) }
 {
     let mut commands = Vec::new(alloc);
     let mut offset = first;

@@ -1,7 +1,7 @@
 //! The address at which an image begins to run.
 
 ghost use Rattle.std.specs.Prelude.{◌≡◌, ℕ, Some, None, Ok, if◌then◌else◌, IfOk, IfErr, map};
-ghost use Rattle.mach_base.specs.Answer.{Reads, Stands};
+ghost use Rattle.mach_base.specs.Answer.{Reads, ErrorMeets};
 ghost use Rattle.mach_load.specs.Variants.{command_of};
 ghost use Rattle.goblin_mach.specs.EntryPoint.{address_in, main_address, main_by, pointer_by, is_text_name, text_by, entry_point_in, EntryPointFault};
 ghost use Rattle.goblin_mach.specs.Readings.{AllRead};
@@ -137,7 +137,7 @@ fn address_of_main(text: Option<Mapping>, entryoff: u64) -> Result<u64>
 pub fn entry(commands: &[LoadCommand], cputype: u32) -> Result<(u64, bool)>
     ensures found { IfOk result (λ e. entry_point_in cputype (map command_of commands.now) ≡ Ok (record { address = e.0; old_style = e.1 })) }
     ensures threads { IfOk result (λ _. AllRead (pointer_by cputype) (map command_of commands.now)) }
-    ensures refused { IfErr result (Stands (EntryPointFault cputype (map command_of commands.now))) }
+    ensures refused { IfErr result (ErrorMeets (EntryPointFault cputype (map command_of commands.now))) }
 {
     let pointer = first_read(&Pointers { cputype }, commands)?;
     match first_readable(&Mains, commands) {

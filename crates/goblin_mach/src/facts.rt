@@ -8,21 +8,21 @@ ghost use Rattle.mach_dyld.specs.Exports.{text_in};
 ghost use Rattle.mach_base.specs.Text.{texts};
 ghost use Rattle.mach_dyld.specs.Trie as trie;
 ghost use Rattle.goblin_mach.specs.Bindings.{AreImageBindings};
-ghost use Rattle.goblin_mach.specs.Fixups.{AreImageFixups, base_held, chained_held};
+ghost use Rattle.goblin_mach.specs.Fixups.{AreImageFixups, base_view, chained_view};
 ghost use Rattle.goblin_mach.specs.Facts.{HasCommands, HasSymbols, HasSegments, HasRelocations, HasName, HasLibraries, HasRunPaths, HasEntryPoint};
 ghost use Rattle.goblin_mach.specs.Facts.{HasExports, HasExportsFault, HasImports, HasImportsFault, HasImportItems, HasChainedFixups, HasBase, HasFixups};
 ghost use Rattle.goblin_mach.specs.Facts.{HasBindings, HasExportsEnd};
 ghost use Rattle.mach_dyld.specs.TrieRange.{ListsExports, ExportsFault, ExportsEnd};
 ghost use Rattle.goblin_mach.specs.Subjects.{ListsImageImports, ImageImportsFault, AreImageBindItems, ListsImageExports, ImageExportsFault, trie_or_empty};
-ghost use Rattle.goblin_mach.specs.Subjects.{symbols_held};
+ghost use Rattle.goblin_mach.specs.Subjects.{symbols_view};
 ghost use Rattle.goblin_mach.specs.Modes.{InBothModes, Agrees, HoldsAs};
-ghost use Rattle.goblin_mach.specs.OpenImage.{IsImage, IsLossyImage, commands_held, segments_held, trie_held, binds_held, ctx_held, bytes_held};
+ghost use Rattle.goblin_mach.specs.OpenImage.{IsImage, IsLossyImage, commands_view, segments_view, trie_view, binds_view, ctx_view, bytes_view};
 ghost use Rattle.goblin_mach.specs.Relocations.{relocated_sections_in};
 ghost use Rattle.goblin_mach.specs.Facts.{HasLibrariesByKind, HasExportOf, HasSymbolTable};
 ghost use Rattle.mach_parts.specs.SymbolViews.{table_of};
-ghost use Rattle.goblin_mach.specs.ImageFacts.{HasFacts, facts_held};
+ghost use Rattle.goblin_mach.specs.ImageFacts.{HasFacts, facts_view};
 ghost use Rattle.goblin_mach.specs.Libraries.{libraries_in};
-ghost use Rattle.goblin_mach.specs.LookUp.{StandsInImage};
+ghost use Rattle.goblin_mach.specs.LookUp.{IsAnswerInImage};
 
 pub mod slots;
 pub mod streams;
@@ -39,13 +39,13 @@ pub fn strict_image_is_lossy<A: Allocator>(image: &MachO<'_, A>)
 /// The load commands that an image holds are those of the bytes.
 #[tactic(auto, using(crate::proofs::ImageFacts::commands_are))]
 pub fn commands_of_image<A: Allocator>(image: &MachO<'_, A>)
-    ensures { HoldsAs image.now HasCommands (commands_held image.now) }
+    ensures { HoldsAs image.now HasCommands (commands_view image.now) }
 {}
 
 /// The symbols that an image holds are those of the bytes.
 #[tactic(auto, using(crate::proofs::ImageFacts::symbols_are))]
 pub fn symbols_of_image<A: Allocator>(image: &MachO<'_, A>)
-    ensures { HoldsAs image.now HasSymbols (symbols_held image.now.symbols) }
+    ensures { HoldsAs image.now HasSymbols (symbols_view image.now.symbols) }
 {}
 
 /// The table of symbols that an image holds is that of the bytes.
@@ -57,12 +57,12 @@ pub fn symbol_table_of_image<A: Allocator>(image: &MachO<'_, A>)
 /// The segments that an image holds are those of the bytes.
 #[tactic(auto, using(crate::proofs::ImageFacts::segments_are))]
 pub fn segments_of_image<A: Allocator>(image: &MachO<'_, A>)
-    ensures { HoldsAs image.now HasSegments (segments_held image.now) }
+    ensures { HoldsAs image.now HasSegments (segments_view image.now) }
 {}
 
 /// The relocations that `MachO::relocations` returns are those of the bytes.
 pub fn relocations_of_image<A: Allocator>(image: &MachO<'_, A>)
-    ensures { HoldsAs image.now HasRelocations (relocated_sections_in (ctx_held image.now) (bytes_held image.now) (segments_held image.now)) }
+    ensures { HoldsAs image.now HasRelocations (relocated_sections_in (ctx_view image.now) (bytes_view image.now) (segments_view image.now)) }
 {}
 
 /// The name that an image holds is that of the bytes.
@@ -77,13 +77,13 @@ pub fn libraries_of_image<A: Allocator>(image: &MachO<'_, A>)
 
 /// The libraries that `MachO::libraries` returns are those of the bytes.
 pub fn libraries_by_kind_of_image<A: Allocator>(image: &MachO<'_, A>)
-    ensures { HoldsAs image.now HasLibrariesByKind (libraries_in (ctx_held image.now).le (bytes_held image.now) (commands_held image.now)) }
+    ensures { HoldsAs image.now HasLibrariesByKind (libraries_in (ctx_view image.now).le (bytes_view image.now) (commands_view image.now)) }
 {}
 
 /// The export that `MachO::find_export` returns holds by the paths of the trie in the bytes.
 pub fn found_export_of_image<A: Allocator>(image: &MachO<'_, A>)
     ensures { (name : List ℕ)
-        → Agrees image.now (λ bytes o. HasExportOf bytes o name) (StandsInImage (trie_held image.now) (texts image.now.libs.items) name) }
+        → Agrees image.now (λ bytes o. HasExportOf bytes o name) (IsAnswerInImage (trie_view image.now) (texts image.now.libs.items) name) }
 {}
 
 /// The run paths that an image holds are those of the bytes.
@@ -99,59 +99,59 @@ pub fn entry_point_of_image<A: Allocator>(image: &MachO<'_, A>)
 
 /// All facts of an image, as it holds them, are those of the bytes.
 pub fn facts_of_image<A: Allocator>(image: &MachO<'_, A>)
-    ensures { InBothModes image.now (λ bytes o. HasFacts bytes o (facts_held image.now)) }
+    ensures { InBothModes image.now (λ bytes o. HasFacts bytes o (facts_view image.now)) }
 {}
 
 /// The exports that `MachO::exports` lists, and the faults that it reports, are those of the bytes.
 pub fn exports_of_image<A: Allocator>(image: &MachO<'_, A>)
-    ensures listed { Agrees image.now HasExports (ListsImageExports (trie_held image.now) (texts image.now.libs.items)) }
-    ensures faults { Agrees image.now HasExportsFault (ImageExportsFault (trie_held image.now) (texts image.now.libs.items)) }
+    ensures listed { Agrees image.now HasExports (ListsImageExports (trie_view image.now) (texts image.now.libs.items)) }
+    ensures faults { Agrees image.now HasExportsFault (ImageExportsFault (trie_view image.now) (texts image.now.libs.items)) }
 {}
 
 /// What a walk of `MachO::walk_exports` reports at its end holds of the bytes: what it returned is the list of the image's
 /// exports. So does what it reports by an error: the fault occurs in the trie, and a walk ends there for it.
 pub fn walked_exports_of_image<A: Allocator>(image: &MachO<'_, A>)
     ensures listed { InBothModes image.now (λ bytes o. (list : List trie.Entry)
-        → ListsExports (trie_or_empty (trie_held image.now)) (texts image.now.libs.items) list → HasExports bytes o list) }
+        → ListsExports (trie_or_empty (trie_view image.now)) (texts image.now.libs.items) list → HasExports bytes o list) }
     ensures faults { InBothModes image.now (λ bytes o. (fault : Fault)
-        → ExportsFault (trie_or_empty (trie_held image.now)) (texts image.now.libs.items) fault → HasExportsFault bytes o fault) }
+        → ExportsFault (trie_or_empty (trie_view image.now)) (texts image.now.libs.items) fault → HasExportsFault bytes o fault) }
     ensures cut { InBothModes image.now (λ bytes o. (found : List trie.Entry) (fault : Fault)
-        → ExportsEnd (trie_or_empty (trie_held image.now)) (texts image.now.libs.items) found fault → HasExportsEnd bytes o found fault) }
+        → ExportsEnd (trie_or_empty (trie_view image.now)) (texts image.now.libs.items) found fault → HasExportsEnd bytes o found fault) }
 {}
 
 /// The imports that `MachO::imports` lists, and the faults that it reports, are those of the bytes.
 pub fn imports_of_image<A: Allocator>(image: &MachO<'_, A>)
     ensures listed { Agrees image.now HasImports
-        (ListsImageImports (binds_held image.now) (pointer_size (ctx_held image.now).container) (texts image.now.libs.items) (segments_held image.now)) }
+        (ListsImageImports (binds_view image.now) (pointer_size (ctx_view image.now).container) (texts image.now.libs.items) (segments_view image.now)) }
     ensures faults { Agrees image.now HasImportsFault
-        (ImageImportsFault (binds_held image.now) (pointer_size (ctx_held image.now).container) (texts image.now.libs.items) (segments_held image.now)) }
+        (ImageImportsFault (binds_view image.now) (pointer_size (ctx_view image.now).container) (texts image.now.libs.items) (segments_view image.now)) }
 {}
 
 /// The imports that `MachO::iter_imports` returns, up to the first fault, are those of the bytes.
 pub fn import_items_of_image<A: Allocator>(image: &MachO<'_, A>)
     ensures { Agrees image.now HasImportItems
-        (AreImageBindItems (binds_held image.now) (pointer_size (ctx_held image.now).container) (texts image.now.libs.items) (segments_held image.now)) }
+        (AreImageBindItems (binds_view image.now) (pointer_size (ctx_view image.now).container) (texts image.now.libs.items) (segments_view image.now)) }
 {}
 
 /// The chained fixups that `MachO::chained_fixups` returns are those of the bytes.
 pub fn chained_fixups_of_image<A: Allocator>(image: &MachO<'_, A>)
-    ensures { HoldsAs image.now HasChainedFixups (chained_held image.now) }
+    ensures { HoldsAs image.now HasChainedFixups (chained_view image.now) }
 {}
 
 /// The address that `MachO::base` returns is that of the bytes.
 #[tactic(auto, using(crate::proofs::ImageFacts::base_is))]
 pub fn base_of_image<A: Allocator>(image: &MachO<'_, A>)
-    ensures { HoldsAs image.now HasBase (base_held image.now) }
+    ensures { HoldsAs image.now HasBase (base_view image.now) }
 {}
 
 /// The fixups that `MachO::fixups` returns, up to the first fault, are those of the bytes.
 pub fn fixups_of_image<A: Allocator>(image: &MachO<'_, A>)
-    ensures { Agrees image.now HasFixups (AreImageFixups (chained_held image.now) (segments_held image.now)) }
+    ensures { Agrees image.now HasFixups (AreImageFixups (chained_view image.now) (segments_view image.now)) }
 {}
 
 /// The bindings that `MachO::bindings` returns, up to the first fault, are those of the bytes.
 pub fn bindings_of_image<A: Allocator>(image: &MachO<'_, A>)
     ensures { Agrees image.now HasBindings
-        (AreImageBindings (binds_held image.now) (chained_held image.now) (pointer_size (ctx_held image.now).container) (texts image.now.libs.items)
-        (segments_held image.now)) }
+        (AreImageBindings (binds_view image.now) (chained_view image.now) (pointer_size (ctx_view image.now).container) (texts image.now.libs.items)
+        (segments_view image.now)) }
 {}

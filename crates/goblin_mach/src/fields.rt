@@ -1,7 +1,7 @@
 //! The fields that strict and lossy mode read from the commands in different ways.
 
 ghost use Rattle.std.specs.Prelude.{◌≡◌, ◌++◌, ◌∷◌, [], ℕ, List, map, IfOk, IfErr, OnOk};
-ghost use Rattle.mach_base.specs.Answer.{Stands, IsOkUnlessMemory};
+ghost use Rattle.mach_base.specs.Answer.{ErrorMeets, IsOkUnlessMemory};
 ghost use Rattle.mach_base.specs.KeptText.{kept_bytes};
 ghost use Rattle.mach_load.specs.Command.{Command};
 ghost use Rattle.mach_parts.specs.Segment.{SegmentView};
@@ -40,7 +40,7 @@ impl<'a, A: Allocator + Clone> Fields<'a, A> {
         ensures found { IfOk result (λ f. let cs = map command_of commands.now in
             AreFields ctx bytes.now (read_of (segment_by ctx bytes.now) cs) (libs_in bytes.now cs) cs f) }
         ensures all { IfOk result (λ _. AllReadable ctx bytes.now (map command_of commands.now)) }
-        ensures refused { IfErr result (Stands (IsUnreadable ctx bytes.now (map command_of commands.now))) }
+        ensures refused { IfErr result (ErrorMeets (IsUnreadable ctx bytes.now (map command_of commands.now))) }
     {
         let mut fields = Fields::empty(alloc)?;
         let mut names = KeptText::new(bytes);
@@ -106,7 +106,7 @@ impl<'a, A: Allocator> Fields<'a, A> {
         ensures found { (cs : List Command) → AreTaken ctx bytes.now (segment_by ctx bytes.now) cs self.old
             → OnOk result (AreTaken ctx bytes.now (segment_by ctx bytes.now) (cs ++ command_of command.now ∷ []) self.new) }
         ensures all { OnOk result (AllReadable ctx bytes.now (command_of command.now ∷ [])) }
-        ensures refused { IfErr result (Stands (IsUnreadable ctx bytes.now (command_of command.now ∷ []))) }
+        ensures refused { IfErr result (ErrorMeets (IsUnreadable ctx bytes.now (command_of command.now ∷ []))) }
         ensures bytes { kept_bytes names.new ≡ bytes.now }
     {
         add(&mut self.segments, &SegmentData { bytes, ctx }, command)?;

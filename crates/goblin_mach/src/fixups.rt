@@ -9,7 +9,7 @@ ghost use Rattle.mach_parts.specs.Segment.{segment_view};
 ghost use Rattle.mach_chained.specs.FixupsLeft as walk;
 ghost use Rattle.mach_chained.specs.WalkViews.{fixup_read};
 ghost use Rattle.goblin_mach.specs.Fixups as defined;
-ghost use Rattle.goblin_mach.specs.Fixups.{chained_place_by, chained_place_in, chained_at, chained_seen};
+ghost use Rattle.goblin_mach.specs.Fixups.{chained_place_by, chained_place_in, chained_at, chained_option_view};
 ghost use Rattle.goblin_mach.specs.FixupsLeft.{image_fixups_left};
 ghost use Rattle.goblin_mach.specs.Readings.{read_of, last_of};
 
@@ -68,7 +68,7 @@ pub fn chained_fixups<'a>(
     le: Endian,
     commands: &[LoadCommand],
 ) -> Result<Option<ChainedFixups<'a>>>
-    ensures { Reads chained_seen result (chained_at le bytes.now (chained_place_in (map command_of commands.now))) }
+    ensures { Reads chained_option_view result (chained_at le bytes.now (chained_place_in (map command_of commands.now))) }
 {
     let Some(command) = last_readable(&ChainedPlaces, commands) else {
         return Ok(None);

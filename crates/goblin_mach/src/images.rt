@@ -2,15 +2,15 @@
 
 ghost use Rattle.std.specs.Prelude.{◌≡◌, ◌∷◌, ◌++◌, ◌/◌, [], ℕ, List, Ok, Err, None, MatchOption, length, nat_le, true, false};
 ghost use Rattle.mach_archive.specs.ArchiveViews.{archive_of, member_read};
-ghost use Rattle.goblin_mach.specs.FatFile.{file_held};
+ghost use Rattle.goblin_mach.specs.FatFile.{file_view};
 ghost use Rattle.goblin_mach.specs.Inputs.{IsInput};
 ghost use Rattle.mach_base.specs.Fault.{fault_of};
 ghost use Rattle.goblin_mach.specs.Items.{items_in, item_at, member_content, items_of_archive, items_of_whole};
-ghost use Rattle.goblin_mach.specs.ItemsLeft.{input_item_read, input_items_left, items_of_begun, items_of_table, entries_items, whole_items};
+ghost use Rattle.goblin_mach.specs.ItemsLeft.{input_item_read, input_items_left, items_of_started, items_of_table, entries_items, whole_items};
 
 use crate::fat_file::table::FatTable;
 use crate::input::{Input, begins_archive};
-use crate::item::{Content, EntryCpu, InputItem, Place};
+use crate::item::{Content, EntryCpu, InputItem, ItemPlace};
 use mach_archive::{Archive, Member, Members};
 use mach_base::{Error, Result};
 use mach_parts::fat::FatArch;
@@ -52,12 +52,12 @@ enum Whole<'a> {
 pub struct Images<'a> {
     entries: Entries<'a>,
     // The place of the archive whose members are left.
-    place: Place,
+    place: ItemPlace,
     members: Option<Members<'a>>,
 }
 
 // The place of a whole file.
-const ALONE: Place = Place {
+const ALONE: ItemPlace = ItemPlace {
     entry: None,
     cpu: None,
     offset: 0,
@@ -77,7 +77,8 @@ impl<'a> Images<'a> {
 
     // Returns the next member of the current archive.
     fn next_member(&mut self) -> Option<InputItem<'a>>
-        ensures given { MatchOption result (items_of_begun self.old ≡ []) (λ item. items_of_begun self.old ≡ input_item_read item ∷ items_of_begun self.new) }
+        ensures given { MatchOption result (items_of_started self.old ≡ []) (λ item. items_of_started self.old
+            ≡ input_item_read item ∷ items_of_started self.new) }
         ensures kept { self.new.entries ≡ self.old.entries }
     {
         match &mut self.members {
@@ -87,9 +88,9 @@ impl<'a> Images<'a> {
     }
 
     // Returns the first item at a place, and keeps the members after it.
-    fn begin(&mut self, place: Place, whole: Whole<'a>) -> InputItem<'a>
+    fn begin(&mut self, place: ItemPlace, whole: Whole<'a>) -> InputItem<'a>
         requires { self.old.members ≡ None }
-        ensures given { whole_items place whole.entry ≡ input_item_read result ∷ items_of_begun self.new }
+        ensures given { whole_items place whole.entry ≡ input_item_read result ∷ items_of_started self.new }
         ensures kept { self.new.entries ≡ self.old.entries }
     {
         match whole {
@@ -100,9 +101,9 @@ impl<'a> Images<'a> {
     }
 
     // Returns the first item of bytes that are not a fat file.
-    fn begin_bytes(&mut self, place: Place, bytes: &'a [u8]) -> InputItem<'a>
+    fn begin_bytes(&mut self, place: ItemPlace, bytes: &'a [u8]) -> InputItem<'a>
         requires { self.old.members ≡ None }
-        ensures given { items_of_whole place bytes.now ≡ input_item_read result ∷ items_of_begun self.new }
+        ensures given { items_of_whole place bytes.now ≡ input_item_read result ∷ items_of_started self.new }
         ensures kept { self.new.entries ≡ self.old.entries }
     {
         if !begins_archive(bytes) {
@@ -118,8 +119,8 @@ impl<'a> Images<'a> {
     }
 
     // Returns the first item of an archive.
-    fn begin_archive(&mut self, place: Place, archive: Archive<'a>) -> InputItem<'a>
-        ensures given { items_of_archive place (Ok (archive_of archive.entry)) ≡ input_item_read result ∷ items_of_begun self.new }
+    fn begin_archive(&mut self, place: ItemPlace, archive: Archive<'a>) -> InputItem<'a>
+        ensures given { items_of_archive place (Ok (archive_of archive.entry)) ≡ input_item_read result ∷ items_of_started self.new }
         ensures kept { self.new.entries ≡ self.old.entries }
     {
         let mut members = archive.members();
@@ -137,7 +138,7 @@ impl<'a> Images<'a> {
 }
 
 // Returns the item for what can't be read.
-fn refused<'a>(place: Place, error: Error) -> InputItem<'a>
+fn refused<'a>(place: ItemPlace, error: Error) -> InputItem<'a>
     ensures { input_item_read result ≡ item_at place (Err (fault_of error)) }
 {
     InputItem {
@@ -147,7 +148,7 @@ fn refused<'a>(place: Place, error: Error) -> InputItem<'a>
 }
 
 // Returns the item of a member of the archive at a place.
-fn member_item<'a>(place: Place, member: Result<Member<'a>>) -> InputItem<'a>
+fn member_item<'a>(place: ItemPlace, member: Result<Member<'a>>) -> InputItem<'a>
     ensures { input_item_read result ≡ item_at place (member_content (member_read member.entry)) }
 {
     InputItem {
@@ -161,7 +162,7 @@ fn member_item<'a>(place: Place, member: Result<Member<'a>>) -> InputItem<'a>
 
 impl<'a> Table<'a> {
     // Returns the next entry, with its place.
-    fn next<R: ArchRecord>(&mut self) -> Option<(Place, Whole<'a>)>
+    fn next<R: ArchRecord>(&mut self) -> Option<(ItemPlace, Whole<'a>)>
         ensures { MatchOption result ((items_of_table R.arch_form self.old ≡ []) × (items_of_table R.arch_form self.new ≡ []))
             (λ found. items_of_table R.arch_form self.old ≡ whole_items found.0 found.1 ++ items_of_table R.arch_form self.new) }
     {
@@ -172,7 +173,7 @@ impl<'a> Table<'a> {
         self.index += 1;
         match read_arch::<R>(self.bytes, index) {
             Ok(arch) => {
-                let place = Place {
+                let place = ItemPlace {
                     entry: Some(index),
                     cpu: Some(EntryCpu {
                         cputype: arch.entry_cpu(),
@@ -183,7 +184,7 @@ impl<'a> Table<'a> {
                 Some((place, Whole::Bytes(arch.entry_slice(self.bytes))))
             }
             Err(error) => {
-                let place = Place {
+                let place = ItemPlace {
                     entry: Some(index),
                     cpu: None,
                     offset: 0,
@@ -196,7 +197,7 @@ impl<'a> Table<'a> {
 
 impl<'a> Entries<'a> {
     // Returns the next part, with its place.
-    fn next(&mut self) -> Option<(Place, Whole<'a>)>
+    fn next(&mut self) -> Option<(ItemPlace, Whole<'a>)>
         ensures { MatchOption result ((entries_items self.old ≡ []) × (entries_items self.new ≡ []))
             (λ found. entries_items self.old ≡ whole_items found.0 found.1 ++ entries_items self.new) }
     {
@@ -225,7 +226,7 @@ impl<'a> Entries<'a> {
 
 // Returns the entries of a fat file; None if there are more than its bytes could hold.
 fn table_of<'a, R: ArchRecord, A: Allocator>(file: &FatTable<'a, R, A>) -> Option<Table<'a>>
-    ensures { let f = file_held file.now in MatchOption result (nat_le f.narches (length f.bytes / R.arch_form.stride) ≡ false)
+    ensures { let f = file_view file.now in MatchOption result (nat_le f.narches (length f.bytes / R.arch_form.stride) ≡ false)
         (λ table. (nat_le f.narches (length f.bytes / R.arch_form.stride) ≡ true)
         × (table.bytes.now ≡ f.bytes) × (table.index ≡ 0) × (table.narches ≡ f.narches)) }
 {

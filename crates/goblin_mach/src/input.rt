@@ -1,7 +1,7 @@
 //! The kind of a file, including archives and fat files of 64 bits.
 
 ghost use Rattle.std.specs.Prelude.{◌≡◌, ◌↔◌, IfOk, IfErr, IsOk, IsTrue, true};
-ghost use Rattle.mach_base.specs.Answer.{Stands, IsOkUnlessMemory};
+ghost use Rattle.mach_base.specs.Answer.{ErrorMeets, IsOkUnlessMemory};
 ghost use Rattle.mach_archive.specs.Archives.{archive_in};
 ghost use Rattle.goblin_mach.specs.File.{IsFat};
 ghost use Rattle.mach_parts.specs.FatRecords.{HasFat64Magic};
@@ -59,7 +59,7 @@ impl<'a, A: Allocator + Clone> Input<'a, A> {
         ensures archive { begins_any_archive bytes.now ≡ true → IsOk (archive_in bytes.now) → IsOk result }
         ensures fat { IsNeither bytes.now → IsFat bytes.now → IsOk result }
         ensures fat_64 { IsFat64 bytes.now → IsOk result }
-        ensures refused { IfErr result (Stands (InputFault bytes.now)) }
+        ensures refused { IfErr result (ErrorMeets (InputFault bytes.now)) }
     {
         if begins_archive(bytes) {
             return Ok(Input::Archive(Archive::parse(bytes)?));

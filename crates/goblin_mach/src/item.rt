@@ -1,7 +1,7 @@
 //! The items in a file: images, and what isn't one.
 
 ghost use Rattle.std.specs.Prelude.{◌≡◌, IfOk, IfErr};
-ghost use Rattle.mach_base.specs.Answer.{Stands, IsOkUnlessMemory};
+ghost use Rattle.mach_base.specs.Answer.{ErrorMeets, IsOkUnlessMemory};
 ghost use Rattle.goblin_mach.specs.Image.{Opens, ImageFault};
 ghost use Rattle.goblin_mach.specs.OpenImage.{IsImage};
 ghost use Rattle.goblin_mach.specs.Items.{content_bytes, content_view};
@@ -22,7 +22,7 @@ pub struct EntryCpu {
 
 /// The place of an item. Programs build its label from this.
 #[derive(Clone, Copy, Debug)]
-pub struct Place {
+pub struct ItemPlace {
     /// The index of its entry, in a fat file.
     pub entry: Option<usize>,
     /// The cpu of its entry, if the record can be read.
@@ -58,7 +58,7 @@ impl<'a> Content<'a> {
     pub fn open<A: Allocator + Clone>(&self, alloc: A) -> Result<MachO<'a, A>>
         ensures opened { IfOk result (IsImage (content_bytes (content_view self.now)) 0) }
         ensures only { Opens (content_bytes (content_view self.now)) 0 → IsOkUnlessMemory result }
-        ensures refused { IfErr result (Stands (ImageFault (content_bytes (content_view self.now)) 0)) }
+        ensures refused { IfErr result (ErrorMeets (ImageFault (content_bytes (content_view self.now)) 0)) }
     {
         MachO::parse(alloc, self.bytes(), 0)
     }
@@ -68,7 +68,7 @@ impl<'a> Content<'a> {
 #[derive(Debug, Drop)]
 pub struct InputItem<'a> {
     /// The place of the item.
-    pub place: Place,
+    pub place: ItemPlace,
     /// Its content, or the error if it can't be read.
     pub content: Result<Content<'a>>,
 }

@@ -1,7 +1,7 @@
 //! What the rules read of an image.
 
 ghost use Rattle.std.specs.Prelude.{◌≡◌};
-ghost use Rattle.goblin_mach.specs.Held.{laid_held};
+ghost use Rattle.goblin_mach.specs.Held.{laid_view};
 ghost use Rattle.mach_layout.specs.Laid.{laid_of};
 
 pub(crate) mod faults;
@@ -14,7 +14,7 @@ use std::alloc::Allocator;
 
 /// Returns what the rules read of an image that was opened at the first of its bytes.
 pub fn layout_of<'a, 'b, A: Allocator>(image: &'b MachO<'a, A>) -> Layout<'a, 'b>
-    ensures { laid_of result ≡ laid_held image.now }
+    ensures { laid_of result ≡ laid_view image.now }
 {
     Layout {
         bytes: image.bytes(),

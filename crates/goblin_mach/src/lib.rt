@@ -48,7 +48,7 @@ pub use crate::fat_file::table::{
 pub use crate::fixups::FixupIterator;
 pub use crate::images::Images;
 pub use crate::input::{Input, begins_archive};
-pub use crate::item::{Content, EntryCpu, InputItem, Place};
+pub use crate::item::{Content, EntryCpu, InputItem, ItemPlace};
 pub use crate::libraries::{Library, LibraryAttributes, LibraryIterator, LibraryKind};
 pub use crate::mach::Mach;
 pub use crate::macho::MachO;

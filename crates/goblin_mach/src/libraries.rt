@@ -8,8 +8,8 @@ ghost use Rattle.goblin_mach.specs.Libraries.{LibraryView, library_kind, dylib_o
 ghost use Rattle.goblin_mach.specs.Libraries.{attributes_of_flags, attributes_of_kind, has_use_flags, library_attributes};
 ghost use Rattle.mach_base.specs.declared.context.Endian.{Endian};
 ghost use Rattle.goblin_mach.specs.Modes.{InBothModes};
-ghost use Rattle.goblin_mach.specs.OpenImage.{bytes_held, commands_held, ctx_held};
-ghost use Rattle.goblin_mach.specs.Readings.{said, first_of};
+ghost use Rattle.goblin_mach.specs.OpenImage.{bytes_view, commands_view, ctx_view};
+ghost use Rattle.goblin_mach.specs.Readings.{values_read, first_of};
 ghost use Rattle.goblin_mach.specs.Subjects.{libs_in, own_name_in};
 
 use crate::macho::MachO;
@@ -174,7 +174,7 @@ impl<'a, 'b> LibraryIterator<'a, 'b> {
     #[inline(always)]
     fn library(&mut self, command: &LoadCommand) -> Option<Library<'a>>
         ensures library { option_map library_view result ≡ option_map (of_ordinal self.old.ordinal)
-            (first_of (said (named_by self.old.le self.old.source.bytes.now (command_of command.now)))) }
+            (first_of (values_read (named_by self.old.le self.old.source.bytes.now (command_of command.now)))) }
         ensures bytes { self.new.source.bytes ≡ self.old.source.bytes }
         ensures le { self.new.le ≡ self.old.le }
         ensures commands { self.new.commands ≡ self.old.commands }
@@ -262,6 +262,6 @@ pub fn libraries_by_ordinal()
 /// The name that an opened image holds in `libs` at the ordinal of a library is that library's name.
 pub fn libraries_in_libs<A: Allocator>(image: &MachO<'_, A>)
     ensures { InBothModes image.now (λ bytes o. (k : ℕ) (l : LibraryView)
-        → slice_get (libraries_in (ctx_held image.now).le (bytes_held image.now) (commands_held image.now)) k ≡ Some l
+        → slice_get (libraries_in (ctx_view image.now).le (bytes_view image.now) (commands_view image.now)) k ≡ Some l
         → slice_get (texts image.now.libs.items) l.ordinal ≡ Some l.name) }
 {}

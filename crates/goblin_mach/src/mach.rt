@@ -1,7 +1,7 @@
 //! The kind of a file: an image or a fat file.
 
 ghost use Rattle.std.specs.Prelude.{IfOk, IfErr, IsOk};
-ghost use Rattle.mach_base.specs.Answer.{Stands, IsOkUnlessMemory};
+ghost use Rattle.mach_base.specs.Answer.{ErrorMeets, IsOkUnlessMemory};
 ghost use Rattle.goblin_mach.specs.Image.{Opens, LossyOpens, ImageFault, LossyFault};
 ghost use Rattle.goblin_mach.specs.File.{IsFat, MachOpens, MachFault};
 
@@ -31,7 +31,7 @@ impl<'a, A: Allocator + Clone> Mach<'a, A> {
         ensures opened { IfOk result (IsMach IsImage bytes.now) }
         ensures only { MachOpens Opens bytes.now → IsOkUnlessMemory result }
         ensures fat { IsFat bytes.now → IsOk result }
-        ensures refused { IfErr result (Stands (MachFault ImageFault bytes.now)) }
+        ensures refused { IfErr result (ErrorMeets (MachFault ImageFault bytes.now)) }
     {
         if bytes.len() < 4 {
             return Err(Error::Malformed("a magic is 4 bytes"));
@@ -48,7 +48,7 @@ impl<'a, A: Allocator + Clone> Mach<'a, A> {
         ensures opened { IfOk result (IsMach IsLossyImage bytes.now) }
         ensures only { MachOpens LossyOpens bytes.now → IsOkUnlessMemory result }
         ensures fat { IsFat bytes.now → IsOk result }
-        ensures refused { IfErr result (Stands (MachFault LossyFault bytes.now)) }
+        ensures refused { IfErr result (ErrorMeets (MachFault LossyFault bytes.now)) }
     {
         if bytes.len() < 4 {
             return Err(Error::Malformed("a magic is 4 bytes"));

@@ -1,9 +1,9 @@
 //! One image.
 
 ghost use Rattle.std.specs.Prelude.{◌≡◌, ◌↔◌, ◌<◌, ◌≤◌, ◌^◌, [], length, List, IsTrue, IfOk, IfErr};
-ghost use Rattle.mach_base.specs.Answer.{Stands, IsOkUnlessMemory};
+ghost use Rattle.mach_base.specs.Answer.{ErrorMeets, IsOkUnlessMemory};
 ghost use Rattle.mach_base.specs.Context.{pointer_size};
-ghost use Rattle.mach_dyld.specs.BindViews.{imports_seen};
+ghost use Rattle.mach_dyld.specs.BindViews.{bind_imports_view};
 ghost use Rattle.mach_dyld.specs.Exports.{entries};
 ghost use Rattle.mach_base.specs.Text.{texts};
 ghost use Rattle.mach_dyld.specs.Imports as binds;
@@ -70,7 +70,7 @@ impl<'a, A: Allocator + Clone> MachO<'a, A> {
     pub fn parse(alloc: A, bytes: &'a [u8], offset: usize) -> Result<MachO<'a, A>>
         ensures opened { IfOk result (IsImage bytes.now offset) }
         ensures only { Opens bytes.now offset → IsOkUnlessMemory result }
-        ensures refused { IfErr result (Stands (ImageFault bytes.now offset)) }
+        ensures refused { IfErr result (ErrorMeets (ImageFault bytes.now offset)) }
     {
         MachO::open(alloc, bytes, offset)
     }
@@ -81,14 +81,14 @@ impl<'a, A: Allocator + Clone> MachO<'a, A> {
     pub fn parse_lossy(alloc: A, bytes: &'a [u8], offset: usize) -> Result<MachO<'a, A>>
         ensures opened { IfOk result (IsLossyImage bytes.now offset) }
         ensures only { LossyOpens bytes.now offset → IsOkUnlessMemory result }
-        ensures refused { IfErr result (Stands (LossyFault bytes.now offset)) }
+        ensures refused { IfErr result (ErrorMeets (LossyFault bytes.now offset)) }
     {
         MachO::open_lossy(alloc, bytes, offset)
     }
 
     fn open(alloc: A, bytes: &'a [u8], offset: usize) -> Result<MachO<'a, A>>
         ensures opened { IfOk result (IsImage bytes.now offset) }
-        ensures refused { IfErr result (Stands (ImageFault bytes.now offset)) }
+        ensures refused { IfErr result (ErrorMeets (ImageFault bytes.now offset)) }
     {
         let opened = Opened::read(alloc.clone()?, bytes, offset)?;
         let fields = Fields::read(alloc, bytes, opened.ctx, &opened.load_commands)?;
@@ -97,7 +97,7 @@ impl<'a, A: Allocator + Clone> MachO<'a, A> {
 
     fn open_lossy(alloc: A, bytes: &'a [u8], offset: usize) -> Result<MachO<'a, A>>
         ensures opened { IfOk result (IsLossyImage bytes.now offset) }
-        ensures refused { IfErr result (Stands (LossyFault bytes.now offset)) }
+        ensures refused { IfErr result (ErrorMeets (LossyFault bytes.now offset)) }
     {
         let opened = Opened::read(alloc.clone()?, bytes, offset)?;
         let fields = Fields::read_lossy(alloc, bytes, opened.ctx, &opened.load_commands)?;
@@ -133,13 +133,13 @@ impl<'a, A: Allocator> MachO<'a, A> {
 }
 
 impl<'a, A: Allocator> MachO<'a, A> {
-    ghost use Rattle.goblin_mach.specs.OpenImage.{trie_held, binds_held, ctx_held, bytes_held, segments_held};
+    ghost use Rattle.goblin_mach.specs.OpenImage.{trie_view, binds_view, ctx_view, bytes_view, segments_view};
     ghost use Rattle.mach_parts.specs.SymbolViews.{symbols_left};
-    ghost use Rattle.goblin_mach.specs.Subjects.{symbols_held};
+    ghost use Rattle.goblin_mach.specs.Subjects.{symbols_view};
 
     /// Returns the symbols that the image holds, one after the other; none if it holds no table.
     pub fn symbols(&self) -> SymbolIterator<'a>
-        ensures items { symbols_left result ≡ symbols_held self.now.symbols }
+        ensures items { symbols_left result ≡ symbols_view self.now.symbols }
         ensures bounded { length (symbols_left result) < 2 ^ 64 }
     {
         match &self.symbols {
@@ -151,10 +151,10 @@ impl<'a, A: Allocator> MachO<'a, A> {
     /// Returns the exports of the image, over the libraries that it holds; none if no command names a trie. Each error
     /// except `Error::Memory` is a fault in the trie.
     pub fn exports<B: Allocator + Clone>(&self, alloc: B) -> Result<Vec<Export<'a, B>, B>>
-        ensures listed { IfOk result (λ v. ListsImageExports (trie_held self.now) (texts self.now.libs.items) (entries v.items)) }
-        ensures only { (list : List Entry) → ListsImageExports (trie_held self.now) (texts self.now.libs.items) list → IsOkUnlessMemory result }
-        ensures refused { IfErr result (Stands (ImageExportsFault (trie_held self.now) (texts self.now.libs.items))) }
-        ensures few_exports { IfOk result (λ v. length v.items ≤ trie_len (trie_held self.now)) }
+        ensures listed { IfOk result (λ v. ListsImageExports (trie_view self.now) (texts self.now.libs.items) (entries v.items)) }
+        ensures only { (list : List Entry) → ListsImageExports (trie_view self.now) (texts self.now.libs.items) list → IsOkUnlessMemory result }
+        ensures refused { IfErr result (ErrorMeets (ImageExportsFault (trie_view self.now) (texts self.now.libs.items))) }
+        ensures few_exports { IfOk result (λ v. length v.items ≤ trie_len (trie_view self.now)) }
     {
         match &self.export_trie {
             Some(trie) => trie.exports(alloc, self.libs.as_slice()),
@@ -169,7 +169,7 @@ impl<'a, A: Allocator> MachO<'a, A> {
         &'b self,
         alloc: B,
     ) -> Result<ExportWalk<'a, 'b, B>>
-        ensures given { IfOk result (λ w. HasGiven (trie_or_empty (trie_held self.now)) (texts self.now.libs.items) [] w) }
+        ensures given { IfOk result (λ w. HasGiven (trie_or_empty (trie_view self.now)) (texts self.now.libs.items) [] w) }
         ensures memory { IsOkUnlessMemory result }
     {
         match &self.export_trie {
@@ -181,12 +181,12 @@ impl<'a, A: Allocator> MachO<'a, A> {
     /// Returns the imports of the image, over the libraries and the segments that it holds; none if no command names binds.
     /// Each error except `Error::Memory` is a fault in the binds.
     pub fn imports<B: Allocator>(&self, alloc: B) -> Result<Vec<Import<'a>, B>>
-        ensures listed { IfOk result (λ v. ListsImageImports (binds_held self.now) (pointer_size (ctx_held self.now).container)
-            (texts self.now.libs.items) (segments_held self.now) (imports_seen v.items)) }
-        ensures only { (list : List (binds.Import)) → ListsImageImports (binds_held self.now) (pointer_size (ctx_held self.now).container)
-            (texts self.now.libs.items) (segments_held self.now) list → IsOkUnlessMemory result }
-        ensures refused { IfErr result (Stands (ImageImportsFault (binds_held self.now) (pointer_size (ctx_held self.now).container)
-            (texts self.now.libs.items) (segments_held self.now))) }
+        ensures listed { IfOk result (λ v. ListsImageImports (binds_view self.now) (pointer_size (ctx_view self.now).container)
+            (texts self.now.libs.items) (segments_view self.now) (bind_imports_view v.items)) }
+        ensures only { (list : List (binds.Import)) → ListsImageImports (binds_view self.now) (pointer_size (ctx_view self.now).container)
+            (texts self.now.libs.items) (segments_view self.now) list → IsOkUnlessMemory result }
+        ensures refused { IfErr result (ErrorMeets (ImageImportsFault (binds_view self.now) (pointer_size (ctx_view self.now).container)
+            (texts self.now.libs.items) (segments_view self.now))) }
     {
         match &self.bind_interpreter {
             Some(binds) => {
@@ -208,8 +208,8 @@ impl<'a, A: Allocator> MachO<'a, A> {
     /// non-lazy stream, then those of the lazy stream. The first fault is the last item. There are none if no command names
     /// binds. It allocates nothing.
     pub fn iter_imports<'b>(&'b self) -> BindIterator<'a, 'b>
-        ensures { AreImageBindItems (binds_held self.now) (pointer_size (ctx_held self.now).container)
-            (texts self.now.libs.items) (segments_held self.now) (imports_left result) }
+        ensures { AreImageBindItems (binds_view self.now) (pointer_size (ctx_view self.now).container)
+            (texts self.now.libs.items) (segments_view self.now) (imports_left result) }
     {
         let Some(binds) = &self.bind_interpreter else {
             return BindIterator::default();
@@ -232,7 +232,7 @@ impl<'a, A: Allocator> MachO<'a, A> {
     /// segment, counted from 0, and an iterator over its relocations. The first unreadable section of any segment is the
     /// error of the whole.
     pub fn relocations<B: Allocator>(&self, alloc: B) -> Result<Vec<RelocatedSection<'a>, B>>
-        ensures { Gives (λ v. map relocated_view v.items) result (relocated_sections_in (ctx_held self.now) (bytes_held self.now) (segments_held self.now)) }
+        ensures { Gives (λ v. map relocated_view v.items) result (relocated_sections_in (ctx_view self.now) (bytes_view self.now) (segments_view self.now)) }
     {
         relocations(alloc, self.bytes, self.segments.as_slice(), self.ctx)
     }

@@ -1,7 +1,7 @@
 //! What strict and lossy mode read in the same way: the header, the commands and the entry.
 
 ghost use Rattle.std.specs.Prelude.{◌≡◌, Ok, IfOk, IfErr};
-ghost use Rattle.mach_base.specs.Answer.{Stands};
+ghost use Rattle.mach_base.specs.Answer.{ErrorMeets};
 ghost use Rattle.mach_parts.specs.Header.{IsHeader};
 ghost use Rattle.goblin_mach.specs.EntryPoint.{entry_point_in};
 ghost use Rattle.goblin_mach.specs.Image.{HasHeader, CountsFit, LossyOpensAs, LossyFault};
@@ -33,7 +33,7 @@ fn read_header(bytes: &[u8], offset: usize) -> Result<(Ctx, Header)>
     ensures header { IfOk result (λ found. IsHeader found.0 bytes.now offset found.1) }
     ensures ncmds { IfOk result (λ found. found.1.ncmds ≡ ncmds_at found.0 bytes.now offset) }
     ensures cputype { IfOk result (λ found. found.1.cputype ≡ cputype_at found.0 bytes.now offset) }
-    ensures refused { IfErr result (Stands (LossyFault bytes.now offset)) }
+    ensures refused { IfErr result (ErrorMeets (LossyFault bytes.now offset)) }
 {
     let (magic, ctx) = parse_magic_and_ctx(bytes, offset)?;
     let Some(ctx) = ctx else {
@@ -56,7 +56,7 @@ impl<A: Allocator> Opened<A> {
         ensures header { IfOk result (λ x. IsHeader x.ctx bytes.now offset x.header) }
         ensures entry { IfOk result (λ x. entry_point_in (cputype_at x.ctx bytes.now offset) (commands_of x)
             ≡ Ok (record { address = x.address; old_style = x.old_style_entry })) }
-        ensures refused { IfErr result (Stands (LossyFault bytes.now offset)) }
+        ensures refused { IfErr result (ErrorMeets (LossyFault bytes.now offset)) }
     {
         let (ctx, header) = read_header(bytes, offset)?;
         let first = offset + Header::size_with(&ctx);

@@ -1,12 +1,12 @@
 //! What is read from the commands of an image, subject by subject.
 
 ghost use Rattle.std.specs.Prelude.{◌≡◌, ◌++◌, ℕ, List, map, option_map, IfOk, IfErr, OnOk};
-ghost use Rattle.mach_base.specs.Answer.{Stands, IsOkUnlessMemory};
+ghost use Rattle.mach_base.specs.Answer.{ErrorMeets, IsOkUnlessMemory};
 ghost use Rattle.mach_base.specs.KeptText.{kept_bytes};
 ghost use Rattle.mach_base.specs.Text.{text_at, texts};
 ghost use Rattle.mach_load.specs.Variants.{command_of};
 ghost use Rattle.mach_dyld.specs.Exports.{text_in};
-ghost use Rattle.goblin_mach.specs.Readings.{Reading, read_of, said, last_or, first_of, IsRead, IsRefused, AllRead, IsUnread, seen_of};
+ghost use Rattle.goblin_mach.specs.Readings.{Reading, read_of, values_read, last_or, first_of, IsRead, IsRefused, AllRead, IsUnread, view_of_read};
 
 use mach_base::{KeptText, Result};
 use mach_load::LoadCommand;
@@ -26,7 +26,7 @@ pub trait Subject {
 
     /// Reads a command, if it concerns the subject.
     fn read(&self, command: &LoadCommand) -> Option<Result<Self::Value>>
-        ensures { seen_of seen result ≡ reading self.now (command_of command.now) };
+        ensures { view_of_read seen result ≡ reading self.now (command_of command.now) };
 }
 
 /// Adds what a command says on a subject to a list.
@@ -36,9 +36,9 @@ pub fn add<S: Subject, A: Allocator>(
     subject: &S,
     command: &LoadCommand,
 ) -> Result<()>
-    ensures kept { OnOk result (map S.seen values.new.items ≡ map S.seen values.old.items ++ said (S.reading subject.now (command_of command.now))) }
+    ensures kept { OnOk result (map S.seen values.new.items ≡ map S.seen values.old.items ++ values_read (S.reading subject.now (command_of command.now))) }
     ensures read { OnOk result (IsRead (S.reading subject.now (command_of command.now))) }
-    ensures refused { IfErr result (Stands (IsRefused (S.reading subject.now (command_of command.now)))) }
+    ensures refused { IfErr result (ErrorMeets (IsRefused (S.reading subject.now (command_of command.now)))) }
 {
     if let Some(found) = subject.read(command) {
         values.push(found?)?;
@@ -52,7 +52,7 @@ pub fn add_readable<S: Subject, A: Allocator>(
     subject: &S,
     command: &LoadCommand,
 ) -> Result<()>
-    ensures kept { OnOk result (map S.seen values.new.items ≡ map S.seen values.old.items ++ said (S.reading subject.now (command_of command.now))) }
+    ensures kept { OnOk result (map S.seen values.new.items ≡ map S.seen values.old.items ++ values_read (S.reading subject.now (command_of command.now))) }
     ensures only { IsOkUnlessMemory result }
 {
     if let Some(Ok(value)) = subject.read(command) {
@@ -67,9 +67,10 @@ pub fn put<S: Subject>(
     subject: &S,
     command: &LoadCommand,
 ) -> Result<()>
-    ensures kept { OnOk result (option_map S.seen last.new ≡ last_or (option_map S.seen last.old) (said (S.reading subject.now (command_of command.now)))) }
+    ensures kept { OnOk result (option_map S.seen last.new ≡ last_or (option_map S.seen last.old) (values_read (S.reading subject.now
+        (command_of command.now)))) }
     ensures read { OnOk result (IsRead (S.reading subject.now (command_of command.now))) }
-    ensures refused { IfErr result (Stands (IsRefused (S.reading subject.now (command_of command.now)))) }
+    ensures refused { IfErr result (ErrorMeets (IsRefused (S.reading subject.now (command_of command.now)))) }
 {
     if let Some(found) = subject.read(command) {
         *last = Some(found?);
@@ -79,7 +80,7 @@ pub fn put<S: Subject>(
 
 /// Replaces what an earlier command said on a subject by what this one says, if it can be read.
 pub fn put_readable<S: Subject>(last: &mut Option<S::Value>, subject: &S, command: &LoadCommand)
-    ensures { option_map S.seen last.new ≡ last_or (option_map S.seen last.old) (said (S.reading subject.now (command_of command.now))) }
+    ensures { option_map S.seen last.new ≡ last_or (option_map S.seen last.old) (values_read (S.reading subject.now (command_of command.now))) }
 {
     if let Some(Ok(value)) = subject.read(command) {
         *last = Some(value);
@@ -108,9 +109,9 @@ pub(crate) fn add_text<'a, S: TextSubject, A: Allocator>(
     command: &LoadCommand,
 ) -> Result<()>
     requires { kept_bytes names.old ≡ S.bytes subject.now }
-    ensures kept { OnOk result (texts values.new.items ≡ texts values.old.items ++ said (S.reading subject.now (command_of command.now))) }
+    ensures kept { OnOk result (texts values.new.items ≡ texts values.old.items ++ values_read (S.reading subject.now (command_of command.now))) }
     ensures read { OnOk result (IsRead (S.reading subject.now (command_of command.now))) }
-    ensures refused { IfErr result (Stands (IsRefused (S.reading subject.now (command_of command.now)))) }
+    ensures refused { IfErr result (ErrorMeets (IsRefused (S.reading subject.now (command_of command.now)))) }
     ensures bytes { kept_bytes names.new ≡ S.bytes subject.now }
 {
     if let Some(place) = subject.place(command) {
@@ -127,7 +128,7 @@ pub(crate) fn add_readable_text<'a, S: TextSubject, A: Allocator>(
     command: &LoadCommand,
 ) -> Result<()>
     requires { kept_bytes names.old ≡ S.bytes subject.now }
-    ensures kept { OnOk result (texts values.new.items ≡ texts values.old.items ++ said (S.reading subject.now (command_of command.now))) }
+    ensures kept { OnOk result (texts values.new.items ≡ texts values.old.items ++ values_read (S.reading subject.now (command_of command.now))) }
     ensures only { IsOkUnlessMemory result }
     ensures bytes { kept_bytes names.new ≡ S.bytes subject.now }
 {
@@ -147,9 +148,9 @@ pub(crate) fn put_text<'a, S: TextSubject>(
     command: &LoadCommand,
 ) -> Result<()>
     requires { kept_bytes names.old ≡ S.bytes subject.now }
-    ensures kept { OnOk result (text_in last.new ≡ last_or (text_in last.old) (said (S.reading subject.now (command_of command.now)))) }
+    ensures kept { OnOk result (text_in last.new ≡ last_or (text_in last.old) (values_read (S.reading subject.now (command_of command.now)))) }
     ensures read { OnOk result (IsRead (S.reading subject.now (command_of command.now))) }
-    ensures refused { IfErr result (Stands (IsRefused (S.reading subject.now (command_of command.now)))) }
+    ensures refused { IfErr result (ErrorMeets (IsRefused (S.reading subject.now (command_of command.now)))) }
     ensures bytes { kept_bytes names.new ≡ S.bytes subject.now }
 {
     if let Some(place) = subject.place(command) {
@@ -167,7 +168,7 @@ pub(crate) fn put_readable_text<'a, S: TextSubject>(
     command: &LoadCommand,
 )
     requires { kept_bytes names.old ≡ S.bytes subject.now }
-    ensures kept { text_in last.new ≡ last_or (text_in last.old) (said (S.reading subject.now (command_of command.now))) }
+    ensures kept { text_in last.new ≡ last_or (text_in last.old) (values_read (S.reading subject.now (command_of command.now))) }
     ensures bytes { kept_bytes names.new ≡ S.bytes subject.now }
 {
     if let Some(place) = subject.place(command)
@@ -181,7 +182,7 @@ pub(crate) fn put_readable_text<'a, S: TextSubject>(
 pub fn first_read<S: Subject>(subject: &S, commands: &[LoadCommand]) -> Result<Option<S::Value>>
     ensures found { IfOk result (λ first. option_map S.seen first ≡ first_of (read_of (S.reading subject.now) (map command_of commands.now))) }
     ensures all { IfOk result (λ _. AllRead (S.reading subject.now) (map command_of commands.now)) }
-    ensures refused { IfErr result (Stands (IsUnread (S.reading subject.now) (map command_of commands.now))) }
+    ensures refused { IfErr result (ErrorMeets (IsUnread (S.reading subject.now) (map command_of commands.now))) }
 {
     let mut first = None;
     for command in commands {

@@ -1,7 +1,7 @@
 //! The fields of which an image has one: the last command on each decides.
 
 ghost use Rattle.std.specs.Prelude.{◌≡◌, ℕ, List, None, false, IfErr, OnOk};
-ghost use Rattle.mach_base.specs.Answer.{Stands};
+ghost use Rattle.mach_base.specs.Answer.{ErrorMeets};
 ghost use Rattle.mach_base.specs.KeptText.{kept_bytes};
 ghost use Rattle.mach_load.specs.Variants.{command_of};
 ghost use Rattle.goblin_mach.specs.OpenImage.{TakesOnce, IsOnceRefused};
@@ -57,7 +57,7 @@ impl<'a> Once<'a> {
         ensures found { OnOk result (TakesOnce ctx bytes.now (command_of command.now) self.old self.new) }
         ensures tables { OnOk result (IsRead (table_by ctx bytes.now (command_of command.now))) }
         ensures ids { OnOk result (IsRead (id_by bytes.now (command_of command.now))) }
-        ensures refused { IfErr result (Stands (IsOnceRefused ctx bytes.now (command_of command.now))) }
+        ensures refused { IfErr result (ErrorMeets (IsOnceRefused ctx bytes.now (command_of command.now))) }
         ensures bytes { kept_bytes names.new ≡ bytes.now }
     {
         if !speaks_of_one(command) {
@@ -79,7 +79,7 @@ impl<'a> Once<'a> {
         ensures found { OnOk result (TakesOnce ctx bytes.now (command_of command.now) self.old self.new) }
         ensures tables { OnOk result (IsRead (table_by ctx bytes.now (command_of command.now))) }
         ensures ids { OnOk result (IsRead (id_by bytes.now (command_of command.now))) }
-        ensures refused { IfErr result (Stands (IsOnceRefused ctx bytes.now (command_of command.now))) }
+        ensures refused { IfErr result (ErrorMeets (IsOnceRefused ctx bytes.now (command_of command.now))) }
         ensures bytes { kept_bytes names.new ≡ bytes.now }
     {
         put(&mut self.symbols, &SymbolTables { bytes, ctx }, command)?;

@@ -2,12 +2,12 @@
 
 ghost use Rattle.std.specs.Prelude.{◌≡◌, ℕ, List, Result, IfOk, IfErr, Ok};
 ghost use Rattle.mach_base.specs.Fault.{Fault};
-ghost use Rattle.mach_base.specs.Answer.{Stands, IsOkUnlessMemory};
+ghost use Rattle.mach_base.specs.Answer.{ErrorMeets, IsOkUnlessMemory};
 ghost use Rattle.goblin_mach.specs.FatEntry.{FatEntry, IsEntry, entry_at, entries_of, image};
-ghost use Rattle.goblin_mach.specs.FatFile.{file_held};
+ghost use Rattle.goblin_mach.specs.FatFile.{file_view};
 ghost use Rattle.goblin_mach.specs.OpenImage.{IsImage};
 ghost use Rattle.goblin_mach.specs.File.{IsMach};
-ghost use Rattle.goblin_mach.specs.View.{HasEntries, ViewFault, LinksHeld, FaultHeld, IsTold, IsViewItem, AreViewItems};
+ghost use Rattle.goblin_mach.specs.View.{HasEntries, ViewFault, LinksHeld, FaultHeld, IsReported, IsViewItem, AreViewItems};
 
 use crate::fat_file::entry::SingleArch;
 use crate::fat_file::table::MultiArch;
@@ -63,7 +63,7 @@ fn links_of<'a, A: Allocator, B: Allocator + Clone>(
     image: &MachO<'a, A>,
 ) -> Result<Links<'a, B>>
     ensures held { IfOk result (LinksHeld image.now) }
-    ensures refused { IfErr result (Stands (FaultHeld image.now)) }
+    ensures refused { IfErr result (ErrorMeets (FaultHeld image.now)) }
 {
     let exports = image.exports(alloc.clone()?)?;
     let imports = image.imports(alloc)?;
@@ -71,8 +71,8 @@ fn links_of<'a, A: Allocator, B: Allocator + Clone>(
 }
 
 // Returns an error that an item may hold. Out of memory is the error of the whole.
-fn told(error: Error) -> Result<Error>
-    ensures same { IfOk result (λ e. (e ≡ error) × IsTold e) }
+fn reported(error: Error) -> Result<Error>
+    ensures same { IfOk result (λ e. (e ≡ error) × IsReported e) }
     ensures only { IsOkUnlessMemory result }
 {
     match error {
@@ -91,7 +91,7 @@ fn image_item<'a, A: Allocator, B: Allocator + Clone>(
 {
     match links_of(alloc, opened) {
         Ok(Links { exports, imports }) => Ok(Ok(LinkView::Image { exports, imports })),
-        Err(error) => Ok(Err(told(error)?)),
+        Err(error) => Ok(Err(reported(error)?)),
     }
 }
 
@@ -115,12 +115,12 @@ fn entry_item<'a, A: Allocator + Clone, B: Allocator + Clone>(
     container: &MultiArch<'a, A>,
     index: usize,
 ) -> Result<Result<LinkView<'a, B>>>
-    ensures item { IfOk result (IsViewItem (entry_at (file_held container.now) index)) }
+    ensures item { IfOk result (IsViewItem (entry_at (file_view container.now) index)) }
     ensures only { IsOkUnlessMemory result }
 {
     match container.get(index) {
         Ok(entry) => opened_item(alloc, &entry),
-        Err(error) => Ok(Err(told(error)?)),
+        Err(error) => Ok(Err(reported(error)?)),
     }
 }
 
@@ -129,7 +129,7 @@ fn entry_items<'a, A: Allocator + Clone, B: Allocator + Clone>(
     alloc: B,
     container: &MultiArch<'a, A>,
 ) -> Result<Vec<Result<LinkView<'a, B>>, B>>
-    ensures items { IfOk result (λ v. AreViewItems (entries_of (file_held container.now)) v.items) }
+    ensures items { IfOk result (λ v. AreViewItems (entries_of (file_view container.now)) v.items) }
     ensures only { IsOkUnlessMemory result }
 {
     let mut items = Vec::new(alloc.clone()?);
@@ -146,7 +146,7 @@ fn file_items<'a, A: Allocator + Clone, B: Allocator + Clone>(
 ) -> Result<Vec<Result<LinkView<'a, B>>, B>>
     ensures viewed { (bytes : List ℕ) → IsMach IsImage bytes file.now
         → IfOk result (λ v. (entries : List (Result FatEntry Fault)) × HasEntries bytes entries × AreViewItems entries v.items) }
-    ensures refused { (bytes : List ℕ) → IsMach IsImage bytes file.now → IfErr result (Stands (ViewFault bytes)) }
+    ensures refused { (bytes : List ℕ) → IsMach IsImage bytes file.now → IfErr result (ErrorMeets (ViewFault bytes)) }
 {
     match file {
         Mach::Binary(image) => {
@@ -171,7 +171,7 @@ pub fn link_view<'a, A: Allocator + Clone>(
 ) -> Result<Vec<Result<LinkView<'a, A>>, A>>
     ensures viewed { IfOk result (λ v. (entries : List (Result FatEntry Fault)) × HasEntries bytes.now entries × AreViewItems entries v.items) }
     ensures only { (entries : List (Result FatEntry Fault)) → HasEntries bytes.now entries → IsOkUnlessMemory result }
-    ensures refused { IfErr result (Stands (ViewFault bytes.now)) }
+    ensures refused { IfErr result (ErrorMeets (ViewFault bytes.now)) }
 {
     let file = Mach::parse(alloc.clone()?, bytes)?;
     file_items(alloc, &file)

@@ -20,7 +20,7 @@ module _ (bytes : List ℕ) (before after : List (Result MemberView Fault)) (ans
       → (i : Result MemberView Fault) × (before ≡ i ∷ after) × SaysMember bytes i row
   member_said placed is rowed =
       let here = subst (λ (a : Result PlacedMember Error). GivesMember bytes before (Some (member_answer a)) after) is given in
-      (Ok (member_view placed.member), here.0, (read_as (λ told. told) placed.name, here.1, rowed))
+      (Ok (member_view placed.member), here.0, (read_as (λ reported. reported) placed.name, here.1, rowed))
 
   pub no_member_said : (why : Error) → answer ≡ Err why → row ≡ no_member (code_of_fault (fault_of why))
       → (i : Result MemberView Fault) × (before ≡ i ∷ after) × SaysMember bytes i row
@@ -34,7 +34,7 @@ module _ (bytes : List ℕ) (before after : List (Result IndexSymbol Fault)) (an
       → (i : Result IndexSymbol Fault) × (before ≡ i ∷ after) × SaysArchiveSymbol bytes i row
   symbol_said placed is rowed =
       let here = subst (λ (a : Result PlacedSymbol Error). GivesSymbol bytes before (Some (symbol_answer a)) after) is given in
-      (Ok (archive_symbol_view placed.symbol), here.0, (read_as (λ told. told) placed.name, here.1, rowed))
+      (Ok (archive_symbol_view placed.symbol), here.0, (read_as (λ reported. reported) placed.name, here.1, rowed))
 
   pub no_symbol_said : (why : Error) → answer ≡ Err why → row ≡ no_archive_symbol (code_of_fault (fault_of why))
       → (i : Result IndexSymbol Fault) × (before ≡ i ∷ after) × SaysArchiveSymbol bytes i row

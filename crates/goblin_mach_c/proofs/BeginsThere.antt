@@ -7,10 +7,10 @@ use Rattle.mach_dyld.specs.Bindings.{upto_fault}
 use Rattle.mach_parts.specs.Bindings.{Binding}
 use Rattle.goblin_mach.specs.Bindings.{AreChainBindings, AreImageBindings}
 use Rattle.goblin_mach.specs.Fixups.{AreImageFixups}
-use Rattle.goblin_mach_c.specs.BindingsBehind as behind
-use Rattle.goblin_mach_c.specs.BindingsBehind.{AreBindingsBehind, bindings_by}
-use Rattle.goblin_mach_c.specs.FixupsBehind as fixups
-use Rattle.goblin_mach_c.specs.ImportsBehind.{Binds}
+use Rattle.goblin_mach_c.specs.BindingsAfter as following
+use Rattle.goblin_mach_c.specs.BindingsAfter.{AreBindingsAfter, bindings_by}
+use Rattle.goblin_mach_c.specs.FixupsAfter as fixups
+use Rattle.goblin_mach_c.specs.ImportsAfter.{Binds}
 use Rattle.goblin_mach_c.specs.Stage.{stage_of}
 use Rattle.goblin_mach_c.specs.declared.bindings.gm_binding_cursor.{gm_binding_cursor}
 
@@ -29,23 +29,23 @@ of_chains (Ok None) x bound are = ([], refl, are)
 of_chains (Ok (Some c)) x bound are = (are.0, are.1, are.2)
 
 pub whole_list : (c : gm_binding_cursor) (x : Binds) (chained : Result (Option Fixups) Fault) (items : List (Result Binding Fault))
-    → c.opcodes.stage ≡ 0 → c.chains.stage ≡ 0 → AreBindingsBehind c x chained items → AreImageBindings x.ranges chained x.pointer x.libs x.segments items
+    → c.opcodes.stage ≡ 0 → c.chains.stage ≡ 0 → AreBindingsAfter c x chained items → AreImageBindings x.ranges chained x.pointer x.libs x.segments items
 whole_list c x chained items p q b = record {
   by_opcodes = b.by_opcodes;
   by_chains = bindings_by chained x b.fixups;
-  opcodes = subst (λ (n : ℕ). behind.AreBindingsAtStage (stage_of n) c.opcodes.binds x b.by_opcodes) p b.opcodes;
+  opcodes = subst (λ (n : ℕ). following.AreBindingsAtStage (stage_of n) c.opcodes.binds x b.by_opcodes) p b.opcodes;
   chains = by_fixups chained x b.fixups (subst (λ (n : ℕ). fixups.AreFixupsAtStage (stage_of n) c.chains.chains chained x.segments b.fixups) q b.chains);
   are = b.are;
 }
 
-pub behind_start : (c : gm_binding_cursor) (x : Binds) (chained : Result (Option Fixups) Fault) (items : List (Result Binding Fault))
-    → c.opcodes.stage ≡ 0 → c.chains.stage ≡ 0 → AreImageBindings x.ranges chained x.pointer x.libs x.segments items → AreBindingsBehind c x chained items
-behind_start c x chained items p q b =
+pub after_start : (c : gm_binding_cursor) (x : Binds) (chained : Result (Option Fixups) Fault) (items : List (Result Binding Fault))
+    → c.opcodes.stage ≡ 0 → c.chains.stage ≡ 0 → AreImageBindings x.ranges chained x.pointer x.libs x.segments items → AreBindingsAfter c x chained items
+after_start c x chained items p q b =
     let found = of_chains chained x b.by_chains b.chains in
     record {
       by_opcodes = b.by_opcodes;
       fixups = found.0;
-      opcodes = subst (λ (n : ℕ). behind.AreBindingsAtStage (stage_of n) c.opcodes.binds x b.by_opcodes) (sym p) b.opcodes;
+      opcodes = subst (λ (n : ℕ). following.AreBindingsAtStage (stage_of n) c.opcodes.binds x b.by_opcodes) (sym p) b.opcodes;
       chains = subst (λ (n : ℕ). fixups.AreFixupsAtStage (stage_of n) c.chains.chains chained x.segments found.0) (sym q) found.1;
       are = b.are ∙ ap (λ (l : List (Result Binding Fault)). upto_fault (b.by_opcodes ++ l)) found.2;
     }

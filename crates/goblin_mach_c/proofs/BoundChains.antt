@@ -16,9 +16,9 @@ use Rattle.mach_chained.specs.declared.header.ChainedFixupsHeader.{ChainedFixups
 use Rattle.mach_parts.specs.Segment.{SegmentView, segment_view}
 use Rattle.mach_parts.specs.declared.segment.Segment.{Segment}
 use Rattle.goblin_mach.specs.Fixups.{base_of, chained_at}
-use Rattle.goblin_mach_c.specs.BindingsBehind.{bindings_by, chains_by}
-use Rattle.goblin_mach_c.specs.FixupsBehind.{AreFixupRowsOver, fixup_rows_left}
-use Rattle.goblin_mach_c.specs.ImportsBehind.{Binds}
+use Rattle.goblin_mach_c.specs.BindingsAfter.{bindings_by, chains_by}
+use Rattle.goblin_mach_c.specs.FixupsAfter.{AreFixupRowsOver, fixup_rows_left}
+use Rattle.goblin_mach_c.specs.ImportsAfter.{Binds}
 use Rattle.goblin_mach_c.specs.declared.fixups.FixupRows.{FixupRows}
 use Rattle.goblin_mach_c.specs.declared.fixups.FixupRows.TheVariants as rows
 

@@ -17,10 +17,10 @@ use Rattle.mach_chained.specs.Imports.{FixupImport, import_at}
 use Rattle.mach_chained.specs.Pointers.{KindOfFixup, bind}
 use Rattle.mach_parts.specs.Bindings.{Binding, Provider, provider_of}
 use Rattle.mach_base.specs.declared.error.Error.{Error}
-use Rattle.mach_dyld.specs.BindCursors.{TextStands}
+use Rattle.mach_dyld.specs.BindCursors.{TextIsAt}
 use Rattle.mach_dyld.specs.declared.imports.cursor.PlacedBinding.{PlacedBinding}
-use Rattle.goblin_mach_c.specs.BindingRows.{NameStandsAt}
-use Rattle.goblin_mach_c.specs.BindingsBehind.{HasPlacedName}
+use Rattle.goblin_mach_c.specs.BindingRows.{NameIsAt}
+use Rattle.goblin_mach_c.specs.BindingsAfter.{HasPlacedName}
 
 -- the first elements of a list, taken by their own count
 front_again : (n : ℕ) (xs : List ℕ) → take (length (take n xs)) xs ≡ take n xs
@@ -33,7 +33,7 @@ front_short zero xs = omega arith
 front_short (suc n) [] = omega arith
 front_short (suc n) (x ∷ xs) = let rest = front_short n xs in omega (arith, rest)
 
-run_there : (bytes : List ℕ) (s : ℕ) → s < length bytes → NameStandsAt bytes s (run_at bytes s)
+run_there : (bytes : List ℕ) (s : ℕ) → s < length bytes → NameIsAt bytes s (run_at bytes s)
 run_there bytes s inside =
     let n = position_or_len is_zero (drop s bytes) in
     let short = front_short n (drop s bytes) in
@@ -41,14 +41,14 @@ run_there bytes s inside =
     record { within = omega (arith, inside, short, long); there = front_again n (drop s bytes) }
 
 -- a text that is read at a place is there
-pub text_stands : (bytes : List ℕ) (s : ℕ) (text : List ℕ) → text_at bytes s ≡ Ok text → NameStandsAt bytes s text
+pub text_occurs : (bytes : List ℕ) (s : ℕ) (text : List ℕ) → text_at bytes s ≡ Ok text → NameIsAt bytes s text
 unfolding text_at
-text_stands bytes s text e =
+text_occurs bytes s text e =
     let run = run_at bytes s in
     elim (chosen (nat_le (length bytes) s) (Err (bad_offset s)) (cond (is_utf8 run) (Ok run) (Err (bad_input (length bytes - s)))) (Ok text) e) [
       | inl wrong ↦ absurd (let x = wrong.1 in cc)
       | inr inner ↦ elim (chosen (is_utf8 run) (Ok run) (Err (bad_input (length bytes - s))) (Ok text) inner.1) [
-        | inl good ↦ subst (NameStandsAt bytes s) (same_ok good.1) (run_there bytes s (leb-false (length bytes) s inner.0))
+        | inl good ↦ subst (NameIsAt bytes s) (same_ok good.1) (run_there bytes s (leb-false (length bytes) s inner.0))
         | inr wrong ↦ absurd (let x = wrong.1 in cc)
       ]
     ]
@@ -71,9 +71,9 @@ part_lies size bytes from part e =
     ]
 
 -- what is in a part of the bytes is in the bytes
-pub part_stands : (size : ℕ) (bytes : List ℕ) (from : ℕ) (part : List ℕ) (s : ℕ) (text : List ℕ) → slice_at size bytes from ≡ Ok part → NameStandsAt part s text
-    → NameStandsAt bytes (from + s) text
-part_stands size bytes from part s text e there =
+pub part_occurs : (size : ℕ) (bytes : List ℕ) (from : ℕ) (part : List ℕ) (s : ℕ) (text : List ℕ) → slice_at size bytes from ≡ Ok part → NameIsAt part s text
+    → NameIsAt bytes (from + s) text
+part_occurs size bytes from part s text e there =
     let lies = part_lies size bytes from part e in
     let within = lies.within in
     let dropped = length-drop from bytes in
@@ -82,14 +82,14 @@ part_stands size bytes from part s text e there =
     let inner = there.within in
     let fits : s + length text ≤ size = omega (arith, long, inner) in
     let split : s + (size - s) ≡ size = omega (arith, fits) in
-    let behind : drop s part ≡ take (size - s) (drop s (drop from bytes)) =
+    let following : drop s part ≡ take (size - s) (drop s (drop from bytes)) =
     ap (drop s) (sym lies.are) ∙ ap (λ n. drop s (take n (drop from bytes))) (sym split) ∙ drop-take s (size - s) (drop from bytes) in
     record {
       within = omega (arith, within, fits);
       there =
           ap (take (length text)) (sym (drop-drop s from bytes))
           ∙ sym (take-take (length text) (size - s) (drop s (drop from bytes)) (omega (arith, fits)))
-          ∙ ap (take (length text)) (sym behind)
+          ∙ ap (take (length text)) (sym following)
           ∙ there.there;
     }
 
@@ -152,10 +152,10 @@ bound_name x libs f import inline b kind is =
 
 -- ---- those of the opcodes
 
-as_placed : (bytes : List ℕ) (p : PlacedBinding) → TextStands bytes p.name_place p.binding.name.now → HasPlacedName bytes p
-as_placed bytes p stands = elim stands [ inl none ↦ inl none | inr text ↦ inr (text_stands bytes p.name_place p.binding.name.now text) ]
+as_placed : (bytes : List ℕ) (p : PlacedBinding) → TextIsAt bytes p.name_place p.binding.name.now → HasPlacedName bytes p
+as_placed bytes p occurs = elim occurs [ inl none ↦ inl none | inr text ↦ inr (text_occurs bytes p.name_place p.binding.name.now text) ]
 
 pub opcode_placed : (bytes others : List ℕ) → bytes ≡ others → (item : Result PlacedBinding Error)
-    → IfOk item (λ p. TextStands bytes p.name_place p.binding.name.now) → IfOk item (HasPlacedName others)
-opcode_placed bytes others same (Ok p) stands = subst (λ (b : List ℕ). HasPlacedName b p) same (as_placed bytes p stands)
-opcode_placed bytes others same (Err e) stands = tt
+    → IfOk item (λ p. TextIsAt bytes p.name_place p.binding.name.now) → IfOk item (HasPlacedName others)
+opcode_placed bytes others same (Ok p) occurs = subst (λ (b : List ℕ). HasPlacedName b p) same (as_placed bytes p occurs)
+opcode_placed bytes others same (Err e) occurs = tt

@@ -11,11 +11,11 @@ use Rattle.goblin_mach.specs.FatFile.{arch_at, arch_place}
 use Rattle.goblin_mach_c.specs.FatRows.{fat_row, whole_fat_records}
 
 -- the code of a record, by whether it begins past the end, and whether it is whole
-abbrev code_by : (behind whole : Bool) (s left : ℕ) → List Value → ℕ
-code_by behind whole s left values =
-    (fat_row ((if behind then Err (bad_offset s) else (if whole then Ok values else Err (too_big 20 left))) >>= λ vs. Ok (fat_arch_of_values vs))).code
+abbrev code_by : (following whole : Bool) (s left : ℕ) → List Value → ℕ
+code_by following whole s left values =
+    (fat_row ((if following then Err (bad_offset s) else (if whole then Ok values else Err (too_big 20 left))) >>= λ vs. Ok (fat_arch_of_values vs))).code
 
-cut_by : (behind whole : Bool) (s left : ℕ) (values : List Value) → whole ≡ false → code_by behind whole s left values ≡ 3
+cut_by : (following whole : Bool) (s left : ℕ) (values : List Value) → whole ≡ false → code_by following whole s left values ≡ 3
 cut_by true whole s left values e = refl
 cut_by false whole s left values e = rw e refl
 

@@ -29,9 +29,9 @@ out_length rows left old out k p less =
 set_front : {R : Type 0} (old : List R) (k : ℕ) (row : R) → k < length old → set (drop k old) 0 row ≡ row ∷ drop (k + 1) old
 set_front old k row less = sym (drop-set-add k old 0 row) ∙ ap (λ n. drop k (set old n row)) (omega arith) ∙ drop-set old k row less
 
-pub set_behind : {R : Type 0} (done old : List R) (k : ℕ) (row : R) → length done ≡ k → k < length old
+pub set_following : {R : Type 0} (done old : List R) (k : ℕ) (row : R) → length done ≡ k → k < length old
     → set (done ++ drop k old) k row ≡ done ++ row ∷ drop (k + 1) old
-set_behind done old k row many less =
+set_following done old k row many less =
     let zero_is : k - k ≡ 0 = omega arith in
     set-append_right done (drop k old) k k row many (omega arith) ∙ ap (λ n. done ++ set (drop k old) n row) zero_is
     ∙ ap (λ l. done ++ l) (set_front old k row less)
@@ -43,7 +43,7 @@ one_more rows left old out k row rest p e less = record {
   done = p.done ++ row ∷ [];
   are = p.are ∙ ap (λ l. p.done ++ l) e ∙ sym (append_assoc p.done (row ∷ []) rest);
   many = length-append p.done (row ∷ []) ∙ ap (λ n. n + 1) p.many;
-  written = ap (λ l. set l k row) p.written ∙ set_behind p.done old k row p.many less ∙ sym (append_assoc p.done (row ∷ []) (drop (k + 1) old));
+  written = ap (λ l. set l k row) p.written ∙ set_following p.done old k row p.many less ∙ sym (append_assoc p.done (row ∷ []) (drop (k + 1) old));
 }
 
 pub all_of_them : {R : Type 0} (rows left old out : List R) (k : ℕ) → Partly rows left old out k → k ≤ length old → (left ≡ []) ⊎ (k ≡ length old)
@@ -78,25 +78,25 @@ drop_next [] zero row rest e = absurd (cc)
 drop_next [] (suc k) row rest e = absurd (cc)
 drop_next (x ∷ rows) zero row rest e = ap (drop 1) e
 drop_next (x ∷ rows) (suc k) row rest e =
-    let behind : suc k + 1 ≡ suc (k + 1) = omega arith in
-    ap (λ n. drop n (x ∷ rows)) behind ∙ drop_next rows k row rest e
+    let following : suc k + 1 ≡ suc (k + 1) = omega arith in
+    ap (λ n. drop n (x ∷ rows)) following ∙ drop_next rows k row rest e
 
 pub no_items : {A : Type 0} (item : ℕ → A) (first count : ℕ) → count ≡ 0 → items_from item first count ≡ []
 no_items item first count none = ap (items_from item first) none
 
 -- those after the first ones, by their numbers
-behind_first : {A : Type 0} (item : ℕ → A) (from count k : ℕ) → drop k (items_from item from count) ≡ items_from item (from + k) (count - k)
-behind_first item from count zero =
+after_first : {A : Type 0} (item : ℕ → A) (from count k : ℕ) → drop k (items_from item from count) ≡ items_from item (from + k) (count - k)
+after_first item from count zero =
     let same : from + 0 ≡ from = omega arith in
     let all : count - 0 ≡ count = omega arith in rw (same, all) refl
-behind_first item from zero (suc k) = let none : 0 - suc k ≡ 0 = omega arith in rw none refl
-behind_first item from (suc count) (suc k) =
+after_first item from zero (suc k) = let none : 0 - suc k ≡ 0 = omega arith in rw none refl
+after_first item from (suc count) (suc k) =
     let same : (from + 1) + k ≡ from + suc k = omega arith in
     let fewer : suc count - suc k ≡ count - k = omega arith in
-    behind_first item (from + 1) count k ∙ rw (same, fewer) refl
+    after_first item (from + 1) count k ∙ rw (same, fewer) refl
 
-pub items_behind : {A : Type 0} (item : ℕ → A) (count k : ℕ) → drop k (items_from item 0 count) ≡ items_from item k (count - k)
-items_behind item count k = let same : 0 + k ≡ k = omega arith in behind_first item 0 count k ∙ rw same refl
+pub items_after : {A : Type 0} (item : ℕ → A) (count k : ℕ) → drop k (items_from item 0 count) ≡ items_from item k (count - k)
+items_after item count k = let same : 0 + k ≡ k = omega arith in after_first item 0 count k ∙ rw same refl
 
 -- the first of those that are left
 pub items_next : {A : Type 0} (item : ℕ → A) (k n : ℕ) → k < n → items_from item k (n - k) ≡ item k ∷ items_from item (k + 1) (n - (k + 1))

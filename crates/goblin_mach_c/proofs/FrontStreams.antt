@@ -6,7 +6,7 @@ use Rattle.std.proofs.lemmas.List.{drop-take, take-take}
 use Rattle.mach_base.specs.Record.{number_among, Value}
 use Rattle.mach_load.specs.Command.{Command}
 use Rattle.mach_load.specs.Commands.{Kind, dyld_info, dyld_info_only}
-use Rattle.mach_dyld.specs.BindCursors.{TextStands}
+use Rattle.mach_dyld.specs.BindCursors.{TextIsAt}
 use Rattle.mach_dyld.specs.Cut.{CutStream}
 use Rattle.mach_dyld.specs.WeakBindsLeft.{weak_bind_view}
 use Rattle.mach_dyld.specs.declared.weak_binds.WeakBind as declared
@@ -14,9 +14,9 @@ use Rattle.mach_dyld.specs.declared.weak_binds.WeakBind.TheVariants as variants
 use Rattle.mach_c_places.specs.WeakCursors.{name_of_weak}
 use Rattle.goblin_mach.specs.ImageStreams.{opcodes_of, weak_stream_by, weak_stream_in}
 use Rattle.goblin_mach.specs.Readings.{keep, last_or, read_of}
-use Rattle.goblin_mach_c.specs.BindingRows.{NameStandsAt}
+use Rattle.goblin_mach_c.specs.BindingRows.{NameIsAt}
 use Rattle.goblin_mach_c.specs.WeakRows.{weak_name}
-use Rattle.goblin_mach_c.proofs.BoundNames.{text_stands}
+use Rattle.goblin_mach_c.proofs.BoundNames.{text_occurs}
 
 -- ---- a prefix of a list
 
@@ -30,19 +30,19 @@ front_shorter zero xs = omega arith
 front_shorter (suc n) [] = omega arith
 front_shorter (suc n) (x ∷ xs) = let rest = front_shorter n xs in omega (arith, rest)
 
-pub front_stands : (n : ℕ) (bytes : List ℕ) (place : ℕ) (name : List ℕ) → NameStandsAt (take n bytes) place name → NameStandsAt bytes place name
-front_stands n bytes place name there =
+pub front_occurs : (n : ℕ) (bytes : List ℕ) (place : ℕ) (name : List ℕ) → NameIsAt (take n bytes) place name → NameIsAt bytes place name
+front_occurs n bytes place name there =
     let inner = there.within in
     let most = front_within n bytes in
     let short = front_shorter n bytes in
     let split : place + (n - place) ≡ n = omega (arith, inner, most) in
-    let behind : drop place (take n bytes) ≡ take (n - place) (drop place bytes) =
+    let following : drop place (take n bytes) ≡ take (n - place) (drop place bytes) =
     ap (λ (m : ℕ). drop place (take m bytes)) (sym split) ∙ drop-take place (n - place) bytes in
     record {
       within = omega (arith, inner, short);
       there =
           sym (take-take (length name) (n - place) (drop place bytes) (omega (arith, inner, most)))
-          ∙ ap (take (length name)) (sym behind)
+          ∙ ap (take (length name)) (sym following)
           ∙ there.there;
     }
 
@@ -51,16 +51,16 @@ named : (w : declared.WeakBind) → name_of_weak w ≡ weak_name (weak_bind_view
 named (variants.Strong name) = refl
 named (variants.Bind binding) = refl
 
-stands_by : (n : ℕ) (bytes part : List ℕ) (place : ℕ) (name : List ℕ) → part ≡ take n bytes → TextStands part place name
-    → (name ≡ []) ⊎ NameStandsAt bytes place name
-stands_by n bytes part place name same (inl none) = inl none
-stands_by n bytes part place name same (inr text) =
-    inr (front_stands n bytes place name (subst (λ (b : List ℕ). NameStandsAt b place name) same (text_stands part place name text)))
+occurs_by : (n : ℕ) (bytes part : List ℕ) (place : ℕ) (name : List ℕ) → part ≡ take n bytes → TextIsAt part place name
+    → (name ≡ []) ⊎ NameIsAt bytes place name
+occurs_by n bytes part place name same (inl none) = inl none
+occurs_by n bytes part place name same (inr text) =
+    inr (front_occurs n bytes place name (subst (λ (b : List ℕ). NameIsAt b place name) same (text_occurs part place name text)))
 
-pub weak_stands : (n : ℕ) (bytes part : List ℕ) (w : declared.WeakBind) (place : ℕ) → part ≡ take n bytes → TextStands part place (name_of_weak w)
-    → (weak_name (weak_bind_view w) ≡ []) ⊎ NameStandsAt bytes place (weak_name (weak_bind_view w))
-weak_stands n bytes part w place same stands =
-    subst (λ (name : List ℕ). (name ≡ []) ⊎ NameStandsAt bytes place name) (named w) (stands_by n bytes part place (name_of_weak w) same stands)
+pub weak_occurs : (n : ℕ) (bytes part : List ℕ) (w : declared.WeakBind) (place : ℕ) → part ≡ take n bytes → TextIsAt part place (name_of_weak w)
+    → (weak_name (weak_bind_view w) ≡ []) ⊎ NameIsAt bytes place (weak_name (weak_bind_view w))
+weak_occurs n bytes part w place same occurs =
+    subst (λ (name : List ℕ). (name ≡ []) ⊎ NameIsAt bytes place name) (named w) (occurs_by n bytes part place (name_of_weak w) same occurs)
 
 -- ---- the stream of an image
 

@@ -6,7 +6,7 @@ use Rattle.mach_base.specs.Record.{Value}
 use Rattle.mach_load.specs.Command.{Command}
 use Rattle.mach_load.specs.Commands.{Kind, dyld_info, dyld_info_only}
 use Rattle.mach_dyld.specs.Imports.{BindRanges}
-use Rattle.goblin_mach.specs.OpenImage.{IsLossyImage, binds_held, commands_held}
+use Rattle.goblin_mach.specs.OpenImage.{IsLossyImage, binds_view, commands_view}
 use Rattle.goblin_mach.specs.Readings.{keep, last_or, read_of}
 use Rattle.goblin_mach.specs.Subjects.{bind_ranges_of, binds_by}
 use Rattle.goblin_mach.specs.declared.macho.MachO.{MachO}
@@ -36,5 +36,5 @@ of_commands bytes (c ∷ cs) d b before is =
     of_last bytes (bind_ranges_of c.kind bytes c.values) (read_of (binds_by bytes) cs) d b (of_kind c.kind bytes c.values) before
     (λ e some. of_commands bytes cs e b some) is
 
-pub binds_stand : (bytes : List ℕ) (o : ℕ) (m : MachO Global) → IsLossyImage bytes o m → (b : BindRanges) → binds_held m ≡ Some b → b.bytes ≡ bytes
-binds_stand bytes o m p b is = of_commands bytes (commands_held m) None b (λ u wrong. absurd (cc)) (sym p.fields.binds ∙ is)
+pub binds_occur : (bytes : List ℕ) (o : ℕ) (m : MachO Global) → IsLossyImage bytes o m → (b : BindRanges) → binds_view m ≡ Some b → b.bytes ≡ bytes
+binds_occur bytes o m p b is = of_commands bytes (commands_view m) None b (λ u wrong. absurd (cc)) (sym p.fields.binds ∙ is)

@@ -19,7 +19,7 @@ pub mod HeldBinds
 pub mod BoundNames
 pub mod FrontStreams
 pub mod StreamStages
-pub mod FactsBehind
+pub mod FactsAfter
 pub mod BoundChains
 pub mod PlacedBindings
 pub mod BeginsThere

@@ -40,12 +40,12 @@ one_row : (c : Command) (d : Dylib) (a : LibraryKind → LibraryAttributes) (o :
     → place ≡ place_after c.offset found.name → text_at bytes place ≡ Ok name → number ≡ library_kind_number kind → used ≡ attributes_number (a kind)
     → Some (row found place (length name) number used)
     ≡ shown (library_row c) (option_map (λ k. text_at bytes (name_place c) >>= λ text. Ok (named_library k (a k) d text)) o)
-one_row c d a None bytes name kind found place number used same stands at read is uses = absurd (cc)
-one_row c d a (Some k) bytes name kind found place number used same stands at read is uses =
+one_row c d a None bytes name kind found place number used same occurs at read is uses = absurd (cc)
+one_row c d a (Some k) bytes name kind found place number used same occurs at read is uses =
     let pairs : ◌≡◌ {A = LibraryKind × Dylib} (kind, found) (k, d) = cc in
     let kinds : kind ≡ k = ap (λ (p : LibraryKind × Dylib). p.0) pairs in
     let dylibs : found ≡ d = ap (λ (p : LibraryKind × Dylib). p.1) pairs in
-    let there : place ≡ name_place c = at ∙ ap (λ (x : Dylib). place_after c.offset x.name) dylibs ∙ stands in
+    let there : place ≡ name_place c = at ∙ ap (λ (x : Dylib). place_after c.offset x.name) dylibs ∙ occurs in
     ap (λ (x : Dylib). Some (row x place (length name) number used)) dylibs
     ∙ same_row c d a k (text_at bytes (name_place c)) name place number used there (ap (text_at bytes) (sym there) ∙ read)
     (is ∙ ap library_kind_number kinds) (uses ∙ ap (λ (x : LibraryKind). attributes_number (a x)) kinds)

@@ -18,7 +18,7 @@ use Rattle.goblin_mach_c.specs.ExportRows.{export_row, text_or_empty}
 use Rattle.goblin_mach_c.specs.ExportWalk.{AreListed, AreWritten, IsBrought, IsListed, IsNodeOf, IsNumbered, names_of}
 use Rattle.goblin_mach_c.specs.declared.exports.gm_listed_export.{gm_listed_export}
 use Rattle.goblin_mach_c.specs.declared.find.gm_export.{gm_export}
-use Rattle.goblin_mach_c.proofs.Filled.{set_behind}
+use Rattle.goblin_mach_c.proofs.Filled.{set_following}
 
 -- ---- one export more
 
@@ -103,9 +103,9 @@ none_so_far {t} {libs} {c} {name} {stack} = record {
 }
 
 -- what a buffer holds after something was appended to it
-put_behind : (done old text after : List ℕ) (used : ℕ) → used ≡ length done → after ≡ done ++ drop used old
+put_after : (done old text after : List ℕ) (used : ℕ) → used ≡ length done → after ≡ done ++ drop used old
     → take used after ++ text ++ drop (used + length text) after ≡ (done ++ text) ++ drop (used + length text) old
-put_behind done old text after used is e =
+put_after done old text after used is e =
     let rest = drop used old in
     let n = length text in
     let front = ap (take used) e ∙ ap (λ k. take k (done ++ rest)) is ∙ take-append_seam done rest in
@@ -126,8 +126,8 @@ written_more {bytes} {IsLibrary} {IsNode} {given} {k} {used} {old} {new} {text} 
       is_used = ap (λ n. n + length e.name) w.is_used ∙ sym (length-append (names_of given) e.name) ∙ ap length (sym (names_more given e));
       listed = w.listed ++ row ∷ [];
       are = listed_more bytes IsLibrary IsNode [] given w.listed e row w.are is_row;
-      rows = ap (λ l. set l k row) w.rows ∙ set_behind w.listed old k row many less ∙ sym (append_assoc w.listed (row ∷ []) (drop (k + 1) old));
-      names = put_behind (names_of given) text e.name text' used w.is_used w.names ∙ ap (λ l. l ++ drop (used + length e.name) text) (sym (names_more given e));
+      rows = ap (λ l. set l k row) w.rows ∙ set_following w.listed old k row many less ∙ sym (append_assoc w.listed (row ∷ []) (drop (k + 1) old));
+      names = put_after (names_of given) text e.name text' used w.is_used w.names ∙ ap (λ l. l ++ drop (used + length e.name) text) (sym (names_more given e));
     }
 
 -- an export more

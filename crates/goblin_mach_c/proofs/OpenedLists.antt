@@ -21,11 +21,11 @@ use Rattle.goblin_mach.specs.Facts.{HasCommands, HasSegments, HasSymbols}
 use Rattle.goblin_mach.specs.Image.{LossyOpensAs}
 use Rattle.goblin_mach.specs.Subjects.{is_symtab, lossy_segment_by, symbols_in, table_by, table_in}
 use Rattle.goblin_mach.specs.Readings.{Reading, keep, last_or, read_of}
-use Rattle.goblin_mach_c.specs.CommandRows.{readable_commands_from, commands_seen, with_those_behind}
+use Rattle.goblin_mach_c.specs.CommandRows.{readable_commands_from, gm_commands_view, with_those_following}
 use Rattle.goblin_mach_c.specs.Opened.{AreNumbers, AreTableNumbers, IsOpened}
-use Rattle.goblin_mach_c.specs.Seen.{ctx_seen}
+use Rattle.goblin_mach_c.specs.CViews.{gm_ctx_view}
 use Rattle.goblin_mach_c.specs.Say.{AllSay}
-use Rattle.goblin_mach_c.specs.SymbolRows.{SaysSymbol, symbol_row, symbol_rows, table_seen}
+use Rattle.goblin_mach_c.specs.SymbolRows.{SaysSymbol, symbol_row, symbol_rows, gm_table_view}
 use Rattle.goblin_mach_c.proofs.SymbolTexts.{row_says}
 use Rattle.goblin_mach_c.proofs.Filled.{no_items}
 use Rattle.goblin_mach_c.specs.PartRows.{rows_of, segment_row, segment_row_by, segment_rows, shown, with_rows}
@@ -37,9 +37,9 @@ pub chain_is : (le : Endian) (bytes : List ℕ) (s : ℕ) (cs : List Command) �
 unfolding readable_commands_from
 chain_is le bytes s [] there begins linked = refl
 chain_is le bytes s (c ∷ []) there begins linked =
-    ap (λ found. with_those_behind found (λ d. [])) (ap (command_at le bytes) (sym begins) ∙ there.0)
+    ap (λ found. with_those_following found (λ d. [])) (ap (command_at le bytes) (sym begins) ∙ there.0)
 chain_is le bytes s (c ∷ d ∷ cs) there begins linked =
-    ap (λ found. with_those_behind found (λ e. readable_commands_from le bytes (s + cmdsize_of e) (length (d ∷ cs))))
+    ap (λ found. with_those_following found (λ e. readable_commands_from le bytes (s + cmdsize_of e) (length (d ∷ cs))))
     (ap (command_at le bytes) (sym begins) ∙ there.0)
     ∙ ap (λ tail. c ∷ tail) (chain_is le bytes (s + cmdsize_of c) (d ∷ cs) there.1 (linked.0 ∙ ap (λ n. n + cmdsize_of c) begins) linked.1)
 
@@ -58,7 +58,7 @@ rows_shown show reading (c ∷ cs) =
 
 -- the commands of an opened image are those of its numbers
 pub commands_are : (bytes : List ℕ) (o : ℕ) (ctx : Ctx) (cs : List Command) (c : gm_image) → LossyOpensAs bytes o ctx cs → AreNumbers bytes o ctx cs c
-    → commands_seen bytes c ≡ cs
+    → gm_commands_view bytes c ≡ cs
 commands_are bytes o ctx cs c opens n =
     let many = opens.chain.count in
     let fit = opens.counts.ncmds in
@@ -70,7 +70,7 @@ commands_are bytes o ctx cs c opens n =
     ∙ ap (λ k. readable_commands_from ctx.le bytes (o + header_size ctx.container) k) count
     ∙ chain_is ctx.le bytes (o + header_size ctx.container) cs opens.chain.chain.there opens.chain.chain.begins opens.chain.chain.linked
 
-pub commands_of_opened : (bytes : List ℕ) (o : ℕ) (c : gm_image) → IsOpened bytes o c → HasCommands bytes o (commands_seen bytes c)
+pub commands_of_opened : (bytes : List ℕ) (o : ℕ) (c : gm_image) → IsOpened bytes o c → HasCommands bytes o (gm_commands_view bytes c)
 commands_of_opened bytes o c opened =
     record {
       ctx = opened.ctx;
@@ -96,10 +96,10 @@ abbrev table_of_command : Ctx → List ℕ → SymtabCommand → SymbolTable
 table_of_command ctx bytes c = record { bytes = bytes; start = c.symoff; nsyms = c.nsyms; strtab = c.stroff; ctx = ctx }
 
 -- it lies in the bytes, in the image's context
-abbrev StandsThere : Ctx → List ℕ → SymbolTable → Type 0
-StandsThere ctx bytes t = (t.bytes ≡ bytes) × (t.ctx ≡ ctx)
+abbrev OccursThere : Ctx → List ℕ → SymbolTable → Type 0
+OccursThere ctx bytes t = (t.bytes ≡ bytes) × (t.ctx ≡ ctx)
 
-described : (ctx : Ctx) (bytes : List ℕ) (c : SymtabCommand) (t : SymbolTable) → table_at ctx bytes c ≡ Ok t → StandsThere ctx bytes t
+described : (ctx : Ctx) (bytes : List ℕ) (c : SymtabCommand) (t : SymbolTable) → table_at ctx bytes c ≡ Ok t → OccursThere ctx bytes t
 described ctx bytes c t e =
     let made = table_of_command ctx bytes c in
     elim (chosen (nat_lt c.stroff c.symoff) (Err malformed) (cond (nat_le (length bytes) c.symoff) (Err (bad_offset c.symoff)) (Ok made)) (Ok t) e) [
@@ -110,13 +110,13 @@ described ctx bytes c t e =
       ]
     ]
 
-said_if : (b : Bool) (r : Result SymbolTable Fault) (t : SymbolTable) → (if b then Some r else None) ≡ Some (Ok t) → r ≡ Ok t
-said_if true r t e = cc
-said_if false r t e = absurd (cc)
+line_if : (b : Bool) (r : Result SymbolTable Fault) (t : SymbolTable) → (if b then Some r else None) ≡ Some (Ok t) → r ≡ Ok t
+line_if true r t e = cc
+line_if false r t e = absurd (cc)
 
-described_by : (ctx : Ctx) (bytes : List ℕ) (c : Command) (t : SymbolTable) → table_by ctx bytes c ≡ Some (Ok t) → StandsThere ctx bytes t
+described_by : (ctx : Ctx) (bytes : List ℕ) (c : Command) (t : SymbolTable) → table_by ctx bytes c ≡ Some (Ok t) → OccursThere ctx bytes t
 described_by ctx bytes c t e =
-    described ctx bytes (symtab_command_of_values c.values) t (said_if (is_symtab c.kind) (table_at ctx bytes (symtab_command_of_values c.values)) t e)
+    described ctx bytes (symtab_command_of_values c.values) t (line_if (is_symtab c.kind) (table_at ctx bytes (symtab_command_of_values c.values)) t e)
 
 is_some_of : (v t : SymbolTable) → Some v ≡ Some t → v ≡ t
 is_some_of v t e = cc
@@ -130,25 +130,25 @@ last_step P (Some (Err f)) others d t one before rest is = rest d before is
 last_step P (Some (Ok v)) others d t one before rest is = rest (Some v) (λ u e. subst P (is_some_of v u e) (one v refl)) is
 
 last_table : (ctx : Ctx) (bytes : List ℕ) (cs : List Command) (d : Option SymbolTable) (t : SymbolTable)
-    → ((u : SymbolTable) → d ≡ Some u → StandsThere ctx bytes u) → last_or d (read_of (table_by ctx bytes) cs) ≡ Some t → StandsThere ctx bytes t
+    → ((u : SymbolTable) → d ≡ Some u → OccursThere ctx bytes u) → last_or d (read_of (table_by ctx bytes) cs) ≡ Some t → OccursThere ctx bytes t
 last_table ctx bytes [] d t before is = before t is
 last_table ctx bytes (c ∷ cs) d t before is =
-    last_step (StandsThere ctx bytes) (table_by ctx bytes c) (read_of (table_by ctx bytes) cs) d t (described_by ctx bytes c) before
+    last_step (OccursThere ctx bytes) (table_by ctx bytes c) (read_of (table_by ctx bytes) cs) d t (described_by ctx bytes c) before
     (λ e some. last_table ctx bytes cs e t some) is
 
-table_is : (bytes : List ℕ) (c : gm_image) (ctx : Ctx) (t : SymbolTable) → ctx_seen c ≡ ctx → StandsThere ctx bytes t
-    → (c.symbols_at ≡ t.start) × (c.symbols ≡ t.nsyms) × (c.names_at ≡ t.strtab) → table_seen bytes c ≡ t
+table_is : (bytes : List ℕ) (c : gm_image) (ctx : Ctx) (t : SymbolTable) → gm_ctx_view c ≡ ctx → OccursThere ctx bytes t
+    → (c.symbols_at ≡ t.start) × (c.symbols ≡ t.nsyms) × (c.names_at ≡ t.strtab) → gm_table_view bytes c ≡ t
 table_is bytes c ctx t same there n =
-    ap (λ x. record { bytes = bytes; start = x; nsyms = c.symbols; strtab = c.names_at; ctx = ctx_seen c }) n.0
-    ∙ ap (λ x. record { bytes = bytes; start = t.start; nsyms = x; strtab = c.names_at; ctx = ctx_seen c }) n.1
-    ∙ ap (λ x. record { bytes = bytes; start = t.start; nsyms = t.nsyms; strtab = x; ctx = ctx_seen c }) n.2
+    ap (λ x. record { bytes = bytes; start = x; nsyms = c.symbols; strtab = c.names_at; ctx = gm_ctx_view c }) n.0
+    ∙ ap (λ x. record { bytes = bytes; start = t.start; nsyms = x; strtab = c.names_at; ctx = gm_ctx_view c }) n.1
+    ∙ ap (λ x. record { bytes = bytes; start = t.start; nsyms = t.nsyms; strtab = x; ctx = gm_ctx_view c }) n.2
     ∙ ap (λ x. record { bytes = bytes; start = t.start; nsyms = t.nsyms; strtab = t.strtab; ctx = x }) (same ∙ sym there.1)
     ∙ ap (λ x. record { bytes = x; start = t.start; nsyms = t.nsyms; strtab = t.strtab; ctx = t.ctx }) (sym there.0)
 
-symbols_are : (bytes : List ℕ) (c : gm_image) (ctx : Ctx) (found : Option SymbolTable) → ctx_seen c ≡ ctx
-    → ((t : SymbolTable) → found ≡ Some t → StandsThere ctx bytes t) → AreTableNumbers found c.symbols_at c.symbols c.names_at
-    → symbols_of (table_seen bytes c) ≡ symbols_in found
-symbols_are bytes c ctx None same there n = no_items (symbol_at (table_seen bytes c)) 0 c.symbols n.1
+symbols_are : (bytes : List ℕ) (c : gm_image) (ctx : Ctx) (found : Option SymbolTable) → gm_ctx_view c ≡ ctx
+    → ((t : SymbolTable) → found ≡ Some t → OccursThere ctx bytes t) → AreTableNumbers found c.symbols_at c.symbols c.names_at
+    → symbols_of (gm_table_view bytes c) ≡ symbols_in found
+symbols_are bytes c ctx None same there n = no_items (symbol_at (gm_table_view bytes c)) 0 c.symbols n.1
 symbols_are bytes c ctx (Some t) same there n = ap symbols_of (table_is bytes c ctx t same (there t refl) n)
 
 -- rows of their symbols, index by index
@@ -164,5 +164,5 @@ symbols_of_opened bytes o c opened =
       record { ctx = opened.ctx; cs = opened.commands; opens = opened.opens; holds = refl },
       subst (λ symbols. AllSay (SaysSymbol c.names_at) symbols (symbol_rows bytes c)) (symbols_are bytes c opened.ctx found opened.numbers.context
           (λ t e. last_table opened.ctx bytes opened.commands None t (λ u wrong. absurd (cc)) e) opened.numbers.symbols)
-          (say_all (table_seen bytes c) 0 c.symbols),
+          (say_all (gm_table_view bytes c) 0 c.symbols),
     )

@@ -8,7 +8,7 @@ use Rattle.goblin_mach.specs.SlotFacts.{HasIndirectSymbols}
 use Rattle.goblin_mach.specs.TableFacts.{HasDataInCode}
 use Rattle.goblin_mach.specs.Tables.{data_in_code_there, data_place_in}
 use Rattle.goblin_mach_c.specs.Opened.{IsOpened}
-use Rattle.goblin_mach_c.specs.Seen.{ctx_seen}
+use Rattle.goblin_mach_c.specs.CViews.{gm_ctx_view}
 use Rattle.goblin_mach_c.specs.TableRows.{data_in_code_row, data_in_code_rows, indirect_row, indirect_rows}
 use Rattle.goblin_mach_c.specs.declared.images.gm_image.{gm_image}
 use Rattle.goblin_mach_c.proofs.OpenedLists.{commands_are}
@@ -20,7 +20,7 @@ data_of_opened bytes o c opened =
     let same = commands_are bytes o opened.ctx cs c opened.opens opened.numbers in (
       data_in_code_there opened.ctx.le bytes (data_place_in cs),
       record { ctx = opened.ctx; cs = cs; opens = opened.opens; holds = refl },
-      ap (λ l. map data_in_code_row (data_in_code_there (ctx_seen c).le bytes (data_place_in l))) same
+      ap (λ l. map data_in_code_row (data_in_code_there (gm_ctx_view c).le bytes (data_place_in l))) same
           ∙ ap (λ x. map data_in_code_row (data_in_code_there x.le bytes (data_place_in cs))) opened.numbers.context,
     )
 
@@ -31,6 +31,6 @@ indirect_of_opened bytes o c opened =
     let same = commands_are bytes o opened.ctx cs c opened.opens opened.numbers in (
       indirect_symbols_in (indirect_table_in opened.ctx bytes cs),
       record { ctx = opened.ctx; cs = cs; opens = opened.opens; holds = refl },
-      ap (λ l. map indirect_row (indirect_symbols_in (indirect_table_in (ctx_seen c) bytes l))) same
+      ap (λ l. map indirect_row (indirect_symbols_in (indirect_table_in (gm_ctx_view c) bytes l))) same
           ∙ ap (λ x. map indirect_row (indirect_symbols_in (indirect_table_in x bytes cs))) opened.numbers.context,
     )

@@ -16,11 +16,11 @@ use Rattle.mach_parts.specs.Segment.{segment_view}
 use Rattle.mach_parts.specs.declared.segment.Segment.{Segment}
 use Rattle.goblin_mach.specs.Fixups.{base_of}
 use Rattle.goblin_mach_c.specs.BindingPlaces.{AreBindingSitesAtStage, with_name_place, places_by, places_of}
-use Rattle.goblin_mach_c.specs.BindingsBehind.{AreBindingsAtStage, ArePlacedBehind, BindingSource, ComesFirst, PlaceFirst, PlacedFirst}
-use Rattle.goblin_mach_c.specs.BindingsBehind.{AreBindingRowsOver, bindings_by, chain_places, chains_by, opcode_rows_left, opcodes_placed}
-use Rattle.goblin_mach_c.specs.BindingsBehind.{opcode_sites_left, unplaced}
-use Rattle.goblin_mach_c.specs.FixupsBehind.{AreFixupsBehind, AreFixupRowsOver, fixup_rows_left}
-use Rattle.goblin_mach_c.specs.ImportsBehind.{Binds}
+use Rattle.goblin_mach_c.specs.BindingsAfter.{AreBindingsAtStage, ArePlacedAfter, BindingSource, ComesFirst, PlaceFirst, PlacedFirst}
+use Rattle.goblin_mach_c.specs.BindingsAfter.{AreBindingRowsOver, bindings_by, chain_places, chains_by, opcode_rows_left, opcodes_placed}
+use Rattle.goblin_mach_c.specs.BindingsAfter.{opcode_sites_left, unplaced}
+use Rattle.goblin_mach_c.specs.FixupsAfter.{AreFixupsAfter, AreFixupRowsOver, fixup_rows_left}
+use Rattle.goblin_mach_c.specs.ImportsAfter.{Binds}
 use Rattle.goblin_mach_c.specs.Sited.{placed}
 use Rattle.goblin_mach_c.specs.Stage.{stage_of}
 use Rattle.goblin_mach_c.specs.declared.bindings.BindingRows.{BindingRows}
@@ -102,8 +102,8 @@ pub whole : (x : BindingSource) (c : gm_binding_cursor) (opcodes : Option Opcode
     → AreFixupRowsOver (record { chained = x.chained; segments = x.binds.segments }) rows → libs ≡ x.binds.libs → map segment_view segments ≡ x.binds.segments
     → base ≡ base_of x.binds.segments → at ≡ x.chains_at → AreBindingsAtStage (stage_of c.opcodes.stage) c.opcodes.binds x.binds (opcode_rows_left opcodes)
     → AreBindingSitesAtStage (stage_of c.opcodes.stage) c.opcodes.binds x.binds (opcode_sites_left opcodes)
-    → AreFixupsBehind c.chains x.chained x.binds.segments (fixup_rows_left rows)
-    → ArePlacedBehind c x (upto_fault (opcodes_placed opcodes ++ placed (chains_by rows segments base libs) (chain_places rows at)))
+    → AreFixupsAfter c.chains x.chained x.binds.segments (fixup_rows_left rows)
+    → ArePlacedAfter c x (upto_fault (opcodes_placed opcodes ++ placed (chains_by rows segments base libs) (chain_places rows at)))
 whole x c opcodes rows segments base libs at over libs_are segments_are base_is at_is items sites chains =
     let by_opcodes = opcode_rows_left opcodes in
     let opcode_places = places_of (opcode_sites_left opcodes) in

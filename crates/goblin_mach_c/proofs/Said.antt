@@ -6,7 +6,7 @@ use Rattle.std.proofs.Math.Seq.{take-append_seam, drop-append_seam}
 use Rattle.std.proofs.Math.Nat.{min-eq_left, min-eq_right}
 use Rattle.goblin_mach_c.specs.Fill.{Fills}
 use Rattle.goblin_mach_c.specs.Say.{AllSay, FillsBy}
-use Rattle.goblin_mach_c.proofs.Filled.{set_behind}
+use Rattle.goblin_mach_c.proofs.Filled.{set_following}
 
 -- The first k of these items have their rows, and the others are left.
 pub record SaidPartly {I R : Type 0} (Says : I → R → Type 0) (items left : List I) (old out : List R) (k : ℕ) : Type 0 where
@@ -44,7 +44,7 @@ said_more Says items left old out k i row rest p e one less = record {
   say = say_more Says p.done p.rows i row p.say one;
   many = length-append p.done (i ∷ []) ∙ ap (λ n. n + 1) p.many;
   written =
-      ap (λ l. set l k row) p.written ∙ set_behind p.rows old k row (as_many Says p.done p.rows p.say ∙ p.many) less
+      ap (λ l. set l k row) p.written ∙ set_following p.rows old k row (as_many Says p.done p.rows p.say ∙ p.many) less
       ∙ sym (append_assoc p.rows (row ∷ []) (drop (k + 1) old));
 }
 

@@ -30,15 +30,15 @@ text_is_run bytes s text e =
       ]
     ]
 
-place_told : (s n : ℕ) → s < n → (if nat_lt s n then s else 0) ≡ s
-place_told s n less = ap (λ b. if b then s else 0) (lt-ltb s n less)
+place_reported : (s n : ℕ) → s < n → (if nat_lt s n then s else 0) ≡ s
+place_reported s n less = ap (λ b. if b then s else 0) (lt-ltb s n less)
 
 says_text : (bytes : List ℕ) (strtab : ℕ) (s : Nlist) (found : Result (List ℕ) Fault) → text_at bytes (place_after strtab s.n_strx) ≡ found
     → SaysSymbol strtab (found >>= λ name. Ok (name, s)) (named_row bytes (place_after strtab s.n_strx) s)
 says_text bytes strtab s (Ok name) e =
     let place = place_after strtab s.n_strx in
     let run = text_is_run bytes place name e in
-    rw (e, run.is_run, place_told place (length bytes) run.inside) refl
+    rw (e, run.is_run, place_reported place (length bytes) run.inside) refl
 says_text bytes strtab s (Err f) e = rw e refl
 
 says_record : (t : SymbolTable) (found : Result Nlist Fault)

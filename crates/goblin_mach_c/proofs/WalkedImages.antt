@@ -10,7 +10,7 @@ use Rattle.mach_dyld.specs.Trie.{Entry}
 use Rattle.mach_dyld.specs.TrieRange.{TrieRange}
 use Rattle.mach_dyld.specs.declared.trie.walk.Open.{Open}
 use Rattle.goblin_mach.specs.Image.{LossyOpens}
-use Rattle.goblin_mach.specs.OpenImage.{IsLossyImage, commands_held, trie_held}
+use Rattle.goblin_mach.specs.OpenImage.{IsLossyImage, commands_view, trie_view}
 use Rattle.goblin_mach.specs.Subjects.{trie_or_empty}
 use Rattle.goblin_mach.specs.declared.macho.MachO.{MachO}
 use Rattle.goblin_mach.proofs.ImageFacts.{exports_are, exports_fail, facts_are, libraries_are}
@@ -43,7 +43,7 @@ zeros bytes o w name stack opens start code = record {
   ctx = opens.0;
   cs = opens.1;
   opens = opens.2;
-  holds = record { start = λ _. refl; begun = λ wrong _. absurd (wrong start); refused = λ wrong. absurd (wrong code) };
+  holds = record { start = λ _. refl; started = λ wrong _. absurd (wrong start); refused = λ wrong. absurd (wrong code) };
 }
 
 -- ---- an opened image
@@ -51,7 +51,7 @@ zeros bytes o w name stack opens start code = record {
 module _ (bytes : List ℕ) (o : ℕ) (m : MachO Global) (p : IsLossyImage bytes o m) where
   -- the trie that it holds
   abbrev trie : TrieRange
-  trie = trie_or_empty (trie_held m)
+  trie = trie_or_empty (trie_view m)
 
   abbrev libs : List (List ℕ)
   libs = texts m.libs.items
@@ -72,9 +72,9 @@ module _ (bytes : List ℕ) (o : ℕ) (m : MachO Global) (p : IsLossyImage bytes
   rows_there w name stack given count used old new names names' =
       written_there trie.bytes bytes (IsNumbered libs) (HasLibrary bytes o) (IsNodeOf trie libs (HasWalkedTrie trie libs w name stack))
       (HasNodeOf bytes o w name stack)
-      (λ place text e. text_there bytes (commands_held m) place text
+      (λ place text e. text_there bytes (commands_view m) place text
       (subst (λ (t : Option TrieRange). text_at (trie_or_empty t).bytes place ≡ Ok text) p.fields.trie e))
-      (λ node found e. place_there bytes (commands_held m) node found
+      (λ node found e. place_there bytes (commands_view m) node found
       (subst (λ (t : Option TrieRange). place_at (trie_or_empty t).bytes node ≡ Ok found) p.fields.trie e))
       (λ number name e. (libs, ((libraries_are m).lossy bytes o p libs).1 refl, e))
       (λ before e node. (facts_are bytes o m p (λ f. IsNodeOf (trie_or_empty f.trie) f.libs (HasWalkedTrie (trie_or_empty f.trie) f.libs w name stack)
@@ -94,7 +94,7 @@ module _ (bytes : List ℕ) (o : ℕ) (m : MachO Global) (p : IsLossyImage bytes
         let h = held w name stack found q in record {
           met = (facts_are bytes o m p (λ f. AreAllMet (trie_or_empty f.trie) f.libs (found ++ given))).1 (g.met one found h);
           listed = elim (g.ended one found h) [
-            | inl list ↦ inl (((exports_are m).lossy bytes o p (found ++ given)).1 (walked_list (trie_held m) libs (found ++ given) list))
-            | inr fault ↦ inr (((exports_fail m).lossy bytes o p malformed).1 (walked_fault (trie_held m) libs malformed fault))
+            | inl list ↦ inl (((exports_are m).lossy bytes o p (found ++ given)).1 (walked_list (trie_view m) libs (found ++ given) list))
+            | inr fault ↦ inr (((exports_fail m).lossy bytes o p malformed).1 (walked_fault (trie_view m) libs malformed fault))
           ];
         }

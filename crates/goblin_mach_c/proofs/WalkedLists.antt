@@ -28,15 +28,15 @@ module _ (t : Option TrieRange) (libs : List (List ℕ)) (w : gm_export_walk) (n
   abbrev r : TrieRange
   r = trie_or_empty t
 
-  begun_list : ListBegins (trie_there r libs) r.from [] found → Begins found list
-  begun_list begun = prefix_of (trie_there r libs) r.from [] found list begun (listed t libs list l)
+  started_list : ListBegins (trie_there r libs) r.from [] found → Begins found list
+  started_list started = prefix_of (trie_there r libs) r.from [] found list started (listed t libs list l)
 
   walk_begins_list : (n code : ℕ) → w.is_begun ≡ n → w.code ≡ code → Begins found list
   walk_begins_list zero code is bears = (list, ap (λ (es : List Entry). es ++ list) (sym (h.start is)))
   walk_begins_list (suc n) zero is bears =
-      begun_list (begins_there (h.begun (λ wrong. absurd (let two = sym is ∙ wrong in omega (arith, two))) bears))
+      started_list (begins_there (h.started (λ wrong. absurd (let two = sym is ∙ wrong in omega (arith, two))) bears))
   walk_begins_list (suc n) (suc m) is bears =
-      let cut = h.refused (λ wrong. absurd (let two = sym bears ∙ wrong in omega (arith, two))) in begun_list (met_begins cut.1.cut.read)
+      let cut = h.refused (λ wrong. absurd (let two = sym bears ∙ wrong in omega (arith, two))) in started_list (met_begins cut.1.cut.read)
 
 pub given_begins_list : (bytes : List ℕ) (o : ℕ) (w : gm_export_walk) (name : List ℕ) (stack : List Open) (found list : List Entry)
     → HasWalked bytes o w name stack found → HasExports bytes o list → (rest : List Entry) × (list ≡ found ++ rest)

@@ -22,7 +22,7 @@ pub walk_begins : {t : TrieRange} {libs : List (List ℕ)} {w : gm_export_walk} 
     → HasWalkedTrie t libs (record { cursor = c; is_begun = 1; code = w.code }) name stack found
 walk_begins {t} {libs} {w} {c} {name} {stack} none given h = record {
   start = λ wrong. absurd (omega (arith, wrong));
-  begun = λ _ _. subst (HasGivenTo t libs c name stack) (sym (h.start none)) given;
+  started = λ _ _. subst (HasGivenTo t libs c name stack) (sym (h.start none)) given;
   refused = h.refused;
 }
 
@@ -35,13 +35,13 @@ not_one false false e = omega (arith, e)
 
 module _ (t : TrieRange) (libs : List (List ℕ)) (c : TrieCursor) (name : List ℕ) (stack : List Open) (all : List Entry) where
   -- if the walk wasn't refused, it goes on
-  stands_at : (e : Option Ending) (rows room longest : ℕ) → end_number rows room longest e < 5 → StopsAt t libs all e c name stack
+  occurs_at : (e : Option Ending) (rows room longest : ℕ) → end_number rows room longest e < 5 → StopsAt t libs all e c name stack
       → HasGivenTo t libs c name stack all
-  stands_at None rows room longest less s = s
-  stands_at (Some (End)) rows room longest less s = s.0
-  stands_at (Some (Refused error)) rows room longest less s = absurd (omega (arith, less))
-  stands_at (Some (NameTooLong n)) rows room longest less s = s
-  stands_at (Some (StackTooShort)) rows room longest less s = s
+  occurs_at None rows room longest less s = s
+  occurs_at (Some (End)) rows room longest less s = s.0
+  occurs_at (Some (Refused error)) rows room longest less s = absurd (omega (arith, less))
+  occurs_at (Some (NameTooLong n)) rows room longest less s = s
+  occurs_at (Some (StackTooShort)) rows room longest less s = s
 
   is_cut : (e : Option Ending) (code : ℕ) → IsCode e code → code ≢ 0 → StopsAt t libs all e c name stack → IsCutFor t libs all code
   is_cut None code is some s = absurd (some is)
@@ -65,17 +65,17 @@ pub goes_along : {t : TrieRange} {libs : List (List ℕ)} {w b w' : gm_export_wa
     → ((found : List Entry) → HasGivenTo t libs b.cursor name stack found → StopsAt t libs (found ++ given) e w'.cursor name' stack')
     → w'.is_begun ≡ b.is_begun → end ≡ end_number rows room longest e → IsCode e w'.code → (w'.code ≡ 0 → end_number rows room longest e < 5)
     → GoesAlong t libs w w' name name' stack stack' given end
-goes_along {t} {libs} {w} {b} {w'} {name} {name'} {stack} {stack'} {given} rows room longest end e begins begun ready stops same is marked good = record {
+goes_along {t} {libs} {w} {b} {w'} {name} {name'} {stack} {stack'} {given} rows room longest end e begins started ready stops same is marked good = record {
   walked = λ found h.
-      let at = stops found ((begins found h).begun begun ready) in record {
-        start = λ wrong. absurd (begun (sym same ∙ wrong));
-        begun = λ _ none. stands_at t libs w'.cursor name' stack' (found ++ given) e rows room longest (good none) at;
+      let at = stops found ((begins found h).started started ready) in record {
+        start = λ wrong. absurd (started (sym same ∙ wrong));
+        started = λ _ none. occurs_at t libs w'.cursor name' stack' (found ++ given) e rows room longest (good none) at;
         refused = λ some. is_cut t libs w'.cursor name' stack' (found ++ given) e w'.code marked some at;
       };
   met = λ one found h.
-      (is_whole t libs w'.cursor name' stack' (found ++ given) rows room longest e (stops found ((begins found h).begun begun ready)) (sym is ∙ one)).0;
+      (is_whole t libs w'.cursor name' stack' (found ++ given) rows room longest e (stops found ((begins found h).started started ready)) (sym is ∙ one)).0;
   ended = λ one found h.
-      (is_whole t libs w'.cursor name' stack' (found ++ given) rows room longest e (stops found ((begins found h).begun begun ready)) (sym is ∙ one)).1;
+      (is_whole t libs w'.cursor name' stack' (found ++ given) rows room longest e (stops found ((begins found h).started started ready)) (sym is ∙ one)).1;
 }
 
 -- its rows
@@ -84,10 +84,10 @@ pub walk_written : {t : TrieRange} {libs : List (List ℕ)} {w b : gm_export_wal
     → ((found : List Entry) → HasWalkedTrie t libs w name stack found → HasWalkedTrie t libs b name stack found) → b.is_begun ≢ 0 → b.code ≡ 0
     → AreWritten t.bytes (IsNumbered libs) (IsNodeOf t libs (HasGivenTo t libs b.cursor name stack)) given count used old new text text'
     → AreWritten t.bytes (IsNumbered libs) (IsNodeOf t libs (HasWalkedTrie t libs w name stack)) given count used old new text text'
-walk_written {t} {libs} {w} {b} {name} {stack} begins begun ready =
+walk_written {t} {libs} {w} {b} {name} {stack} begins started ready =
     written_there t.bytes t.bytes (IsNumbered libs) (IsNumbered libs) (IsNodeOf t libs (HasGivenTo t libs b.cursor name stack))
     (IsNodeOf t libs (HasWalkedTrie t libs w name stack)) (λ _ _ e. e) (λ _ _ e. e) (λ _ _ e. e)
-    (λ before e node n. record { own = n.own; leads = λ found h. n.leads found ((begins found h).begun begun ready) })
+    (λ before e node n. record { own = n.own; leads = λ found h. n.leads found ((begins found h).started started ready) })
 
 -- the name that was too long
 pub long_name : (t : TrieRange) (c : TrieCursor) (name : List ℕ) (stack : List Open) (e : Ending) (n : ℕ)

@@ -6,9 +6,9 @@ use Rattle.mach_archive.specs.IndexSymbols.{IndexSymbol}
 use Rattle.mach_archive.specs.MemberHeaders.{date_field, gid_field, mode_field, uid_field}
 use Rattle.mach_archive.specs.MemberNames.{member_name_bytes}
 use Rattle.mach_archive.specs.Members.{MemberView}
-use Rattle.mach_c_places.specs.ArchiveFinds.{archive_form, TellsFound}
-use Rattle.mach_c_places.specs.ArchivePlaces.{TellsText}
-use Rattle.mach_c_places.specs.PlacedItems.{ToldName}
+use Rattle.mach_c_places.specs.ArchiveFinds.{archive_form, ReportsFound}
+use Rattle.mach_c_places.specs.ArchivePlaces.{ReportsText}
+use Rattle.mach_c_places.specs.PlacedItems.{ReportedName}
 use Rattle.mach_c_places.specs.declared.archive.find.ArchiveForm.{ArchiveForm}
 use Rattle.mach_c_places.specs.declared.archive.find.ArchiveForm.TheVariants.{Bsd, Gnu, NoArchive, Thin}
 use Rattle.goblin_mach_c.specs.Codes.{code_of_fault}
@@ -16,7 +16,7 @@ use Rattle.goblin_mach_c.specs.declared.archive.gm_archive_member.{gm_archive_me
 use Rattle.goblin_mach_c.specs.declared.archive.gm_archive_symbol.{gm_archive_symbol}
 
 -- the offset of a name, its length, and its code
-abbrev pub name_numbers : ToldName → ℕ × ℕ × ℕ
+abbrev pub name_numbers : ReportedName → ℕ × ℕ × ℕ
 name_numbers (Ok (place, len)) = (place, len, 0)
 name_numbers (Err f) = (0, 0, code_of_fault f)
 
@@ -24,8 +24,8 @@ name_numbers (Err f) = (0, 0, code_of_fault f)
 abbrev pub number_or_none : Option ℕ → ℕ
 number_or_none n = unwrap_or n (2 ^ 64 - 1)
 
-abbrev pub member_row : MemberView × ToldName → gm_archive_member
-member_row (m, told) =
+abbrev pub member_row : MemberView × ReportedName → gm_archive_member
+member_row (m, reported) =
     record {
       date = number_or_none (field_number 10 (date_field m.fields));
       uid = number_or_none (field_number 10 (uid_field m.fields));
@@ -34,9 +34,9 @@ member_row (m, told) =
       header = m.offset;
       «data» = m.start;
       data_len = length m.bytes;
-      name = (name_numbers told).0;
-      name_len = (name_numbers told).1;
-      name_code = (name_numbers told).2;
+      name = (name_numbers reported).0;
+      name_len = (name_numbers reported).1;
+      name_code = (name_numbers reported).2;
       code = 0;
     }
 
@@ -59,16 +59,16 @@ no_member code =
 
 -- a row is that of a member, with the offset of its name; or says why there is none
 abbrev pub SaysMember : List ℕ → Result MemberView Fault → gm_archive_member → Type 0
-SaysMember bytes (Ok m) row = (told : ToldName) × TellsText bytes (member_name_bytes m) told × (row ≡ member_row (m, told))
+SaysMember bytes (Ok m) row = (reported : ReportedName) × ReportsText bytes (member_name_bytes m) reported × (row ≡ member_row (m, reported))
 SaysMember bytes (Err f) row = row ≡ no_member (code_of_fault f)
 
-abbrev pub archive_symbol_row : IndexSymbol × ToldName → gm_archive_symbol
-archive_symbol_row (s, told) =
+abbrev pub archive_symbol_row : IndexSymbol × ReportedName → gm_archive_symbol
+archive_symbol_row (s, reported) =
     record {
       member = s.member;
-      name = (name_numbers told).0;
-      name_len = (name_numbers told).1;
-      code = (name_numbers told).2;
+      name = (name_numbers reported).0;
+      name_len = (name_numbers reported).1;
+      code = (name_numbers reported).2;
       reserved = 0;
     }
 
@@ -76,7 +76,7 @@ abbrev pub no_archive_symbol : ℕ → gm_archive_symbol
 no_archive_symbol code = record { member = 0; name = 0; name_len = 0; code = code; reserved = 0 }
 
 abbrev pub SaysArchiveSymbol : List ℕ → Result IndexSymbol Fault → gm_archive_symbol → Type 0
-SaysArchiveSymbol bytes (Ok s) row = (told : ToldName) × TellsText bytes (Ok s.name) told × (row ≡ archive_symbol_row (s, told))
+SaysArchiveSymbol bytes (Ok s) row = (reported : ReportedName) × ReportsText bytes (Ok s.name) reported × (row ≡ archive_symbol_row (s, reported))
 SaysArchiveSymbol bytes (Err f) row = row ≡ no_archive_symbol (code_of_fault f)
 
 -- ---- which archive the bytes are, and a member that is looked up
@@ -100,13 +100,13 @@ pub record IsCodeOf {A : Type 0} (there : Result A Fault) (code : ℕ) : Type 0 
   pub coded : code ≡ code_of_fault fault
 
 -- a member that was looked up; if there is none, a row of zeros
-abbrev pub found_row : Option (MemberView × ToldName) → gm_archive_member
+abbrev pub found_row : Option (MemberView × ReportedName) → gm_archive_member
 found_row (Some placed) = member_row placed
 found_row None = no_member 0
 
 pub record FindsMember (bytes : List ℕ) (there : Result (Option MemberView) Fault) (row : gm_archive_member) : Type 0 where
   pub member : Option MemberView
   pub is : there ≡ Ok member
-  pub told : Option (MemberView × ToldName)
-  pub placed : TellsFound bytes member told
-  pub written : row ≡ found_row told
+  pub reported : Option (MemberView × ReportedName)
+  pub placed : ReportsFound bytes member reported
+  pub written : row ≡ found_row reported

@@ -3,14 +3,14 @@
 use Rattle.std.specs.Prelude.{◌≡◌, ◌+◌, ℕ, List, [], ◌∷◌, map, Option, Some, None, Result, Ok, Err}
 use Rattle.mach_base.specs.Fault.{Fault}
 use Rattle.mach_dyld.specs.Imports.{BindRanges, input_in}
-use Rattle.mach_dyld.specs.SiteCursors.{AreBindingSites, binding_sites_behind}
+use Rattle.mach_dyld.specs.SiteCursors.{AreBindingSites, binding_sites_after}
 use Rattle.mach_dyld.specs.Sites.{Site}
 use Rattle.mach_dyld.specs.declared.imports.cursor.BindCursor.{BindCursor}
 use Rattle.mach_chained.specs.Fixups.{Fixup}
 use Rattle.mach_chained.specs.Header.{Fixups}
 use Rattle.mach_chained.specs.Imports.{name_place_at}
 use Rattle.mach_chained.specs.Pointers.{KindOfFixup, rebase, bind, value}
-use Rattle.goblin_mach_c.specs.ImportsBehind.{Binds}
+use Rattle.goblin_mach_c.specs.ImportsAfter.{Binds}
 use Rattle.goblin_mach_c.specs.Stage.{Stage, start, under_way, over}
 
 -- ---- those of the opcodes
@@ -21,14 +21,14 @@ AreAllBindingSites None x sites = sites ≡ []
 AreAllBindingSites (Some b) x sites = AreBindingSites (input_in b x.pointer x.libs x.segments) b.non_lazy b.lazy sites
 
 -- those of the bindings after a place of the streams
-abbrev pub opcode_sites_behind : BindCursor → Option BindRanges → Binds → List Site
-opcode_sites_behind c None x = []
-opcode_sites_behind c (Some b) x = binding_sites_behind (input_in b x.pointer x.libs x.segments) b.lazy c
+abbrev pub opcode_sites_after : BindCursor → Option BindRanges → Binds → List Site
+opcode_sites_after c None x = []
+opcode_sites_after c (Some b) x = binding_sites_after (input_in b x.pointer x.libs x.segments) b.lazy c
 
 -- those at a stage
 abbrev pub AreBindingSitesAtStage : Stage → BindCursor → Binds → List Site → Type 0
 AreBindingSitesAtStage start c x sites = AreAllBindingSites x.ranges x sites
-AreBindingSitesAtStage under_way c x sites = sites ≡ opcode_sites_behind c x.ranges x
+AreBindingSitesAtStage under_way c x sites = sites ≡ opcode_sites_after c x.ranges x
 AreBindingSitesAtStage over c x sites = sites ≡ []
 
 abbrev pub places_of : List Site → List ℕ

@@ -4,7 +4,7 @@ use Rattle.mach_base.specs.Fault.{Fault}
 use Rattle.mach_parts.specs.Bindings.{Binding, Provider, of_library, itself, main_executable, flat, weak_lookup}
 use Rattle.goblin_mach_c.specs.Codes.{code_of_fault}
 use Rattle.goblin_mach_c.specs.Opened.{flag}
-use Rattle.goblin_mach_c.specs.Sited.{told_at}
+use Rattle.goblin_mach_c.specs.Sited.{reported_at}
 use Rattle.goblin_mach_c.specs.declared.bindings.gm_binding.{gm_binding}
 
 -- the number of a provider
@@ -56,14 +56,14 @@ no_binding f =
     }
 
 -- the bytes of a name are at a place
-pub record NameStandsAt (bytes : List ℕ) (place : ℕ) (name : List ℕ) : Type 0 where
+pub record NameIsAt (bytes : List ℕ) (place : ℕ) (name : List ℕ) : Type 0 where
   pub within : place + length name ≤ length bytes
   pub there : take (length name) (drop place bytes) ≡ name
 
 -- The row has the numbers of the binding and the place of its name, and the name is there.
 pub record SaysBinding (bytes : List ℕ) (b : Binding) (place : ℕ) (row : gm_binding) : Type 0 where
-  pub numbers : row ≡ binding_row (told_at b.name place) b
-  pub name : NameStandsAt bytes row.name b.name
+  pub numbers : row ≡ binding_row (reported_at b.name place) b
+  pub name : NameIsAt bytes row.name b.name
 
 -- a row is that of a binding with the place of its name, or of the fault that ends them
 abbrev pub IsBindingRow : List ℕ → Result (Binding × ℕ) Fault → gm_binding → Type 0

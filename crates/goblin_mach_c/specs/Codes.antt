@@ -17,7 +17,7 @@ code_of_fault no_memory = 5
 pub record IsRefusalCode (IsFault : Fault → Type 0) (code : ℕ) : Type 0 where
   pub fault : Fault
   pub is_code : code ≡ code_of_fault fault
-  pub stands : (fault ≡ no_memory) ⊎ IsFault fault
+  pub occurs : (fault ≡ no_memory) ⊎ IsFault fault
 
 -- a text of 124 bytes: the first bytes of the words, 123 at most, and zeros
 abbrev pub error_text : List ℕ → List ℕ

@@ -92,7 +92,7 @@ IsCutFor t libs found code = (f : Fault) × IsCutShort t libs found f × (code �
 -- exports.
 pub record HasWalkedTrie (t : TrieRange) (libs : List (List ℕ)) (w : gm_export_walk) (name : List ℕ) (stack : List Open) (found : List Entry) : Type 0 where
   pub start : w.is_begun ≡ 0 → found ≡ []
-  pub begun : w.is_begun ≢ 0 → w.code ≡ 0 → HasGivenTo t libs w.cursor name stack found
+  pub started : w.is_begun ≢ 0 → w.code ≡ 0 → HasGivenTo t libs w.cursor name stack found
   pub refused : w.code ≢ 0 → IsCutFor t libs found w.code
 
 -- A walk over the exports of the image at o, with this name and these open nodes, has returned these.

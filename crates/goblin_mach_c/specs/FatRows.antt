@@ -19,22 +19,22 @@ abbrev pub entry_count_in : Result FatFile Fault → ℕ
 entry_count_in (Ok file) = file.narches
 entry_count_in (Err f) = 0
 
-abbrev pub count_behind : Result ℕ Fault → List ℕ → ℕ
-count_behind (Ok magic) bytes = if magic == 0xcafe_babe then entry_count_in (fat_file_in bytes) else 0
-count_behind (Err f) bytes = 0
+abbrev pub count_after : Result ℕ Fault → List ℕ → ℕ
+count_after (Ok magic) bytes = if magic == 0xcafe_babe then entry_count_in (fat_file_in bytes) else 0
+count_after (Err f) bytes = 0
 
 -- how many entries some bytes have: none if they don't begin with the magic of a fat file, or its header is short
 abbrev pub fat_count : List ℕ → ℕ
-fat_count bytes = count_behind (number_at Big 4 bytes 0) bytes
+fat_count bytes = count_after (number_at Big 4 bytes 0) bytes
 
 -- how many records of 20 bytes lie whole in some bytes, after a header of 8
 abbrev pub whole_fat_records : List ℕ → ℕ
 whole_fat_records bytes = (length bytes - 8) / 20
 
 -- how many of them are reported: all of the header's count if they lie in the bytes; else those that lie whole in them, and one more
-abbrev pub told_count : List ℕ → ℕ
-told_count bytes = if nat_lt (whole_fat_records bytes) (fat_count bytes) then whole_fat_records bytes + 1 else fat_count bytes
+abbrev pub reported_count : List ℕ → ℕ
+reported_count bytes = if nat_lt (whole_fat_records bytes) (fat_count bytes) then whole_fat_records bytes + 1 else fat_count bytes
 
 -- the entries of some bytes, in order, up to the first record that isn't whole
 abbrev pub fat_rows : List ℕ → List gm_fat_entry
-fat_rows bytes = items_from (λ k. fat_row (arch_at bytes k)) 0 (told_count bytes)
+fat_rows bytes = items_from (λ k. fat_row (arch_at bytes k)) 0 (reported_count bytes)

@@ -6,7 +6,7 @@ use Rattle.mach_dyld.specs.Imports.{Import}
 use Rattle.mach_dyld.specs.Sites.{Site}
 use Rattle.goblin_mach_c.specs.Codes.{code_of_fault}
 use Rattle.goblin_mach_c.specs.Opened.{flag}
-use Rattle.goblin_mach_c.specs.Sited.{told_at}
+use Rattle.goblin_mach_c.specs.Sited.{reported_at}
 use Rattle.goblin_mach_c.specs.declared.imports.gm_import.{gm_import}
 
 -- a name is the text at a place; an empty one is reported at 0
@@ -50,7 +50,7 @@ no_import f =
 -- The row has the numbers of the import, the place where its name was last set before its bind, and the number of a library that
 -- was last set. The name is there, and that library has this ordinal.
 pub record SaysImport (bytes : List ℕ) (libs : List (List ℕ)) (i : Import) (s : Site) (row : gm_import) : Type 0 where
-  pub numbers : row ≡ import_row (told_at i.name s.name_place) s.library i
+  pub numbers : row ≡ import_row (reported_at i.name s.name_place) s.library i
   pub name : IsNameAt bytes row.name i.name
   pub library : slice_get libs row.library ≡ Some i.dylib
 

@@ -3,7 +3,7 @@ use Rattle.std.specs.Prelude.{◌≡◌, List, [], ◌∷◌, Bool, true, false,
 use Rattle.mach_base.specs.Fault.{Fault}
 use Rattle.mach_load.specs.Command.{Command}
 use Rattle.mach_load.specs.CommandLists.{followed_by}
-use Rattle.goblin_mach_c.specs.declared.listed.Part.{Part}
+use Rattle.goblin_mach_c.specs.declared.listed.CommandItems.{CommandItems}
 
 -- what some commands list, up to the first fault
 abbrev pub listed_in : {V : Type 0} → (Command → List (Result V Fault)) → List Command → List (Result V Fault)
@@ -11,7 +11,7 @@ listed_in lists [] = []
 listed_in lists (c ∷ cs) = followed_by (lists c) (listed_in lists cs)
 
 -- what is left of one command, if one has begun
-abbrev pub part_left : {V : Type 0} → (Part → List (Result V Fault)) → Option Part → List (Result V Fault)
+abbrev pub part_left : {V : Type 0} → (CommandItems → List (Result V Fault)) → Option CommandItems → List (Result V Fault)
 part_left left None = []
 part_left left (Some part) = left part
 

@@ -17,7 +17,7 @@ use Rattle.goblin_mach.specs.declared.macho.MachO.{MachO}
 use Rattle.std.specs.declared.alloc.Global.{Global}
 use Rattle.mach_base.specs.declared.context.Container.{Container}
 use Rattle.mach_base.specs.declared.context.Container.TheVariants as width
-use Rattle.goblin_mach_c.specs.Seen.{ctx_seen}
+use Rattle.goblin_mach_c.specs.CViews.{gm_ctx_view}
 use Rattle.goblin_mach_c.specs.declared.images.gm_image.{gm_image}
 
 -- a flag of C: 1 says yes and 0 says no
@@ -45,7 +45,7 @@ AreTableNumbers (Some t) start count names = (start ≡ t.start) × (count ≡ t
 -- These are the numbers of the image at o that has this context and these commands.
 pub record AreNumbers (bytes : List ℕ) (o : ℕ) (ctx : Ctx) (cs : List Command) (c : gm_image) : Type 0 where
   pub place : c.offset ≡ o
-  pub context : ctx_seen c ≡ ctx
+  pub context : gm_ctx_view c ≡ ctx
   pub header : Header
   pub is_header : IsHeader ctx bytes o header
   pub header_numbers : AreHeaderNumbers header c

@@ -9,8 +9,8 @@ use Rattle.goblin_mach.specs.Subjects.{id_by, lossy_segment_by, name_place, run_
 use Rattle.goblin_mach.specs.declared.libraries.LibraryAttributes.{LibraryAttributes}
 use Rattle.goblin_mach.specs.declared.libraries.LibraryKind.{LibraryKind}
 use Rattle.goblin_mach.specs.declared.libraries.LibraryKind.TheVariants.{Required, Weak, Reexport, Upward, Lazy}
-use Rattle.goblin_mach_c.specs.CommandRows.{commands_seen}
-use Rattle.goblin_mach_c.specs.Seen.{ctx_seen}
+use Rattle.goblin_mach_c.specs.CommandRows.{gm_commands_view}
+use Rattle.goblin_mach_c.specs.CViews.{gm_ctx_view}
 use Rattle.goblin_mach_c.specs.declared.images.gm_image.{gm_image}
 use Rattle.goblin_mach_c.specs.declared.libraries.gm_library.{gm_library}
 use Rattle.goblin_mach_c.specs.declared.ids.gm_id.{gm_id}
@@ -52,11 +52,11 @@ segment_row s =
 
 -- the segment that a command is, if it is one
 abbrev pub segment_row_by : List ℕ → gm_image → Command → Option gm_segment
-segment_row_by bytes image c = shown segment_row (lossy_segment_by (ctx_seen image) bytes c)
+segment_row_by bytes image c = shown segment_row (lossy_segment_by (gm_ctx_view image) bytes c)
 
 -- the segments of an image
 abbrev pub segment_rows : List ℕ → gm_image → List gm_segment
-segment_rows bytes image = rows_of (segment_row_by bytes image) (commands_seen bytes image)
+segment_rows bytes image = rows_of (segment_row_by bytes image) (gm_commands_view bytes image)
 
 -- the number of a kind of library
 abbrev pub library_kind_number : LibraryKind → ℕ
@@ -95,7 +95,7 @@ library_row_by le bytes c = shown (library_row c) (named_by le bytes c)
 
 -- the libraries of an image, the one of ordinal 1 first
 abbrev pub library_rows : List ℕ → gm_image → List gm_library
-library_rows bytes image = rows_of (library_row_by (ctx_seen image).le bytes) (commands_seen bytes image)
+library_rows bytes image = rows_of (library_row_by (gm_ctx_view image).le bytes) (gm_commands_view bytes image)
 
 -- A run path: `path_len` bytes at `path`.
 abbrev pub run_path_row : Command → List ℕ → gm_run_path
@@ -106,7 +106,7 @@ run_path_row_by bytes c = shown (run_path_row c) (run_path_by bytes c)
 
 -- the run paths of an image
 abbrev pub run_path_rows : List ℕ → gm_image → List gm_run_path
-run_path_rows bytes image = rows_of (run_path_row_by bytes) (commands_seen bytes image)
+run_path_rows bytes image = rows_of (run_path_row_by bytes) (gm_commands_view bytes image)
 
 -- A name of the image as a library: `name_len` bytes at `name`.
 abbrev pub id_row : Command → List ℕ → gm_id
@@ -117,4 +117,4 @@ id_row_by bytes c = shown (id_row c) (id_by bytes c)
 
 -- these names; the last is the image's own
 abbrev pub id_rows : List ℕ → gm_image → List gm_id
-id_rows bytes image = rows_of (id_row_by bytes) (commands_seen bytes image)
+id_rows bytes image = rows_of (id_row_by bytes) (gm_commands_view bytes image)

@@ -15,8 +15,8 @@ rebase_kind_number TextAbsolute32 = 2
 rebase_kind_number TextRelative32 = 3
 
 -- a rebase, or why no further ones can be read
-abbrev pub rebase_seen : Result Rebase Fault → gm_rebase
-rebase_seen (Ok r) =
+abbrev pub gm_rebase_view : Result Rebase Fault → gm_rebase
+gm_rebase_view (Ok r) =
     record {
       address = r.address;
       offset = r.offset;
@@ -30,7 +30,7 @@ rebase_seen (Ok r) =
       code = 0;
       reserved = 0;
     }
-rebase_seen (Err f) =
+gm_rebase_view (Err f) =
     record {
       address = 0;
       offset = 0;

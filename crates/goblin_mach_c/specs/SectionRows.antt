@@ -8,7 +8,7 @@ use Rattle.mach_parts.specs.declared.relocation.RelocationInfo.{RelocationInfo}
 use Rattle.mach_parts.specs.declared.segment.section.Section.{Section}
 use Rattle.std.specs.Prelude.{pos}
 use Rattle.goblin_mach_c.specs.Codes.{code_of_fault}
-use Rattle.goblin_mach_c.specs.Seen.{ctx_seen}
+use Rattle.goblin_mach_c.specs.CViews.{gm_ctx_view}
 use Rattle.goblin_mach_c.specs.declared.images.gm_image.{gm_image}
 use Rattle.goblin_mach_c.specs.declared.sections.gm_section.{gm_section}
 use Rattle.goblin_mach_c.specs.declared.relocations.gm_relocation.{gm_relocation}
@@ -46,7 +46,7 @@ section_row (Err f) =
 
 -- `count` sections after the command of a segment
 abbrev pub section_rows : List ℕ → gm_image → ℕ → ℕ → List gm_section
-section_rows bytes image command count = items_from (λ k. section_row (section_item (ctx_seen image) bytes command k)) 0 count
+section_rows bytes image command count = items_from (λ k. section_row (section_item (gm_ctx_view image) bytes command k)) 0 count
 
 -- a relocation, or why it can't be read
 abbrev pub relocation_row : Result RelocationInfo Fault → gm_relocation
@@ -55,4 +55,4 @@ relocation_row (Err f) = record { address = pos 0; info = 0; code = code_of_faul
 
 -- `count` relocations from a place on
 abbrev pub relocation_rows : List ℕ → gm_image → ℕ → ℕ → List gm_relocation
-relocation_rows bytes image reloff count = items_from (λ k. relocation_row (relocation_item (ctx_seen image).le bytes reloff k)) 0 count
+relocation_rows bytes image reloff count = items_from (λ k. relocation_row (relocation_item (gm_ctx_view image).le bytes reloff k)) 0 count

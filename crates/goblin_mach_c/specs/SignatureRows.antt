@@ -3,8 +3,8 @@
 use Rattle.std.specs.Prelude.{◌≡◌, ◌⊎◌, ◌↔◌, ℕ, List, [], map, drop, replicate, Bool, IsTrue, Option, Some, None, Result, Ok, Err}
 use Rattle.std.specs.Option.{option_map}
 use Rattle.mach_base.specs.Fault.{Fault}
-use Rattle.mach_signature.specs.AsSigned.{SignatureFaultSeen, blob_refused, wrong_magic, directory_refused, of_first, of_alternate}
-use Rattle.mach_signature.specs.AsSigned.{DirectoryFaultSeen, identifier_refused, team_refused, short, of_code, of_special}
+use Rattle.mach_signature.specs.AsSigned.{SignatureFaultView, blob_refused, wrong_magic, directory_refused, of_first, of_alternate}
+use Rattle.mach_signature.specs.AsSigned.{DirectoryFaultView, identifier_refused, team_refused, short, of_code, of_special}
 use Rattle.mach_signature.specs.Directories.{code_limit_of, page_count_of, cdhash_of}
 use Rattle.mach_signature.specs.FaultViews.{signature_faults_left}
 use Rattle.mach_signature.specs.declared.fault.CodeFault.{CodeFault}
@@ -109,14 +109,14 @@ special_row slot (special.Changed k) = record { found = 0; limit = 0; kind = 13;
 special_row slot (special.Absent k) = record { found = 0; limit = 0; kind = 14; slot = slot; index = k; code = 0 }
 
 -- those of a directory
-abbrev pub directory_fault_row : (slot : ℕ) → DirectoryFaultSeen → gm_signature_fault
+abbrev pub directory_fault_row : (slot : ℕ) → DirectoryFaultView → gm_signature_fault
 directory_fault_row slot (identifier_refused f) = record { found = 0; limit = 0; kind = 4; slot = slot; index = 0; code = code_of_fault f }
 directory_fault_row slot (team_refused f) = record { found = 0; limit = 0; kind = 5; slot = slot; index = 0; code = code_of_fault f }
 directory_fault_row slot (short limit dataoff) = record { found = limit; limit = dataoff; kind = 6; slot = slot; index = 0; code = 0 }
 directory_fault_row slot (of_code fault) = code_row slot fault
 directory_fault_row slot (of_special fault) = special_row slot fault
 
-abbrev pub signature_fault_row : SignatureFaultSeen → gm_signature_fault
+abbrev pub signature_fault_row : SignatureFaultView → gm_signature_fault
 signature_fault_row (blob_refused index f) = record { found = 0; limit = 0; kind = 1; slot = 0; index = index; code = code_of_fault f }
 signature_fault_row (wrong_magic index slot magic) = record { found = magic; limit = 0; kind = 2; slot = slot; index = index; code = 0 }
 signature_fault_row (directory_refused f) = record { found = 0; limit = 0; kind = 3; slot = 0; index = 0; code = code_of_fault f }
@@ -124,7 +124,7 @@ signature_fault_row (of_first fault) = directory_fault_row 0 fault
 signature_fault_row (of_alternate slot fault) = directory_fault_row slot fault
 
 -- those of a signature, if there is one
-abbrev pub fault_rows : Option (List SignatureFaultSeen) → List gm_signature_fault
+abbrev pub fault_rows : Option (List SignatureFaultView) → List gm_signature_fault
 fault_rows None = []
 fault_rows (Some faults) = map signature_fault_row faults
 
@@ -138,7 +138,7 @@ signature_rows_left it = fault_rows_by it.faults
 -- the rows of the faults of the image at o were written, from a number on
 abbrev pub WritesSignatureFaults : List ℕ → ℕ → (first : ℕ) → (old new : List gm_signature_fault) → ℕ → Type 0
 WritesSignatureFaults bytes o first old new n =
-    (faults : Option (List SignatureFaultSeen)) × HasSignatureFaults bytes o (Ok faults) × Fills (drop first (fault_rows faults)) old new n
+    (faults : Option (List SignatureFaultView)) × HasSignatureFaults bytes o (Ok faults) × Fills (drop first (fault_rows faults)) old new n
 
 -- a fault of opening, or of the signature
 abbrev pub SignatureFaultIn : List ℕ → gm_image → Fault → Type 0

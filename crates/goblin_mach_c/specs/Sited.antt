@@ -19,6 +19,6 @@ abbrev pub placed : {A : Type 0} → List (Result A Fault) → List ℕ → List
 placed items places = each_with 0 items places
 
 -- the offset reported for a name; an empty one is reported at 0
-abbrev pub told_at : List ℕ → ℕ → ℕ
-told_at [] place = 0
-told_at (b ∷ name) place = place
+abbrev pub reported_at : List ℕ → ℕ → ℕ
+reported_at [] place = 0
+reported_at (b ∷ name) place = place

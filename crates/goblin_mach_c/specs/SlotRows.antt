@@ -9,7 +9,7 @@ use Rattle.goblin_mach.specs.SlotFacts.{HasSymbolSlotAt, HasSymbolSlots}
 use Rattle.goblin_mach_c.specs.Codes.{code_of_fault}
 use Rattle.goblin_mach_c.specs.Fill.{Fills}
 use Rattle.goblin_mach_c.specs.Opened.{FaultIn, lossy_mode}
-use Rattle.goblin_mach_c.specs.SymbolRows.{symbol_row, table_seen}
+use Rattle.goblin_mach_c.specs.SymbolRows.{symbol_row, gm_table_view}
 use Rattle.goblin_mach_c.specs.declared.images.gm_image.{gm_image}
 use Rattle.goblin_mach_c.specs.declared.slots.gm_slot.{gm_slot}
 
@@ -99,13 +99,13 @@ slot_row_at t None =
 pub record WritesSlots (bytes : List ℕ) (c : gm_image) (first : ℕ) (old new : List gm_slot) (n : ℕ) : Type 0 where
   pub items : List (Result Slot Fault)
   pub has : HasSymbolSlots bytes c.offset items
-  pub rows : Fills (drop first (map (slot_row (table_seen bytes c)) items)) old new n
+  pub rows : Fills (drop first (map (slot_row (gm_table_view bytes c)) items)) old new n
 
 -- The row is that of the slot that holds an address, or that for none.
 pub record FindsSlot (bytes : List ℕ) (c : gm_image) (a : ℕ) (row : gm_slot) : Type 0 where
   pub slot : Option Slot
   pub has : HasSymbolSlotAt bytes c.offset a (Ok slot)
-  pub is : row ≡ slot_row_at (table_seen bytes c) slot
+  pub is : row ≡ slot_row_at (gm_table_view bytes c) slot
 
 -- a fault of opening, or of the slot
 abbrev pub SlotFaultIn : List ℕ → gm_image → ℕ → Fault → Type 0

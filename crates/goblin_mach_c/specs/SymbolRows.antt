@@ -7,7 +7,7 @@ use Rattle.mach_base.specs.Text.{run_at, text_at}
 use Rattle.mach_parts.specs.Symbols.{SymbolTable, nlist_at, symbol_place}
 use Rattle.mach_parts.specs.declared.symbols.nlist.Nlist.{Nlist}
 use Rattle.goblin_mach_c.specs.Codes.{code_of_fault}
-use Rattle.goblin_mach_c.specs.Seen.{ctx_seen}
+use Rattle.goblin_mach_c.specs.CViews.{gm_ctx_view}
 use Rattle.goblin_mach_c.specs.declared.images.gm_image.{gm_image}
 use Rattle.goblin_mach_c.specs.declared.symbols.Table.{Table}
 use Rattle.goblin_mach_c.specs.declared.symbols.gm_symbol.{gm_symbol}
@@ -60,12 +60,12 @@ SaysSymbol strtab (Ok found) row =
 SaysSymbol strtab (Err f) row = row.code ≡ code_of_fault f
 
 -- the table that the numbers of an image describe
-abbrev pub table_seen : List ℕ → gm_image → SymbolTable
-table_seen bytes c = record { bytes = bytes; start = c.symbols_at; nsyms = c.symbols; strtab = c.names_at; ctx = ctx_seen c }
+abbrev pub gm_table_view : List ℕ → gm_image → SymbolTable
+gm_table_view bytes c = record { bytes = bytes; start = c.symbols_at; nsyms = c.symbols; strtab = c.names_at; ctx = gm_ctx_view c }
 
 -- all symbols of an image
 abbrev pub symbol_rows : List ℕ → gm_image → List gm_symbol
-symbol_rows bytes image = items_from (symbol_row (table_seen bytes image)) 0 image.symbols
+symbol_rows bytes image = items_from (symbol_row (gm_table_view bytes image)) 0 image.symbols
 
 -- ---- what is left for the rows
 

@@ -16,14 +16,14 @@ use Rattle.mach_load.specs.Notes.{NoteView, note_at, note_range}
 use Rattle.goblin_mach.specs.ImageSlots.{indirect_symbols_in, indirect_table_in}
 use Rattle.goblin_mach.specs.Tables.{data_in_code_there, data_place_in}
 use Rattle.goblin_mach_c.specs.Codes.{code_of_fault}
-use Rattle.goblin_mach_c.specs.CommandRows.{commands_seen}
+use Rattle.goblin_mach_c.specs.CommandRows.{gm_commands_view}
 use Rattle.goblin_mach_c.specs.Listed.{listed_in}
 use Rattle.goblin_mach_c.specs.PartRows.{rows_of}
-use Rattle.goblin_mach_c.specs.Seen.{ctx_seen}
+use Rattle.goblin_mach_c.specs.CViews.{gm_ctx_view}
 use Rattle.goblin_mach_c.specs.declared.data_in_code.gm_data_in_code_entry.{gm_data_in_code_entry}
 use Rattle.goblin_mach_c.specs.declared.images.gm_image.{gm_image}
 use Rattle.goblin_mach_c.specs.declared.indirect.gm_indirect_symbol.{gm_indirect_symbol}
-use Rattle.goblin_mach_c.specs.declared.listed.Part.{Part}
+use Rattle.goblin_mach_c.specs.declared.listed.CommandItems.{CommandItems}
 use Rattle.goblin_mach_c.specs.declared.notes.gm_note.{gm_note}
 use Rattle.goblin_mach_c.specs.declared.options.gm_linker_option.{gm_linker_option}
 use Rattle.goblin_mach_c.specs.declared.tools.gm_build_tool.{gm_build_tool}
@@ -37,7 +37,7 @@ data_in_code_row (Err f) = record { offset = 0; length = 0; kind = 0; code = cod
 
 -- the rows of an image
 abbrev pub data_in_code_rows : List ℕ → gm_image → List gm_data_in_code_entry
-data_in_code_rows bytes image = map data_in_code_row (data_in_code_there (ctx_seen image).le bytes (data_place_in (commands_seen bytes image)))
+data_in_code_rows bytes image = map data_in_code_row (data_in_code_there (gm_ctx_view image).le bytes (data_place_in (gm_commands_view bytes image)))
 
 -- ---- indirect symbols
 
@@ -62,7 +62,7 @@ indirect_row (Err f) = record { kind = 0; symbol = 0; code = code_of_fault f }
 
 -- the rows of an image
 abbrev pub indirect_rows : List ℕ → gm_image → List gm_indirect_symbol
-indirect_rows bytes image = map indirect_row (indirect_symbols_in (indirect_table_in (ctx_seen image) bytes (commands_seen bytes image)))
+indirect_rows bytes image = map indirect_row (indirect_symbols_in (indirect_table_in (gm_ctx_view image) bytes (gm_commands_view bytes image)))
 
 -- ---- notes
 
@@ -90,7 +90,7 @@ note_row_by bytes c = option_map (note_row_at bytes c.offset) (note_range c.kind
 
 -- the rows of an image
 abbrev pub note_rows : List ℕ → gm_image → List gm_note
-note_rows bytes image = rows_of (note_row_by bytes) (commands_seen bytes image)
+note_rows bytes image = rows_of (note_row_by bytes) (gm_commands_view bytes image)
 
 -- ---- tools
 
@@ -105,13 +105,13 @@ tools_of_command le bytes c = tools_of le bytes c.offset c
 
 -- the rows of an image, up to the first fault
 abbrev pub build_tool_rows : List ℕ → gm_image → List gm_build_tool
-build_tool_rows bytes image = map build_tool_row (listed_in (tools_of_command (ctx_seen image).le bytes) (commands_seen bytes image))
+build_tool_rows bytes image = map build_tool_row (listed_in (tools_of_command (gm_ctx_view image).le bytes) (gm_commands_view bytes image))
 
 -- what is left of a command's tools
-abbrev pub tools_in_part : Part → ToolTable
+abbrev pub tools_in_part : CommandItems → ToolTable
 tools_in_part p = record { place = p.place; size = p.end; count = p.count }
 
-abbrev pub tools_of_part : Endian → List ℕ → Part → List (Result (ℕ × BuildToolVersion) Fault)
+abbrev pub tools_of_part : Endian → List ℕ → CommandItems → List (Result (ℕ × BuildToolVersion) Fault)
 tools_of_part le bytes p = numbered_tools le bytes p.command (tools_in_part p) p.index (p.count - p.index)
 
 -- ---- options
@@ -137,11 +137,11 @@ options_of_command bytes c = map (with_command c.offset) (placed_options (option
 
 -- the rows of an image, up to the first fault
 abbrev pub linker_option_rows : List ℕ → gm_image → List gm_linker_option
-linker_option_rows bytes image = map linker_option_row (listed_in (options_of_command bytes) (commands_seen bytes image))
+linker_option_rows bytes image = map linker_option_row (listed_in (options_of_command bytes) (gm_commands_view bytes image))
 
 -- what is left of a command's options
-abbrev pub texts_in_part : List ℕ → Part → OptionTexts
+abbrev pub texts_in_part : List ℕ → CommandItems → OptionTexts
 texts_in_part bytes p = record { bytes = take p.end bytes; place = p.place; count = p.count }
 
-abbrev pub options_of_part : List ℕ → Part → List (Result (ℕ × ℕ × List ℕ) Fault)
+abbrev pub options_of_part : List ℕ → CommandItems → List (Result (ℕ × ℕ × List ℕ) Fault)
 options_of_part bytes p = map (with_command p.command) (placed_options (texts_in_part bytes p))

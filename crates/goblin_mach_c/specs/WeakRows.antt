@@ -2,10 +2,10 @@
 use Rattle.std.specs.Prelude.{◌≡◌, ℕ, pos, List, length, Result, Ok, Err}
 use Rattle.mach_base.specs.Fault.{Fault}
 use Rattle.mach_dyld.specs.WeakBinds.{WeakBind, strong_name, weakly_bound}
-use Rattle.goblin_mach_c.specs.BindingRows.{NameStandsAt}
+use Rattle.goblin_mach_c.specs.BindingRows.{NameIsAt}
 use Rattle.goblin_mach_c.specs.Codes.{code_of_fault}
 use Rattle.goblin_mach_c.specs.Opened.{flag}
-use Rattle.goblin_mach_c.specs.Sited.{told_at}
+use Rattle.goblin_mach_c.specs.Sited.{reported_at}
 use Rattle.goblin_mach_c.specs.declared.weak_binds.gm_weak_bind.{gm_weak_bind}
 
 abbrev pub weak_name : WeakBind → List ℕ
@@ -56,8 +56,8 @@ no_weak_bind f =
 
 -- The row has the numbers of the weak bind and the place of its name, and the name is there.
 pub record SaysWeakBind (bytes : List ℕ) (w : WeakBind) (place : ℕ) (row : gm_weak_bind) : Type 0 where
-  pub numbers : row ≡ weak_bind_row (told_at (weak_name w) place) w
-  pub name : NameStandsAt bytes row.name (weak_name w)
+  pub numbers : row ≡ weak_bind_row (reported_at (weak_name w) place) w
+  pub name : NameIsAt bytes row.name (weak_name w)
 
 -- a row is that of a weak bind with the place of its name, or of the fault that ends them
 abbrev pub IsWeakRow : List ℕ → Result (WeakBind × ℕ) Fault → gm_weak_bind → Type 0

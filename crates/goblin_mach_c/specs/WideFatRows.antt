@@ -8,7 +8,7 @@ use Rattle.mach_parts.specs.ArchForms.{arch_form_64, arch_in}
 use Rattle.mach_parts.specs.declared.fat64.FatArch64.{FatArch64}
 use Rattle.goblin_mach.specs.FatFile.{arch_at}
 use Rattle.goblin_mach_c.specs.Codes.{code_of_fault}
-use Rattle.goblin_mach_c.specs.FatRows.{fat_row, told_count}
+use Rattle.goblin_mach_c.specs.FatRows.{fat_row, reported_count}
 use Rattle.goblin_mach_c.specs.declared.fat.gm_fat_entry.{gm_fat_entry}
 use Rattle.goblin_mach_c.specs.declared.fat64.gm_fat_entry64.{gm_fat_entry64}
 
@@ -34,16 +34,16 @@ abbrev pub fat_count_64 : List ℕ → ℕ
 fat_count_64 bytes = if magic_or_zero bytes == 0xcafe_babf then number_or_zero (number_at Big 4 bytes 4) else 0
 
 -- how many of them are reported: all of the header's count if they lie in the bytes; else those that lie whole in them, and one more
-abbrev pub told_count_64 : List ℕ → ℕ
-told_count_64 bytes =
+abbrev pub reported_count_64 : List ℕ → ℕ
+reported_count_64 bytes =
     let whole = (length bytes - 8) / 32 in if nat_lt whole (fat_count_64 bytes) then whole + 1 else fat_count_64 bytes
 
 -- the entries of some bytes, in order, up to the first record that isn't whole: of 64 bits, and of 32
 abbrev pub fat_rows_of_64 : List ℕ → List gm_fat_entry64
-fat_rows_of_64 bytes = items_from (λ k. wide_row_64 (arch_in arch_form_64 bytes k)) 0 (told_count_64 bytes)
+fat_rows_of_64 bytes = items_from (λ k. wide_row_64 (arch_in arch_form_64 bytes k)) 0 (reported_count_64 bytes)
 
 abbrev pub fat_rows_of_32 : List ℕ → List gm_fat_entry64
-fat_rows_of_32 bytes = items_from (λ k. wide_row (fat_row (arch_at bytes k))) 0 (told_count bytes)
+fat_rows_of_32 bytes = items_from (λ k. wide_row (fat_row (arch_at bytes k))) 0 (reported_count bytes)
 
 -- those of either form: bytes that begin with one magic don't begin with the other
 abbrev pub wide_fat_rows : List ℕ → List gm_fat_entry64

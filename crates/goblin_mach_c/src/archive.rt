@@ -55,10 +55,10 @@ pub struct gm_archive_symbol {
 }
 
 // Returns the offset of a name, its length, and its code.
-fn name_numbers(told: &Result<(usize, usize)>) -> (usize, usize, u32)
-    ensures { result ≡ rows.name_numbers (read_as (λ told. told) told.now) }
+fn name_numbers(reported: &Result<(usize, usize)>) -> (usize, usize, u32)
+    ensures { result ≡ rows.name_numbers (read_as (λ reported. reported) reported.now) }
 {
-    match told {
+    match reported {
         Ok((place, len)) => (*place, *len, GM_OK),
         Err(why) => (0, 0, code_of(why)),
     }
@@ -239,7 +239,7 @@ pub extern "C" fn gmr_archive_kind(bytes: &[u8], kind: &mut u32, error: &mut gm_
     ensures found { result ≡ 0 → rows.IsFormNumber bytes.now kind.new }
     ensures refused { result ≢ 0 → rows.IsCodeOf (archive_form bytes.now) result }
     ensures kept { result ≢ 0 → kind.new ≡ kind.old }
-    ensures told { result ≢ 0 → error.new.code ≡ result }
+    ensures reported { result ≢ 0 → error.new.code ≡ result }
     ensures quiet { result ≡ 0 → error.new ≡ error.old }
 {
     match form_of(bytes) {

@@ -36,7 +36,7 @@ pub extern "C" fn gmr_archive_find(
     ensures refused { result ≢ 0 → IsUtf8 symbol.now → IsCodeOf (member_by_symbol bytes.now symbol.now) result }
     ensures no_text { (IsUtf8 symbol.now → ⊥) → result ≡ 1 }
     ensures kept { result ≢ 0 → member.new ≡ member.old }
-    ensures told { result ≢ 0 → error.new.code ≡ result }
+    ensures reported { result ≢ 0 → error.new.code ≡ result }
     ensures quiet { result ≡ 0 → error.new ≡ error.old }
 {
     let Ok(symbol) = str::from_utf8(symbol) else {
@@ -63,7 +63,7 @@ pub extern "C" fn gmr_archive_member_named(
     ensures found { result ≡ 0 → FindsMember bytes.now (member_by_name bytes.now name.now) member.new }
     ensures refused { result ≢ 0 → IsCodeOf (member_by_name bytes.now name.now) result }
     ensures kept { result ≢ 0 → member.new ≡ member.old }
-    ensures told { result ≢ 0 → error.new.code ≡ result }
+    ensures reported { result ≢ 0 → error.new.code ≡ result }
     ensures quiet { result ≡ 0 → error.new ≡ error.old }
 {
     match member_named(bytes, name) {

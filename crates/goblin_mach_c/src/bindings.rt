@@ -15,19 +15,19 @@ ghost use Rattle.mach_parts.specs.Bindings as defined;
 ghost use Rattle.mach_parts.specs.Bindings.{binding_view, provider_view};
 ghost use Rattle.mach_base.specs.Text.{texts};
 ghost use Rattle.mach_parts.specs.declared.segment.Segment as declared_segment;
-ghost use Rattle.goblin_mach.specs.Fixups.{chained_held};
-ghost use Rattle.goblin_mach.specs.OpenImage.{binds_held, bytes_held};
-ghost use Rattle.goblin_mach_c.specs.BindingRows.{IsBindingRow, NameStandsAt, binding_row, no_binding, ordinal_number, provider_number};
+ghost use Rattle.goblin_mach.specs.Fixups.{chained_view};
+ghost use Rattle.goblin_mach.specs.OpenImage.{binds_view, bytes_view};
+ghost use Rattle.goblin_mach_c.specs.BindingRows.{IsBindingRow, NameIsAt, binding_row, no_binding, ordinal_number, provider_number};
 ghost use Rattle.goblin_mach_c.specs.BindingPlaces.{AreBindingSitesAtStage, with_name_place};
-ghost use Rattle.goblin_mach_c.specs.BindingsBehind.{AreBindingsAtStage, AreBindingsBehind, AreBindingRowsOver, AreOverOpcodes, BindingSource, ComesFirst};
-ghost use Rattle.goblin_mach_c.specs.BindingsBehind.{HasPlacedName};
-ghost use Rattle.goblin_mach_c.specs.BindingsBehind.{StandAt, WritesBindings};
-ghost use Rattle.goblin_mach_c.specs.BindingsBehind.{all_binding_rows_left, bound_left, chains_left, binding_rows_left, opcode_rows_left, source_of};
-ghost use Rattle.goblin_mach_c.specs.BindingsBehind.{ArePlacedBehind, PlaceFirst, PlacedFirst, all_placed, bound_places, chains_placed};
-ghost use Rattle.goblin_mach_c.specs.BindingsBehind.{placed_left, opcode_sites_left};
+ghost use Rattle.goblin_mach_c.specs.BindingsAfter.{AreBindingsAtStage, AreBindingsAfter, AreBindingRowsOver, AreOverOpcodes, BindingSource, ComesFirst};
+ghost use Rattle.goblin_mach_c.specs.BindingsAfter.{HasPlacedName};
+ghost use Rattle.goblin_mach_c.specs.BindingsAfter.{AreAt, WritesBindings};
+ghost use Rattle.goblin_mach_c.specs.BindingsAfter.{all_binding_rows_left, bound_left, chains_left, binding_rows_left, opcode_rows_left, source_of};
+ghost use Rattle.goblin_mach_c.specs.BindingsAfter.{ArePlacedAfter, PlaceFirst, PlacedFirst, all_placed, bound_places, chains_placed};
+ghost use Rattle.goblin_mach_c.specs.BindingsAfter.{placed_left, opcode_sites_left};
 ghost use Rattle.goblin_mach_c.specs.Codes.{IsRefusalCode};
-ghost use Rattle.goblin_mach_c.specs.ImportsBehind.{binds_of_image};
-ghost use Rattle.goblin_mach_c.specs.Sited.{told_at};
+ghost use Rattle.goblin_mach_c.specs.ImportsAfter.{binds_of_image};
+ghost use Rattle.goblin_mach_c.specs.Sited.{reported_at};
 ghost use Rattle.goblin_mach_c.specs.Stage.{stage_of};
 ghost use Rattle.goblin_mach_c.specs.Opened.{FaultIn, lossy_mode};
 
@@ -112,8 +112,8 @@ fn refused_row(why: &Error) -> gm_binding
 // Returns a binding as C sees it.
 #[inline(always)]
 fn row_of(placed: &PlacedBinding<'_>) -> gm_binding
-    ensures numbers { result ≡ binding_row (told_at placed.now.binding.name.now placed.now.name_place) (binding_view placed.now.binding) }
-    ensures name { (bytes : List ℕ) → HasPlacedName bytes placed.now → NameStandsAt bytes result.name placed.now.binding.name.now }
+    ensures numbers { result ≡ binding_row (reported_at placed.now.binding.name.now placed.now.name_place) (binding_view placed.now.binding) }
+    ensures name { (bytes : List ℕ) → HasPlacedName bytes placed.now → NameIsAt bytes result.name placed.now.binding.name.now }
 {
     let binding = &placed.binding;
     let (provider, library) = numbers_of(binding.provider);
@@ -134,9 +134,9 @@ fn row_of(placed: &PlacedBinding<'_>) -> gm_binding
 // Returns the offset of the name of a chain's bind. `data` is the offset of the chains' data.
 #[inline(always)]
 fn name_place(chained: &ChainedFixups<'_>, chains_at: usize, fixup: &Fixup) -> usize
-    ensures stands { (bytes : List ℕ) (size : ℕ) → length bytes < 2 ^ 64 → slice_at size bytes chains_at ≡ Ok (fixups_view chained.now).payload
+    ensures occurs { (bytes : List ℕ) (size : ℕ) → length bytes < 2 ^ 64 → slice_at size bytes chains_at ≡ Ok (fixups_view chained.now).payload
         → (segments : List (declared_segment.Segment)) (base : ℕ) (libs : List (List ℕ)) (b : defined.Binding)
-        → binding_in (fixup_input_in chained.now segments base) libs (fixup_view fixup.now) ≡ Some (Ok b) → NameStandsAt bytes result b.name }
+        → binding_in (fixup_input_in chained.now segments base) libs (fixup_view fixup.now) ≡ Some (Ok b) → NameIsAt bytes result b.name }
     ensures own { (bytes : List ℕ) (size : ℕ) → length bytes < 2 ^ 64 → slice_at size bytes chains_at ≡ Ok (fixups_view chained.now).payload
         → (segments : List (declared_segment.Segment)) (base : ℕ) (libs : List (List ℕ)) (b : defined.Binding)
         → binding_in (fixup_input_in chained.now segments base) libs (fixup_view fixup.now) ≡ Some (Ok b)
@@ -214,8 +214,8 @@ impl<'a, 'b> BindingRows<'a, 'b> {
             self.chains_at,
         );
         match &mut self.fixups {
-            FixupRows::Unread(told) => {
-                let why = told.take()?;
+            FixupRows::Unread(reported) => {
+                let why = reported.take()?;
                 Some(Err(why))
             }
             FixupRows::Chains(walk) => next_bound(walk, libs, segments, base, chains_at),
@@ -276,13 +276,13 @@ impl<'a, 'b> ItemRows for BindingRows<'a, 'b> {
 }
 
 // Returns the bindings of an image's opcodes after a cursor.
-fn opcodes_behind<'a, 'b>(
+fn opcodes_after<'a, 'b>(
     image: &'b MachO<'a, Global>,
     cursor: &gm_bind_cursor,
 ) -> Option<OpcodeBindingIterator<'a, 'b>>
     ensures items { AreBindingsAtStage (stage_of cursor.now.stage) cursor.now.binds (binds_of_image image.now) (opcode_rows_left result) }
     ensures sites { AreBindingSitesAtStage (stage_of cursor.now.stage) cursor.now.binds (binds_of_image image.now) (opcode_sites_left result) }
-    ensures over { (x : BindingSource) → x.binds ≡ binds_of_image image.now → ((b : BindRanges) → binds_held image.now ≡ Some b → b.bytes ≡ x.bytes)
+    ensures over { (x : BindingSource) → x.binds ≡ binds_of_image image.now → ((b : BindRanges) → binds_view image.now ≡ Some b → b.bytes ≡ x.bytes)
         → AreOverOpcodes x result }
 {
     let binds = image.binds()?;
@@ -316,7 +316,7 @@ fn opcode_cursor(opcodes: &Option<OpcodeBindingIterator<'_, '_>>) -> gm_bind_cur
 
 // Returns the offset of the data of an image's chains.
 fn chains_at(image: &MachO<'_, Global>) -> usize
-    ensures stand { StandAt (source_of image.now) result }
+    ensures occur { AreAt (source_of image.now) result }
     ensures place { result ≡ (source_of image.now).chains_at }
 {
     match image.chained_place() {
@@ -327,15 +327,15 @@ fn chains_at(image: &MachO<'_, Global>) -> usize
 
 impl<'a, 'b> BindingRows<'a, 'b> {
     // Returns the bindings after a cursor.
-    fn behind(image: &'b MachO<'a, Global>, cursor: &gm_binding_cursor) -> Self
-        ensures items { AreBindingsBehind cursor.now (binds_of_image image.now) (chained_held image.now) (binding_rows_left result) }
-        ensures placed { ArePlacedBehind cursor.now (source_of image.now) (placed_left result) }
-        ensures over { ((b : BindRanges) → binds_held image.now ≡ Some b → b.bytes ≡ bytes_held image.now) → length (bytes_held image.now) < 2 ^ 64
+    fn following(image: &'b MachO<'a, Global>, cursor: &gm_binding_cursor) -> Self
+        ensures items { AreBindingsAfter cursor.now (binds_of_image image.now) (chained_view image.now) (binding_rows_left result) }
+        ensures placed { ArePlacedAfter cursor.now (source_of image.now) (placed_left result) }
+        ensures over { ((b : BindRanges) → binds_view image.now ≡ Some b → b.bytes ≡ bytes_view image.now) → length (bytes_view image.now) < 2 ^ 64
             → AreBindingRowsOver (source_of image.now) result }
     {
         BindingRows {
-            opcodes: opcodes_behind(image, &cursor.opcodes),
-            fixups: FixupRows::behind(image, &cursor.chains),
+            opcodes: opcodes_after(image, &cursor.opcodes),
+            fixups: FixupRows::following(image, &cursor.chains),
             libs: image.libs.as_slice(),
             segments: image.segments.as_slice(),
             base: image.base(),
@@ -345,8 +345,8 @@ impl<'a, 'b> BindingRows<'a, 'b> {
 
     // Returns a cursor before those that are left.
     fn cursor(&self) -> gm_binding_cursor
-        ensures items { (x : BindingSource) → AreBindingRowsOver x self.now → AreBindingsBehind result x.binds x.chained (binding_rows_left self.now) }
-        ensures placed { (x : BindingSource) → AreBindingRowsOver x self.now → ArePlacedBehind result x (placed_left self.now) }
+        ensures items { (x : BindingSource) → AreBindingRowsOver x self.now → AreBindingsAfter result x.binds x.chained (binding_rows_left self.now) }
+        ensures placed { (x : BindingSource) → AreBindingRowsOver x self.now → ArePlacedAfter result x (placed_left self.now) }
     {
         gm_binding_cursor {
             opcodes: opcode_cursor(&self.opcodes),
@@ -375,7 +375,7 @@ pub extern "C" fn gmr_bindings(
     ensures array { result ≢ 0 → out.new ≡ out.old }
     ensures count { result ≢ 0 → count.new ≡ count.old }
     ensures cursor { result ≢ 0 → cursor.new ≡ cursor.old }
-    ensures told { result ≢ 0 → error.new.code ≡ result }
+    ensures reported { result ≢ 0 → error.new.code ≡ result }
     ensures quiet { result ≡ 0 → error.new ≡ error.old }
 {
     if out.is_empty() {
@@ -383,7 +383,7 @@ pub extern "C" fn gmr_bindings(
     }
     match open(alloc, bytes, image.offset, image.is_lossy != 0) {
         Ok(found) => {
-            let mut rows = BindingRows::behind(&found, cursor);
+            let mut rows = BindingRows::following(&found, cursor);
             *count = fill_items(&mut rows, out);
             *cursor = rows.cursor();
             GM_OK

@@ -3,7 +3,7 @@
 ghost use Rattle.std.specs.Prelude.{◌≡◌, drop, map, min};
 ghost use Rattle.std.specs.Iterator.{YieldsFirst, YieldsFirstBy};
 ghost use Rattle.mach_load.specs.Variants.{command_of};
-ghost use Rattle.goblin_mach_c.specs.CommandRows.{command_row, command_rows_seen, readable_commands_left, commands_seen};
+ghost use Rattle.goblin_mach_c.specs.CommandRows.{command_row, gm_command_rows_view, readable_commands_left, gm_commands_view};
 ghost use Rattle.goblin_mach_c.specs.Fill.{Fills};
 
 use crate::images::{ctx_of, gm_image};
@@ -30,7 +30,7 @@ fn no_more_than(count: usize, most: usize) -> usize
 impl<'a> Commands<'a> {
     /// Returns the commands of an image: no more than could lie in the bytes.
     pub fn of(bytes: &'a [u8], image: &gm_image) -> Self
-        ensures { readable_commands_left result ≡ commands_seen bytes.now image.now }
+        ensures { readable_commands_left result ≡ gm_commands_view bytes.now image.now }
     {
         Commands {
             bytes,
@@ -111,7 +111,7 @@ pub extern "C" fn gmr_commands(
     first: usize,
     out: &mut [gm_command],
 ) -> usize
-    ensures { Fills (drop first (command_rows_seen bytes.now image.now)) out.old out.new result }
+    ensures { Fills (drop first (gm_command_rows_view bytes.now image.now)) out.old out.new result }
 {
     let mut commands = Commands::of(bytes, image);
     skip(&mut commands, first);

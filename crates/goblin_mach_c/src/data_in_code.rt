@@ -8,7 +8,7 @@ ghost use Rattle.goblin_mach_c.specs.TableRows.{data_in_code_row, data_in_code_r
 
 use crate::errors::{GM_OK, code_of};
 use crate::images::{ctx_of, gm_image};
-use crate::last::last_said;
+use crate::last::last_value;
 use crate::numbered::{Numbered, rows_from};
 use crate::rows::fill;
 use goblin_mach::table_places::DataPlaces;
@@ -75,7 +75,7 @@ pub extern "C" fn gmr_data_in_code(
 ) -> usize
     ensures { Fills (drop first (data_in_code_rows bytes.now image.now)) out.old out.new result }
 {
-    let Some(command) = last_said(bytes, image, &DataPlaces) else {
+    let Some(command) = last_value(bytes, image, &DataPlaces) else {
         return 0;
     };
     let entries = Entries {

@@ -73,7 +73,7 @@ fn text_of(words: &[u8]) -> [u8; 124]
 pub fn refuse(error: &Error, out: &mut gm_error) -> u32
     ensures code { result ≡ code_of_fault (fault_of error.now) }
     ensures some { result ≢ 0 }
-    ensures told { out.new.code ≡ result }
+    ensures reported { out.new.code ≡ result }
     ensures ended { slice_get out.new.text 123 ≡ Some 0 }
     ensures words { HasErrorWords (words_of error.now) out.new.text }
     ensures rule { HasShortRule error.now → out.new.text ≡ error_text (words_of error.now) }
@@ -117,7 +117,7 @@ fn words_text(error: &Error) -> [u8; 124]
 #[inline(never)]
 pub fn refuse_no_rows(out: &mut gm_error) -> u32
     ensures code { result ≡ 6 }
-    ensures told { out.new.code ≡ 6 }
+    ensures reported { out.new.code ≡ 6 }
     ensures ended { slice_get out.new.text 123 ≡ Some 0 }
 {
     *out = gm_error {
@@ -132,7 +132,7 @@ pub fn refuse_no_rows(out: &mut gm_error) -> u32
 #[inline(never)]
 pub fn refuse_no_space(out: &mut gm_error) -> u32
     ensures code { result ≡ 7 }
-    ensures told { out.new.code ≡ 7 }
+    ensures reported { out.new.code ≡ 7 }
     ensures ended { slice_get out.new.text 123 ≡ Some 0 }
 {
     *out = gm_error {
@@ -147,7 +147,7 @@ pub fn refuse_no_space(out: &mut gm_error) -> u32
 #[inline(never)]
 pub fn refuse_again(code: u32, out: &mut gm_error) -> u32
     ensures code { result ≡ code }
-    ensures told { out.new.code ≡ code }
+    ensures reported { out.new.code ≡ code }
     ensures ended { slice_get out.new.text 123 ≡ Some 0 }
 {
     *out = gm_error {

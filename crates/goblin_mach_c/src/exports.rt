@@ -6,7 +6,7 @@ ghost use Rattle.mach_dyld.specs.Exports.{info_of};
 ghost use Rattle.mach_base.specs.Text.{texts};
 ghost use Rattle.mach_dyld.specs.Trie.{Entry};
 ghost use Rattle.mach_dyld.specs.TrieRange.{empty_range};
-ghost use Rattle.goblin_mach.specs.OpenImage.{trie_held};
+ghost use Rattle.goblin_mach.specs.OpenImage.{trie_view};
 ghost use Rattle.goblin_mach.specs.Subjects.{trie_or_empty};
 ghost use Rattle.goblin_mach_c.specs.Codes.{IsRefusalCode};
 ghost use Rattle.goblin_mach_c.specs.ExportWalk.{AreWritten, EndsWholeWith, GoesAlong, GivesFurther, HasLibrary, HasNextName, HasNodeOf, HasWalkedTrie};
@@ -208,11 +208,11 @@ fn end_of(
 }
 
 // Reports a refusal, if the batch ends with one.
-fn told(ending: Option<Ending>, error: &mut gm_error) -> u32
+fn reported(ending: Option<Ending>, error: &mut gm_error) -> u32
     ensures code { IsCode ending result }
     ensures good { (rows : ℕ) (room : ℕ) (name : ℕ) → result ≡ 0 → end_number rows room name ending < 5 }
     ensures refused { (rows : ℕ) (room : ℕ) (name : ℕ) → result ≢ 0 → end_number rows room name ending ≡ 5 }
-    ensures told { result ≢ 0 → error.new.code ≡ result }
+    ensures reported { result ≢ 0 → error.new.code ≡ result }
     ensures quiet { result ≡ 0 → error.new ≡ error.old }
 {
     match ending {
@@ -223,7 +223,7 @@ fn told(ending: Option<Ending>, error: &mut gm_error) -> u32
 
 // Starts a walk that has not begun.
 fn begin(trie: &ExportTrie<'_>, walk: &mut gm_export_walk)
-    ensures begun { walk.new.is_begun ≢ 0 }
+    ensures started { walk.new.is_begun ≢ 0 }
     ensures code { walk.new.code ≡ walk.old.code }
     ensures same { (libs : List (List ℕ)) (name : List ℕ) (stack : List Open) (found : List Entry)
         → HasWalkedTrie trie.now libs walk.old name stack found → HasWalkedTrie trie.now libs walk.new name stack found }
@@ -262,7 +262,7 @@ fn go_along<'a>(
     ensures refused { result ≢ 0 → batch.new.end ≡ 5 }
     ensures good { result ≡ 0 → batch.new.end < 5 }
     ensures marked { walk.new.code ≡ result }
-    ensures told { result ≢ 0 → error.new.code ≡ result }
+    ensures reported { result ≢ 0 → error.new.code ≡ result }
     ensures quiet { result ≡ 0 → error.new ≡ error.old }
 {
     begin(trie, walk);
@@ -289,14 +289,14 @@ fn go_along<'a>(
         end,
         reserved: 0,
     };
-    walk.code = told(ending, error);
+    walk.code = reported(ending, error);
     walk.code
 }
 
 // Returns the trie of an image, or an empty one.
 fn trie_of<'a, 'b>(image: &'b MachO<'a, Global>, empty: &'b ExportTrie<'a>) -> &'b ExportTrie<'a>
     requires { empty.now ≡ empty_range }
-    ensures { result.now ≡ trie_or_empty (trie_held image.now) }
+    ensures { result.now ≡ trie_or_empty (trie_view image.now) }
 {
     image.export_trie().unwrap_or(empty)
 }
@@ -353,7 +353,7 @@ pub extern "C" fn gmr_exports(
     ensures stack { batch.new.end ≡ 4 → (length stack.old ≤ walk.new.cursor.depth) × (batch.new.needed ≡ min (walk.new.cursor.depth + 1) (2 ^ 64 - 1)) }
     ensures unneeded { batch.new.end ≢ 2 → batch.new.end ≢ 3 → batch.new.end ≢ 4 → batch.new.needed ≡ 0 }
     ensures reserved { batch.new.reserved ≡ 0 }
-    ensures told { result ≢ 0 → error.new.code ≡ result }
+    ensures reported { result ≢ 0 → error.new.code ≡ result }
     ensures quiet { result ≡ 0 → error.new ≡ error.old }
 {
     if walk.code != 0 {

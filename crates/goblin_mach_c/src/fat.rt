@@ -3,7 +3,7 @@
 ghost use Rattle.std.specs.Prelude.{◌≡◌, drop};
 ghost use Rattle.goblin_mach.specs.FatFile.{arch_at, arch_read};
 ghost use Rattle.goblin_mach_c.specs.Fill.{Fills};
-ghost use Rattle.goblin_mach_c.specs.FatRows.{fat_count, fat_row, fat_rows, told_count};
+ghost use Rattle.goblin_mach_c.specs.FatRows.{fat_count, fat_row, fat_rows, reported_count};
 
 use crate::errors::{GM_OK, code_of};
 use crate::numbered::{Numbered, Numbers, rows_from};
@@ -86,8 +86,8 @@ fn count_of(bytes: &[u8]) -> u32
 }
 
 /// Returns how many records are reported: those of the header's count that lie whole in the bytes, and one more if the count is larger.
-pub fn told_of(bytes: &[u8]) -> u32
-    ensures { result ≡ told_count bytes.now }
+pub fn reported_of(bytes: &[u8]) -> u32
+    ensures { result ≡ reported_count bytes.now }
 {
     let count = count_of(bytes);
     let whole = bytes.len().saturating_sub(SIZEOF_FAT_HEADER) / SIZEOF_FAT_ARCH;
@@ -104,6 +104,6 @@ pub fn told_of(bytes: &[u8]) -> u32
 pub extern "C" fn gmr_fat_entries(bytes: &[u8], first: usize, out: &mut [gm_fat_entry]) -> usize
     ensures { Fills (drop first (fat_rows bytes.now)) out.old out.new result }
 {
-    let mut rows = rows_from(Records { bytes }, first, told_of(bytes));
+    let mut rows = rows_from(Records { bytes }, first, reported_of(bytes));
     fill(&mut rows, out)
 }

@@ -6,10 +6,10 @@ ghost use Rattle.mach_base.specs.Items.{read_as};
 ghost use Rattle.goblin_mach.specs.FatFile.{arch_at};
 ghost use Rattle.goblin_mach_c.specs.Fill.{Fills};
 ghost use Rattle.goblin_mach_c.specs.FatRows.{fat_row};
-ghost use Rattle.goblin_mach_c.specs.WideFatRows.{fat_count_64, fat_rows_of_32, fat_rows_of_64, told_count_64, wide_fat_rows, wide_row, wide_row_64};
+ghost use Rattle.goblin_mach_c.specs.WideFatRows.{fat_count_64, fat_rows_of_32, fat_rows_of_64, reported_count_64, wide_fat_rows, wide_row, wide_row_64};
 
 use crate::errors::{GM_OK, code_of};
-use crate::fat::{fat_entry_at, gm_fat_entry, told_of};
+use crate::fat::{fat_entry_at, gm_fat_entry, reported_of};
 use crate::numbered::{Numbered, rows_from};
 use crate::rows::fill;
 use goblin_mach::peek;
@@ -111,8 +111,8 @@ fn count_of_64(bytes: &[u8]) -> u32
 }
 
 // Returns how many records are reported: those of the header's count that lie whole in the bytes, and one more if the count is larger.
-fn told_of_64(bytes: &[u8]) -> u32
-    ensures { result ≡ told_count_64 bytes.now }
+fn reported_of_64(bytes: &[u8]) -> u32
+    ensures { result ≡ reported_count_64 bytes.now }
 {
     let count = count_of_64(bytes);
     let whole = bytes.len().saturating_sub(SIZEOF_FAT_HEADER) / SIZEOF_FAT_ARCH_64;
@@ -127,7 +127,7 @@ fn told_of_64(bytes: &[u8]) -> u32
 fn write_64(bytes: &[u8], first: usize, out: &mut [gm_fat_entry64]) -> usize
     ensures { Fills (drop first (fat_rows_of_64 bytes.now)) out.old out.new result }
 {
-    let mut rows = rows_from(Records64 { bytes }, first, told_of_64(bytes));
+    let mut rows = rows_from(Records64 { bytes }, first, reported_of_64(bytes));
     fill(&mut rows, out)
 }
 
@@ -135,7 +135,7 @@ fn write_64(bytes: &[u8], first: usize, out: &mut [gm_fat_entry64]) -> usize
 fn write_32(bytes: &[u8], first: usize, out: &mut [gm_fat_entry64]) -> usize
     ensures { Fills (drop first (fat_rows_of_32 bytes.now)) out.old out.new result }
 {
-    let mut rows = rows_from(Records32 { bytes }, first, told_of(bytes));
+    let mut rows = rows_from(Records32 { bytes }, first, reported_of(bytes));
     fill(&mut rows, out)
 }
 

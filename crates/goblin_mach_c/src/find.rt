@@ -2,7 +2,7 @@
 
 ghost use Rattle.std.specs.Prelude.{◌≡◌, ◌≢◌, ◌⊎◌, IfOk, IfErr, List, Option, None, Some, option_map};
 ghost use Rattle.std.specs.Str.{IsUtf8};
-ghost use Rattle.mach_base.specs.Answer.{IsOkUnlessMemory, Stands};
+ghost use Rattle.mach_base.specs.Answer.{IsOkUnlessMemory, ErrorMeets};
 ghost use Rattle.mach_dyld.specs.Exports.{info_of};
 ghost use Rattle.mach_dyld.specs.LookUp.{IsFirstOf};
 ghost use Rattle.mach_dyld.specs.Trie as trie;
@@ -45,7 +45,7 @@ fn find<'a>(
     ensures found { IfOk result (λ o. HasExportOf bytes.now offset name.now (option_map info_of o)) }
     ensures first { (list : List (trie.Entry)) → HasExports bytes.now offset list → IfOk result (λ o. IsFirstOf name.now list (option_map info_of o)) }
     ensures only { OpensIn lossy bytes.now offset → (list : List (trie.Entry)) → HasExports bytes.now offset list → IsOkUnlessMemory result }
-    ensures refused { IfErr result (Stands (λ f. FaultIn lossy bytes.now offset f ⊎ HasNameFault bytes.now offset name.now f)) }
+    ensures refused { IfErr result (ErrorMeets (λ f. FaultIn lossy bytes.now offset f ⊎ HasNameFault bytes.now offset name.now f)) }
 {
     let image = open(alloc.clone()?, bytes, offset, lossy)?;
     found_export_of_image(&image);
@@ -176,7 +176,7 @@ pub extern "C" fn gmr_find_export(
     ensures kept { result ≢ 0 → export.new ≡ export.old }
     ensures library { result ≢ 0 → library.new ≡ library.old }
     ensures target { result ≢ 0 → target.new ≡ target.old }
-    ensures told { result ≢ 0 → error.new.code ≡ result }
+    ensures reported { result ≢ 0 → error.new.code ≡ result }
     ensures quiet { result ≡ 0 → error.new ≡ error.old }
 {
     let Ok(name) = str::from_utf8(name) else {

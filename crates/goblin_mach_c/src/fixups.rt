@@ -4,14 +4,14 @@ ghost use Rattle.std.specs.Prelude.{◌≡◌, ◌≢◌, ◌<◌, length, Err, 
 ghost use Rattle.mach_base.specs.Fault.{Fault, fault_of};
 ghost use Rattle.mach_chained.specs.Fixups as defined;
 ghost use Rattle.mach_chained.specs.PointerViews.{kind_view};
-ghost use Rattle.mach_parts.specs.PointerSigning.{auth_seen};
+ghost use Rattle.mach_parts.specs.PointerSigning.{auth_option_view};
 ghost use Rattle.mach_chained.specs.WalkViews.{fixup_read};
-ghost use Rattle.goblin_mach.specs.Fixups.{chained_held};
-ghost use Rattle.goblin_mach.specs.OpenImage.{segments_held};
+ghost use Rattle.goblin_mach.specs.Fixups.{chained_view};
+ghost use Rattle.goblin_mach.specs.OpenImage.{segments_view};
 ghost use Rattle.goblin_mach_c.specs.Codes.{IsRefusalCode};
 ghost use Rattle.goblin_mach_c.specs.FixupRows as rows;
 ghost use Rattle.goblin_mach_c.specs.FixupRows.{fixup_row};
-ghost use Rattle.goblin_mach_c.specs.FixupsBehind.{AreFixupsBehind, AreFixupRowsOver, FixupSource, WritesFixups, fixup_rows_left};
+ghost use Rattle.goblin_mach_c.specs.FixupsAfter.{AreFixupsAfter, AreFixupRowsOver, FixupSource, WritesFixups, fixup_rows_left};
 ghost use Rattle.goblin_mach_c.specs.Opened.{FaultIn, lossy_mode};
 
 use crate::errors::{GM_OK, code_of, gm_error, refuse, refuse_no_rows};
@@ -51,10 +51,10 @@ pub struct gm_fixup {
 /// Returns the four numbers of a pointer's signing.
 #[inline(always)]
 pub fn signing(auth: Option<PointerAuth>) -> (u32, u32, u32, u32)
-    ensures signed { result.0 ≡ rows.is_signed (auth_seen auth) }
-    ensures key { result.1 ≡ rows.key_of (auth_seen auth) }
-    ensures diversity { result.2 ≡ rows.diversity_of (auth_seen auth) }
-    ensures address { result.3 ≡ rows.address_diverse (auth_seen auth) }
+    ensures signed { result.0 ≡ rows.is_signed (auth_option_view auth) }
+    ensures key { result.1 ≡ rows.key_of (auth_option_view auth) }
+    ensures diversity { result.2 ≡ rows.diversity_of (auth_option_view auth) }
+    ensures address { result.3 ≡ rows.address_diverse (auth_option_view auth) }
 {
     match auth {
         Some(auth) => (
@@ -69,7 +69,7 @@ pub fn signing(auth: Option<PointerAuth>) -> (u32, u32, u32, u32)
 
 // Returns the four numbers of what a fixup does: its kind, the target, the import and the addend.
 #[inline(always)]
-fn asked(kind: FixupKind) -> (u32, u64, u32, i32)
+fn selected(kind: FixupKind) -> (u32, u64, u32, i32)
     ensures kind { result.0 ≡ rows.fixup_kind_number (kind_view kind) }
     ensures target { result.1 ≡ rows.target_of_kind (kind_view kind) }
     ensures import { result.2 ≡ rows.import_of_kind (kind_view kind) }
@@ -109,7 +109,7 @@ fn row_of(found: &Result<Fixup>) -> gm_fixup
 {
     match found {
         Ok(fixup) => {
-            let (kind, target, import, addend) = asked(fixup.kind);
+            let (kind, target, import, addend) = selected(fixup.kind);
             let (is_signed, key, diversity, is_address_diverse) = signing(fixup.auth);
             gm_fixup {
                 address: fixup.address,
@@ -172,8 +172,8 @@ impl<'a, 'b> ItemRows for FixupRows<'a, 'b> {
     #[inline(always)]
     fn next(&mut self) -> Option<gm_fixup> {
         match self {
-            FixupRows::Unread(told) => {
-                let why = told.take()?;
+            FixupRows::Unread(reported) => {
+                let why = reported.take()?;
                 Some(refused_row(&why))
             }
             FixupRows::Chains(walk) => {
@@ -205,9 +205,9 @@ fn at_stage(stage: u32) -> gm_fixup_cursor
 
 impl<'a, 'b> FixupRows<'a, 'b> {
     /// Returns the fixups after a cursor.
-    pub fn behind(image: &'b MachO<'a, Global>, cursor: &gm_fixup_cursor) -> Self
-        ensures items { AreFixupsBehind cursor.now (chained_held image.now) (segments_held image.now) (fixup_rows_left result) }
-        ensures over { AreFixupRowsOver (record { chained = chained_held image.now; segments = segments_held image.now }) result }
+    pub fn following(image: &'b MachO<'a, Global>, cursor: &gm_fixup_cursor) -> Self
+        ensures items { AreFixupsAfter cursor.now (chained_view image.now) (segments_view image.now) (fixup_rows_left result) }
+        ensures over { AreFixupRowsOver (record { chained = chained_view image.now; segments = segments_view image.now }) result }
     {
         let (segments, base) = (image.segments.as_slice(), image.base());
         match (cursor.stage, image.chained_fixups()) {
@@ -226,7 +226,7 @@ impl<'a, 'b> FixupRows<'a, 'b> {
 
     /// Returns a cursor before those that are left.
     pub fn cursor(&self) -> gm_fixup_cursor
-        ensures { (x : FixupSource) → AreFixupRowsOver x self.now → AreFixupsBehind result x.chained x.segments (fixup_rows_left self.now) }
+        ensures { (x : FixupSource) → AreFixupRowsOver x self.now → AreFixupsAfter result x.chained x.segments (fixup_rows_left self.now) }
     {
         match self {
             FixupRows::Unread(None) => at_stage(2),
@@ -258,7 +258,7 @@ pub extern "C" fn gmr_fixups(
     ensures array { result ≢ 0 → out.new ≡ out.old }
     ensures count { result ≢ 0 → count.new ≡ count.old }
     ensures cursor { result ≢ 0 → cursor.new ≡ cursor.old }
-    ensures told { result ≢ 0 → error.new.code ≡ result }
+    ensures reported { result ≢ 0 → error.new.code ≡ result }
     ensures quiet { result ≡ 0 → error.new ≡ error.old }
 {
     if out.is_empty() {
@@ -266,7 +266,7 @@ pub extern "C" fn gmr_fixups(
     }
     match open(alloc, bytes, image.offset, image.is_lossy != 0) {
         Ok(found) => {
-            let mut rows = FixupRows::behind(&found, cursor);
+            let mut rows = FixupRows::following(&found, cursor);
             *count = fill_items(&mut rows, out);
             *cursor = rows.cursor();
             GM_OK

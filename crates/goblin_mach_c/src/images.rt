@@ -1,7 +1,7 @@
 //! An image as C holds it: numbers, which belong to the bytes that it was opened in.
 
 ghost use Rattle.std.specs.Prelude.{◌≡◌};
-ghost use Rattle.goblin_mach_c.specs.Seen.{ctx_seen};
+ghost use Rattle.goblin_mach_c.specs.CViews.{gm_ctx_view};
 
 use mach_base::{Container, Ctx, Endian};
 
@@ -38,7 +38,7 @@ pub struct gm_image {
 
 /// Returns the width and the byte order of an image.
 pub fn ctx_of(image: &gm_image) -> Ctx
-    ensures { result ≡ ctx_seen image.now }
+    ensures { result ≡ gm_ctx_view image.now }
 {
     let container = if image.is_64 == 0 {
         Container::Little

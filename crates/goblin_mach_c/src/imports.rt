@@ -2,18 +2,18 @@
 
 ghost use Rattle.std.specs.Prelude.{◌≡◌, ◌≢◌, ◌<◌, ℕ, List, [], length, Result, Some, ◌⊎◌};
 ghost use Rattle.mach_base.specs.Fault.{Fault, fault_of};
-ghost use Rattle.mach_dyld.specs.BindCursors.{TextStands};
-ghost use Rattle.mach_dyld.specs.BindViews.{import_seen};
+ghost use Rattle.mach_dyld.specs.BindCursors.{TextIsAt};
+ghost use Rattle.mach_dyld.specs.BindViews.{bind_import_view};
 ghost use Rattle.mach_dyld.specs.Imports as defined;
 ghost use Rattle.mach_dyld.specs.Sites.{Site};
-ghost use Rattle.goblin_mach.specs.OpenImage.{binds_held};
-ghost use Rattle.goblin_mach_c.specs.BindingRows.{NameStandsAt};
+ghost use Rattle.goblin_mach.specs.OpenImage.{binds_view};
+ghost use Rattle.goblin_mach_c.specs.BindingRows.{NameIsAt};
 ghost use Rattle.goblin_mach_c.specs.Codes.{IsRefusalCode};
 ghost use Rattle.goblin_mach_c.specs.ImportRows.{IsImportRow, IsNameAt, import_row, no_import};
-ghost use Rattle.goblin_mach_c.specs.ImportsBehind.{AreImportsBehind, AreImportRowsOver, AreSitesBehind, Binds, WritesImports, binds_of_image};
-ghost use Rattle.goblin_mach_c.specs.ImportsBehind.{imports_in_rows, import_rows_left, sites_in_rows};
+ghost use Rattle.goblin_mach_c.specs.ImportsAfter.{AreImportsAfter, AreImportRowsOver, AreSitesAfter, Binds, WritesImports, binds_of_image};
+ghost use Rattle.goblin_mach_c.specs.ImportsAfter.{imports_in_rows, import_rows_left, sites_in_rows};
 ghost use Rattle.goblin_mach_c.specs.Opened.{FaultIn, lossy_mode};
-ghost use Rattle.goblin_mach_c.specs.Sited.{told_at};
+ghost use Rattle.goblin_mach_c.specs.Sited.{reported_at};
 
 use crate::errors::{GM_OK, code_of, gm_error, refuse, refuse_no_rows};
 use crate::images::gm_image;
@@ -61,9 +61,9 @@ pub struct gm_bind_cursor {
 /// Returns the offset reported for a name; an empty one is reported at 0.
 #[inline(always)]
 pub fn place_of_name(name: &str, place: usize) -> usize
-    ensures place { result ≡ told_at name.now place }
-    ensures text { (bytes : List ℕ) → TextStands bytes place name.now → IsNameAt bytes result name.now }
-    ensures stands { (bytes : List ℕ) → (name.now ≡ []) ⊎ NameStandsAt bytes place name.now → NameStandsAt bytes result name.now }
+    ensures place { result ≡ reported_at name.now place }
+    ensures text { (bytes : List ℕ) → TextIsAt bytes place name.now → IsNameAt bytes result name.now }
+    ensures occurs { (bytes : List ℕ) → (name.now ≡ []) ⊎ NameIsAt bytes place name.now → NameIsAt bytes result name.now }
 {
     if name.is_empty() { 0 } else { place }
 }
@@ -90,8 +90,9 @@ fn refused_row(why: &Error) -> gm_import
 // Returns an import as C sees it.
 #[inline(always)]
 fn row_of(placed: &PlacedImport<'_>) -> gm_import
-    ensures numbers { result ≡ import_row (told_at placed.now.import.name.now placed.now.name_place) placed.now.library (import_seen placed.now.import) }
-    ensures name { (bytes : List ℕ) → TextStands bytes placed.now.name_place placed.now.import.name.now
+    ensures numbers { result ≡ import_row (reported_at placed.now.import.name.now placed.now.name_place) placed.now.library
+        (bind_import_view placed.now.import) }
+    ensures name { (bytes : List ℕ) → TextIsAt bytes placed.now.name_place placed.now.import.name.now
         → IsNameAt bytes result.name placed.now.import.name.now }
 {
     let import = &placed.import;
@@ -144,10 +145,10 @@ impl<'a, 'b> ItemRows for ImportRows<'a, 'b> {
 
 impl<'a, 'b> ImportRows<'a, 'b> {
     // Returns the imports after a cursor.
-    fn behind(image: &'b MachO<'a, Global>, cursor: &gm_bind_cursor) -> Self
-        ensures items { AreImportsBehind cursor.now (binds_of_image image.now) (imports_in_rows result) }
-        ensures sites { AreSitesBehind cursor.now (binds_of_image image.now) (sites_in_rows result) }
-        ensures over { (bytes : List ℕ) → ((b : defined.BindRanges) → binds_held image.now ≡ Some b → b.bytes ≡ bytes)
+    fn following(image: &'b MachO<'a, Global>, cursor: &gm_bind_cursor) -> Self
+        ensures items { AreImportsAfter cursor.now (binds_of_image image.now) (imports_in_rows result) }
+        ensures sites { AreSitesAfter cursor.now (binds_of_image image.now) (sites_in_rows result) }
+        ensures over { (bytes : List ℕ) → ((b : defined.BindRanges) → binds_view image.now ≡ Some b → b.bytes ≡ bytes)
             → AreImportRowsOver (bytes, binds_of_image image.now) result }
     {
         let Some(binds) = image.binds() else {
@@ -167,8 +168,8 @@ impl<'a, 'b> ImportRows<'a, 'b> {
 
     // Returns a cursor before those that are left.
     fn cursor(&self) -> gm_bind_cursor
-        ensures items { (x : List ℕ × Binds) → AreImportRowsOver x self.now → AreImportsBehind result x.1 (imports_in_rows self.now) }
-        ensures sites { (x : List ℕ × Binds) → AreImportRowsOver x self.now → AreSitesBehind result x.1 (sites_in_rows self.now) }
+        ensures items { (x : List ℕ × Binds) → AreImportRowsOver x self.now → AreImportsAfter result x.1 (imports_in_rows self.now) }
+        ensures sites { (x : List ℕ × Binds) → AreImportRowsOver x self.now → AreSitesAfter result x.1 (sites_in_rows self.now) }
     {
         match self {
             ImportRows::Nothing => over(),
@@ -227,7 +228,7 @@ pub extern "C" fn gmr_imports(
     ensures array { result ≢ 0 → out.new ≡ out.old }
     ensures count { result ≢ 0 → count.new ≡ count.old }
     ensures cursor { result ≢ 0 → cursor.new ≡ cursor.old }
-    ensures told { result ≢ 0 → error.new.code ≡ result }
+    ensures reported { result ≢ 0 → error.new.code ≡ result }
     ensures quiet { result ≡ 0 → error.new ≡ error.old }
 {
     if out.is_empty() {
@@ -235,7 +236,7 @@ pub extern "C" fn gmr_imports(
     }
     match open(alloc, bytes, image.offset, image.is_lossy != 0) {
         Ok(found) => {
-            let mut rows = ImportRows::behind(&found, cursor);
+            let mut rows = ImportRows::following(&found, cursor);
             *count = fill_items(&mut rows, out);
             *cursor = rows.cursor();
             GM_OK

@@ -9,7 +9,7 @@ ghost use Rattle.goblin_mach_c.specs.TableRows.{indirect_row, indirect_rows};
 
 use crate::errors::{GM_OK, code_of};
 use crate::images::{ctx_of, gm_image};
-use crate::last::last_said;
+use crate::last::last_value;
 use crate::numbered::{Numbered, rows_from};
 use crate::rows::fill;
 use goblin_mach::readings::Subject;
@@ -97,7 +97,7 @@ pub extern "C" fn gmr_indirect_symbols(
 ) -> usize
     ensures { Fills (drop first (indirect_rows bytes.now image.now)) out.old out.new result }
 {
-    let Some(command) = last_said(bytes, image, &IndirectTables) else {
+    let Some(command) = last_value(bytes, image, &IndirectTables) else {
         return 0;
     };
     let le = ctx_of(image).le;

@@ -13,7 +13,7 @@ ghost use Rattle.goblin_mach.specs.TableFacts.{HasDataInCode};
 ghost use Rattle.mach_records.specs.declared.linkedit.DataInCodeEntry.{DataInCodeEntry};
 ghost use Rattle.mach_parts.specs.declared.indirect.IndirectSymbol.{IndirectSymbol};
 ghost use Rattle.goblin_mach.specs.FatFile.{arch_at};
-ghost use Rattle.goblin_mach_c.specs.CommandRows.{commands_seen};
+ghost use Rattle.goblin_mach_c.specs.CommandRows.{gm_commands_view};
 ghost use Rattle.goblin_mach_c.specs.ExportWalk.{HasWalked};
 ghost use Rattle.goblin_mach_c.specs.FatRows.{fat_row, whole_fat_records};
 ghost use Rattle.goblin_mach_c.specs.Opened.{IsOpened};
@@ -27,7 +27,7 @@ ghost use Rattle.goblin_mach_c.specs.declared.images.gm_image.{gm_image};
 /// The commands read by its numbers are the image's commands, and the segments among them are its segments. Its symbols are those
 /// of the image's table, and each row is that of its symbol.
 pub fn lists_of_opened()
-    ensures commands { (bytes : List ℕ) (o : ℕ) (c : gm_image) → IsOpened bytes o c → HasCommands bytes o (commands_seen bytes c) }
+    ensures commands { (bytes : List ℕ) (o : ℕ) (c : gm_image) → IsOpened bytes o c → HasCommands bytes o (gm_commands_view bytes c) }
     ensures segments { (bytes : List ℕ) (o : ℕ) (c : gm_image) → IsOpened bytes o c
         → (segments : List SegmentView) × HasSegments bytes o segments × (segment_rows bytes c ≡ map segment_row segments) }
     ensures symbols { (bytes : List ℕ) (o : ℕ) (c : gm_image) → IsOpened bytes o c

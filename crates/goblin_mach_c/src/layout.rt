@@ -1,7 +1,7 @@
 //! The faults of the layout of an image, and of the table of a fat file.
 
 ghost use Rattle.std.specs.Prelude.{◌≡◌, ◌≢◌, ◌⊎◌, ◌<◌, ℕ, drop, length, map, List, IfOk, IfErr};
-ghost use Rattle.mach_base.specs.Answer.{Stands, IsOkUnlessMemory};
+ghost use Rattle.mach_base.specs.Answer.{ErrorMeets, IsOkUnlessMemory};
 ghost use Rattle.goblin_mach.specs.LayoutFacts.{HasLayoutFaults};
 ghost use Rattle.mach_layout.specs.declared.fault.LayoutFault as declared;
 ghost use Rattle.goblin_mach_c.specs.Codes.{IsRefusalCode};
@@ -218,7 +218,7 @@ fn write_from(faults: &[LayoutFault], first: usize, out: &mut [gm_layout_fault])
 fn image_faults(alloc: Global, bytes: &[u8], lossy: bool) -> Result<Vec<LayoutFault, Global>>
     ensures listed { IfOk result (λ v. HasLayoutFaults bytes.now v.items) }
     ensures only { OpensIn lossy bytes.now 0 → IsOkUnlessMemory result }
-    ensures refused { IfErr result (Stands (FaultIn lossy bytes.now 0)) }
+    ensures refused { IfErr result (ErrorMeets (FaultIn lossy bytes.now 0)) }
 {
     let image = open(alloc.clone()?, bytes, 0, lossy)?;
     layout_faults_of_image(&image);
@@ -256,7 +256,7 @@ pub extern "C" fn gmr_layout_faults(
     ensures no_rows { length out.old ≡ 0 → result ≡ 6 }
     ensures array { result ≢ 0 → out.new ≡ out.old }
     ensures count { result ≢ 0 → count.new ≡ count.old }
-    ensures told { result ≢ 0 → error.new.code ≡ result }
+    ensures reported { result ≢ 0 → error.new.code ≡ result }
     ensures quiet { result ≡ 0 → error.new ≡ error.old }
 {
     if out.is_empty() {
@@ -301,7 +301,7 @@ pub extern "C" fn gmr_container_faults(
     ensures no_rows { length out.old ≡ 0 → result ≡ 6 }
     ensures array { result ≢ 0 → out.new ≡ out.old }
     ensures count { result ≢ 0 → count.new ≡ count.old }
-    ensures told { result ≢ 0 → error.new.code ≡ result }
+    ensures reported { result ≢ 0 → error.new.code ≡ result }
     ensures quiet { result ≡ 0 → error.new ≡ error.old }
 {
     if out.is_empty() {

@@ -4,7 +4,7 @@ ghost use Rattle.std.specs.Prelude.{◌≡◌, List, Result, map};
 ghost use Rattle.mach_base.specs.Fault.{Fault};
 ghost use Rattle.mach_load.specs.Command.{Command};
 ghost use Rattle.mach_load.specs.Variants.{command_of};
-ghost use Rattle.goblin_mach_c.specs.CommandRows.{commands_seen, readable_commands_left};
+ghost use Rattle.goblin_mach_c.specs.CommandRows.{gm_commands_view, readable_commands_left};
 ghost use Rattle.goblin_mach_c.specs.Listed.{GivesFirst, listed_in, listed_left, part_left};
 
 use crate::commands::Commands;
@@ -14,7 +14,7 @@ use mach_load::LoadCommand;
 
 /// The position in the list of one command.
 #[derive(Clone, Copy)]
-pub struct Part {
+pub struct CommandItems {
     /// The offset of the command.
     pub command: usize,
     /// The offset of the next item, or that of the command.
@@ -31,7 +31,7 @@ pub struct Part {
 pub trait Lists {
     type Row: Copy;
 
-    ghost use Rattle.goblin_mach_c.specs.declared.listed.Part.{Part};
+    ghost use Rattle.goblin_mach_c.specs.declared.listed.CommandItems.{CommandItems};
 
     // What an item is.
     ghost Item: { Type 0 };
@@ -40,17 +40,17 @@ pub trait Lists {
     ghost lists: { Self → Command → List (Result Item Fault) };
 
     // The items left of a command.
-    ghost left: { Self → Part → List (Result Item Fault) };
+    ghost left: { Self → CommandItems → List (Result Item Fault) };
 
     // The row of an item, or of the fault that ends the items.
     ghost shown: { Result Item Fault → Self.Row };
 
     /// Returns the list of a command.
-    fn open(&self, command: &LoadCommand) -> Part
+    fn open(&self, command: &LoadCommand) -> CommandItems
         ensures { left self.now result ≡ lists self.now (command_of command.now) };
 
     /// Returns the row of the next item, or of the fault that ends all lists.
-    fn next(&self, part: &mut Part) -> Option<std::result::Result<Self::Row, Self::Row>>
+    fn next(&self, part: &mut CommandItems) -> Option<std::result::Result<Self::Row, Self::Row>>
         ensures { GivesFirst shown (left self.now part.old) result (left self.now part.new) };
 }
 
@@ -59,7 +59,7 @@ pub trait Lists {
 pub struct Listed<'a, L: Lists + Drop> {
     commands: Commands<'a>,
     what: L,
-    part: Option<Part>,
+    part: Option<CommandItems>,
     ended: bool,
 }
 
@@ -67,7 +67,7 @@ pub struct Listed<'a, L: Lists + Drop> {
 pub fn list_rows<'a, L: Lists + Drop>(bytes: &'a [u8], image: &gm_image, what: L) -> Listed<'a, L>
     ensures { listed_left (L.shown) result.ended (part_left (L.left result.what) result.part)
         (listed_in (L.lists result.what) (readable_commands_left result.commands))
-        ≡ map (L.shown) (listed_in (L.lists what) (commands_seen bytes.now image.now)) }
+        ≡ map (L.shown) (listed_in (L.lists what) (gm_commands_view bytes.now image.now)) }
 {
     Listed {
         commands: Commands::of(bytes, image),

@@ -1,7 +1,7 @@
 //! Opening an image.
 
 ghost use Rattle.std.specs.Prelude.{◌≡◌, ◌≢◌, ◌⊎◌, ◌<◌, ◌≤◌, ◌+◌, length, IfOk, IfErr, false, option_map};
-ghost use Rattle.mach_base.specs.Answer.{Stands, IsOkUnlessMemory};
+ghost use Rattle.mach_base.specs.Answer.{ErrorMeets, IsOkUnlessMemory};
 ghost use Rattle.mach_parts.specs.Header.{header_size};
 ghost use Rattle.mach_parts.specs.SymbolViews.{table_of};
 ghost use Rattle.goblin_mach.specs.OpenImage.{IsImage, IsLossyImage};
@@ -22,7 +22,7 @@ pub fn open(alloc: Global, bytes: &[u8], offset: usize, lossy: bool) -> Result<M
     ensures opened { IfOk result (IsLossyImage bytes.now offset) }
     ensures strict { lossy ≡ false → IfOk result (IsImage bytes.now offset) }
     ensures only { OpensIn lossy bytes.now offset → IsOkUnlessMemory result }
-    ensures refused { IfErr result (Stands (FaultIn lossy bytes.now offset)) }
+    ensures refused { IfErr result (ErrorMeets (FaultIn lossy bytes.now offset)) }
 {
     if lossy {
         MachO::parse_lossy(alloc, bytes, offset)
@@ -111,7 +111,7 @@ pub extern "C" fn gmr_open(
     ensures unknown { 1 < mode → result ≡ 1 }
     ensures only { mode ≤ 1 → OpensIn (lossy_mode mode) bytes.now offset → (result ≡ 0) ⊎ (result ≡ 5) }
     ensures refused { result ≢ 0 → IsRefusalCode (FaultByMode mode bytes.now offset) result }
-    ensures told { result ≢ 0 → error.new.code ≡ result }
+    ensures reported { result ≢ 0 → error.new.code ≡ result }
     ensures kept { result ≢ 0 → image.new ≡ image.old }
     ensures quiet { result ≡ 0 → error.new ≡ error.old }
 {

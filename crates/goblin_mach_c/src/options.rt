@@ -11,7 +11,7 @@ ghost use Rattle.goblin_mach_c.specs.TableRows.{linker_option_row, linker_option
 
 use crate::errors::{GM_OK, code_of};
 use crate::images::gm_image;
-use crate::listed::{Lists, Part, list_rows};
+use crate::listed::{CommandItems, Lists, list_rows};
 use crate::rows::{fill, skip};
 use mach_base::{Error, Result, read_text};
 use mach_load::{CommandVariant, LoadCommand};
@@ -85,8 +85,8 @@ impl<'a> Lists for Options<'a> {
     ghost shown = { linker_option_row };
 
     #[inline(always)]
-    fn open(&self, command: &LoadCommand) -> Part {
-        Part {
+    fn open(&self, command: &LoadCommand) -> CommandItems {
+        CommandItems {
             command: command.offset,
             place: command.offset.saturating_add(SIZEOF_LINKER_OPTION_COMMAND),
             end: command.offset.saturating_add(command.command.cmdsize()),
@@ -97,7 +97,7 @@ impl<'a> Lists for Options<'a> {
 
     fn next(
         &self,
-        part: &mut Part,
+        part: &mut CommandItems,
     ) -> Option<std::result::Result<gm_linker_option, gm_linker_option>> {
         if part.count == 0 {
             return None;

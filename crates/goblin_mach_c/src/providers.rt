@@ -3,7 +3,7 @@
 ghost use Rattle.std.specs.Prelude.{◌≡◌, Some};
 ghost use Rattle.goblin_mach.specs.ImageSlots.{bind_ordinal_of, names_library, symbol_provider_of};
 ghost use Rattle.mach_parts.specs.Bindings.{provider_of};
-ghost use Rattle.goblin_mach_c.specs.ProviderRows.{nameless, provider_row, provider_row_of, symbol_record_seen};
+ghost use Rattle.goblin_mach_c.specs.ProviderRows.{nameless, provider_row, provider_row_of, gm_symbol_record_view};
 
 use crate::errors::{GM_MALFORMED, GM_OK};
 use crate::images::gm_image;
@@ -20,7 +20,7 @@ pub struct gm_provider {
     /// As for a binding: 0 a library, 1 the image itself, 2 the main program, 3 any image.
     pub provider: u32,
     /// Whether the linker recorded it: 0 or 1. If it didn't, the rest is 0.
-    pub is_told: u32,
+    pub is_reported: u32,
     /// `GM_OK`, or `GM_MALFORMED` if the ordinal is past the last library.
     pub code: u32,
     pub reserved: u32,
@@ -28,7 +28,7 @@ pub struct gm_provider {
 
 // Returns the record of a symbol, except the offset of its name.
 fn record_of(symbol: &gm_symbol) -> Nlist
-    ensures { result ≡ symbol_record_seen symbol.now }
+    ensures { result ≡ gm_symbol_record_view symbol.now }
 {
     Nlist {
         n_strx: 0,
@@ -51,13 +51,13 @@ fn has_library(flags: u32, symbol: &Nlist) -> bool
 }
 
 // Returns the row of a provider.
-fn told(provider: u32, library: u64, code: u32) -> gm_provider
+fn reported(provider: u32, library: u64, code: u32) -> gm_provider
     ensures { result ≡ provider_row_of provider library code }
 {
     gm_provider {
         library,
         provider,
-        is_told: 1,
+        is_reported: 1,
         code,
         reserved: 0,
     }
@@ -69,18 +69,18 @@ fn provider_in(libraries: usize, ordinal: u16) -> gm_provider
     ensures { result ≡ provider_row (Some (provider_of (nameless libraries) (bind_ordinal_of ordinal))) }
 {
     match ordinal {
-        0 => told(1, 0, GM_OK),
-        0xff => told(2, 0, GM_OK),
-        0xfe => told(3, 0, GM_OK),
-        _ if ordinal as usize <= libraries => told(0, u64::from(ordinal), GM_OK),
-        _ => told(0, 0, GM_MALFORMED),
+        0 => reported(1, 0, GM_OK),
+        0xff => reported(2, 0, GM_OK),
+        0xfe => reported(3, 0, GM_OK),
+        _ if ordinal as usize <= libraries => reported(0, u64::from(ordinal), GM_OK),
+        _ => reported(0, 0, GM_MALFORMED),
     }
 }
 
 /// Writes the provider of an image's symbol, as the linker recorded it, to `found`.
 #[unsafe(no_mangle)]
 pub extern "C" fn gmr_symbol_provider(image: &gm_image, symbol: &gm_symbol, found: &mut gm_provider)
-    ensures { found.new ≡ provider_row (symbol_provider_of image.now.flags (nameless image.now.libraries) (symbol_record_seen symbol.now)) }
+    ensures { found.new ≡ provider_row (symbol_provider_of image.now.flags (nameless image.now.libraries) (gm_symbol_record_view symbol.now)) }
 {
     let record = record_of(symbol);
     if has_library(image.flags, &record) {
@@ -89,7 +89,7 @@ pub extern "C" fn gmr_symbol_provider(image: &gm_image, symbol: &gm_symbol, foun
         *found = gm_provider {
             library: 0,
             provider: 0,
-            is_told: 0,
+            is_reported: 0,
             code: GM_OK,
             reserved: 0,
         };

@@ -10,10 +10,10 @@ ghost use Rattle.mach_dyld.specs.RebasesLeft.{rebase_view};
 ghost use Rattle.goblin_mach.specs.ImageStreams.{rebase_in};
 ghost use Rattle.goblin_mach_c.specs.Codes.{IsRefusalCode};
 ghost use Rattle.goblin_mach_c.specs.Opened.{FaultIn, lossy_mode};
-ghost use Rattle.goblin_mach_c.specs.RebaseRows.{rebase_kind_number, rebase_seen};
-ghost use Rattle.goblin_mach_c.specs.RebasesBehind.{AreRebaseRowsOver, AreRebasesAtStage, AreRebasesBehind, IsOverOpcodes, RebaseFirst, RebaseSource};
-ghost use Rattle.goblin_mach_c.specs.RebasesBehind.{WritesRebases, all_rebase_rows_left, chains_rebased, opcodes_left_by, rebase_rows_left};
-ghost use Rattle.goblin_mach_c.specs.RebasesBehind.{rebase_source_of, rebased_left};
+ghost use Rattle.goblin_mach_c.specs.RebaseRows.{rebase_kind_number, gm_rebase_view};
+ghost use Rattle.goblin_mach_c.specs.RebasesAfter.{AreRebaseRowsOver, AreRebasesAtStage, AreRebasesAfter, IsOverOpcodes, RebaseFirst, RebaseSource};
+ghost use Rattle.goblin_mach_c.specs.RebasesAfter.{WritesRebases, all_rebase_rows_left, chains_rebased, opcodes_left_by, rebase_rows_left};
+ghost use Rattle.goblin_mach_c.specs.RebasesAfter.{rebase_source_of, rebased_left};
 ghost use Rattle.goblin_mach_c.specs.Stage.{stage_of};
 
 use crate::errors::{GM_OK, code_of, gm_error, refuse, refuse_no_rows};
@@ -75,7 +75,7 @@ fn kind_number(kind: RebaseKind) -> u32
 
 // Returns the row that says why no further rebases can be read.
 fn refused_row(why: &Error) -> gm_rebase
-    ensures { result ≡ rebase_seen (Err (fault_of why.now)) }
+    ensures { result ≡ gm_rebase_view (Err (fault_of why.now)) }
 {
     gm_rebase {
         address: 0,
@@ -95,7 +95,7 @@ fn refused_row(why: &Error) -> gm_rebase
 // Returns a rebase as C sees it.
 #[inline(always)]
 fn row_of(rebase: &Rebase) -> gm_rebase
-    ensures { result ≡ rebase_seen (Ok (rebase_view rebase.now)) }
+    ensures { result ≡ gm_rebase_view (Ok (rebase_view rebase.now)) }
 {
     let (is_signed, key, diversity, is_address_diverse) = signing(rebase.auth);
     gm_rebase {
@@ -166,8 +166,8 @@ impl<'a, 'b> RebaseRows<'a, 'b> {
         ensures over { (x : RebaseSource) → AreRebaseRowsOver x self.old → AreRebaseRowsOver x self.new }
     {
         match &mut self.fixups {
-            FixupRows::Unread(told) => {
-                let why = told.take()?;
+            FixupRows::Unread(reported) => {
+                let why = reported.take()?;
                 Some(Err(why))
             }
             FixupRows::Chains(walk) => next_rebased(walk),
@@ -210,7 +210,7 @@ impl<'a, 'b> ItemRows for RebaseRows<'a, 'b> {
 
     ghost IsOver = { AreRebaseRowsOver };
 
-    ghost Says = { λ _ item row. row ≡ rebase_seen item };
+    ghost Says = { λ _ item row. row ≡ gm_rebase_view item };
 
     #[inline(always)]
     fn next(&mut self) -> Option<gm_rebase> {
@@ -225,7 +225,7 @@ impl<'a, 'b> ItemRows for RebaseRows<'a, 'b> {
 }
 
 // Returns the rebases of an image's opcodes after a cursor.
-fn opcodes_behind<'a, 'b>(
+fn opcodes_after<'a, 'b>(
     image: &'b MachO<'a, Global>,
     cursor: &gm_bind_cursor,
 ) -> Option<RebaseWalk<'a, 'b>>
@@ -240,7 +240,7 @@ fn opcodes_behind<'a, 'b>(
     let ctx = image.ctx();
     match cursor.stage {
         0 => Some(RebaseWalk::start(&range, segments, ctx)),
-        1 => Some(RebaseWalk::behind(&range, segments, ctx, &cursor.binds)),
+        1 => Some(RebaseWalk::following(&range, segments, ctx, &cursor.binds)),
         _ => None,
     }
 }
@@ -261,19 +261,19 @@ fn opcode_cursor(opcodes: &Option<RebaseWalk<'_, '_>>) -> gm_bind_cursor
 
 impl<'a, 'b> RebaseRows<'a, 'b> {
     // Returns the rebases after a cursor.
-    fn behind(image: &'b MachO<'a, Global>, cursor: &gm_rebase_cursor) -> Self
-        ensures items { AreRebasesBehind cursor.now (rebase_source_of image.now) (rebase_rows_left result) }
+    fn following(image: &'b MachO<'a, Global>, cursor: &gm_rebase_cursor) -> Self
+        ensures items { AreRebasesAfter cursor.now (rebase_source_of image.now) (rebase_rows_left result) }
         ensures over { AreRebaseRowsOver (rebase_source_of image.now) result }
     {
         RebaseRows {
-            opcodes: opcodes_behind(image, &cursor.opcodes),
-            fixups: FixupRows::behind(image, &cursor.chains),
+            opcodes: opcodes_after(image, &cursor.opcodes),
+            fixups: FixupRows::following(image, &cursor.chains),
         }
     }
 
     // Returns a cursor before those that are left.
     fn cursor(&self) -> gm_rebase_cursor
-        ensures { (x : RebaseSource) → AreRebaseRowsOver x self.now → AreRebasesBehind result x (rebase_rows_left self.now) }
+        ensures { (x : RebaseSource) → AreRebaseRowsOver x self.now → AreRebasesAfter result x (rebase_rows_left self.now) }
     {
         gm_rebase_cursor {
             opcodes: opcode_cursor(&self.opcodes),
@@ -302,7 +302,7 @@ pub extern "C" fn gmr_rebases(
     ensures array { result ≢ 0 → out.new ≡ out.old }
     ensures count { result ≢ 0 → count.new ≡ count.old }
     ensures cursor { result ≢ 0 → cursor.new ≡ cursor.old }
-    ensures told { result ≢ 0 → error.new.code ≡ result }
+    ensures reported { result ≢ 0 → error.new.code ≡ result }
     ensures quiet { result ≡ 0 → error.new ≡ error.old }
 {
     if out.is_empty() {
@@ -310,7 +310,7 @@ pub extern "C" fn gmr_rebases(
     }
     match open(alloc, bytes, image.offset, image.is_lossy != 0) {
         Ok(found) => {
-            let mut rows = RebaseRows::behind(&found, cursor);
+            let mut rows = RebaseRows::following(&found, cursor);
             *count = fill_items(&mut rows, out);
             *cursor = rows.cursor();
             GM_OK

@@ -90,7 +90,7 @@ pub extern "C" fn gmr_section_at(
     ensures found { result ≡ 0 → FindsSectionAt bytes.now image.now.offset address section.new }
     ensures refused { result ≢ 0 → IsRefusalCode (FaultIn (lossy_mode image.now.is_lossy) bytes.now image.now.offset) result }
     ensures kept { result ≢ 0 → section.new ≡ section.old }
-    ensures told { result ≢ 0 → error.new.code ≡ result }
+    ensures reported { result ≢ 0 → error.new.code ≡ result }
     ensures quiet { result ≡ 0 → error.new ≡ error.old }
 {
     match open(alloc, bytes, image.offset, image.is_lossy != 0) {
@@ -118,7 +118,7 @@ pub extern "C" fn gmr_section_of(
     ensures found { result ≡ 0 → FindsSectionOf bytes.now image.now.offset number section.new }
     ensures refused { result ≢ 0 → IsRefusalCode (SectionFaultIn bytes.now image.now number) result }
     ensures kept { result ≢ 0 → section.new ≡ section.old }
-    ensures told { result ≢ 0 → error.new.code ≡ result }
+    ensures reported { result ≢ 0 → error.new.code ≡ result }
     ensures quiet { result ≡ 0 → error.new ≡ error.old }
 {
     match open(alloc, bytes, image.offset, image.is_lossy != 0) {

@@ -60,8 +60,8 @@ impl<'a> Sections<'a> {
     fn read(&self, number: u32) -> Result<(Section, SectionData<'a>)>
         ensures { section_read result ≡ section_item self.now.ctx self.now.bytes.now self.now.command number }
     {
-        let behind = number as usize * Section::size_with(&self.ctx);
-        let place = self.command.saturating_add(behind);
+        let following = number as usize * Section::size_with(&self.ctx);
+        let place = self.command.saturating_add(following);
         let segment = Segment::from_64_lossy(self.bytes, &ONE_SECTION, place, self.ctx)?;
         let mut sections = (&segment).into_iter();
         match sections.next() {

@@ -144,7 +144,7 @@ pub extern "C" fn gmr_code_signature(
     ensures found { result ≡ 0 → WritesSignatureRow bytes.now image.now.offset signature.new }
     ensures refused { result ≢ 0 → IsRefusalCode (rows.DirectoryFaultIn bytes.now image.now) result }
     ensures kept { result ≢ 0 → signature.new ≡ signature.old }
-    ensures told { result ≢ 0 → error.new.code ≡ result }
+    ensures reported { result ≢ 0 → error.new.code ≡ result }
     ensures quiet { result ≡ 0 → error.new ≡ error.old }
 {
     match open(alloc, bytes, image.offset, image.is_lossy != 0) {
@@ -333,7 +333,7 @@ pub extern "C" fn gmr_signature_faults(
     ensures no_rows { length out.old ≡ 0 → result ≡ 6 }
     ensures array { result ≢ 0 → out.new ≡ out.old }
     ensures count { result ≢ 0 → count.new ≡ count.old }
-    ensures told { result ≢ 0 → error.new.code ≡ result }
+    ensures reported { result ≢ 0 → error.new.code ≡ result }
     ensures quiet { result ≡ 0 → error.new ≡ error.old }
 {
     if out.is_empty() {
@@ -368,7 +368,7 @@ pub extern "C" fn gmr_is_as_signed(
     ensures said { result ≡ 0 → SaysAsSigned bytes.now image.now.offset as_signed.new }
     ensures refused { result ≢ 0 → IsRefusalCode (SignatureFaultIn bytes.now image.now) result }
     ensures kept { result ≢ 0 → as_signed.new ≡ as_signed.old }
-    ensures told { result ≢ 0 → error.new.code ≡ result }
+    ensures reported { result ≢ 0 → error.new.code ≡ result }
     ensures quiet { result ≡ 0 → error.new ≡ error.old }
 {
     match open(alloc, bytes, image.offset, image.is_lossy != 0) {

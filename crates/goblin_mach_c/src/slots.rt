@@ -8,7 +8,7 @@ ghost use Rattle.goblin_mach_c.specs.Codes.{IsRefusalCode};
 ghost use Rattle.goblin_mach_c.specs.Opened.{FaultIn, lossy_mode};
 ghost use Rattle.goblin_mach_c.specs.SlotRows as rows;
 ghost use Rattle.goblin_mach_c.specs.SlotRows.{FindsSlot, SlotFaultIn, WritesSlots, name_of_symbol, slot_kind_number, slot_row};
-ghost use Rattle.goblin_mach_c.specs.SymbolRows.{table_seen};
+ghost use Rattle.goblin_mach_c.specs.SymbolRows.{gm_table_view};
 
 use crate::errors::{GM_OK, code_of, gm_error, refuse, refuse_no_rows};
 use crate::images::gm_image;
@@ -89,7 +89,7 @@ fn owner_numbers(symbol: SlotSymbol<'_>) -> (u32, u32)
 
 // Returns the offset of the name of a slot's symbol, and its length.
 fn name_numbers(bytes: &[u8], image: &gm_image, symbol: SlotSymbol<'_>) -> (usize, usize)
-    ensures { result ≡ name_of_symbol (table_seen bytes.now image.now) (slot_symbol_view symbol.entry) }
+    ensures { result ≡ name_of_symbol (gm_table_view bytes.now image.now) (slot_symbol_view symbol.entry) }
 {
     match symbol {
         SlotSymbol::Named { index, name: _ } => {
@@ -121,7 +121,7 @@ fn refused_row(why: &Error) -> gm_slot
 
 // Returns a slot as C sees it, with the name of its symbol.
 fn row_of(bytes: &[u8], image: &gm_image, slot: &SymbolSlot<'_>) -> gm_slot
-    ensures { result ≡ slot_row (table_seen bytes.now image.now) (Ok (slot_view slot.now)) }
+    ensures { result ≡ slot_row (gm_table_view bytes.now image.now) (Ok (slot_view slot.now)) }
 {
     let (owner, symbol) = owner_numbers(slot.symbol);
     let (name, name_len) = name_numbers(bytes, image, slot.symbol);
@@ -151,7 +151,7 @@ struct SlotRows<'a, 'b> {
 impl<'a, 'b> Rows for SlotRows<'a, 'b> {
     type Row = gm_slot;
 
-    ghost left = { λ it. map (slot_row (table_seen it.bytes.now it.image)) (slots_left it.slots) };
+    ghost left = { λ it. map (slot_row (gm_table_view it.bytes.now it.image)) (slots_left it.slots) };
 
     fn next(&mut self) -> Option<gm_slot> {
         match self.slots.next()? {
@@ -179,7 +179,7 @@ pub extern "C" fn gmr_slots(
     ensures no_rows { length out.old ≡ 0 → result ≡ 6 }
     ensures array { result ≢ 0 → out.new ≡ out.old }
     ensures count { result ≢ 0 → count.new ≡ count.old }
-    ensures told { result ≢ 0 → error.new.code ≡ result }
+    ensures reported { result ≢ 0 → error.new.code ≡ result }
     ensures quiet { result ≡ 0 → error.new ≡ error.old }
 {
     if out.is_empty() {
@@ -203,7 +203,7 @@ pub extern "C" fn gmr_slots(
 
 // Returns the slot that holds an address, or the row for none.
 fn found_row(bytes: &[u8], image: &gm_image, slot: &Option<SymbolSlot<'_>>) -> gm_slot
-    ensures { result ≡ rows.slot_row_at (table_seen bytes.now image.now) (option_map slot_view slot.now) }
+    ensures { result ≡ rows.slot_row_at (gm_table_view bytes.now image.now) (option_map slot_view slot.now) }
 {
     match slot {
         Some(slot) => row_of(bytes, image, slot),
@@ -238,7 +238,7 @@ pub extern "C" fn gmr_slot_at(
     ensures found { result ≡ 0 → FindsSlot bytes.now image.now address slot.new }
     ensures refused { result ≢ 0 → IsRefusalCode (SlotFaultIn bytes.now image.now address) result }
     ensures kept { result ≢ 0 → slot.new ≡ slot.old }
-    ensures told { result ≢ 0 → error.new.code ≡ result }
+    ensures reported { result ≢ 0 → error.new.code ≡ result }
     ensures quiet { result ≡ 0 → error.new ≡ error.old }
 {
     match open(alloc, bytes, image.offset, image.is_lossy != 0) {

@@ -4,14 +4,14 @@ ghost use Rattle.std.specs.Prelude.{◌≡◌, ◌≢◌, ◌<◌, ◌+◌, ℕ,
 ghost use Rattle.mach_base.specs.Answer.{Reads};
 ghost use Rattle.mach_base.specs.Fault.{Fault, fault_of};
 ghost use Rattle.mach_base.specs.Leb128.{uleb_at};
-ghost use Rattle.goblin_mach.specs.Fixups.{base_held};
-ghost use Rattle.goblin_mach.specs.OpenImage.{bytes_held, commands_held};
+ghost use Rattle.goblin_mach.specs.Fixups.{base_view};
+ghost use Rattle.goblin_mach.specs.OpenImage.{bytes_view, commands_view};
 ghost use Rattle.goblin_mach.specs.Tables.{starts_place_in};
-ghost use Rattle.mach_load.specs.FunctionStarts.{function_start_at, starts_behind};
+ghost use Rattle.mach_load.specs.FunctionStarts.{function_start_at, starts_after};
 ghost use Rattle.goblin_mach_c.specs.Codes.{IsRefusalCode};
 ghost use Rattle.goblin_mach_c.specs.Opened.{FaultIn, lossy_mode};
-ghost use Rattle.goblin_mach_c.specs.StartsBehind.{AreStartRowsOver, AreStartsBehindCursor, WritesStarts, function_start_row, start_rows_left};
-ghost use Rattle.goblin_mach_c.specs.StartsBehind.{starts_source};
+ghost use Rattle.goblin_mach_c.specs.StartsAfter.{AreStartRowsOver, AreStartsAfterCursor, WritesStarts, function_start_row, start_rows_left};
+ghost use Rattle.goblin_mach_c.specs.StartsAfter.{starts_source};
 
 use crate::errors::{GM_OK, code_of, gm_error, refuse, refuse_no_rows};
 use crate::images::gm_image;
@@ -156,7 +156,7 @@ impl<'a> StartRows<'a> {
     // Returns the functions of the numbers from a place on that a command places; the first counts from an address.
     fn placed(bytes: &'a [u8], command: &LinkeditDataCommand, place: usize, address: u64) -> Self
         ensures over { AreStartRowsOver (starts_source bytes.now (Some (command.now.dataoff, command.now.datasize))) result }
-        ensures left { start_rows_left result ≡ starts_behind (take (command.now.dataoff + command.now.datasize) bytes.now)
+        ensures left { start_rows_left result ≡ starts_after (take (command.now.dataoff + command.now.datasize) bytes.now)
             (command.now.dataoff + command.now.datasize) place address }
     {
         let upto = command.dataoff as usize + command.datasize as usize;
@@ -183,10 +183,10 @@ impl<'a> StartRows<'a> {
     }
 
     // Returns the functions after a cursor.
-    fn behind(image: &MachO<'a, Global>, cursor: &gm_start_cursor) -> Self
-        ensures items { AreStartsBehindCursor cursor.now (bytes_held image.now) (starts_place_in (commands_held image.now)) (base_held image.now)
+    fn following(image: &MachO<'a, Global>, cursor: &gm_start_cursor) -> Self
+        ensures items { AreStartsAfterCursor cursor.now (bytes_view image.now) (starts_place_in (commands_view image.now)) (base_view image.now)
             (start_rows_left result) }
-        ensures over { AreStartRowsOver (starts_source (bytes_held image.now) (starts_place_in (commands_held image.now))) result }
+        ensures over { AreStartRowsOver (starts_source (bytes_view image.now) (starts_place_in (commands_view image.now))) result }
     {
         let Some(command) = last_readable(&StartPlaces, image.load_commands.as_slice()) else {
             return StartRows::none();
@@ -202,7 +202,7 @@ impl<'a> StartRows<'a> {
     // Returns a cursor before those that are left.
     fn cursor(&self) -> gm_start_cursor
         ensures { (bytes : List ℕ) (range : Option (ℕ × ℕ)) (base : ℕ) → AreStartRowsOver (starts_source bytes range) self.now
-            → AreStartsBehindCursor result bytes range base (start_rows_left self.now) }
+            → AreStartsAfterCursor result bytes range base (start_rows_left self.now) }
     {
         gm_start_cursor {
             place: self.place,
@@ -231,7 +231,7 @@ pub extern "C" fn gmr_function_starts(
     ensures array { result ≢ 0 → out.new ≡ out.old }
     ensures count { result ≢ 0 → count.new ≡ count.old }
     ensures cursor { result ≢ 0 → cursor.new ≡ cursor.old }
-    ensures told { result ≢ 0 → error.new.code ≡ result }
+    ensures reported { result ≢ 0 → error.new.code ≡ result }
     ensures quiet { result ≡ 0 → error.new ≡ error.old }
 {
     if out.is_empty() {
@@ -239,7 +239,7 @@ pub extern "C" fn gmr_function_starts(
     }
     match open(alloc, bytes, image.offset, image.is_lossy != 0) {
         Ok(found) => {
-            let mut rows = StartRows::behind(&found, cursor);
+            let mut rows = StartRows::following(&found, cursor);
             *count = fill_items(&mut rows, out);
             *cursor = rows.cursor();
             GM_OK

@@ -7,7 +7,7 @@ ghost use Rattle.mach_base.specs.Fault.{fault_of};
 ghost use Rattle.mach_base.specs.Text.{is_zero, run_at, text_at};
 ghost use Rattle.mach_parts.specs.Symbols.{nlist_at, symbol_place};
 ghost use Rattle.goblin_mach_c.specs.Fill.{Fills};
-ghost use Rattle.goblin_mach_c.specs.SymbolRows.{named_row, symbol_row, symbol_rows, symbol_rows_left, symbol_table_in, table_seen, text_code, unread_row};
+ghost use Rattle.goblin_mach_c.specs.SymbolRows.{named_row, symbol_row, symbol_rows, symbol_rows_left, symbol_table_in, gm_table_view, text_code, unread_row};
 
 use crate::errors::{GM_OK, code_of};
 use crate::images::{ctx_of, gm_image};
@@ -217,7 +217,7 @@ pub extern "C" fn gmr_symbols(
 
 /// Returns a symbol of an image by its number, as C sees it. Whether the image has that many isn't checked.
 pub fn symbol_of(bytes: &[u8], image: &gm_image, index: usize) -> gm_symbol
-    ensures { result ≡ symbol_row (table_seen bytes.now image.now) index }
+    ensures { result ≡ symbol_row (gm_table_view bytes.now image.now) index }
 {
     let table = Table {
         bytes,

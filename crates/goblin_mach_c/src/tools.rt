@@ -11,7 +11,7 @@ ghost use Rattle.goblin_mach_c.specs.TableRows.{build_tool_row, build_tool_rows,
 
 use crate::errors::{GM_OK, code_of};
 use crate::images::{ctx_of, gm_image};
-use crate::listed::{Lists, Part, list_rows};
+use crate::listed::{CommandItems, Lists, list_rows};
 use crate::rows::{fill, skip};
 use mach_base::{Endian, Error, Record, Result};
 use mach_load::{CommandVariant, LoadCommand};
@@ -44,14 +44,14 @@ fn tool_count(command: &LoadCommand) -> u32
 // Returns the next tool of a command.
 #[tactic(auto, unfolding(mach_load::specs::BuildTools::tool_at))]
 #[inline(always)]
-fn tool_in(bytes: &[u8], le: Endian, part: Part) -> Result<BuildToolVersion>
+fn tool_in(bytes: &[u8], le: Endian, part: CommandItems) -> Result<BuildToolVersion>
     ensures { Reads (λ tool. tool) result (defined.tool_at le bytes.now (tools_in_part part) part.index) }
 {
-    let behind = BuildVersionCommand::SIZE + part.index as usize * BuildToolVersion::SIZE;
-    if behind + BuildToolVersion::SIZE > part.end {
+    let following = BuildVersionCommand::SIZE + part.index as usize * BuildToolVersion::SIZE;
+    if following + BuildToolVersion::SIZE > part.end {
         return Err(Error::Malformed("a build tool lies inside its command"));
     }
-    BuildToolVersion::read(bytes, part.place.saturating_add(behind), le)
+    BuildToolVersion::read(bytes, part.place.saturating_add(following), le)
 }
 
 // The tools in some bytes.
@@ -73,8 +73,8 @@ impl<'a> Lists for Tools<'a> {
     ghost shown = { build_tool_row };
 
     #[inline(always)]
-    fn open(&self, command: &LoadCommand) -> Part {
-        Part {
+    fn open(&self, command: &LoadCommand) -> CommandItems {
+        CommandItems {
             command: command.offset,
             place: command.offset,
             end: command.command.cmdsize(),
@@ -83,7 +83,10 @@ impl<'a> Lists for Tools<'a> {
         }
     }
 
-    fn next(&self, part: &mut Part) -> Option<std::result::Result<gm_build_tool, gm_build_tool>> {
+    fn next(
+        &self,
+        part: &mut CommandItems,
+    ) -> Option<std::result::Result<gm_build_tool, gm_build_tool>> {
         if part.index >= part.count {
             return None;
         }

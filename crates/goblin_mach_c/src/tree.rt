@@ -1,7 +1,7 @@
 //! Whether the exports of an image are a list.
 
 ghost use Rattle.std.specs.Prelude.{◌≡◌, ◌≢◌, ◌⊎◌, [], ℕ, List, IfErr, OnOk};
-ghost use Rattle.mach_base.specs.Answer.{Stands};
+ghost use Rattle.mach_base.specs.Answer.{ErrorMeets};
 ghost use Rattle.mach_dyld.specs.Trie.{Entry};
 ghost use Rattle.mach_dyld.specs.TrieRange.{TrieRange, ListsExports, ExportsFault};
 ghost use Rattle.mach_dyld.specs.Walks.{HasGiven};
@@ -22,7 +22,7 @@ use std::alloc::Global;
 fn go_over(mut walk: ExportWalk<'_, '_>) -> Result<()>
     ensures whole { (t : TrieRange) (libs : List (List ℕ)) → HasGiven t libs [] walk.entry
         → OnOk result ((list : List Entry) × ListsExports t libs list) }
-    ensures refused { (t : TrieRange) (libs : List (List ℕ)) → HasGiven t libs [] walk.entry → IfErr result (Stands (ExportsFault t libs)) }
+    ensures refused { (t : TrieRange) (libs : List (List ℕ)) → HasGiven t libs [] walk.entry → IfErr result (ErrorMeets (ExportsFault t libs)) }
 {
     'exports: while let Some(export) = walk.next() {
         export?;
@@ -33,7 +33,7 @@ fn go_over(mut walk: ExportWalk<'_, '_>) -> Result<()>
 // Visits the exports of the image at a place.
 fn go_over_exports(alloc: Global, bytes: &[u8], offset: usize, lossy: bool) -> Result<()>
     ensures whole { OnOk result ((list : List Entry) × HasExports bytes.now offset list) }
-    ensures refused { IfErr result (Stands (WalkFault lossy bytes.now offset)) }
+    ensures refused { IfErr result (ErrorMeets (WalkFault lossy bytes.now offset)) }
 {
     let image = open(alloc.clone()?, bytes, offset, lossy)?;
     walked_exports_of_image(&image);
@@ -53,7 +53,7 @@ pub extern "C" fn gmr_exports_are_a_tree(
 ) -> u32
     ensures whole { result ≡ 0 → (list : List Entry) × HasExports bytes.now image.now.offset list }
     ensures refused { result ≢ 0 → IsRefusalCode (WalkFault (lossy_mode image.now.is_lossy) bytes.now image.now.offset) result }
-    ensures told { result ≢ 0 → error.new.code ≡ result }
+    ensures reported { result ≢ 0 → error.new.code ≡ result }
     ensures quiet { result ≡ 0 → error.new ≡ error.old }
 {
     match go_over_exports(alloc, bytes, image.offset, image.is_lossy != 0) {

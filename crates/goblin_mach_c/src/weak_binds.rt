@@ -4,12 +4,12 @@ ghost use Rattle.std.specs.Prelude.{◌≡◌, ◌≢◌, ◌<◌, ◌⊎◌, �
 ghost use Rattle.mach_base.specs.Fault.{Fault, fault_of};
 ghost use Rattle.mach_dyld.specs.WeakBinds as defined;
 ghost use Rattle.mach_dyld.specs.WeakBindsLeft.{weak_bind_view};
-ghost use Rattle.goblin_mach_c.specs.BindingRows.{NameStandsAt};
+ghost use Rattle.goblin_mach_c.specs.BindingRows.{NameIsAt};
 ghost use Rattle.goblin_mach_c.specs.Codes.{IsRefusalCode};
 ghost use Rattle.goblin_mach_c.specs.Opened.{FaultIn, lossy_mode};
-ghost use Rattle.goblin_mach_c.specs.Sited.{told_at};
-ghost use Rattle.goblin_mach_c.specs.WeakBindsBehind.{AreWeakBindsBehind, AreWeakRowsOver, AreWeakSitesBehind, IsOverWeak, WeakSource, WritesWeakBinds};
-ghost use Rattle.goblin_mach_c.specs.WeakBindsBehind.{weak_left_by, weak_rows_left, weak_sites_by, weak_source_of};
+ghost use Rattle.goblin_mach_c.specs.Sited.{reported_at};
+ghost use Rattle.goblin_mach_c.specs.WeakBindsAfter.{AreWeakBindsAfter, AreWeakRowsOver, AreWeakSitesAfter, IsOverWeak, WeakSource, WritesWeakBinds};
+ghost use Rattle.goblin_mach_c.specs.WeakBindsAfter.{weak_left_by, weak_rows_left, weak_sites_by, weak_source_of};
 ghost use Rattle.goblin_mach_c.specs.WeakRows.{IsWeakRow, no_weak_bind, weak_name, weak_bind_row};
 
 use crate::errors::{GM_OK, code_of, gm_error, refuse, refuse_no_rows};
@@ -65,10 +65,10 @@ fn refused_row(why: &Error) -> gm_weak_bind
 // Returns a row as C sees it.
 #[inline(always)]
 fn row_of(placed: &PlacedWeakBind<'_>) -> gm_weak_bind
-    ensures numbers { result ≡ weak_bind_row (told_at (weak_name (weak_bind_view placed.now.row)) placed.now.name_place) (weak_bind_view placed.now.row) }
+    ensures numbers { result ≡ weak_bind_row (reported_at (weak_name (weak_bind_view placed.now.row)) placed.now.name_place) (weak_bind_view placed.now.row) }
     ensures name { (bytes : List ℕ)
-        → (weak_name (weak_bind_view placed.now.row) ≡ []) ⊎ NameStandsAt bytes placed.now.name_place (weak_name (weak_bind_view placed.now.row))
-        → NameStandsAt bytes result.name (weak_name (weak_bind_view placed.now.row)) }
+        → (weak_name (weak_bind_view placed.now.row) ≡ []) ⊎ NameIsAt bytes placed.now.name_place (weak_name (weak_bind_view placed.now.row))
+        → NameIsAt bytes result.name (weak_name (weak_bind_view placed.now.row)) }
 {
     match &placed.row {
         WeakBind::Strong { name } => gm_weak_bind {
@@ -128,12 +128,12 @@ impl<'a, 'b> ItemRows for WeakRows<'a, 'b> {
 }
 
 // Returns the weak binds of an image after a cursor.
-fn walk_behind<'a, 'b>(
+fn walk_after<'a, 'b>(
     image: &'b MachO<'a, Global>,
     cursor: &gm_bind_cursor,
 ) -> Option<WeakBindWalk<'a, 'b>>
-    ensures items { AreWeakBindsBehind cursor.now (weak_source_of image.now) (weak_left_by result) }
-    ensures sites { AreWeakSitesBehind cursor.now (weak_source_of image.now) (weak_sites_by result) }
+    ensures items { AreWeakBindsAfter cursor.now (weak_source_of image.now) (weak_left_by result) }
+    ensures sites { AreWeakSitesAfter cursor.now (weak_source_of image.now) (weak_sites_by result) }
     ensures over { IsOverWeak (weak_source_of image.now) result }
 {
     let bytes = image.bytes();
@@ -144,7 +144,7 @@ fn walk_behind<'a, 'b>(
     let ctx = image.ctx();
     match cursor.stage {
         0 => Some(WeakBindWalk::start(&range, segments, ctx)),
-        1 => Some(WeakBindWalk::behind(&range, segments, ctx, &cursor.binds)),
+        1 => Some(WeakBindWalk::following(&range, segments, ctx, &cursor.binds)),
         _ => None,
     }
 }
@@ -152,8 +152,8 @@ fn walk_behind<'a, 'b>(
 impl<'a, 'b> WeakRows<'a, 'b> {
     // Returns a cursor before those that are left.
     fn cursor(&self) -> gm_bind_cursor
-        ensures items { (x : WeakSource) → AreWeakRowsOver x self.now → AreWeakBindsBehind result x (weak_left_by self.now.walk) }
-        ensures sites { (x : WeakSource) → AreWeakRowsOver x self.now → AreWeakSitesBehind result x (weak_sites_by self.now.walk) }
+        ensures items { (x : WeakSource) → AreWeakRowsOver x self.now → AreWeakBindsAfter result x (weak_left_by self.now.walk) }
+        ensures sites { (x : WeakSource) → AreWeakRowsOver x self.now → AreWeakSitesAfter result x (weak_sites_by self.now.walk) }
     {
         match &self.walk {
             None => over(),
@@ -184,7 +184,7 @@ pub extern "C" fn gmr_weak_binds(
     ensures array { result ≢ 0 → out.new ≡ out.old }
     ensures count { result ≢ 0 → count.new ≡ count.old }
     ensures cursor { result ≢ 0 → cursor.new ≡ cursor.old }
-    ensures told { result ≢ 0 → error.new.code ≡ result }
+    ensures reported { result ≢ 0 → error.new.code ≡ result }
     ensures quiet { result ≡ 0 → error.new ≡ error.old }
 {
     if out.is_empty() {
@@ -193,7 +193,7 @@ pub extern "C" fn gmr_weak_binds(
     match open(alloc, bytes, image.offset, image.is_lossy != 0) {
         Ok(found) => {
             let mut rows = WeakRows {
-                walk: walk_behind(&found, cursor),
+                walk: walk_after(&found, cursor),
             };
             *count = fill_items(&mut rows, out);
             *cursor = rows.cursor();

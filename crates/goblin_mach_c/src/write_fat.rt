@@ -31,7 +31,7 @@ pub extern "C" fn gmr_write_fat(
     ensures refused { result ≢ 0 → result ≢ 7 → IsRefusalCode (IsPartsFault bytes.now parts.now (form_by (lossy_mode is_64))) result }
     ensures kept { result ≢ 0 → out.new ≡ out.old }
     ensures needed { result ≢ 0 → result ≢ 7 → needed.new ≡ needed.old }
-    ensures told { result ≢ 0 → error.new.code ≡ result }
+    ensures reported { result ≢ 0 → error.new.code ≡ result }
     ensures quiet { result ≡ 0 → error.new ≡ error.old }
 {
     let room = out.len();

@@ -12,7 +12,7 @@ use Rattle.mach_base.specs.Number.{bounded, slice_at, room_at}
 use Rattle.mach_base.specs.Sums.{found_or_malformed}
 use Rattle.mach_base.proofs.Binds.{bind_ok, chosen, same_ok}
 use Rattle.mach_archive.specs.Fields.{word_of, numeral, field_number}
-use Rattle.mach_archive.specs.MemberHeaders.{MemberHeader, member_header_at, header_by_fields, header_by_size, header_with, room_behind}
+use Rattle.mach_archive.specs.MemberHeaders.{MemberHeader, member_header_at, header_by_fields, header_by_size, header_with, room_following}
 use Rattle.mach_archive.specs.MemberHeaders.{long_name_len, named_len, some_len, next_header}
 use Rattle.mach_archive.specs.MemberHeaders.{at_most_or_malformed, has_long_name, end_field, size_field}
 use Rattle.std.specs.Prelude.{slice_range, ◌-◌}
@@ -32,12 +32,12 @@ bounded_room {A} n bytes s found y e =
     if_room = cond (nat_le (s + n) (length bytes)) (Ok found) (Err (too_big n (length bytes - s)))
 
 -- the header is at the place where it was read, its bytes follow it, and they include a long name
-pub record StandsAt (bytes : List ℕ) (h : ℕ) (x : MemberHeader) : Type 0 where
+pub record OccursAt (bytes : List ℕ) (h : ℕ) (x : MemberHeader) : Type 0 where
   pub place : x.place ≡ h
   pub room : h + 60 + x.size ≤ length bytes
   pub long : unwrap_or x.long 0 ≤ x.size
 
-room_is : (bytes : List ℕ) (h size room : ℕ) → h + 60 ≤ length bytes → room_behind bytes h size ≡ Ok room → h + 60 + size ≤ length bytes
+room_is : (bytes : List ℕ) (h size room : ℕ) → h + 60 ≤ length bytes → room_following bytes h size ≡ Ok room → h + 60 + size ≤ length bytes
 room_is bytes h size room start e = elim (chosen (size == 0) (Ok 0) (room_at size bytes (h + 60)) (Ok room) e) [
   | inl none ↦ let nothing : size ≡ 0 = eqb-true size 0 none.0 in omega arith
   | inr some ↦ bounded_room size bytes (h + 60) size room some.1
@@ -60,17 +60,17 @@ long_is fields size long e = elim (chosen (has_long_name fields) (named_len fiel
 ]
 
 by_size : (bytes : List ℕ) (h : ℕ) (fields : List ℕ) (size : ℕ) (x : MemberHeader) → h + 60 ≤ length bytes → header_by_size bytes h fields size ≡ Ok x
-    → StandsAt bytes h x
+    → OccursAt bytes h x
 by_size bytes h fields size x start e =
-    let room = bind_ok (room_behind bytes h size) (λ (n : ℕ). long_name_len fields size >>= header_with h fields size) x e in
+    let room = bind_ok (room_following bytes h size) (λ (n : ℕ). long_name_len fields size >>= header_with h fields size) x e in
     let long = bind_ok (long_name_len fields size) (header_with h fields size) x room.2 in
     let whole : MemberHeader = record { place = h; fields = fields; size = size; long = long.0 } in
     let same : whole ≡ x = same_ok long.2 in
-    subst (λ (y : MemberHeader). StandsAt bytes h y) same
+    subst (λ (y : MemberHeader). OccursAt bytes h y) same
     (record { place = refl; room = room_is bytes h size room.0 start room.1; long = long_is fields size long.0 long.1 })
 
 by_fields : (bytes : List ℕ) (h : ℕ) (fields : List ℕ) (x : MemberHeader) → h + 60 ≤ length bytes → header_by_fields bytes h fields ≡ Ok x
-    → StandsAt bytes h x
+    → OccursAt bytes h x
 by_fields bytes h fields x start e =
     elim (chosen (bytes_eq (end_field fields) (0x60 ∷ 0x0a ∷ [])) (found_or_malformed (field_number 10 (size_field fields)) >>= header_by_size bytes h fields)
     (Err malformed) (Ok x) e) [
@@ -80,15 +80,15 @@ by_fields bytes h fields x start e =
       | inr other ↦ absurd (let wrong = other.1 in cc)
     ]
 
-pub header_stands : (bytes : List ℕ) (h : ℕ) (x : MemberHeader) → member_header_at bytes h ≡ Ok x → StandsAt bytes h x
+pub header_occurs : (bytes : List ℕ) (h : ℕ) (x : MemberHeader) → member_header_at bytes h ≡ Ok x → OccursAt bytes h x
 unfolding member_header_at
-header_stands bytes h x e =
+header_occurs bytes h x e =
     let fields = bind_ok (slice_at 60 bytes h) (header_by_fields bytes h) x e in
     by_fields bytes h fields.0 x (bounded_room 60 bytes h (take 60 (drop h bytes)) fields.0 fields.1) fields.2
 
 -- the next header lies after this one
 pub further : (bytes : List ℕ) (from : ℕ) (h : MemberHeader) → member_header_at bytes from ≡ Ok h → from + 60 ≤ next_header h
-further bytes from h e = let there = header_stands bytes from h e in omega (arith, there.place)
+further bytes from h e = let there = header_occurs bytes from h e in omega (arith, there.place)
 
 -- the value of a bounded read that succeeds
 bounded_found : {A : Type 0} (n : ℕ) (bytes : List ℕ) (s : ℕ) (found y : A) → bounded n bytes s found ≡ Ok y → found ≡ y

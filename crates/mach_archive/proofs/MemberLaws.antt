@@ -5,7 +5,7 @@ use Rattle.mach_base.specs.Fault.{Fault}
 use Rattle.mach_base.proofs.Binds.{same_ok}
 use Rattle.mach_archive.specs.MemberHeaders.{MemberHeader, member_header_at, next_header}
 use Rattle.mach_archive.specs.Members.{LongNames, MemberView, member_of, AreMembers, IsMembers}
-use Rattle.mach_archive.proofs.HeadersRead.{header_stands, further}
+use Rattle.mach_archive.proofs.HeadersRead.{header_occurs, further}
 
 -- only one header is at a place
 same_header : (bytes : List ℕ) (from : ℕ) (g h : MemberHeader) → member_header_at bytes from ≡ Ok g → member_header_at bytes from ≡ Ok h → g ≡ h
@@ -37,7 +37,7 @@ pub places_of_members : (bytes : List ℕ) (names : LongNames) (from : ℕ) (ms 
 places_of_members bytes names from [] a = a
 places_of_members bytes names from (m ∷ ms) a =
     let h = a.1.0 in
-    let there = header_stands bytes from h a.1.1 in
+    let there = header_occurs bytes from h a.1.1 in
     let place : m.offset ≡ from = ap (λ (v : MemberView). v.offset) a.1.2 ∙ there.place in
     (place, a.0, (h, a.1.1, places_of_members bytes names (next_header h) ms a.1.3))
 
@@ -47,7 +47,7 @@ pub members_at_places : (bytes : List ℕ) (names : LongNames) (from : ℕ) (pla
 members_at_places bytes names from [] a = ([], a, refl)
 members_at_places bytes names from (place ∷ places) a =
     let h = a.2.0 in
-    let there = header_stands bytes from h a.2.1 in
+    let there = header_occurs bytes from h a.2.1 in
     let others = members_at_places bytes names (next_header h) places a.2.2 in
     let is : h.place ≡ place = there.place ∙ sym a.0 in
     (member_of bytes names h ∷ others.0, (a.1, (h, a.2.1, refl, others.1)), cc (is, others.2))
@@ -69,7 +69,7 @@ no_more_than_fit bytes names from (Ok m ∷ Err f ∷ items) a inside =
     omega arith
 
 fit : (bytes : List ℕ) (from place : ℕ) (places : List ℕ) → IsMembers bytes from (place ∷ places) → from + 60 * length (place ∷ places) ≤ length bytes
-fit bytes from place [] a = let there = header_stands bytes from a.2.0 a.2.1 in omega (arith, there.room)
+fit bytes from place [] a = let there = header_occurs bytes from a.2.0 a.2.1 in omega (arith, there.room)
 fit bytes from place (next ∷ places) a =
     let on = further bytes from a.2.0 a.2.1 in
     let others = fit bytes (next_header a.2.0) next places a.2.2 in
@@ -81,12 +81,12 @@ members_fit bytes from [] a = omega arith
 members_fit bytes from (place ∷ places) a = let within = fit bytes from place places a in omega arith
 
 -- a member's bytes end before the next header
-pub one_behind_another : (bytes : List ℕ) (names : LongNames) (from : ℕ) (m n : MemberView) (items : List (Result MemberView Fault))
+pub one_after_another : (bytes : List ℕ) (names : LongNames) (from : ℕ) (m n : MemberView) (items : List (Result MemberView Fault))
     → AreMembers bytes names from (Ok m ∷ Ok n ∷ items) → m.start + length m.bytes ≤ n.offset
-one_behind_another bytes names from m n items a =
+one_after_another bytes names from m n items a =
     let h = a.1.0 in
-    let there = header_stands bytes from h a.1.1 in
-    let next = header_stands bytes (next_header h) a.1.3.1.0 a.1.3.1.1 in
+    let there = header_occurs bytes from h a.1.1 in
+    let next = header_occurs bytes (next_header h) a.1.3.1.0 a.1.3.1.1 in
     let start : m.start ≡ h.place + 60 + unwrap_or h.long 0 = ap (λ (v : MemberView). v.start) a.1.2 in
     let few : length m.bytes ≤ h.size - unwrap_or h.long 0 =
     subst (λ (v : MemberView). length v.bytes ≤ h.size - unwrap_or h.long 0) (sym a.1.2)

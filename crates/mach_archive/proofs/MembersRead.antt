@@ -22,12 +22,12 @@ module _ (bytes : List ℕ) (names : LongNames) where
   members_from-first most from inside = let test : nat_le (length bytes) from ≡ false = lt-leb (length bytes) from inside in rw test refl
 
   -- a member, followed by equal lists
-  same_behind : (from m n : ℕ) → ((k : ℕ) → from + 60 ≤ k → members_from bytes names m k ≡ members_from bytes names n k)
+  same_following : (from m n : ℕ) → ((k : ℕ) → from + 60 ≤ k → members_from bytes names m k ≡ members_from bytes names n k)
       → (r : Result MemberHeader Fault) → member_header_at bytes from ≡ r
       → then_items r (member_of bytes names) (λ h. members_from bytes names m (next_header h))
       ≡ then_items r (member_of bytes names) (λ h. members_from bytes names n (next_header h))
-  same_behind from m n same (Err f) e = refl
-  same_behind from m n same (Ok h) e =
+  same_following from m n same (Err f) e = refl
+  same_following from m n same (Ok h) e =
       ap (λ (items : List (Result MemberView Fault)). Ok (member_of bytes names h) ∷ items) (same (next_header h) (further bytes from h e))
 
   -- the bound does not matter if it is large enough
@@ -43,16 +43,16 @@ module _ (bytes : List ℕ) (names : LongNames) where
         | inr past ↦ members_from-past (suc m) from past ∙ sym (members_from-past (suc n) from past)
         | inl inside ↦
             members_from-first m from inside
-            ∙ (same_behind from m n same (member_header_at bytes from) refl ∙ sym (members_from-first n from inside))
+            ∙ (same_following from m n same (member_header_at bytes from) refl ∙ sym (members_from-first n from inside))
       ]
 
   -- a member, followed by the others
-  are_behind : (from most : ℕ) → from < length bytes
+  are_after : (from most : ℕ) → from < length bytes
       → ((k : ℕ) → from + 60 ≤ k → AreMembers bytes names k (members_from bytes names most k)) → (r : Result MemberHeader Fault)
       → member_header_at bytes from ≡ r
       → AreMembers bytes names from (then_items r (member_of bytes names) (λ h. members_from bytes names most (next_header h)))
-  are_behind from most inside are (Err f) e = (inside, e, refl)
-  are_behind from most inside are (Ok h) e = (inside, (h, e, refl, are (next_header h) (further bytes from h e)))
+  are_after from most inside are (Err f) e = (inside, e, refl)
+  are_after from most inside are (Ok h) e = (inside, (h, e, refl, are (next_header h) (further bytes from h e)))
 
   -- these are the members
   pub members_are : (most from : ℕ) → length bytes - from ≤ most → AreMembers bytes names from (members_from bytes names most from)
@@ -63,7 +63,7 @@ module _ (bytes : List ℕ) (names : LongNames) where
       in
       elim (cases_lt from (length bytes)) [
         | inr past ↦ rw (members_from-past (suc most) from past) past
-        | inl inside ↦ rw (members_from-first most from inside) (are_behind from most inside are (member_header_at bytes from) refl)
+        | inl inside ↦ rw (members_from-first most from inside) (are_after from most inside are (member_header_at bytes from) refl)
       ]
 
   -- what is left at a place

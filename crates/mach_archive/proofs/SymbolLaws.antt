@@ -24,11 +24,11 @@ one_symbol_list t k (Ok s ∷ xs) (Ok r ∷ ys) a b =
     cc
 
 -- a symbol of another name comes before those that are searched
-finds_behind : (name : List ℕ) (s : IndexSymbol) (items : List (Result IndexSymbol Fault)) (r : Result (Option IndexSymbol) Fault) → s.name ≢ name
+finds_after : (name : List ℕ) (s : IndexSymbol) (items : List (Result IndexSymbol Fault)) (r : Result (Option IndexSymbol) Fault) → s.name ≢ name
     → FindsFirst name items r → FindsFirst name (Ok s ∷ items) r
-finds_behind name s items (Ok (Some found)) other a = (s ∷ a.0, a.1, ap (λ (l : List (Result IndexSymbol Fault)). Ok s ∷ l) a.2, (other, a.3), a.4)
-finds_behind name s items (Ok None) other a = (s ∷ a.0, ap (λ (l : List (Result IndexSymbol Fault)). Ok s ∷ l) a.1, (other, a.2))
-finds_behind name s items (Err f) other a = (s ∷ a.0, a.1, ap (λ (l : List (Result IndexSymbol Fault)). Ok s ∷ l) a.2, (other, a.3))
+finds_after name s items (Ok (Some found)) other a = (s ∷ a.0, a.1, ap (λ (l : List (Result IndexSymbol Fault)). Ok s ∷ l) a.2, (other, a.3), a.4)
+finds_after name s items (Ok None) other a = (s ∷ a.0, ap (λ (l : List (Result IndexSymbol Fault)). Ok s ∷ l) a.1, (other, a.2))
+finds_after name s items (Err f) other a = (s ∷ a.0, a.1, ap (λ (l : List (Result IndexSymbol Fault)). Ok s ∷ l) a.2, (other, a.3))
 
 -- a search by name returns the first
 pub finds_first : (name : List ℕ) (items : List (Result IndexSymbol Fault)) → FindsFirst name items (first_named name items)
@@ -40,7 +40,7 @@ finds_first name (Ok s ∷ items) = by_test (bytes_eq s.name name) refl (finds_f
         → FindsFirst name (Ok s ∷ items) (cond b (Ok (Some s)) (first_named name items))
     by_test true e others = ([], items, refl, tt, (bytes_eq-Decides s.name name).0 e)
     by_test false e others =
-        finds_behind name s items (first_named name items)
+        finds_after name s items (first_named name items)
         (λ same. let yes = (bytes_eq-Decides s.name name).1 same in absurd (let wrong : true ≡ false = sym yes ∙ e in cc)) others
 
 -- the first of some symbols has the name
@@ -48,9 +48,9 @@ pub named_here : (name : List ℕ) (s : IndexSymbol) (items others : List (Resul
     → first_named name items ≡ Ok (Some s)
 named_here name s items others is same = ap (first_named name) is ∙ rw same refl
 
-pub named_behind : (name : List ℕ) (s : IndexSymbol) (items others : List (Result IndexSymbol Fault)) → items ≡ Ok s ∷ others → bytes_eq s.name name ≡ false
+pub named_after : (name : List ℕ) (s : IndexSymbol) (items others : List (Result IndexSymbol Fault)) → items ≡ Ok s ∷ others → bytes_eq s.name name ≡ false
     → first_named name items ≡ first_named name others
-named_behind name s items others is other = ap (first_named name) is ∙ rw other refl
+named_after name s items others is other = ap (first_named name) is ∙ rw other refl
 
 pub named_fault : (name : List ℕ) (f : Fault) (items others : List (Result IndexSymbol Fault)) → items ≡ Err f ∷ others → first_named name items ≡ Err f
 named_fault name f items others is = ap (first_named name) is

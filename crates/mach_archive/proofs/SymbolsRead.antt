@@ -13,7 +13,7 @@ use Rattle.mach_base.proofs.Binds.{bind_ok, chosen, same_ok}
 use Rattle.mach_archive.specs.declared.archive.ArchiveKind.{ArchiveKind}
 use Rattle.mach_archive.specs.declared.archive.ArchiveKind.TheVariants.{Gnu, Bsd}
 use Rattle.mach_archive.specs.IndexSymbols.{IndexSymbol, ended_text, gnu_name_place, symbol_name_place, symbol_member, index_symbol_by}
-use Rattle.mach_archive.specs.IndexSymbols.{index_symbol_at, AreIndexSymbols, behind_symbol, records_behind, names_behind, index_symbols, table_symbols}
+use Rattle.mach_archive.specs.IndexSymbols.{index_symbol_at, AreIndexSymbols, after_symbol, records_after, names_after, index_symbols, table_symbols}
 use Rattle.mach_archive.specs.IndexTables.{IndexTable}
 use Rattle.mach_archive.specs.Members.{then_items}
 
@@ -36,8 +36,8 @@ ended_is names s text e =
     ]
 
 -- a text after the first names
-ended_behind : (names : List ℕ) (n s : ℕ) → n ≤ length names → ended_text (drop n names) s ≡ ended_text names (n + s)
-ended_behind names n s within =
+ended_after : (names : List ℕ) (n s : ℕ) → n ≤ length names → ended_text (drop n names) s ≡ ended_text names (n + s)
+ended_after names n s within =
     let run : run_at (drop n names) s ≡ run_at names (n + s) = ap (λ (rest : List ℕ). before_first is_zero rest) (drop-drop s n names) in
     let len : length (drop n names) ≡ length names - n = length-drop n names in
     let test : nat_lt (s + length (run_at (drop n names) s)) (length (drop n names)) ≡ nat_lt (n + s + length (run_at names (n + s))) (length names) =
@@ -49,23 +49,23 @@ ended_behind names n s within =
     ∙ ap (λ (r : List ℕ). cond (nat_lt (n + s + length (run_at names (n + s))) (length names)) (Ok r) (Err malformed)) run
 
 -- the place of a name among those after the first
-place_behind : (names : List ℕ) (k : ℕ) → length (run_at names 0) + 1 + gnu_name_place (drop (length (run_at names 0) + 1) names) k ≡ gnu_name_place
+place_following : (names : List ℕ) (k : ℕ) → length (run_at names 0) + 1 + gnu_name_place (drop (length (run_at names 0) + 1) names) k ≡ gnu_name_place
     names (suc k)
 unfolding gnu_name_place
-place_behind names zero = omega arith
-place_behind names (suc k) =
+place_following names zero = omega arith
+place_following names (suc k) =
     let n = length (run_at names 0) + 1 in
     let place = gnu_name_place (drop n names) k in
-    let before : n + place ≡ gnu_name_place names (suc k) = place_behind names k in
+    let before : n + place ≡ gnu_name_place names (suc k) = place_following names k in
     let run : length (run_at (drop n names) place) ≡ length (run_at names (gnu_name_place names (suc k))) =
     ap (λ (rest : List ℕ). length (before_first is_zero rest)) (drop-drop place n names ∙ ap (λ (m : ℕ). drop m names) before)
     in
     omega arith
 
 -- a number in the records after the first
-number_behind : (le : Endian) (w n k j : ℕ) (records : List ℕ) → n + w * k ≡ w * j
+number_after : (le : Endian) (w n k j : ℕ) (records : List ℕ) → n + w * k ≡ w * j
     → number le w (drop (w * k) (drop n records)) ≡ number le w (drop (w * j) records)
-number_behind le w n k j records same =
+number_after le w n k j records same =
     ap (λ (rest : List ℕ). number le w rest) (drop-drop (w * k) n records ∙ ap (λ (m : ℕ). drop m records) same)
 
 abbrev symbol_of : List ℕ → ℕ → IndexSymbol
@@ -94,53 +94,53 @@ first_is kind t s e =
     made name = Ok (record { name = name; member = symbol_member kind t 0 })
 
 -- in the table after the first symbol the others have numbers that are one less
-symbol_behind : (kind : ArchiveKind) (t : IndexTable) (s : IndexSymbol) (k : ℕ) → index_symbol_by kind t 0 ≡ Ok s
+symbol_after : (kind : ArchiveKind) (t : IndexTable) (s : IndexSymbol) (k : ℕ) → index_symbol_by kind t 0 ≡ Ok s
     → index_symbol_by kind (record {
       kind = t.kind;
       le = t.le;
       width = t.width;
       count = t.count - 1;
-      records = records_behind kind t;
+      records = records_after kind t;
       names =
-          names_behind kind t s.name;
+          names_after kind t s.name;
     }) k
     ≡ index_symbol_by kind t (k + 1)
-symbol_behind Gnu t s k e =
+symbol_after Gnu t s k e =
     let first = ended_is t.names (gnu_name_place t.names 0) s.name (first_is Gnu t s e) in
     let name : s.name ≡ run_at t.names 0 = first.0 ∙ ap (λ (p : ℕ). run_at t.names p) (gnu_name_place-zero t.names) in
     let n = length s.name + 1 in
     let inside : n ≤ length t.names = let low = first.1 in omega arith in
     let place : n + gnu_name_place (drop n t.names) k ≡ gnu_name_place t.names (k + 1) =
-    ap (λ (r : List ℕ). length r + 1 + gnu_name_place (drop (length r + 1) t.names) k) name ∙ (place_behind t.names k ∙ ap (gnu_name_place t.names)
+    ap (λ (r : List ℕ). length r + 1 + gnu_name_place (drop (length r + 1) t.names) k) name ∙ (place_following t.names k ∙ ap (gnu_name_place t.names)
     (omega arith))
     in
     let text : ended_text (drop n t.names) (gnu_name_place (drop n t.names) k) ≡ ended_text t.names (gnu_name_place t.names (k + 1)) =
-    ended_behind t.names n (gnu_name_place (drop n t.names) k) inside ∙ ap (ended_text t.names) place
+    ended_after t.names n (gnu_name_place (drop n t.names) k) inside ∙ ap (ended_text t.names) place
     in
     let member : number t.le t.width (drop (t.width * k) (drop t.width t.records)) ≡ number t.le t.width (drop (t.width * (k + 1)) t.records) =
-    number_behind t.le t.width t.width k (k + 1) t.records (omega arith)
+    number_after t.le t.width t.width k (k + 1) t.records (omega arith)
     in
     made_same text member
-symbol_behind Bsd t s k e =
+symbol_after Bsd t s k e =
     let w = t.width in
     let place : number t.le w (drop (w * (2 * k)) (drop (2 * w) t.records)) ≡ number t.le w (drop (w * (2 * (k + 1))) t.records) =
-    number_behind t.le w (2 * w) (2 * k) (2 * (k + 1)) t.records (omega arith)
+    number_after t.le w (2 * w) (2 * k) (2 * (k + 1)) t.records (omega arith)
     in
     let member : number t.le w (drop (w * (2 * k + 1)) (drop (2 * w) t.records)) ≡ number t.le w (drop (w * (2 * (k + 1) + 1)) t.records) =
-    number_behind t.le w (2 * w) (2 * k + 1) (2 * (k + 1) + 1) t.records (omega arith)
+    number_after t.le w (2 * w) (2 * k + 1) (2 * (k + 1) + 1) t.records (omega arith)
     in
     made_same (ap (ended_text t.names) place) member
 
-left_behind : (t : IndexTable) (s : IndexSymbol) (k : ℕ) → index_symbol_at t 0 ≡ Ok s → index_symbol_at (behind_symbol t s.name) k ≡ index_symbol_at t (k + 1)
+left_after : (t : IndexTable) (s : IndexSymbol) (k : ℕ) → index_symbol_at t 0 ≡ Ok s → index_symbol_at (after_symbol t s.name) k ≡ index_symbol_at t (k + 1)
 unfolding index_symbol_at
-left_behind t s k e = symbol_behind t.kind t s k e
+left_after t s k e = symbol_after t.kind t s k e
 
 -- a symbol, followed by the others
-first_and_behind : (u : IndexTable) (k : ℕ) (r : Result IndexSymbol Fault) (others : IndexSymbol → List (Result IndexSymbol Fault))
+first_and_after : (u : IndexTable) (k : ℕ) (r : Result IndexSymbol Fault) (others : IndexSymbol → List (Result IndexSymbol Fault))
     → index_symbol_at u k ≡ r → k < u.count
     → ((s : IndexSymbol) → r ≡ Ok s → AreIndexSymbols u (k + 1) (others s)) → AreIndexSymbols u k (then_items r (λ s. s) others)
-first_and_behind u k (Err f) others is inside behind = (inside, is, refl)
-first_and_behind u k (Ok s) others is inside behind = (inside, is, behind s refl)
+first_and_after u k (Err f) others is inside following = (inside, is, refl)
+first_and_after u k (Ok s) others is inside following = (inside, is, following s refl)
 
 -- the symbols of a table whose remaining part is another table
 of_left : (t u : IndexTable) (k n : ℕ) → t.count ≡ n → u.count ≡ k + n → ((j : ℕ) → index_symbol_at t j ≡ index_symbol_at u (k + j))
@@ -148,23 +148,23 @@ of_left : (t u : IndexTable) (k n : ℕ) → t.count ≡ n → u.count ≡ k + n
 unfolding index_symbols
 of_left t u k zero few all same = omega arith
 of_left t u k (suc n) few all same =
-    let behind : (s : IndexSymbol) → index_symbol_at t 0 ≡ Ok s → AreIndexSymbols u (k + 1) (index_symbols n (behind_symbol t s.name)) =
-    λ s e. of_left (behind_symbol t s.name) u (k + 1) n (omega arith) (omega arith)
-    (λ j. left_behind t s j e ∙ (same (j + 1) ∙ ap (index_symbol_at u) (let next : k + (j + 1) ≡ k + 1 + j = omega arith in next)))
+    let following : (s : IndexSymbol) → index_symbol_at t 0 ≡ Ok s → AreIndexSymbols u (k + 1) (index_symbols n (after_symbol t s.name)) =
+    λ s e. of_left (after_symbol t s.name) u (k + 1) n (omega arith) (omega arith)
+    (λ j. left_after t s j e ∙ (same (j + 1) ∙ ap (index_symbol_at u) (let next : k + (j + 1) ≡ k + 1 + j = omega arith in next)))
     in
-    first_and_behind u k (index_symbol_at t 0) (λ s. index_symbols n (behind_symbol t s.name))
-    (sym (same 0 ∙ ap (index_symbol_at u) (let none : k + 0 ≡ k = omega arith in none))) (omega arith) behind
+    first_and_after u k (index_symbol_at t 0) (λ s. index_symbols n (after_symbol t s.name))
+    (sym (same 0 ∙ ap (index_symbol_at u) (let none : k + 0 ≡ k = omega arith in none))) (omega arith) following
 
 pub symbols_are : (t : IndexTable) → AreIndexSymbols t 0 (table_symbols t)
 symbols_are t = of_left t t 0 t.count refl (omega arith) (λ j. ap (index_symbol_at t) (let same : j ≡ 0 + j = omega arith in same))
 
 -- the first of some symbols, followed by the others
 index_symbols-first : (n : ℕ) (t : IndexTable) → 0 < n
-    → index_symbols n t ≡ then_items (index_symbol_at t 0) (λ s. s) (λ s. index_symbols (n - 1) (behind_symbol t s.name))
+    → index_symbols n t ≡ then_items (index_symbol_at t 0) (λ s. s) (λ s. index_symbols (n - 1) (after_symbol t s.name))
 unfolding index_symbols
 index_symbols-first zero t some = absurd (omega arith)
 index_symbols-first (suc n) t some =
-    ap (λ (m : ℕ). then_items (index_symbol_at t 0) (λ s. s) (λ s. index_symbols m (behind_symbol t s.name))) (let same : n ≡ suc n - 1 = omega arith in same)
+    ap (λ (m : ℕ). then_items (index_symbol_at t 0) (λ s. s) (λ s. index_symbols m (after_symbol t s.name))) (let same : n ≡ suc n - 1 = omega arith in same)
 
 index_symbols-none : (n : ℕ) (t : IndexTable) → n ≡ 0 → index_symbols n t ≡ []
 unfolding index_symbols
@@ -174,19 +174,19 @@ index_symbols-none (suc n) t none = absurd (omega arith)
 pub left_none : (t : IndexTable) → t.count ≡ 0 → table_symbols t ≡ []
 left_none t none = index_symbols-none t.count t none
 
-pub left_first : (t u : IndexTable) (s : IndexSymbol) → 0 < t.count → Ok s ≡ index_symbol_at t 0 → u ≡ behind_symbol t s.name
+pub left_first : (t u : IndexTable) (s : IndexSymbol) → 0 < t.count → Ok s ≡ index_symbol_at t 0 → u ≡ after_symbol t s.name
     → table_symbols t ≡ Ok s ∷ table_symbols u
-left_first t u s some is behind =
+left_first t u s some is following =
     index_symbols-first t.count t some
-    ∙ (ap (λ (r : Result IndexSymbol Fault). then_items r (λ x. x) (λ x. index_symbols (t.count - 1) (behind_symbol t x.name))) (sym is)
-    ∙ ap (λ (v : IndexTable). Ok s ∷ table_symbols v) (sym behind))
+    ∙ (ap (λ (r : Result IndexSymbol Fault). then_items r (λ x. x) (λ x. index_symbols (t.count - 1) (after_symbol t x.name))) (sym is)
+    ∙ ap (λ (v : IndexTable). Ok s ∷ table_symbols v) (sym following))
 
 pub left_fault : (t u : IndexTable) (f : Fault) → 0 < t.count → Err f ≡ index_symbol_at t 0 → u.count ≡ 0 → table_symbols t ≡ Err f ∷ table_symbols u
 left_fault t u f some is none =
     index_symbols-first t.count t some
-    ∙ (ap (λ (r : Result IndexSymbol Fault). then_items r (λ x. x) (λ x. index_symbols (t.count - 1) (behind_symbol t x.name))) (sym is)
+    ∙ (ap (λ (r : Result IndexSymbol Fault). then_items r (λ x. x) (λ x. index_symbols (t.count - 1) (after_symbol t x.name))) (sym is)
     ∙ ap (λ (items : List (Result IndexSymbol Fault)). Err f ∷ items) (sym (left_none u none)))
 
 -- after the first there are fewer
-pub fewer_behind : {A : Type 0} (x : A) (xs ys : List A) → xs ≡ x ∷ ys → length ys < length xs
-fewer_behind x xs ys e = omega (arith, ap length e)
+pub fewer_after : {A : Type 0} (x : A) (xs ys : List A) → xs ≡ x ∷ ys → length ys < length xs
+fewer_after x xs ys e = omega (arith, ap length e)

@@ -51,14 +51,14 @@ abbrev pub index_of : List ℕ → MemberHeader → Option ℕ → Option Archiv
 index_of bytes h width = option_map (λ w. record { width = w; table = body_of bytes h }) width
 
 -- the place after the member if it is an index, or else its place
-abbrev pub behind_index : MemberHeader → Option ℕ → ℕ
-behind_index h width = if is_some width then next_header h else h.place
+abbrev pub after_index : MemberHeader → Option ℕ → ℕ
+after_index h width = if is_some width then next_header h else h.place
 
 -- an archive in BSD's form, by its first header
 abbrev pub bsd_archive : List ℕ → MemberHeader → ArchiveView
 bsd_archive bytes h =
     let width = bsd_width (index_name bytes h) in
-    record { bytes = bytes; index = index_of bytes h width; names = None; begin = behind_index h width }
+    record { bytes = bytes; index = index_of bytes h width; names = None; begin = after_index h width }
 
 -- the names at a place, and the place after them; or an empty list, and the same place
 abbrev pub names_or_none : List ℕ → MemberHeader → List ℕ × ℕ
@@ -73,7 +73,7 @@ names_at bytes from =
 abbrev pub gnu_archive : List ℕ → MemberHeader → Result ArchiveView Fault
 gnu_archive bytes h =
     let width = gnu_width (word_of (name_field h.fields)) in
-    names_at bytes (behind_index h width)
+    names_at bytes (after_index h width)
     >>= (λ found. Ok (record { bytes = bytes; index = index_of bytes h width; names = Some found.0; begin = found.1 }))
 
 abbrev pub archive_by : List ℕ → MemberHeader → Result ArchiveView Fault
@@ -85,15 +85,15 @@ abbrev pub empty_archive : List ℕ → ArchiveView
 empty_archive bytes = record { bytes = bytes; index = None; names = Some []; begin = 8 }
 
 -- the archive, after its magic
-abbrev pub archive_behind_magic : List ℕ → Result ArchiveView Fault
-archive_behind_magic bytes =
+abbrev pub archive_after_magic : List ℕ → Result ArchiveView Fault
+archive_after_magic bytes =
     if length bytes == 8 then Ok (empty_archive bytes) else member_header_at bytes 8 >>= archive_by bytes
 
 -- the archive, by its magic; a thin archive is not read
 abbrev pub archive_by_magic : List ℕ → List ℕ → Result ArchiveView Fault
 archive_by_magic bytes magic =
     if bytes_eq magic (codes "!<thin>" ++ 0x0a ∷ []) then Err malformed
-    else (if bytes_eq magic (codes "!<arch>" ++ 0x0a ∷ []) then archive_behind_magic bytes
+    else (if bytes_eq magic (codes "!<arch>" ++ 0x0a ∷ []) then archive_after_magic bytes
     else Err (bad_magic (number Big 4 magic)))
 
 -- the archive that some bytes are, or the reason why they are none

@@ -69,29 +69,29 @@ abbrev pub found_by_name : ArchiveView → List ℕ → List (Result IndexSymbol
 found_by_name a name items = first_named name items >>= member_of_symbol a
 
 -- the records of a table after its first symbol
-abbrev pub records_behind : ArchiveKind → IndexTable → List ℕ
-records_behind Gnu t = drop t.width t.records
-records_behind Bsd t = drop (2 * t.width) t.records
+abbrev pub records_after : ArchiveKind → IndexTable → List ℕ
+records_after Gnu t = drop t.width t.records
+records_after Bsd t = drop (2 * t.width) t.records
 
-abbrev pub names_behind : ArchiveKind → IndexTable → List ℕ → List ℕ
-names_behind Gnu t name = drop (length name + 1) t.names
-names_behind Bsd t name = t.names
+abbrev pub names_after : ArchiveKind → IndexTable → List ℕ → List ℕ
+names_after Gnu t name = drop (length name + 1) t.names
+names_after Bsd t name = t.names
 
-abbrev pub behind_symbol : IndexTable → List ℕ → IndexTable
-behind_symbol t name =
+abbrev pub after_symbol : IndexTable → List ℕ → IndexTable
+after_symbol t name =
     record {
       kind = t.kind;
       le = t.le;
       width = t.width;
       count = t.count - 1;
-      records = records_behind t.kind t;
-      names = names_behind t.kind t name;
+      records = records_after t.kind t;
+      names = names_after t.kind t name;
     }
 
 -- the first n symbols of a table; they end after the first fault
 unfoldable pub index_symbols : ℕ → IndexTable → List (Result IndexSymbol Fault)
 index_symbols zero t = []
-index_symbols (suc n) t = then_items (index_symbol_at t 0) (λ s. s) (λ s. index_symbols n (behind_symbol t s.name))
+index_symbols (suc n) t = then_items (index_symbol_at t 0) (λ s. s) (λ s. index_symbols n (after_symbol t s.name))
 
 -- all symbols of a table
 abbrev pub table_symbols : IndexTable → List (Result IndexSymbol Fault)

@@ -61,12 +61,12 @@ abbrev pub header_with : ℕ → List ℕ → ℕ → Option ℕ → Result Memb
 header_with h fields size long = Ok (record { place = h; fields = fields; size = size; long = long })
 
 -- `size` bytes follow a header; a size of 0 is always accepted
-abbrev pub room_behind : List ℕ → ℕ → ℕ → Result ℕ Fault
-room_behind bytes h size = if size == 0 then Ok 0 else room_at size bytes (h + 60)
+abbrev pub room_following : List ℕ → ℕ → ℕ → Result ℕ Fault
+room_following bytes h size = if size == 0 then Ok 0 else room_at size bytes (h + 60)
 
 abbrev pub header_by_size : List ℕ → ℕ → List ℕ → ℕ → Result MemberHeader Fault
 header_by_size bytes h fields size =
-    room_behind bytes h size >>= (λ room. long_name_len fields size >>= header_with h fields size)
+    room_following bytes h size >>= (λ room. long_name_len fields size >>= header_with h fields size)
 
 abbrev pub header_by_fields : List ℕ → ℕ → List ℕ → Result MemberHeader Fault
 header_by_fields bytes h fields =

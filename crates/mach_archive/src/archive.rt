@@ -6,8 +6,8 @@ ghost use Rattle.mach_base.specs.Fault.{Fault};
 ghost use Rattle.mach_archive.specs.TableViews.{index_view};
 ghost use Rattle.mach_archive.specs.Widths.{number_width};
 ghost use Rattle.mach_archive.specs.ArchiveViews.{header_view, names_view, member_view, archive_of, members_left, archive_symbols_left, table_left};
-ghost use Rattle.mach_archive.specs.Archives.{archive_in, archive_by, archive_behind_magic, archive_by_magic, bsd_archive, bsd_width, gnu_archive};
-ghost use Rattle.mach_archive.specs.Archives.{gnu_width, index_name, index_of, behind_index, names_at, archive_kind, archive_member_at};
+ghost use Rattle.mach_archive.specs.Archives.{archive_in, archive_by, archive_after_magic, archive_by_magic, bsd_archive, bsd_width, gnu_archive};
+ghost use Rattle.mach_archive.specs.Archives.{gnu_width, index_name, index_of, after_index, names_at, archive_kind, archive_member_at};
 ghost use Rattle.mach_archive.specs.IndexSymbols.{IndexSymbol, AreIndexSymbols, found_by_name};
 ghost use Rattle.mach_archive.specs.IndexTables.{IndexTable, archive_table};
 ghost use Rattle.mach_archive.specs.Members.{AreMembers};
@@ -77,7 +77,7 @@ impl<'a> Archive<'a> {
                 bytes,
                 index: index_of(bytes, &first, width),
                 names: None,
-                begin: behind_index(&first, width),
+                begin: after_index(&first, width),
             });
         }
         Archive::gnu(bytes, &first)
@@ -90,7 +90,7 @@ impl<'a> Archive<'a> {
         ensures { Reads archive_of result (gnu_archive bytes.now (header_view first.now)) }
     {
         let width = gnu_width(word(first.name_field()));
-        let (names, begin) = names_at(bytes, behind_index(first, width))?;
+        let (names, begin) = names_at(bytes, after_index(first, width))?;
         Ok(Archive {
             bytes,
             index: index_of(bytes, first, width),
@@ -232,9 +232,9 @@ fn index_of<'a>(bytes: &'a [u8], header: &Header<'a>, width: Option<Width>) -> O
 }
 
 // Returns the place after the member if it is an index, or else the member's place.
-fn behind_index(header: &Header<'_>, width: Option<Width>) -> usize
+fn after_index(header: &Header<'_>, width: Option<Width>) -> usize
     requires { header.now.place + 60 + header.now.size < 2 ^ 64 - 1 }
-    ensures { result ≡ behind_index (header_view header.now) (option_map number_width width) }
+    ensures { result ≡ after_index (header_view header.now) (option_map number_width width) }
 {
     match width {
         Some(_) => header.next(),

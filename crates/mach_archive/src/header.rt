@@ -9,7 +9,7 @@ ghost use Rattle.mach_base.specs.Sums.{found_or_malformed};
 ghost use Rattle.mach_archive.specs.ArchiveViews.{header_view};
 ghost use Rattle.mach_archive.specs.Fields.{field_number};
 ghost use Rattle.mach_base.specs.Fault.{fault_of};
-ghost use Rattle.mach_archive.specs.MemberHeaders.{member_header_at, header_by_fields, header_by_size, room_behind, next_header, long_name_len};
+ghost use Rattle.mach_archive.specs.MemberHeaders.{member_header_at, header_by_fields, header_by_size, room_following, next_header, long_name_len};
 ghost use Rattle.mach_archive.specs.MemberHeaders.{name_field, size_field, has_long_name};
 ghost use Rattle.mach_archive.specs.Members.{body_of, body_place, long_name_of};
 
@@ -146,8 +146,8 @@ fn fields_at(bytes: &[u8], place: usize) -> Result<&[u8; SIZE]>
 // Tests whether `size` bytes follow a header. A size of 0 is always accepted.
 fn test_room(bytes: &[u8], place: usize, size: usize) -> Result<()>
     requires { place + 60 ≤ length bytes.now }
-    ensures room { IfErr result (λ e. room_behind bytes.now place size ≡ Err (fault_of e)) }
-    ensures there { OnOk result (IsOk (room_behind bytes.now place size)) }
+    ensures room { IfErr result (λ e. room_following bytes.now place size ≡ Err (fault_of e)) }
+    ensures there { OnOk result (IsOk (room_following bytes.now place size)) }
     ensures inside { OnOk result (place + 60 + size ≤ length bytes.now) }
 {
     if size != 0 {

@@ -34,8 +34,8 @@ pub fn members_fit_the_bytes()
 {}
 
 /// A member's bytes end before the next header begins.
-#[tactic(auto, using(crate::proofs::MemberLaws::one_behind_another))]
-pub fn members_stand_one_behind_another()
+#[tactic(auto, using(crate::proofs::MemberLaws::one_after_another))]
+pub fn members_occur_one_after_another()
     ensures { (bytes : List ℕ) (names : LongNames) (from : ℕ) (m n : MemberView) (items : List (Result MemberView Fault))
         → AreMembers bytes names from (Ok m ∷ Ok n ∷ items) → m.start + length m.bytes ≤ n.offset }
 {}

@@ -3,7 +3,7 @@
 ghost use Rattle.std.specs.Prelude.{◌≡◌, ◌<◌, ◌+◌, ◌-◌, Ok, Err, IfOk, OnOk, IfErr, option_map, length};
 ghost use Rattle.mach_base.specs.Answer.{Reads};
 ghost use Rattle.mach_archive.specs.ArchiveViews.{archive_symbol_read, archive_symbol_view, archive_symbols_left, table_left};
-ghost use Rattle.mach_archive.specs.IndexSymbols.{AreIndexSymbols, ended_text, first_named, index_symbol_at, behind_symbol, symbol_name_place, symbol_member};
+ghost use Rattle.mach_archive.specs.IndexSymbols.{AreIndexSymbols, ended_text, first_named, index_symbol_at, after_symbol, symbol_name_place, symbol_member};
 ghost use Rattle.mach_archive.specs.IndexTables.{index_table};
 ghost use Rattle.mach_archive.specs.TableViews.{index_table_view, index_view};
 ghost use Rattle.mach_archive.specs.Widths.{number_width};
@@ -64,10 +64,10 @@ fn first<'a>(table: &Table<'a>) -> Result<ArchiveSymbol<'a>>
 
 // Returns the remaining part of a table after its first symbol.
 #[inline(always)]
-fn behind<'a>(table: &Table<'a>, name: &[u8]) -> Table<'a>
+fn following<'a>(table: &Table<'a>, name: &[u8]) -> Table<'a>
     requires some { 0 < table.now.count }
     requires within { table.now.kind ≡ Gnu → length name.now < length table.now.names.now }
-    ensures { index_table_view result ≡ behind_symbol (index_table_view table.now) name.now }
+    ensures { index_table_view result ≡ after_symbol (index_table_view table.now) name.now }
 {
     let size = table.width.bytes();
     let (records, names) = match table.kind {
@@ -129,7 +129,7 @@ impl<'a> Iterator for ArchiveSymbols<'a> {
         }
         match first(&self.table) {
             Ok(symbol) => {
-                self.table = behind(&self.table, symbol.name);
+                self.table = following(&self.table, symbol.name);
                 Some(Ok(symbol))
             }
             Err(e) => {

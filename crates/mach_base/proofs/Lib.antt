@@ -11,6 +11,6 @@ pub mod Signed
 pub mod FrontGroups
 pub mod Written
 pub mod Lanes
-pub mod Begun
+pub mod InBounds
 pub mod ItemLists
 pub mod AllRead

@@ -27,17 +27,17 @@ Gives view (Ok x) there = there ≡ Ok (view x)
 Gives view (Err e) there = FailsAs e there
 
 -- the error reports a fault that holds, or it is out of memory
-abbrev pub Stands : (Fault → Type 0) → Error → Type 0
-Stands IsFault (errors.Malformed msg) = IsFault malformed
-Stands IsFault (errors.BadMagic magic) = IsFault (bad_magic magic)
-Stands IsFault (errors.Scroll e) = IsFault (fault_of_scroll e)
-Stands IsFault (errors.BufferTooShort count what) = IsFault (too_short count what.now)
-Stands IsFault (errors.Memory e) = Unit {0}
+abbrev pub ErrorMeets : (Fault → Type 0) → Error → Type 0
+ErrorMeets IsFault (errors.Malformed msg) = IsFault malformed
+ErrorMeets IsFault (errors.BadMagic magic) = IsFault (bad_magic magic)
+ErrorMeets IsFault (errors.Scroll e) = IsFault (fault_of_scroll e)
+ErrorMeets IsFault (errors.BufferTooShort count what) = IsFault (too_short count what.now)
+ErrorMeets IsFault (errors.Memory e) = Unit {0}
 
 -- the result is Ok, unless memory runs out
 abbrev pub IsOkUnlessMemory : {X : Type 0} → Result X Error → Type 0
 IsOkUnlessMemory (Ok x) = Unit {0}
-IsOkUnlessMemory (Err e) = Stands (λ _. ⊥) e
+IsOkUnlessMemory (Err e) = ErrorMeets (λ _. ⊥) e
 
 -- the next step from what is there, or the fault of the first step
 infixl 10 ◌>>=◌

@@ -20,8 +20,8 @@ all_read [] = Ok []
 all_read (item ∷ items) = item >>= (λ x. all_read items >>= (λ xs. Ok (x ∷ xs)))
 
 -- how many records of a size begin within so many bytes, one after another from a place on: no byte of any later record exists
-abbrev pub records_begun : (len start size : ℕ) → ℕ
-records_begun len start size = (len - start + (size - 1)) / size
+abbrev pub records_in_bounds : (len start size : ℕ) → ℕ
+records_in_bounds len start size = (len - start + (size - 1)) / size
 
 -- the item is missing, because its place is at or past the end of the bytes
 abbrev pub is_past_the_end : {A : Type 0} → Result A Fault → Bool
@@ -29,6 +29,6 @@ is_past_the_end (Ok x) = false
 is_past_the_end (Err f) = is_bad_offset f
 
 -- the items before the first whose record begins past the end of the bytes
-abbrev pub begun_items : {A : Type 0} → List (Result A Fault) → List (Result A Fault)
-begun_items [] = []
-begun_items (item ∷ items) = if is_past_the_end item then [] else item ∷ begun_items items
+abbrev pub items_in_bounds : {A : Type 0} → List (Result A Fault) → List (Result A Fault)
+items_in_bounds [] = []
+items_in_bounds (item ∷ items) = if is_past_the_end item then [] else item ∷ items_in_bounds items

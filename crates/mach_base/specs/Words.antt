@@ -13,7 +13,7 @@ described d = d.error.now
 
 abbrev pub words_of_scroll : ScrollError → List ℕ
 words_of_scroll (scroll.BadOffset place) = codes "offset " ++ decimal place ++ codes " is past the end"
-words_of_scroll (scroll.TooBig size len) = decimal size ++ (codes " bytes are wanted and " ++ (decimal len ++ codes " are left"))
+words_of_scroll (scroll.TooBig size len) = decimal size ++ (codes " bytes are needed and " ++ (decimal len ++ codes " are left"))
 words_of_scroll (scroll.BadInput size msg) = msg.now ++ (codes ", " ++ (decimal size ++ codes " bytes left"))
 
 -- one line, in lower case

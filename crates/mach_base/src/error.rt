@@ -88,7 +88,7 @@ impl fmt::Display for Description<'_> {
                 write!(f, "offset {place} is past the end")
             }
             Error::Scroll(ScrollError::TooBig { size, len }) => {
-                write!(f, "{size} bytes are wanted and {len} are left")
+                write!(f, "{size} bytes are needed and {len} are left")
             }
             Error::Scroll(ScrollError::BadInput { size, msg }) => {
                 write!(f, "{msg}, {size} bytes left")

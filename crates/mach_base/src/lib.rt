@@ -26,7 +26,7 @@ pub use crate::leb128::{Sleb128, Uleb128, quick_uleb, sleb, uleb};
 pub use crate::narrow::low_bits;
 pub use crate::numbers::{array_at, bytes_at, read_u32, rest_at, try_rest_at};
 pub use crate::offsets::{gread_with, pread_with, pwrite_with};
-pub use crate::record::{Record, RecordBytes, records_begun, written_and_read};
+pub use crate::record::{Record, RecordBytes, records_in_bounds, written_and_read};
 pub use crate::steps::Steps;
 pub use crate::texts::{quick_text, read_text};
 pub use crate::traits::{IntoCtx, SizeWith, TryFromCtx, TryIntoCtx};

@@ -4,7 +4,7 @@ ghost use Rattle.std.specs.Prelude.{◌≡◌, ◌<◌, ◌≤◌, ◌+◌, ℕ,
 ghost use Rattle.mach_base.specs.Number.{number_bytes};
 ghost use Rattle.mach_base.specs.Answer.{Reads};
 ghost use Rattle.mach_base.specs.Fault.{fault_of};
-ghost use Rattle.mach_base.specs.Items.{records_begun};
+ghost use Rattle.mach_base.specs.Items.{records_in_bounds};
 ghost use Rattle.mach_base.specs.Record.{Field, Value, values_in, spelling, spelled_after, IsRecord, AllFit, record_at, IsWritten};
 
 use crate::context::Endian;
@@ -115,9 +115,9 @@ impl RecordBytes {
 
 /// Counts the records of `size` bytes that begin within the bytes, one after another from `start` on. No byte of any later record exists.
 #[inline(always)]
-pub fn records_begun(bytes: &[u8], start: usize, size: usize) -> usize
+pub fn records_in_bounds(bytes: &[u8], start: usize, size: usize) -> usize
     requires { 0 < size }
-    ensures { result ≡ records_begun (length bytes.now) start size }
+    ensures { result ≡ records_in_bounds (length bytes.now) start size }
 {
     bytes.len().saturating_sub(start).div_ceil(size)
 }

@@ -25,10 +25,10 @@ module _ (a : ArchiveView) (name : List ℕ) (r : Result (Option Member) Error)
     → Reads (option_map member_view) r (found_by_name a name items))
     (without : archive_table a ≡ Ok None → Reads (option_map member_view) r (Ok None))
     (refused : (f : Fault) → archive_table a ≡ Err f → Reads (option_map member_view) r (Err f)) where
-  abbrev sought : Result (Option IndexTable) Fault → Result (Option MemberView) Fault
-  sought table = (table >>= (λ t. Ok (symbols_of_table t))) >>= found_by_name a name
+  abbrev target : Result (Option IndexTable) Fault → Result (Option MemberView) Fault
+  target table = (table >>= (λ t. Ok (symbols_of_table t))) >>= found_by_name a name
 
-  by_table : (table : Result (Option IndexTable) Fault) → archive_table a ≡ table → Reads (option_map member_view) r (sought table)
+  by_table : (table : Result (Option IndexTable) Fault) → archive_table a ≡ table → Reads (option_map member_view) r (target table)
   by_table (Ok (Some t)) e = found t (table_symbols t) e (symbols_are t)
   by_table (Ok None) e = without e
   by_table (Err f) e = refused f e

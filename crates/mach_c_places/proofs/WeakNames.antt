@@ -6,7 +6,7 @@ unfoldable use Rattle.mach_dyld.specs.WeakBinds.{weak_bind_of}
 use Rattle.mach_dyld.specs.WeakBindsLeft.{set_now, weak_bind_view, weak_made}
 use Rattle.mach_dyld.specs.declared.weak_binds.WeakBind as declared
 use Rattle.mach_dyld.specs.declared.weak_binds.WeakBind.TheVariants as variants
-use Rattle.mach_dyld.specs.declared.weak_binds.WeakExtra.{WeakExtra}
+use Rattle.mach_dyld.specs.declared.weak_binds.WeakBindSettings.{WeakBindSettings}
 use Rattle.mach_c_places.specs.WeakCursors.{name_of_weak}
 
 abbrev pub name_in : WeakBind → List ℕ
@@ -23,8 +23,8 @@ of_bind x g b i e = by_test (is_weak_complete g) e
         let s = bind_ok (spot_of x.pointer x.segments b.segment b.offset) (λ (s : ℕ × ℕ). Ok (weakly_bound_at b s)) i e in ap name_in (same_ok s.2)
     by_test false e = absurd (cc)
 
-pub weak_tells : (x : Input) (b : Bind) (m : WeakExtra) (i : WeakBind) → weak_made x b m ≡ Ok i → b.name ≡ name_in i
-weak_tells x b m i e = by_test m.is_own e
+pub weak_reports : (x : Input) (b : Bind) (m : WeakBindSettings) (i : WeakBind) → weak_made x b m ≡ Ok i → b.name ≡ name_in i
+weak_reports x b m i e = by_test m.is_own e
   where
     by_test : (t : Bool) → cond t (Ok (strong_name b.name)) (weak_bind_of x (set_now m) b) ≡ Ok i → b.name ≡ name_in i
     by_test true e = ap name_in (same_ok e)

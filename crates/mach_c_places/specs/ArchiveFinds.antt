@@ -11,8 +11,8 @@ use Rattle.mach_archive.specs.Members.{MemberView}
 use Rattle.mach_archive.specs.declared.archive.ArchiveKind.{ArchiveKind}
 use Rattle.mach_archive.specs.declared.archive.ArchiveKind.TheVariants as kinds
 use Rattle.mach_c_places.specs.ArchiveItems.{members_of_view, symbols_of_view}
-use Rattle.mach_c_places.specs.ArchivePlaces.{TellsText}
-use Rattle.mach_c_places.specs.PlacedItems.{ToldName}
+use Rattle.mach_c_places.specs.ArchivePlaces.{ReportsText}
+use Rattle.mach_c_places.specs.PlacedItems.{ReportedName}
 use Rattle.mach_c_places.specs.declared.archive.find.ArchiveForm.{ArchiveForm}
 use Rattle.mach_c_places.specs.declared.archive.find.ArchiveForm.TheVariants.{Bsd, Gnu, NoArchive, Thin}
 
@@ -51,8 +51,8 @@ abbrev pub member_by_name : List ℕ → List ℕ → Result (Option MemberView)
 member_by_name bytes name = archive_in bytes >>= (λ a. first_of_name name (members_of_view a))
 
 -- the answer for a member that was looked up: the member itself, and the place of its name
-abbrev pub TellsFound : List ℕ → Option MemberView → Option (MemberView × ToldName) → Type 0
-TellsFound bytes None None = Unit {0}
-TellsFound bytes None (Some told) = ⊥
-TellsFound bytes (Some m) None = ⊥
-TellsFound bytes (Some m) (Some (n, told)) = (n ≡ m) × TellsText bytes (member_name_bytes m) told
+abbrev pub ReportsFound : List ℕ → Option MemberView → Option (MemberView × ReportedName) → Type 0
+ReportsFound bytes None None = Unit {0}
+ReportsFound bytes None (Some reported) = ⊥
+ReportsFound bytes (Some m) None = ⊥
+ReportsFound bytes (Some m) (Some (n, reported)) = (n ≡ m) × ReportsText bytes (member_name_bytes m) reported

@@ -7,7 +7,7 @@ use Rattle.mach_archive.specs.ArchiveViews.{archive_symbol_view, archive_symbols
 use Rattle.mach_archive.specs.IndexSymbols.{IndexSymbol}
 use Rattle.mach_archive.specs.MemberNames.{member_name_bytes}
 use Rattle.mach_archive.specs.Members.{MemberView}
-use Rattle.mach_c_places.specs.ArchivePlaces.{TellsText}
+use Rattle.mach_c_places.specs.ArchivePlaces.{ReportsText}
 use Rattle.mach_c_places.specs.declared.archive.members.MemberWalk.{MemberWalk}
 use Rattle.mach_c_places.specs.declared.archive.members.PlacedMember.{PlacedMember}
 use Rattle.mach_c_places.specs.declared.archive.members.PlacedMembers.{PlacedMembers}
@@ -16,21 +16,21 @@ use Rattle.mach_c_places.specs.declared.archive.symbols.PlacedSymbols.{PlacedSym
 use Rattle.mach_c_places.specs.declared.archive.symbols.SymbolWalk.{SymbolWalk}
 
 -- the answer for a name: its place and its length, or why there is none
-abbrev pub ToldName : Type 0
-ToldName = Result (ℕ × ℕ) Fault
+abbrev pub ReportedName : Type 0
+ReportedName = Result (ℕ × ℕ) Fault
 
 -- ---- members
 
-abbrev pub placed_member_view : PlacedMember → MemberView × ToldName
-placed_member_view p = (member_view p.member, read_as (λ told. told) p.name)
+abbrev pub placed_member_view : PlacedMember → MemberView × ReportedName
+placed_member_view p = (member_view p.member, read_as (λ reported. reported) p.name)
 
-abbrev pub member_answer : Result PlacedMember Error → Result (MemberView × ToldName) Fault
+abbrev pub member_answer : Result PlacedMember Error → Result (MemberView × ReportedName) Fault
 member_answer answer = read_as placed_member_view answer
 
 -- The answer is the first of the members before, and those after are left; or its fault; or there are none.
-abbrev pub GivesMember : List ℕ → List (Result MemberView Fault) → Option (Result (MemberView × ToldName) Fault) → List (Result MemberView Fault) → Type 0
+abbrev pub GivesMember : List ℕ → List (Result MemberView Fault) → Option (Result (MemberView × ReportedName) Fault) → List (Result MemberView Fault) → Type 0
 GivesMember bytes before None after = (before ≡ []) × (after ≡ [])
-GivesMember bytes before (Some (Ok (m, told))) after = (before ≡ Ok m ∷ after) × TellsText bytes (member_name_bytes m) told
+GivesMember bytes before (Some (Ok (m, reported))) after = (before ≡ Ok m ∷ after) × ReportsText bytes (member_name_bytes m) reported
 GivesMember bytes before (Some (Err f)) after = before ≡ Err f ∷ after
 
 abbrev pub members_walked : Option MemberWalk → List (Result MemberView Fault)
@@ -47,15 +47,16 @@ AreMembersOver bytes it = (w : MemberWalk) → it.walk ≡ Some w → w.places.b
 
 -- ---- symbols
 
-abbrev pub placed_symbol_view : PlacedSymbol → IndexSymbol × ToldName
-placed_symbol_view p = (archive_symbol_view p.symbol, read_as (λ told. told) p.name)
+abbrev pub placed_symbol_view : PlacedSymbol → IndexSymbol × ReportedName
+placed_symbol_view p = (archive_symbol_view p.symbol, read_as (λ reported. reported) p.name)
 
-abbrev pub symbol_answer : Result PlacedSymbol Error → Result (IndexSymbol × ToldName) Fault
+abbrev pub symbol_answer : Result PlacedSymbol Error → Result (IndexSymbol × ReportedName) Fault
 symbol_answer answer = read_as placed_symbol_view answer
 
-abbrev pub GivesSymbol : List ℕ → List (Result IndexSymbol Fault) → Option (Result (IndexSymbol × ToldName) Fault) → List (Result IndexSymbol Fault) → Type 0
+abbrev pub GivesSymbol : List ℕ → List (Result IndexSymbol Fault) → Option (Result (IndexSymbol × ReportedName) Fault)
+    → List (Result IndexSymbol Fault) → Type 0
 GivesSymbol bytes before None after = (before ≡ []) × (after ≡ [])
-GivesSymbol bytes before (Some (Ok (s, told))) after = (before ≡ Ok s ∷ after) × TellsText bytes (Ok s.name) told
+GivesSymbol bytes before (Some (Ok (s, reported))) after = (before ≡ Ok s ∷ after) × ReportsText bytes (Ok s.name) reported
 GivesSymbol bytes before (Some (Err f)) after = before ≡ Err f ∷ after
 
 abbrev pub symbols_walked : Option SymbolWalk → List (Result IndexSymbol Fault)

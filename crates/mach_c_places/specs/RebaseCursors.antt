@@ -23,8 +23,8 @@ abbrev pub rebasing_in : BindCursor → Rebasing
 rebasing_in c = record { le = order_in c; kind = c.kind; has_segment = says_yes c.has_segment }
 
 -- the rebases after a cursor of a range
-abbrev pub opcode_rebases_behind : Input → Range → BindCursor → List (Result Rebase Fault)
-opcode_rebases_behind x r c = items_of rebase_rules x r (rebasing_in c) (state_in x.bytes c)
+abbrev pub opcode_rebases_after : Input → Range → BindCursor → List (Result Rebase Fault)
+opcode_rebases_after x r c = items_of rebase_rules x r (rebasing_in c) (state_in x.bytes c)
 
 -- ---- what is left for a walk
 

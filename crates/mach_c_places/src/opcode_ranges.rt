@@ -6,7 +6,7 @@ ghost use Rattle.mach_load.specs.Variants.{command_of};
 ghost use Rattle.mach_parts.specs.Segment.{segment_view};
 ghost use Rattle.mach_dyld.specs.Machine as machine;
 ghost use Rattle.mach_dyld.specs.Machine.{input_of, items_left, items_of, reader_by, state_of};
-ghost use Rattle.mach_dyld.specs.NamePlaces.{NameStands};
+ghost use Rattle.mach_dyld.specs.NamePlaces.{NameIsSet};
 ghost use Rattle.mach_dyld.specs.Sites.{site_in, sites_left, sites_of};
 ghost use Rattle.mach_dyld.specs.Cut.{CutStream, cut_input, cut_range, cut_stream};
 ghost use Rattle.goblin_mach.specs.ImageStreams.{rebase_stream_by, rebase_stream_in, weak_stream_by, weak_stream_in};
@@ -16,7 +16,7 @@ use goblin_mach::fixups::last_readable;
 use goblin_mach::readings::Subject;
 use mach_base::{Ctx, Result};
 use mach_dyld::imports::pointer_len;
-use mach_dyld::machine::{Makes, Source, State, Stream};
+use mach_dyld::machine::{BindRules, Source, State, Stream};
 use mach_load::{CommandVariant, LoadCommand};
 use mach_parts::segment::Segment;
 
@@ -56,7 +56,7 @@ impl<'a> OpcodeRange<'a> {
     }
 
     /// Returns the stream from a state on, for these segments, with these settings in addition to those of a bind.
-    pub fn stream<'b, M: Makes<'a>>(
+    pub fn stream<'b, M: BindRules<'a>>(
         &self,
         segments: &'b [Segment<'a>],
         ctx: Ctx,
@@ -69,7 +69,7 @@ impl<'a> OpcodeRange<'a> {
         ensures sites { sites_left M.rules result ≡ sites_of
             (reader_by M.rules (cut_input (range_view self.now) (pointer_size ctx.container) (map segment_view segments.now)))
             (cut_range (range_view self.now)) (site_in state.entry.settings) (state_of state.entry) }
-        ensures over { NameStands self.now.bytes.now state.entry.settings
+        ensures over { NameIsSet self.now.bytes.now state.entry.settings
             → machine.IsOver (cut_input (range_view self.now) (pointer_size ctx.container) (map segment_view segments.now)) (cut_range (range_view self.now))
             result }
     {

@@ -10,7 +10,7 @@ ghost use Rattle.mach_dyld.specs.Cut.{cut_input, cut_range};
 ghost use Rattle.mach_dyld.specs.RebasesLeft.{rebase_read};
 ghost use Rattle.goblin_mach.specs.ImageStreams.{AreRebasesByOpcodes};
 ghost use Rattle.mach_c_places.specs.Ranges.{range_view};
-ghost use Rattle.mach_c_places.specs.RebaseCursors.{HasEndedRebaseWalk, IsOverRebases, opcode_rebases_behind, order_in, rebase_walk_left, rebasing_in};
+ghost use Rattle.mach_c_places.specs.RebaseCursors.{HasEndedRebaseWalk, IsOverRebases, opcode_rebases_after, order_in, rebase_walk_left, rebasing_in};
 
 use crate::opcode_ranges::OpcodeRange;
 use crate::walk_numbers::{More, numbers_of, state_at};
@@ -79,14 +79,14 @@ impl<'a, 'b> RebaseWalk<'a, 'b> {
     }
 
     /// Returns the rebases after a cursor.
-    pub fn behind(
+    pub fn following(
         range: &OpcodeRange<'a>,
         segments: &'b [Segment<'a>],
         ctx: Ctx,
         cursor: &BindCursor,
     ) -> Self
         ensures items { rebase_walk_left result
-            ≡ opcode_rebases_behind (cut_input (range_view range.now) (pointer_size ctx.container) (map segment_view segments.now))
+            ≡ opcode_rebases_after (cut_input (range_view range.now) (pointer_size ctx.container) (map segment_view segments.now))
             (cut_range (range_view range.now)) cursor.now }
         ensures over { IsOverRebases (cut_input (range_view range.now) (pointer_size ctx.container) (map segment_view segments.now))
             (cut_range (range_view range.now)) result }
@@ -99,7 +99,7 @@ impl<'a, 'b> RebaseWalk<'a, 'b> {
 
     /// Returns a cursor before those that are left.
     pub fn cursor(&self) -> BindCursor
-        ensures { (x : Input) (r : Range) → IsOverRebases x r self.now → opcode_rebases_behind x r result ≡ rebase_walk_left self.now }
+        ensures { (x : Input) (r : Range) → IsOverRebases x r self.now → opcode_rebases_after x r result ≡ rebase_walk_left self.now }
     {
         let rebasing = &self.stream.more;
         let more = More {

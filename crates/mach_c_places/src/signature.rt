@@ -3,7 +3,7 @@
 ghost use Rattle.std.specs.Prelude.{◌≡◌};
 ghost use Rattle.std.specs.Option.{option_map};
 ghost use Rattle.mach_base.specs.Answer.{Reads};
-ghost use Rattle.goblin_mach.specs.OpenImage.{bytes_held, commands_held};
+ghost use Rattle.goblin_mach.specs.OpenImage.{bytes_view, commands_view};
 ghost use Rattle.mach_c_places.specs.SignaturePlaces.{image_signed_directory, signed_directory_view};
 
 pub(crate) mod places;
@@ -28,7 +28,7 @@ pub struct SignedDirectory<'a> {
 pub fn signed_directory<'a, A: Allocator>(
     image: &MachO<'a, A>,
 ) -> Result<Option<SignedDirectory<'a>>>
-    ensures { Reads (option_map signed_directory_view) result (image_signed_directory (bytes_held image.now) (commands_held image.now)) }
+    ensures { Reads (option_map signed_directory_view) result (image_signed_directory (bytes_view image.now) (commands_view image.now)) }
 {
     let Some((dataoff, datasize)) = signature_place(image.load_commands.as_slice()) else {
         return Ok(None);

@@ -5,8 +5,8 @@ ghost use Rattle.mach_base.specs.Number.{says_yes};
 ghost use Rattle.mach_base.specs.Text.{text_at};
 ghost use Rattle.mach_dyld.specs.BindCursors.{state_in};
 ghost use Rattle.mach_dyld.specs.Machine.{state_of};
-ghost use Rattle.mach_dyld.specs.NamePlaces.{IsNamed, NameStands, text_or_none};
-ghost use Rattle.mach_dyld.specs.SiteCursors.{place_named, site_seen};
+ghost use Rattle.mach_dyld.specs.NamePlaces.{IsNamed, NameIsSet, text_or_none};
+ghost use Rattle.mach_dyld.specs.SiteCursors.{place_named, site_view};
 ghost use Rattle.mach_dyld.specs.Sites.{site_in};
 
 use mach_base::read_text;
@@ -32,7 +32,7 @@ fn flag(yes: bool) -> u8
 // Returns the text at a place, and the place. If no text is there, it returns an empty one and the largest number.
 fn name_at(bytes: &[u8], place: usize) -> (&str, usize)
     ensures text { result.0.now ≡ text_or_none (text_at bytes.now place) }
-    ensures stands { IsNamed bytes.now result.0.now result.1 }
+    ensures occurs { IsNamed bytes.now result.0.now result.1 }
     ensures place { result.1 ≡ place_named (text_at bytes.now place) place }
 {
     match read_text(bytes, place) {
@@ -56,8 +56,8 @@ fn place_in(bytes: &[u8], place: usize) -> usize
 /// Returns the numbers of a state, with its additional settings. `more.other` takes the field `ordinal`, in which bindings keep
 /// how an ordinal was set.
 pub fn numbers_of(bytes: &[u8], state: &State<'_>, more: More) -> BindCursor
-    ensures state { NameStands bytes.now state.now.settings → state_in bytes.now result ≡ state_of state.now }
-    ensures site { NameStands bytes.now state.now.settings → site_seen bytes.now result ≡ site_in state.now.settings }
+    ensures state { NameIsSet bytes.now state.now.settings → state_in bytes.now result ≡ state_of state.now }
+    ensures site { NameIsSet bytes.now state.now.settings → site_view bytes.now result ≡ site_in state.now.settings }
     ensures kind { result.kind ≡ more.kind }
     ensures has_name { says_yes result.has_name ≡ more.has_name }
     ensures has_segment { says_yes result.has_segment ≡ more.has_segment }
@@ -90,8 +90,8 @@ pub fn numbers_of(bytes: &[u8], state: &State<'_>, more: More) -> BindCursor
 /// Returns the state of some numbers.
 pub fn state_at<'a>(bytes: &'a [u8], cursor: &BindCursor) -> State<'a>
     ensures state { state_of result ≡ state_in bytes.now cursor.now }
-    ensures named { NameStands bytes.now result.settings }
-    ensures site { site_in result.settings ≡ site_seen bytes.now cursor.now }
+    ensures named { NameIsSet bytes.now result.settings }
+    ensures site { site_in result.settings ≡ site_view bytes.now cursor.now }
 {
     let (name, name_place) = name_at(bytes, cursor.name_place);
     State {

@@ -4,21 +4,21 @@ ghost use Rattle.std.specs.Prelude.{◌≡◌, ◌∷◌, ℕ, map, IfNone, IfOk
 ghost use Rattle.std.specs.Iterator.{YieldsFirstBy};
 ghost use Rattle.mach_base.specs.Context.{pointer_size};
 ghost use Rattle.mach_parts.specs.Segment.{segment_view};
-ghost use Rattle.mach_dyld.specs.BindCursors.{TextStands};
+ghost use Rattle.mach_dyld.specs.BindCursors.{TextIsAt};
 ghost use Rattle.mach_dyld.specs.Streams.{Input, Range};
 ghost use Rattle.mach_dyld.specs.Cut.{cut_input, cut_range};
 ghost use Rattle.goblin_mach.specs.ImageStreams.{AreImageWeakBinds};
 ghost use Rattle.mach_c_places.specs.Ranges.{range_view};
 ghost use Rattle.mach_c_places.specs.WeakCursors.{AreWeakSites, HasEndedWeakWalk, IsOverWeakBinds, name_of_weak, placed_weak_read};
-ghost use Rattle.mach_c_places.specs.WeakCursors.{weak_binds_behind, weak_more_in, weak_sites_behind, weak_sites_left, weak_walk_left};
+ghost use Rattle.mach_c_places.specs.WeakCursors.{weak_binds_after, weak_more_in, weak_sites_after, weak_sites_left, weak_walk_left};
 
 use crate::opcode_ranges::OpcodeRange;
 use crate::walk_numbers::{More, numbers_of, state_at};
 use mach_base::{Ctx, Result};
 use mach_dyld::WeakBind;
 use mach_dyld::imports::BindCursor;
-use mach_dyld::machine::{Makes, State, Stream};
-use mach_dyld::weak_binds::WeakExtra;
+use mach_dyld::machine::{BindRules, State, Stream};
+use mach_dyld::weak_binds::WeakBindSettings;
 use mach_parts::segment::Segment;
 
 /// A row of the stream of weak binds, with the offset of its name in the bytes.
@@ -32,14 +32,14 @@ pub struct PlacedWeakBind<'a> {
 /// The weak binds of an image that are left.
 #[derive(Drop)]
 pub struct WeakBindWalk<'a, 'b> {
-    stream: Stream<'a, 'b, WeakExtra>,
+    stream: Stream<'a, 'b, WeakBindSettings>,
 }
 
 // Returns the settings of a cursor in addition to those of a bind.
-fn extra_at(cursor: &BindCursor) -> WeakExtra
+fn extra_at(cursor: &BindCursor) -> WeakBindSettings
     ensures { result ≡ weak_more_in cursor.now }
 {
-    WeakExtra {
+    WeakBindSettings {
         kind: cursor.kind,
         has_name: cursor.has_name != 0,
         has_segment: cursor.has_segment != 0,
@@ -58,24 +58,24 @@ impl<'a, 'b> WeakBindWalk<'a, 'b> {
             (cut_range (range_view range.now)) result }
     {
         let state = State::start(range.from, range.upto, true);
-        let first = <WeakExtra as Makes<'_>>::first(true);
+        let first = <WeakBindSettings as BindRules<'_>>::first(true);
         WeakBindWalk {
             stream: range.stream(segments, ctx, state, first),
         }
     }
 
     /// Returns the rows after a cursor.
-    pub fn behind(
+    pub fn following(
         range: &OpcodeRange<'a>,
         segments: &'b [Segment<'a>],
         ctx: Ctx,
         cursor: &BindCursor,
     ) -> Self
         ensures items { weak_walk_left result
-            ≡ weak_binds_behind (cut_input (range_view range.now) (pointer_size ctx.container) (map segment_view segments.now))
+            ≡ weak_binds_after (cut_input (range_view range.now) (pointer_size ctx.container) (map segment_view segments.now))
             (cut_range (range_view range.now)) cursor.now }
         ensures sites { weak_sites_left result
-            ≡ weak_sites_behind (cut_input (range_view range.now) (pointer_size ctx.container) (map segment_view segments.now))
+            ≡ weak_sites_after (cut_input (range_view range.now) (pointer_size ctx.container) (map segment_view segments.now))
             (cut_range (range_view range.now)) cursor.now }
         ensures over { IsOverWeakBinds (cut_input (range_view range.now) (pointer_size ctx.container) (map segment_view segments.now))
             (cut_range (range_view range.now)) result }
@@ -88,8 +88,8 @@ impl<'a, 'b> WeakBindWalk<'a, 'b> {
 
     /// Returns a cursor before those that are left.
     pub fn cursor(&self) -> BindCursor
-        ensures items { (x : Input) (r : Range) → IsOverWeakBinds x r self.now → weak_binds_behind x r result ≡ weak_walk_left self.now }
-        ensures sites { (x : Input) (r : Range) → IsOverWeakBinds x r self.now → weak_sites_behind x r result ≡ weak_sites_left self.now }
+        ensures items { (x : Input) (r : Range) → IsOverWeakBinds x r self.now → weak_binds_after x r result ≡ weak_walk_left self.now }
+        ensures sites { (x : Input) (r : Range) → IsOverWeakBinds x r self.now → weak_sites_after x r result ≡ weak_sites_left self.now }
     {
         let extra = &self.stream.more;
         let more = More {
@@ -109,7 +109,7 @@ impl<'a, 'b> WeakBindWalk<'a, 'b> {
         ensures fault { IfSome result (λ item. OnErr item (HasEndedWeakWalk self.new)) }
         ensures over { (x : Input) (r : Range) → IsOverWeakBinds x r self.old → IsOverWeakBinds x r self.new }
         ensures placed { (x : Input) (r : Range) → IsOverWeakBinds x r self.old
-            → IfSome result (λ item. IfOk item (λ p. TextStands x.bytes p.name_place (name_of_weak p.row))) }
+            → IfSome result (λ item. IfOk item (λ p. TextIsAt x.bytes p.name_place (name_of_weak p.row))) }
         ensures site { IfSome result (λ item. IfOk item (λ p. (library : ℕ)
             × (weak_sites_left self.old ≡ record { name_place = p.name_place; library = library } ∷ weak_sites_left self.new))) }
     {

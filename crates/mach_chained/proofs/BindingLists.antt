@@ -2,9 +2,9 @@
 use Rattle.std.proofs.Common.{◌≡◌, ℕ, suc, List, [], ◌∷◌, ◌++◌, map, length, Option, Some, None, Result, Ok, Err, refl, sym, ap, subst, ◌∙◌, inl, inr}
 use Rattle.mach_base.specs.declared.error.Error.{Error}
 use Rattle.mach_base.specs.Among.{IsAmong}
-use Rattle.mach_base.specs.Answer.{Stands}
+use Rattle.mach_base.specs.Answer.{ErrorMeets}
 use Rattle.mach_base.specs.Fault.{Fault, fault_of}
-use Rattle.mach_base.proofs.Faults.{Stands-reported}
+use Rattle.mach_base.proofs.Faults.{ErrorMeets-reported}
 use Rattle.mach_chained.specs.Pointers.{KindOfFixup, rebase, bind, value}
 use Rattle.mach_chained.specs.Fixups.{FixupInput, Fixup}
 use Rattle.mach_chained.specs.Chained.{PlacedFixup, AreFixups, fixup_items}
@@ -79,9 +79,9 @@ module _ (x : FixupInput) (libs : List (List ℕ)) (items : List Item) (are : Ar
   all : items ≡ oks found ++ Err (fault_of e) ∷ rest
   all = split ∙ ap (λ m. oks found ++ m) ends
 
-  pub refuses : Stands (BindingFault x libs) e
+  pub refuses : ErrorMeets (BindingFault x libs) e
   refuses =
-      Stands-reported (BindingFault x libs) e
+      ErrorMeets-reported (BindingFault x libs) e
       (items, are, subst (λ m. IsAmong (Err (fault_of e)) m) (sym all) (among (oks found) (fault_of e) rest))
 
   pub has_none : (list : List Binding) → ListsBindings x libs list → ⊥

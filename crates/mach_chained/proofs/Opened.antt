@@ -6,7 +6,7 @@ use Rattle.mach_base.specs.Fault.{Fault, malformed}
 use Rattle.mach_base.specs.Sums.{found_or_malformed}
 use Rattle.mach_parts.specs.Segment.{SegmentView}
 use Rattle.mach_chained.specs.declared.starts.ChainedStartsInSegment.{ChainedStartsInSegment}
-use Rattle.mach_chained.specs.Fixups.{FixupInput, Span, Ends, no_ends, in_memory, behind, span_of, span_by}
+use Rattle.mach_chained.specs.Fixups.{FixupInput, Span, Ends, no_ends, in_memory, following, span_of, span_by}
 unfoldable use Rattle.mach_chained.specs.Fixups.{span_at}
 use Rattle.mach_chained.specs.Starts.{Chains, starts_at, chains_of}
 use Rattle.std.specs.Prelude.{slice_get}
@@ -15,12 +15,12 @@ use Rattle.mach_chained.specs.Opened.{IsKnown, nothing_opened, span_or_nothing}
 use Rattle.std.proofs.lemmas.Bool.{le-leb}
 
 -- nothing comes before the first
-first_behind : (chains : Chains) (s : SegmentView) → behind no_ends chains s ≡ Ok s
-first_behind chains s = rw (le-leb 0 chains.place (omega arith), le-leb 0 s.command.fileoff (omega arith)) refl
+first_after : (chains : Chains) (s : SegmentView) → following no_ends chains s ≡ Ok s
+first_after chains s = rw (le-leb 0 chains.place (omega arith), le-leb 0 s.command.fileoff (omega arith)) refl
 
 -- if a segment lies after another one, it is that segment
-same_behind : (before : Ends) (chains : Chains) (s t : SegmentView) → behind before chains s ≡ Ok t → s ≡ t
-same_behind before chains s t e = by_tests (nat_le before.starts chains.place) (nat_le before.in_file s.command.fileoff) e
+same_following : (before : Ends) (chains : Chains) (s t : SegmentView) → following before chains s ≡ Ok t → s ≡ t
+same_following before chains s t e = by_tests (nat_le before.starts chains.place) (nat_le before.in_file s.command.fileoff) e
   where
     by_tests : (p q : Bool) → cond p (cond q (Ok s) (Err malformed)) (Err malformed) ≡ Ok t → s ≡ t
     by_tests true true e = same_ok e
@@ -29,22 +29,22 @@ same_behind before chains s t e = by_tests (nat_le before.starts chains.place) (
 
 -- a segment that lies after another one is the same without that one
 abbrev then_span : Ends → ℕ → Chains → SegmentView → Result (Option Span) Fault
-then_span before k chains h = behind before chains h >>= λ (n : SegmentView). Ok (Some (span_of k chains n))
+then_span before k chains h = following before chains h >>= λ (n : SegmentView). Ok (Some (span_of k chains n))
 
 some_same : {r q : Span} → ◌≡◌ {A = Result (Option Span) Fault} (Ok (Some r)) (Ok (Some q)) → r ≡ q
 some_same e = cc
 
 span_same : (before : Ends) (k : ℕ) (chains : Chains) (h : SegmentView) (s : Span) → then_span before k chains h ≡ Ok (Some s) → span_of k chains h ≡ s
 span_same before k chains h s e =
-    let d = bind_ok (behind before chains h) (λ (n : SegmentView). Ok (Some (span_of k chains n))) (Some s) e in
-    ap (λ (n : SegmentView). span_of k chains n) (same_behind before chains h d.0 d.1) ∙ some_same d.2
+    let d = bind_ok (following before chains h) (λ (n : SegmentView). Ok (Some (span_of k chains n))) (Some s) e in
+    ap (λ (n : SegmentView). span_of k chains n) (same_following before chains h d.0 d.1) ∙ some_same d.2
 
 module _ (x : FixupInput) (before : Ends) (k : ℕ) (s : Span) where
   by_memory : (chains : Chains) (r : Result SegmentView Fault) → (r >>= then_span before k chains) ≡ Ok (Some s)
       → ((r >>= then_span no_ends k chains) ≡ Ok (Some s)) × (k ≡ s.number)
   by_memory chains (Ok h) e =
       let same = span_same before k chains h s e in (
-        ap (λ (r : Result SegmentView Fault). r >>= λ (n : SegmentView). Ok (Some (span_of k chains n))) (first_behind chains h)
+        ap (λ (r : Result SegmentView Fault). r >>= λ (n : SegmentView). Ok (Some (span_of k chains n))) (first_after chains h)
             ∙ ap (λ (q : Span). Ok (Some q)) same,
         ap (λ (q : Span). q.number) same,
       )

@@ -10,8 +10,8 @@ use Rattle.mach_chained.specs.Bindings.{bindings_of}
 use Rattle.mach_chained.specs.WalkViews.{fixup_input_of}
 use Rattle.mach_chained.specs.FixupsLeft.{fixups_left}
 
-abbrev pub bindings_seen : List binding.Binding → List Binding
-bindings_seen items = map binding_view items
+abbrev pub bindings_view : List binding.Binding → List Binding
+bindings_view items = map binding_view items
 
 unfoldable pub chained_bindings_left : ChainedBindIterator → List (Result Binding Fault)
 chained_bindings_left it =

@@ -24,12 +24,12 @@ abbrev pub span_in : FixupInput → FixupCursor → Span
 span_in x c = if c.opened == 0 then nothing_opened else span_or_nothing (span_at x no_ends c.number)
 
 -- the fixups from a cursor on
-abbrev pub fixups_behind : FixupInput → FixupCursor → List (Result Fixup Fault)
-fixups_behind x c = fixups_unless_ended (says_yes c.ended) x (span_in x c) (next_place_said c.next c.at c.has_more c.index) c.page c.next_page c.segment
+abbrev pub fixups_after : FixupInput → FixupCursor → List (Result Fixup Fault)
+fixups_after x c = fixups_unless_ended (says_yes c.ended) x (span_in x c) (next_place_said c.next c.at c.has_more c.index) c.page c.next_page c.segment
 
 -- the bindings from a cursor on, with these libraries
-abbrev pub chained_bindings_behind : FixupInput → List (List ℕ) → FixupCursor → List (Result Binding Fault)
-chained_bindings_behind x libs c = bindings_of x libs (fixups_behind x c)
+abbrev pub chained_bindings_after : FixupInput → List (List ℕ) → FixupCursor → List (Result Binding Fault)
+chained_bindings_after x libs c = bindings_of x libs (fixups_after x c)
 
 -- the iterator reads this input, and its segment is known
 pub record IsOverFixups (x : FixupInput) (it : FixupIterator) : Type 0 where

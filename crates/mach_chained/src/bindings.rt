@@ -2,7 +2,7 @@
 
 ghost use Rattle.std.specs.Prelude.{◌≡◌, ◌+◌, ◌≤◌, ◌+ℤ◌, [], List, length, map, Option, Some, None, IfOk, IfErr, IfNone, IfSome, OnOk, OnErr, MatchOption};
 ghost use Rattle.std.specs.Iterator.{YieldsFirstBy};
-ghost use Rattle.mach_base.specs.Answer.{Reads, Stands, IsOkUnlessMemory};
+ghost use Rattle.mach_base.specs.Answer.{Reads, ErrorMeets, IsOkUnlessMemory};
 ghost use Rattle.mach_base.specs.Fault.{Fault};
 ghost use Rattle.mach_base.specs.KeptText.{kept_bytes};
 ghost use Rattle.mach_chained.specs.Bindings.{place_in_file, signed_or_malformed, chained_binding_of, binding_in, bindings_of, AreBindingItems, ListsBindings};
@@ -99,7 +99,7 @@ impl<'a> ChainedFixups<'a> {
 }
 
 impl<'a> ChainedFixups<'a> {
-    ghost use Rattle.mach_chained.specs.BindingViews.{bindings_seen};
+    ghost use Rattle.mach_chained.specs.BindingViews.{bindings_view};
 
     /// Returns the bindings of all binds of the chains, in order. `libs` are the image's libraries, by ordinal, `segments` its segments,
     /// and `base` is the address of its first byte in memory. Each error except `Error::Memory` is a fault among the fixups or the binds.
@@ -111,10 +111,10 @@ impl<'a> ChainedFixups<'a> {
         base: u64,
     ) -> Result<Vec<Binding<'a>, A>>
         ensures listed { IfOk result (λ v. ListsBindings (fixup_input_in self.now segments.now base)
-            (texts libs.now) (bindings_seen v.items)) }
+            (texts libs.now) (bindings_view v.items)) }
         ensures only { (list : List (declared.Binding)) → ListsBindings (fixup_input_in self.now segments.now base)
             (texts libs.now) list → IsOkUnlessMemory result }
-        ensures refused { IfErr result (Stands (BindingFault (fixup_input_in self.now segments.now base)
+        ensures refused { IfErr result (ErrorMeets (BindingFault (fixup_input_in self.now segments.now base)
             (texts libs.now))) }
     {
         self.binds_counted(alloc, libs, segments, base, &mut Steps::new())
@@ -131,10 +131,10 @@ impl<'a> ChainedFixups<'a> {
         steps: &mut Steps,
     ) -> Result<Vec<Binding<'a>, A>>
         ensures listed { IfOk result (λ v. ListsBindings (fixup_input_in self.now segments.now base)
-            (texts libs.now) (bindings_seen v.items)) }
+            (texts libs.now) (bindings_view v.items)) }
         ensures only { (list : List (declared.Binding)) → ListsBindings (fixup_input_in self.now segments.now base)
             (texts libs.now) list → IsOkUnlessMemory result }
-        ensures refused { IfErr result (Stands (BindingFault (fixup_input_in self.now segments.now base)
+        ensures refused { IfErr result (ErrorMeets (BindingFault (fixup_input_in self.now segments.now base)
             (texts libs.now))) }
         ensures reads { IfOk result (λ _. (ps : List PlacedFixup)
             × AreFixups (fixup_input_in self.now segments.now base) ps None × (steps.new ≡ steps.old + length ps)) }

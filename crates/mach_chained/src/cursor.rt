@@ -1,7 +1,7 @@
 //! The position of the walk along chains, as plain numbers.
 
 ghost use Rattle.std.specs.Prelude.{◌≡◌};
-ghost use Rattle.mach_chained.specs.FixupCursors.{next_place_said, span_in, fixups_behind, IsOverFixups};
+ghost use Rattle.mach_chained.specs.FixupCursors.{next_place_said, span_in, fixups_after, IsOverFixups};
 ghost use Rattle.mach_base.specs.Number.{says_yes};
 ghost use Rattle.mach_chained.specs.Fixups.{FixupInput, no_ends, span_at};
 ghost use Rattle.mach_chained.specs.FixupsLeft.{fixups_left};
@@ -115,7 +115,7 @@ impl<'a> ChainedFixups<'a> {
         base: u64,
         cursor: &FixupCursor,
     ) -> FixupIterator<'a, 'b>
-        ensures items { fixups_left result ≡ fixups_behind (fixup_input_in self.now segments.now base) cursor.now }
+        ensures items { fixups_left result ≡ fixups_after (fixup_input_in self.now segments.now base) cursor.now }
         ensures over { IsOverFixups (fixup_input_in self.now segments.now base) result }
     {
         let source = Source {
@@ -140,7 +140,7 @@ impl<'a> ChainedFixups<'a> {
 impl FixupIterator<'_, '_> {
     /// Returns a cursor for the remaining fixups.
     pub fn cursor(&self) -> FixupCursor
-        ensures { (x : FixupInput) → IsOverFixups x self.now → fixups_behind x result ≡ fixups_left self.now }
+        ensures { (x : FixupInput) → IsOverFixups x self.now → fixups_after x result ≡ fixups_left self.now }
     {
         let (next, at, has_more, index) = numbers_of(self.next);
         FixupCursor {

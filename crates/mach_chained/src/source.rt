@@ -6,10 +6,10 @@ ghost use Rattle.mach_base.specs.Fault.{malformed};
 ghost use Rattle.mach_base.specs.Number.{number, number_at};
 ghost use Rattle.mach_base.specs.Sums.{found_or_malformed};
 ghost use Rattle.mach_chained.specs.Pointers.{pointer_width};
-ghost use Rattle.mach_chained.specs.Fixups.{FixupInput, span_at, no_ends, ends_of, in_memory, behind, start_at, spot_by_start, spot_by, start_among};
+ghost use Rattle.mach_chained.specs.Fixups.{FixupInput, span_at, no_ends, ends_of, in_memory, following, start_at, spot_by_start, spot_by, start_among};
 ghost use Rattle.mach_chained.specs.Fixups.{first_in_page};
 ghost use Rattle.mach_chained.specs.Fixups.{next_in_page, fixup_at};
-ghost use Rattle.mach_chained.specs.WalkViews.{fixup_input_of, chains_view, span_view, span_seen, spot_view, spot_seen, fixup_seen};
+ghost use Rattle.mach_chained.specs.WalkViews.{fixup_input_of, chains_view, span_view, span_option_view, spot_view, spot_option_view, fixup_pair_view};
 ghost use Rattle.mach_chained.specs.FixupsLeft.{next_spot};
 ghost use Rattle.mach_chained.specs.Opened.{nothing_opened};
 ghost use Rattle.std.specs.Prelude.{map, slice_get};
@@ -200,16 +200,16 @@ impl<'a, 'b> Source<'a, 'b> {
     }
 
     // Tests whether the segment's starts and its data lie after those of the segment before.
-    fn behind(
+    fn following(
         &self,
         before: &Span<'a>,
         chains: &Chains,
         segment: &'b Segment<'a>,
     ) -> Result<&'b Segment<'a>>
-        ensures { Reads (λ s. segment_view s.now) result (behind (ends_of (span_view before.now)) (chains_view chains.now) (segment_view segment.now)) }
+        ensures { Reads (λ s. segment_view s.now) result (following (ends_of (span_view before.now)) (chains_view chains.now) (segment_view segment.now)) }
     {
         if chains.place < before.chains.upto {
-            return Err(Error::Malformed("starts lie behind those before them"));
+            return Err(Error::Malformed("starts lie before the end of earlier ones"));
         }
         let end = u128::from(before.fileoff) + before.bytes.len() as u128;
         if u128::from(segment.fileoff) < end {
@@ -221,7 +221,7 @@ impl<'a, 'b> Source<'a, 'b> {
     // Opens a segment with its chains, if it has any. It must lie after the one before.
     #[tactic(auto, unfolding(crate::specs::Fixups::span_at))]
     pub fn span(&self, before: &Span<'a>, number: u32) -> Result<Option<Span<'a>>>
-        ensures { Reads span_seen result (span_at (fixup_input_of self.now) (ends_of (span_view before.now)) number) }
+        ensures { Reads span_option_view result (span_at (fixup_input_of self.now) (ends_of (span_view before.now)) number) }
     {
         let Some((starts, place)) = self.fixups.starts(number)? else {
             return Ok(None);
@@ -229,7 +229,7 @@ impl<'a, 'b> Source<'a, 'b> {
         let chains = Chains::of(&starts, place)?;
         let segment = nth_segment(self.segments, number)?;
         let there = self.in_memory(&chains, segment)?;
-        let next = self.behind(before, &chains, there)?;
+        let next = self.following(before, &chains, there)?;
         Ok(Some(Span {
             number,
             vmaddr: next.vmaddr,
@@ -262,7 +262,7 @@ impl<'a, 'b> Source<'a, 'b> {
     // Returns the first place of a page, if it has one.
     #[tactic(auto, unfolding(crate::specs::Fixups::first_in_page))]
     pub fn first_in_page(&self, span: &Span<'a>, page: u16) -> Result<Option<PagePlace>>
-        ensures { Reads spot_seen result (first_in_page (fixup_input_of self.now) (span_view span.now) page) }
+        ensures { Reads spot_option_view result (first_in_page (fixup_input_of self.now) (span_view span.now) page) }
     {
         let start = self.start(span, u32::from(page))?;
         if start == DYLD_CHAINED_PTR_START_NONE {
@@ -291,7 +291,7 @@ impl<'a, 'b> Source<'a, 'b> {
         steps: &mut Steps,
     ) -> Option<(Fixup, u32)>
         ensures value { MatchOption result (fixup_at (fixup_input_of self.now) (span_view span.now) page at ≡ Err malformed)
-            (λ found. fixup_at (fixup_input_of self.now) (span_view span.now) page at ≡ Ok (fixup_seen found)) }
+            (λ found. fixup_at (fixup_input_of self.now) (span_view span.now) page at ≡ Ok (fixup_pair_view found)) }
         ensures within { IfSome result (λ _. at < 2 ^ 16) }
         ensures reads { IfSome result (λ _. steps.new ≡ steps.old + 1) }
         ensures bounded { steps.new ≤ steps.old + 1 }

@@ -23,9 +23,10 @@ module _ (first : Bool) (x : Named) (words : List Named) (rest : ℕ) where
 -- one more name was written
 pub words_more : (all text one : List ℕ) (first next : Bool) (rest left : ℕ) (words : List FlagWord) (i : ℕ) (d : FlagWord) → i < length words
     → all ≡ text ++ flag_words_text first (map flag_named (drop i words)) rest
-    → ((behind : List Named) → flag_words_text first (flag_named (get_or words i d) ∷ behind) rest ≡ one ++ flag_words_text next behind left)
+    → ((following : List Named) → flag_words_text first (flag_named (get_or words i d) ∷ following) rest ≡ one ++ flag_words_text next following left)
     → all ≡ (text ++ one) ++ flag_words_text next (map flag_named (drop (i + 1) words)) left
-words_more all text one first next rest left words i d inside is stands =
-    let behind = map flag_named (drop (i + 1) words) in
-    is ∙ ap (λ more. text ++ more) (at_drop_more (λ (some : List FlagWord). flag_words_text first (map flag_named some) rest) words i d inside ∙ stands behind)
-    ∙ sym (append_assoc text one (flag_words_text next behind left))
+words_more all text one first next rest left words i d inside is occurs =
+    let following = map flag_named (drop (i + 1) words) in
+    is ∙ ap (λ more. text ++ more) (at_drop_more (λ (some : List FlagWord). flag_words_text first (map flag_named some) rest) words i d inside
+    ∙ occurs following)
+    ∙ sym (append_assoc text one (flag_words_text next following left))

@@ -3,7 +3,7 @@ use Rattle.std.proofs.Common.{◌≡◌, ◌∷◌, [], List, Bool, true, false,
 use Rattle.std.specs.List.{list_any}
 use Rattle.goblin_mach.specs.Items.{ItemView}
 use Rattle.mach_cli.specs.declared.cpu.Cpu.{Cpu}
-use Rattle.mach_cli.specs.Asked.{are_missed, is_part_for}
+use Rattle.mach_cli.specs.Selected.{are_missed, is_part_for}
 
 -- the same for the parts left, after others of which none was selected, if there were some
 abbrev pub missed_from : Cpu → (is_any : Bool) → List ItemView → Bool

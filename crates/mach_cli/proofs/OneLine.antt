@@ -46,9 +46,9 @@ module _ (P : ℕ → Type 0) where
       let signed = fill_text s spaces ++ sign_text_with s.plus negative in
       let named = All-append P signed (shown_prefix s prefix) front (All-if s.alternate prefix [] before (All-nil P)) in
       let whole = All-append P (signed ++ shown_prefix s prefix) (replicate zeros 48) named (All-replicate P zeros 48 nought) in
-      let behind = fill_after_digits s negative prefix (length numeral) in
-      All-append P (before_digits s negative prefix (length numeral)) (numeral ++ fill_text s behind) whole
-      (All-append P numeral (fill_text s behind) all (All-repeat behind (encode 32) fill))
+      let following = fill_after_digits s negative prefix (length numeral) in
+      All-append P (before_digits s negative prefix (length numeral)) (numeral ++ fill_text s following) whole
+      (All-append P numeral (fill_text s following) all (All-repeat following (encode 32) fill))
 
   -- for the digits of a number
   onto : (k base : ℕ) (upper : Bool) (n : ℕ) (acc : List ℕ) → ((d : ℕ) → d < base → P (digit_glyph upper d)) → 0 < base
@@ -136,9 +136,9 @@ printed-cut (suc k) bs =
     let n = utf8_valid_len bs in
     let bytes = take (utf8_invalid_len (drop n bs)) (drop n bs) in
     let others = escaped_bytes_within k (after_first_chunk bs) in
-    let behind = All-append IsPrinted (flat_map escape_text bytes) others (printed-escapes bytes) (printed-cut k (after_first_chunk bs)) in
+    let following = All-append IsPrinted (flat_map escape_text bytes) others (printed-escapes bytes) (printed-cut k (after_first_chunk bs)) in
     All-if IsPrinted (n == length bs) (escaped_text bs) (escaped_text (take n bs) ++ (flat_map escape_text bytes ++ others)) (printed-text bs)
-    (All-append IsPrinted (escaped_text (take n bs)) (flat_map escape_text bytes ++ others) (printed-text (take n bs)) behind)
+    (All-append IsPrinted (escaped_text (take n bs)) (flat_map escape_text bytes ++ others) (printed-text (take n bs)) following)
 
 pub printed-bytes : (bs : List ℕ) → All IsPrinted (escaped_bytes bs)
 unfolding escaped_bytes

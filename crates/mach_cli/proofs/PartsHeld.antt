@@ -10,12 +10,12 @@ use Rattle.goblin_mach.specs.Inputs.{begins_any_archive}
 use Rattle.goblin_mach.specs.Items.{ItemView, items_in}
 use Rattle.goblin_mach.specs.ItemsLeft.{input_items_left}
 use Rattle.goblin_mach.specs.declared.images.Images.{Images}
-use Rattle.mach_cli.specs.PartsOf.{entry_of_member, itself, parts_by_magic, parts_in, parts_of_archive, parts_of_narrow, parts_of_wide, told_items}
+use Rattle.mach_cli.specs.PartsOf.{entry_of_member, itself, parts_by_magic, parts_in, parts_of_archive, parts_of_narrow, parts_of_wide, reported_items}
 
 -- all of them, if not only those of archives are shown
-pub told_all : (last : Option ℕ) (xs : List ItemView) → told_items false last xs ≡ xs
-told_all last [] = refl
-told_all last (x ∷ xs) = ap (λ rest. x ∷ rest) (told_all (entry_of_member x.place.entry x.content) xs)
+pub reported_all : (last : Option ℕ) (xs : List ItemView) → reported_items false last xs ≡ xs
+reported_all last [] = refl
+reported_all last (x ∷ xs) = ap (λ rest. x ∷ rest) (reported_all (entry_of_member x.place.entry x.content) xs)
 
 -- by how the bytes begin
 by_front : (bytes : List ℕ) (is : Bool) → begins_any_archive bytes ≡ is
@@ -32,7 +32,7 @@ of_wide bytes file begins magic is =
     ∙ ap (λ (found : Result FatFile Fault). parts_of_wide found bytes) is
 
 pub of_narrow : (bytes : List ℕ) (file : FatFile) → begins_any_archive bytes ≡ false → number_at Big 4 bytes 0 ≡ Ok 0xcafe_babe
-    → fat_file_in bytes ≡ Ok file → parts_in bytes ≡ itself bytes ∷ told_items true None (items_in bytes)
+    → fat_file_in bytes ≡ Ok file → parts_in bytes ≡ itself bytes ∷ reported_items true None (items_in bytes)
 of_narrow bytes file begins magic is =
     by_front bytes false begins ∙ ap (λ (found : Result ℕ Fault). parts_by_magic found bytes) magic
     ∙ ap (λ (found : Result FatFile Fault). parts_of_narrow found bytes) is

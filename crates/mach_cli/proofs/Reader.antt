@@ -89,12 +89,12 @@ read-cut (suc k) bs rest small =
     let text = escaped_text (take n bs) in
     let bytes = flat_map escape_text (take m (drop n bs)) in
     let others = escaped_bytes_within k (after_first_chunk bs) in
-    let behind = All-drop (λ b. b < 256) n bs small in
+    let following = All-drop (λ b. b < 256) n bs small in
     elim (n == length bs) as (λ t. unescaped (cond t (escaped_text bs) (text ++ (bytes ++ others)) ++ rest) ≡ bs ++ unescaped rest) [
       | true ↦ read-text bs rest small
       | false ↦ ap unescaped (append_assoc text (bytes ++ others) rest ∙ ap (λ t. text ++ t) (append_assoc bytes others rest))
           ∙ read-text (take n bs) (bytes ++ (others ++ rest)) (All-take (λ b. b < 256) n bs small)
-          ∙ ap (λ t. take n bs ++ t) (read-escapes (take m (drop n bs)) (others ++ rest) (All-take (λ b. b < 256) m (drop n bs) behind))
+          ∙ ap (λ t. take n bs ++ t) (read-escapes (take m (drop n bs)) (others ++ rest) (All-take (λ b. b < 256) m (drop n bs) following))
           ∙ ap (λ t. take n bs ++ (take m (drop n bs) ++ t)) (read-cut k (after_first_chunk bs) rest (All-drop (λ b. b < 256) (n + m) bs small))
           ∙ ap (λ t. take n bs ++ (take m (drop n bs) ++ (t ++ unescaped rest))) (sym (drop-drop m n bs))
           ∙ ap (λ t. take n bs ++ t) (parted (drop n bs) rest m)

@@ -166,9 +166,9 @@ char_first s n (three is first from to low up) =
     )
 
 -- and after it the next one begins
-pub escape_behind : (style : Style) (s : List ℕ) (i : ℕ) → i < length s → IsUtf8 s → 0 < escape_len style (drop i s)
+pub escape_after : (style : Style) (s : List ℕ) (i : ℕ) → i < length s → IsUtf8 s → 0 < escape_len style (drop i s)
     → IsCharBoundary s (i + escape_len style (drop i s))
-escape_behind style s i within text some =
+escape_after style s i within text some =
     let here = escape_here style s i within some in
     let (c, is, len) = char_first (drop i s) _ (escape_kind style (drop i s) some) in
     rw (sym len) (IsCharBoundary-past_char s _ i c (omega arith) (IsUtf8-drop s i text here) is)
@@ -226,8 +226,8 @@ pub so_far-kept : (style : Style) (s done : List ℕ) (start at : ℕ) → start
     → IsSoFar style s start at done → IsSoFar style s start (at + 1) done
 so_far-kept style s done start at low within none so_far =
     let x = get_or s at 0 in
-    let behind = get_or-drop start s (at - start) 0 in
-    let is : get_or (drop start s) (at - start) 0 ≡ x = rw (behind, run_to start at low) refl in
+    let following = get_or-drop start s (at - start) 0 in
+    let is : get_or (drop start s) (at - start) 0 ≡ x = rw (following, run_to start at low) refl in
     let more = take_more (drop start s) (at - start) 0 (omega (arith, length-drop start s)) in
     let next : at + 1 - start ≡ at - start + 1 = omega arith in
     let front = drop_more s at 0 within in
@@ -291,9 +291,9 @@ faulty_chunk k bs valid invalid rest parts valid_len invalid_len some =
     let total = ap length parts ∙ length-append valid (invalid ++ rest) in
     let faulty : ¬ (n ≡ length bs) = omega (arith, length-append invalid rest) in
     let front : take n bs ≡ valid = ap (take n) parts ∙ take_at valid _ n valid_len in
-    let behind : drop n bs ≡ invalid ++ rest = ap (drop n) parts ∙ drop_at valid _ n valid_len in
-    let back : take m (drop n bs) ≡ invalid = ap (take m) behind ∙ take_at invalid rest m invalid_len in
-    let after : after_first_chunk bs ≡ rest = sym (drop-drop m n bs) ∙ ap (drop m) behind ∙ drop_at invalid rest m invalid_len in
+    let following : drop n bs ≡ invalid ++ rest = ap (drop n) parts ∙ drop_at valid _ n valid_len in
+    let back : take m (drop n bs) ≡ invalid = ap (take m) following ∙ take_at invalid rest m invalid_len in
+    let after : after_first_chunk bs ≡ rest = sym (drop-drop m n bs) ∙ ap (drop m) following ∙ drop_at invalid rest m invalid_len in
     within_fault k bs faulty ∙ (λ i. escaped_text (front i) ++ (flat_map escape_text (back i) ++ escaped_bytes_within k (after i)))
 
 last_chunk : (k : ℕ) (bs valid invalid rest : List ℕ) → bs ≡ valid ++ (invalid ++ rest) → length valid ≡ utf8_valid_len bs

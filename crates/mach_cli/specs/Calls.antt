@@ -39,7 +39,7 @@ cpu_said (cpus.Arch arch) = of_arch (arch_row_of arch)
 
 -- what arguments request: the number after `--limit`, the selected cpu, the other arguments, the lists after `--names`, whether
 -- names in these end with NUL, and the arguments that aren't text
-pub record CallSaid : Type 0 where
+pub record ParsedCall : Type 0 where
   pub limit : Option ℕ
   pub cpu : CpuSaid
   pub words : List (List ℕ)
@@ -50,7 +50,7 @@ pub record CallSaid : Type 0 where
 abbrev pub byte_word_of : NoText → ByteWord
 byte_word_of t = record { number = t.number; bytes = t.bytes.now }
 
-abbrev pub call_view : {A : Type 0} → Call A → CallSaid
+abbrev pub call_view : {A : Type 0} → Call A → ParsedCall
 call_view c = record {
   limit = c.limit;
   cpu = cpu_said c.cpu;
@@ -61,8 +61,8 @@ call_view c = record {
 }
 
 -- before the first argument
-abbrev pub nothing_said : CallSaid
-nothing_said = record { limit = None; cpu = any_cpu; words = []; lists = []; ends_with_nul = false; no_texts = [] }
+abbrev pub empty_call : ParsedCall
+empty_call = record { limit = None; cpu = any_cpu; words = []; lists = []; ends_with_nul = false; no_texts = [] }
 
 -- The argument is a number of digits, perhaps after a plus, that fits 64 bits.
 abbrev pub IsLimit : List ℕ → ℕ → Type 0
@@ -74,7 +74,7 @@ abbrev pub IsCputype : List ℕ → ℕ → Type 0
 IsCputype word number = (digits : List ℕ) × (word ≡ codes "0x" ++ digits) × IsNumeral 16 digits × (length digits ≤ 8) × (number ≡ digits_value 16 digits)
 
 -- What an option and its value add to a call: the number of lines, the cpu of a name or a number, or one more list.
-abbrev pub TakesValue : Valued → List ℕ → (old new : CallSaid) → Type 0
+abbrev pub TakesValue : Valued → List ℕ → (old new : ParsedCall) → Type 0
 TakesValue valued.Limit word old new = (number : ℕ) × IsLimit word number × (new ≡ record old { limit = Some number })
 TakesValue valued.Arch word old new =
     (row : ArchRow) × (arch_named arch_rows word ≡ Some row) × (new ≡ record old { cpu = of_arch row })
@@ -101,20 +101,20 @@ abbrev pub kind_at : (is_plain : Bool) → Options → List ℕ → Kind
 kind_at is_plain options word = if is_plain then kinds.Other else word_kind options word
 
 -- The value of an option is text.
-abbrev pub TakesWord : Valued → Word → (old new : CallSaid) → Type 0
+abbrev pub TakesWord : Valued → Word → (old new : ParsedCall) → Type 0
 TakesWord option (Text text) old new = TakesValue option (string_bytes text) old new
 TakesWord option (Bytes number bytes) old new = ⊥
 
 -- An argument that is no option is added; if it isn't text, only where it may be one of several files.
-abbrev pub AddsWord : Options → Word → (old new : CallSaid) → Type 0
+abbrev pub AddsWord : Options → Word → (old new : ParsedCall) → Type 0
 AddsWord options (Text text) old new = new ≡ record old { words = old.words ++ string_bytes text ∷ [] }
 AddsWord options (Bytes number bytes) old new = (options.has_files ≡ true)
     × (new ≡ record old { no_texts = old.no_texts ++ record { number = number; bytes = bytes.items } ∷ [] })
 
 -- Arguments are added in order; none is an option.
-abbrev pub AddsWords : Options → (old : CallSaid) → List Word → (new : CallSaid) → Type 0
+abbrev pub AddsWords : Options → (old : ParsedCall) → List Word → (new : ParsedCall) → Type 0
 AddsWords options old [] new = new ≡ old
-AddsWords options old (word ∷ words) new = (next : CallSaid) × AddsWord options word old next × AddsWords options next words new
+AddsWords options old (word ∷ words) new = (next : ParsedCall) × AddsWord options word old next × AddsWords options next words new
 
 -- what holds for an argument, by its kind
 abbrev pub ByKind : Kind → (plain nul : Type 0) → (value : Valued → Type 0) → (other : Type 0) → Type 0
@@ -128,24 +128,24 @@ ByKind kinds.Unknown plain nul value other = ⊥
 
 -- Arguments extend the call `old` to `new`. The last argument before them may be an option that lacks its value. An option takes
 -- the argument after it; all arguments after `--` are others, and so is each argument that is no option.
-abbrev pub AsksFor : Options → (option : Option Valued) → (old : CallSaid) → List Word → (new : CallSaid) → Type 0
-AsksFor options None old [] new = new ≡ old
-AsksFor options (Some option) old [] new = ⊥
-AsksFor options (Some option) old (word ∷ words) new = (next : CallSaid) × TakesWord option word old next × AsksFor options None next words new
-AsksFor options None old (word ∷ words) new =
+abbrev pub Selects : Options → (option : Option Valued) → (old : ParsedCall) → List Word → (new : ParsedCall) → Type 0
+Selects options None old [] new = new ≡ old
+Selects options (Some option) old [] new = ⊥
+Selects options (Some option) old (word ∷ words) new = (next : ParsedCall) × TakesWord option word old next × Selects options None next words new
+Selects options None old (word ∷ words) new =
     ByKind (word_kind options (word_text word)) (AddsWords options old words new)
-    (AsksFor options None (record old { ends_with_nul = true }) words new)
-    (λ option. AsksFor options (Some option) old words new)
-    ((next : CallSaid) × AddsWord options word old next × AsksFor options None next words new)
+    (Selects options None (record old { ends_with_nul = true }) words new)
+    (λ option. Selects options (Some option) old words new)
+    ((next : ParsedCall) × AddsWord options word old next × Selects options None next words new)
 
 -- The request is what the arguments add to a call: this call; or they request no call.
-abbrev pub IsRequest : {A : Type 0} → Options → (old : CallSaid) → List Word → Request A → Type 0
-IsRequest options old words (requests.Call call) = AsksFor options None old words (call_view call)
-IsRequest options old words requests.Help = (new : CallSaid) → AsksFor options None old words new → ⊥
-IsRequest options old words requests.Version = (new : CallSaid) → AsksFor options None old words new → ⊥
-IsRequest options old words (requests.Nothing misuse) = (new : CallSaid) → AsksFor options None old words new → ⊥
+abbrev pub IsRequest : {A : Type 0} → Options → (old : ParsedCall) → List Word → Request A → Type 0
+IsRequest options old words (requests.Call call) = Selects options None old words (call_view call)
+IsRequest options old words requests.Help = (new : ParsedCall) → Selects options None old words new → ⊥
+IsRequest options old words requests.Version = (new : ParsedCall) → Selects options None old words new → ⊥
+IsRequest options old words (requests.Nothing misuse) = (new : ParsedCall) → Selects options None old words new → ⊥
 
 -- The arguments are at fault: they extend to no call.
-abbrev pub AreUntaken : (CallSaid → Type 0) → Untaken → Type 0
-AreUntaken made (Misuse misuse) = (new : CallSaid) → made new → ⊥
+abbrev pub AreUntaken : (ParsedCall → Type 0) → Untaken → Type 0
+AreUntaken made (Misuse misuse) = (new : ParsedCall) → made new → ⊥
 AreUntaken made Memory = ⊤

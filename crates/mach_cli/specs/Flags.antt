@@ -56,7 +56,7 @@ flag_words_text is_first (x ∷ xs) rest =
 pub record WritesWord (word : Named) (is_first : Bool) (rest : ℕ) (is_next_first : Bool) (rest_next : ℕ) (old new : Option (List ℕ)) : Type 0 where
   pub text : List ℕ
   pub written : Appends old new text
-  pub stands : (words : List Named) → flag_words_text is_first (word ∷ words) rest ≡ text ++ flag_words_text is_next_first words rest_next
+  pub occurs : (words : List Named) → flag_words_text is_first (word ∷ words) rest ≡ text ++ flag_words_text is_next_first words rest_next
 
 -- the parenthesis after them, if there are any
 abbrev pub end_text : ℕ → List ℕ

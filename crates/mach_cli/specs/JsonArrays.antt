@@ -9,16 +9,16 @@ use Rattle.mach_base.specs.Fault.{Fault}
 use Rattle.mach_base.specs.Words.{words_of}
 use Rattle.mach_base.specs.declared.error.Error.{Error}
 use Rattle.mach_cli.specs.Listings.{text_read, CountsRows}
-use Rattle.mach_cli.specs.declared.listing.Told.{Told}
+use Rattle.mach_cli.specs.declared.listing.ListProgress.{ListProgress}
 use Rattle.mach_cli.specs.JsonText.{json_bool}
 
-abbrev pub behind_comma : List ℕ → List ℕ
-behind_comma element = codes "," ++ element
+abbrev pub after_comma : List ℕ → List ℕ
+after_comma element = codes "," ++ element
 
 -- elements in order, a comma between two
 abbrev pub with_commas : List (List ℕ) → List ℕ
 with_commas [] = []
-with_commas (x ∷ xs) = x ++ flat_map behind_comma xs
+with_commas (x ∷ xs) = x ++ flat_map after_comma xs
 
 -- the separator before the next element
 abbrev pub comma_before : (is_first : Bool) → List ℕ
@@ -41,7 +41,7 @@ pub record IsArrayOf (rows : List (Result (List ℕ) Fault)) (text : List ℕ) :
   pub is_text : text ≡ codes "[" ++ (with_commas (map row_object answers) ++ codes "]")
 
 -- An array of the first rows was written, no more than `left`; `t` is the state after it.
-pub record WritesArray (left : ℕ) (rows : List (Result (List ℕ) Fault)) (old new : Option (List ℕ)) (t : Told) : Type 0 where
+pub record WritesArray (left : ℕ) (rows : List (Result (List ℕ) Fault)) (old new : Option (List ℕ)) (t : ListProgress) : Type 0 where
   pub text : List ℕ
   pub array : IsArrayOf (take left rows) text
   pub counts : CountsRows left rows t
@@ -54,7 +54,7 @@ pub record WritesAllRows (rows : List (Result (List ℕ) Fault)) (old new : Opti
   pub written : Appends old new text
 
 -- The objects of the first rows were written, no more than `left`; `t` is the state after them.
-pub record WritesObjects (left : ℕ) (rows : List (Result (List ℕ) Fault)) (old new : Option (List ℕ)) (t : Told) : Type 0 where
+pub record WritesObjects (left : ℕ) (rows : List (Result (List ℕ) Fault)) (old new : Option (List ℕ)) (t : ListProgress) : Type 0 where
   pub answers : List (Result (List ℕ) Error)
   pub are_rows : map text_read answers ≡ take left rows
   pub counts : CountsRows left rows t
@@ -72,7 +72,7 @@ abbrev pub array_member : List ℕ → List ℕ → List ℕ
 array_member name array = codes "\"" ++ (name ++ (codes "\":" ++ (array ++ codes ",")))
 
 -- An array was written as a member of this name, with a comma after it.
-pub record WritesMember (name : List ℕ) (left : ℕ) (rows : List (Result (List ℕ) Fault)) (old new : Option (List ℕ)) (t : Told) : Type 0 where
+pub record WritesMember (name : List ℕ) (left : ℕ) (rows : List (Result (List ℕ) Fault)) (old new : Option (List ℕ)) (t : ListProgress) : Type 0 where
   pub text : List ℕ
   pub array : IsArrayOf (take left rows) text
   pub counts : CountsRows left rows t
@@ -90,7 +90,7 @@ pub data AreArrayMembers : (left : ℕ) → List NamedRows → (text : List ℕ)
       (nat_lt left (length l.rows) || more) rest
 
 -- Such members were written; `t` is the state after them.
-pub record WritesMembers (left : ℕ) (lists : List NamedRows) (old new : Option (List ℕ)) (t : Told) : Type 0 where
+pub record WritesMembers (left : ℕ) (lists : List NamedRows) (old new : Option (List ℕ)) (t : ListProgress) : Type 0 where
   pub text : List ℕ
   pub members : AreArrayMembers left lists text t.whole t.more t.left
   pub written : Appends old new text
@@ -120,7 +120,7 @@ pub record WritesListMembers (left : ℕ) (lists : List NamedRows) (whole : Bool
   pub written : Appends old new text
 
 -- The same for lists that claim `past` more items past the end of the bytes: it is whole only if there are none.
-pub record AreBegunMembers (left : ℕ) (lists : List NamedRows) (past : ℕ) (text : List ℕ) (whole : Bool) (rest : ℕ) : Type 0 where
+pub record AreMembersInBounds (left : ℕ) (lists : List NamedRows) (past : ℕ) (text : List ℕ) (whole : Bool) (rest : ℕ) : Type 0 where
   pub front : List ℕ
   pub readable : Bool
   pub more : Bool

@@ -11,7 +11,7 @@ pub mod Names
 pub mod Rounds
 pub mod Shown
 pub mod Statuses
-pub mod Asked
+pub mod Selected
 pub mod PartNames
 pub mod PartsOf
 pub mod ShownParts

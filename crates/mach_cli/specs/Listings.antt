@@ -10,15 +10,15 @@ use Rattle.mach_base.specs.Items.{read_as}
 use Rattle.mach_base.specs.Words.{words_of}
 use Rattle.mach_base.specs.declared.error.Error.{Error}
 use Rattle.mach_cli.specs.Lines.{AreLines, WritesLines}
-use Rattle.mach_cli.specs.declared.listing.Told.{Told}
+use Rattle.mach_cli.specs.declared.listing.ListProgress.{ListProgress}
 
 -- a number as programs write it in hexadecimal
 abbrev pub hex_text : ℕ → List ℕ
 hex_text n = codes "0x" ++ digits 16 false n
 
 -- the text of an item, or why it can't be read
-abbrev pub told_by : {X : Type 0} → (X → List ℕ) → Result X Fault → Result (List ℕ) Fault
-told_by text item = item >>= (λ x. Ok (text x))
+abbrev pub reported_by : {X : Type 0} → (X → List ℕ) → Result X Fault → Result (List ℕ) Fault
+reported_by text item = item >>= (λ x. Ok (text x))
 
 -- the text of a row that was read
 abbrev pub text_read : Result (List ℕ) Error → Result (List ℕ) Fault
@@ -30,13 +30,13 @@ text_answer text (Ok row) = Ok (text row)
 text_answer text (Err e) = Err e
 
 -- the line of a row: its text, or after a word the reason why it can't be read
-abbrev pub told_line : List ℕ → Result (List ℕ) Error → List ℕ
-told_line word (Ok text) = text ++ codes "\n"
-told_line word (Err e) = word ++ (codes ": " ++ (words_of e ++ codes "\n"))
+abbrev pub reported_line : List ℕ → Result (List ℕ) Error → List ℕ
+reported_line word (Ok text) = text ++ codes "\n"
+reported_line word (Err e) = word ++ (codes ": " ++ (words_of e ++ codes "\n"))
 
 -- the line after the last printed row, if there are more
 abbrev pub cut_line : ℕ → (more : Bool) → List ℕ
-cut_line limit more = if more then codes "limit: " ++ (decimal limit ++ codes " of them are told, and there are more\n") else []
+cut_line limit more = if more then codes "limit: " ++ (decimal limit ++ codes " shown, and there are more\n") else []
 
 -- the line that says how many more items of this name a list claims, with records that begin past the end of the bytes, if there are some
 abbrev pub past_line : (name : List ℕ) → (past : ℕ) → List ℕ
@@ -50,20 +50,20 @@ past_line name past = if past == 0 then [] else decimal past ++ (codes " more " 
 pub record AreFirstLines (word : List ℕ) (limit left : ℕ) (rows : List (Result (List ℕ) Fault)) (name : List ℕ) (past : ℕ) (text : List ℕ)
     (whole : Bool) (rest : ℕ) : Type 0 where
   pub lines : List ℕ
-  pub are_lines : AreLines text_read (told_line word) (take left rows) lines
+  pub are_lines : AreLines text_read (reported_line word) (take left rows) lines
   pub is_text : text ≡ lines ++ (cut_line limit (nat_lt left (length rows)) ++ past_line name past)
   pub is_whole : whole ≡ ((list_all is_ok (take left rows) && not (nat_lt left (length rows))) && (past == 0))
   pub is_rest : rest ≡ left - length rows
 
 -- The first rows were visited, no more than `left`; `t` is the state after them.
-pub record CountsRows (left : ℕ) (rows : List (Result (List ℕ) Fault)) (t : Told) : Type 0 where
+pub record CountsRows (left : ℕ) (rows : List (Result (List ℕ) Fault)) (t : ListProgress) : Type 0 where
   pub whole : t.whole ≡ list_all is_ok (take left rows)
   pub rest : t.left ≡ left - length rows
   pub more : t.more ≡ nat_lt left (length rows)
 
 -- The lines of the first rows were written, no more than `left`; `t` is the state after them.
-pub record WritesRows (word : List ℕ) (left : ℕ) (rows : List (Result (List ℕ) Fault)) (old new : Option (List ℕ)) (t : Told) : Type 0 where
-  pub lines : WritesLines text_read (told_line word) (take left rows) old new
+pub record WritesRows (word : List ℕ) (left : ℕ) (rows : List (Result (List ℕ) Fault)) (old new : Option (List ℕ)) (t : ListProgress) : Type 0 where
+  pub lines : WritesLines text_read (reported_line word) (take left rows) old new
   pub whole : t.whole ≡ list_all is_ok (take left rows)
   pub rest : t.left ≡ left - length rows
   pub more : t.more ≡ nat_lt left (length rows)

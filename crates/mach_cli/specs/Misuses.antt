@@ -8,7 +8,7 @@ use Rattle.mach_cli.specs.declared.misuse.Misuse.TheVariants.{UnknownOption, Unk
 abbrev pub misuse_words : Misuse → List ℕ
 misuse_words (UnknownOption word) = codes "unknown option '" ++ (escaped_text word.now ++ codes "'")
 misuse_words (UnknownWord word) = codes "unknown word '" ++ (escaped_text word.now ++ codes "'")
-misuse_words (NoNumber word) = codes "'" ++ (escaped_text word.now ++ codes "' is no number")
-misuse_words (NoCpu word) = codes "'" ++ (escaped_text word.now ++ codes "' is no cpu")
+misuse_words (NoNumber word) = codes "'" ++ (escaped_text word.now ++ codes "' is not a number")
+misuse_words (NoCpu word) = codes "'" ++ (escaped_text word.now ++ codes "' is not a cpu")
 misuse_words (Missing what) = codes "no " ++ (what.now ++ codes " is given")
 misuse_words (NoText word) = no_text_words word.what.now word.number word.bytes.now

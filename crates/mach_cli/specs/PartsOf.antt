@@ -37,15 +37,15 @@ is_of_archive last entry (Ok (archive_member m)) = true
 is_of_archive last entry (Ok no_member) = false
 is_of_archive last entry (Err f) = is_same_entry last entry
 
-abbrev pub if_told : Bool → ItemView → List ItemView → List ItemView
-if_told true x xs = x ∷ xs
-if_told false x xs = xs
+abbrev pub if_reported : Bool → ItemView → List ItemView → List ItemView
+if_reported true x xs = x ∷ xs
+if_reported false x xs = xs
 
 -- all items, or only those of archives
-abbrev pub told_items : (only : Bool) → (last : Option ℕ) → List ItemView → List ItemView
-told_items only last [] = []
-told_items only last (x ∷ xs) =
-    if_told (not only || is_of_archive last x.place.entry x.content) x (told_items only (entry_of_member x.place.entry x.content) xs)
+abbrev pub reported_items : (only : Bool) → (last : Option ℕ) → List ItemView → List ItemView
+reported_items only last [] = []
+reported_items only last (x ∷ xs) =
+    if_reported (not only || is_of_archive last x.place.entry x.content) x (reported_items only (entry_of_member x.place.entry x.content) xs)
 
 -- an archive is shown as its members
 abbrev pub parts_of_archive : Result ArchiveView Fault → List ℕ → List ItemView
@@ -59,7 +59,7 @@ parts_of_wide (Err f) bytes = itself bytes ∷ []
 
 -- a fat file of 32 bits is shown as itself, and after it the members of the archives among its entries
 abbrev pub parts_of_narrow : Result FatFile Fault → List ℕ → List ItemView
-parts_of_narrow (Ok file) bytes = itself bytes ∷ told_items true None (items_in bytes)
+parts_of_narrow (Ok file) bytes = itself bytes ∷ reported_items true None (items_in bytes)
 parts_of_narrow (Err f) bytes = itself bytes ∷ []
 
 abbrev pub parts_by_magic : Result ℕ Fault → List ℕ → List ItemView
@@ -88,7 +88,7 @@ itself_left (Some bytes) = itself bytes.now ∷ []
 itself_left None = []
 
 abbrev pub within_left : (only : Bool) → (last : Option ℕ) → Option Images → List ItemView
-within_left only last (Some images) = told_items only last (input_items_left images)
+within_left only last (Some images) = reported_items only last (input_items_left images)
 within_left only last None = []
 
 abbrev pub parts_left : Parts → List ItemView

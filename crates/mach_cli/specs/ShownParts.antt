@@ -13,10 +13,10 @@ pub data PartShown : Type 0 where
   shows_file : (bytes : List ℕ) → PartShown
   shows_within : (name bytes : List ℕ) → PartShown
 
-abbrev pub part_seen : ShownPart → PartShown
-part_seen Nothing = shows_nothing
-part_seen (Itself bytes) = shows_file bytes.now
-part_seen (Within name bytes) = shows_within (string_bytes name) bytes.now
+abbrev pub shown_part_view : ShownPart → PartShown
+shown_part_view Nothing = shows_nothing
+shown_part_view (Itself bytes) = shows_file bytes.now
+shown_part_view (Within name bytes) = shows_within (string_bytes name) bytes.now
 
 -- an entry or a member has its own name; an archive without members shows nothing
 abbrev pub shown_of : (file : List ℕ) → Option ℕ → ContentView → PartShown

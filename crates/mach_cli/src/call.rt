@@ -1,7 +1,7 @@
 //! The arguments of a call.
 
 ghost use Rattle.std.specs.Prelude.{◌≡◌, ℕ, None, IfErr, IfNone, IfOk, IfSome, OnOk};
-ghost use Rattle.mach_cli.specs.Calls.{call_view, nothing_said, kind_at, word_kind, AddsWord, AreUntaken, AsksFor, IsCputype, IsRequest, TakesValue, TakesWord};
+ghost use Rattle.mach_cli.specs.Calls.{call_view, empty_call, kind_at, word_kind, AddsWord, AreUntaken, Selects, IsCputype, IsRequest, TakesValue, TakesWord};
 
 use crate::cpu::{Arch, Cpu};
 use crate::misuse::Misuse;
@@ -120,10 +120,10 @@ impl Valued {
     // Returns what is missing if no value follows.
     fn missing(self) -> &'static str {
         match self {
-            Valued::Limit => "number behind --limit",
-            Valued::Arch => "NAME behind --arch",
-            Valued::Cputype => "0xN behind --cputype",
-            Valued::Names => "FILE behind --names",
+            Valued::Limit => "number after --limit",
+            Valued::Arch => "NAME after --arch",
+            Valued::Cputype => "0xN after --cputype",
+            Valued::Names => "FILE after --names",
         }
     }
 }
@@ -217,7 +217,7 @@ pub fn understand<'a, A: Allocator + Clone>(
     options: Options,
     words: &'a [Word],
 ) -> Result<Request<'a, A>, AllocError>
-    ensures { IfOk result (IsRequest options nothing_said words.now) }
+    ensures { IfOk result (IsRequest options empty_call words.now) }
 {
     let call = Call {
         limit: None,
@@ -243,7 +243,7 @@ fn read<'a, A: Allocator>(
     words: &'a [Word],
 ) -> Result<Request<'a, A>, Untaken<'a>>
     ensures request { IfOk result (IsRequest options (call_view call.entry) words.now) }
-    ensures untaken { IfErr result (AreUntaken (AsksFor options None (call_view call.entry) words.now)) }
+    ensures untaken { IfErr result (AreUntaken (Selects options None (call_view call.entry) words.now)) }
 {
     let mut before: Option<Valued> = None;
     let mut is_plain = false;

@@ -2,7 +2,7 @@
 
 ghost use Rattle.std.specs.Prelude.{◌≡◌, Some, option_map};
 ghost use Rattle.std.specs.List.{list_any};
-ghost use Rattle.mach_cli.specs.Cpus.{arch_named, arch_rows, arch_row_of, is_asked, is_of_cpu, misses};
+ghost use Rattle.mach_cli.specs.Cpus.{arch_named, arch_rows, arch_row_of, is_selected, is_of_cpu, misses};
 
 use goblin_mach::cputype::{
     CPU_ARCH_ABI64, CPU_SUBTYPE_MASK, CPU_TYPE_ARM, CPU_TYPE_ARM64, CPU_TYPE_ARM64_32,
@@ -52,14 +52,14 @@ impl Cpu {
 
     /// Whether the entry of a record is selected.
     pub fn takes_entry(&self, arch: &FatArch) -> bool
-        ensures { result ≡ is_asked self.now arch.now }
+        ensures { result ≡ is_selected self.now arch.now }
     {
         self.takes(arch.cputype, arch.cpusubtype)
     }
 
     // Whether any of these records is selected.
     fn has_entry(&self, archs: &[FatArch]) -> bool
-        ensures { result ≡ list_any (is_asked self.now) archs.now }
+        ensures { result ≡ list_any (is_selected self.now) archs.now }
     {
         'archs: for arch in archs {
             if self.takes_entry(arch) {

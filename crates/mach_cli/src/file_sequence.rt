@@ -42,7 +42,7 @@ impl Round {
         out: &mut BufWriter<Titled<W>, B>,
     ) -> Option<Vec<u8>>
         ensures same { IsSameCall self.old self.new }
-        ensures begun { Begins file.now self.old self.new out.old out.new result }
+        ensures started { Begins file.now self.old self.new out.old out.new result }
     {
         let bytes = match self.program.read(rt, file) {
             Ok(bytes) => bytes,

@@ -21,7 +21,7 @@ use std::io::{BufWriter, IsTerminal, Write};
 use std::str;
 
 /// What a program shows of a file.
-pub trait ShowsFile<W> {
+pub trait FileView<W> {
     ghost use Rattle.mach_cli.specs.Statuses.{IsStatus};
 
     /// Shows a file of a name, and returns the exit status.
@@ -54,7 +54,7 @@ struct Going {
 impl Files {
     /// Shows files in order, then those named in other ways, and returns the worst status. The status of a failed write is an
     /// error, since nothing is shown after it.
-    pub fn show<S: ShowsFile<BufWriter<Titled<W>, B>>, W: Write + Drop, B: Allocator>(
+    pub fn show<S: FileView<BufWriter<Titled<W>, B>>, W: Write + Drop, B: Allocator>(
         &self,
         rt: &HostRuntime,
         shows: &S,
@@ -84,7 +84,7 @@ impl Files {
     }
 
     // Shows the files of a list, and keeps the worst status. Empty names are skipped.
-    fn show_listed<S: ShowsFile<BufWriter<Titled<W>, B>>, W: Write + Drop, B: Allocator>(
+    fn show_listed<S: FileView<BufWriter<Titled<W>, B>>, W: Write + Drop, B: Allocator>(
         &self,
         rt: &HostRuntime,
         shows: &S,
@@ -118,7 +118,7 @@ impl Files {
     }
 
     // Shows a file, and keeps the worst status. If a call of many files takes long, a terminal shows which file begins.
-    fn show_file<S: ShowsFile<BufWriter<Titled<W>, B>>, W: Write + Drop, B: Allocator>(
+    fn show_file<S: FileView<BufWriter<Titled<W>, B>>, W: Write + Drop, B: Allocator>(
         &self,
         rt: &HostRuntime,
         shows: &S,
@@ -146,7 +146,7 @@ impl Files {
     }
 
     // Shows the selected parts of a file, and keeps the worst status.
-    fn show_parts<S: ShowsFile<BufWriter<Titled<W>, B>>, W: Write + Drop, B: Allocator>(
+    fn show_parts<S: FileView<BufWriter<Titled<W>, B>>, W: Write + Drop, B: Allocator>(
         &self,
         rt: &HostRuntime,
         shows: &S,
@@ -171,7 +171,7 @@ impl Files {
     }
 
     // Shows a part of a file, and returns the status.
-    fn show_part<S: ShowsFile<BufWriter<Titled<W>, B>>, W: Write + Drop, B: Allocator>(
+    fn show_part<S: FileView<BufWriter<Titled<W>, B>>, W: Write + Drop, B: Allocator>(
         &self,
         rt: &HostRuntime,
         shows: &S,
@@ -196,7 +196,7 @@ impl Files {
     }
 
     // Shows a file or a part of this name, and returns the status.
-    fn show_named<S: ShowsFile<BufWriter<Titled<W>, B>>, W: Write + Drop, B: Allocator>(
+    fn show_named<S: FileView<BufWriter<Titled<W>, B>>, W: Write + Drop, B: Allocator>(
         &self,
         rt: &HostRuntime,
         shows: &S,

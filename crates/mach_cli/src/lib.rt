@@ -19,11 +19,11 @@ mod word;
 // The output for a file, for an image, and for each entry.
 mod file_sequence;
 mod heading;
+mod image_view;
 mod listing;
 mod names;
 pub mod run;
 mod show;
-mod shows;
 mod titled;
 
 // Archives and fat files of 64 bits: each member and each entry is shown as a file of its own.
@@ -49,20 +49,21 @@ pub use crate::complaint::{Complaint, Trouble};
 pub use crate::cpu::{Arch, Cpu};
 pub use crate::directory_name::print_name;
 pub use crate::escaped::{Escaped, EscapedBytes, print_bytes, print_escaped};
-pub use crate::failure::Failure;
+pub use crate::failure::ShowFailure;
 pub use crate::file_sequence::Round;
-pub use crate::files::{Files, ShowsFile};
+pub use crate::files::{FileView, Files};
 pub use crate::flags::{print_code_flags, print_segment_flags};
 pub use crate::foreign::{Foreign, foreign_kind, refused_kind};
 pub use crate::heading::Heading;
+pub use crate::image_view::{ImageView, Outcome};
+pub use crate::json::arguments::take_json;
 pub use crate::json::array::{
     comma_before, print_array, print_empty, print_end, print_end_past, print_member, then,
 };
 pub use crate::json::signing::{AuthMembers, DiversityMembers, has_auth, key_by, rebase_type};
 pub use crate::json::text::JsonString;
-pub use crate::json::words::take_json;
 pub use crate::listing::{
-    Listing, Told, count_rows, print_cut, print_listing, print_past, print_rows,
+    ListProgress, Listing, count_rows, print_cut, print_listing, print_past, print_rows,
 };
 pub use crate::misuse::Misuse;
 pub use crate::named::{Others, names_of};
@@ -73,7 +74,6 @@ pub use crate::parts::shown::{ShownPart, shown_part};
 pub use crate::parts::{Parts, parts_of};
 pub use crate::program::Program;
 pub use crate::progress::Progress;
-pub use crate::shows::{Outcome, Shows};
 pub use crate::terminal::ForTerminal;
 pub use crate::titled::Titled;
 pub use crate::word::{NoText, Word};

@@ -3,9 +3,9 @@
 ghost use Rattle.std.specs.Prelude.{◌≡◌, IfOk, OnOk};
 ghost use Rattle.std.specs.Io.KnownBytes.{Appends};
 ghost use Rattle.std.specs.Result.{is_ok};
-ghost use Rattle.mach_cli.specs.Listings.{cut_line, past_line, text_answer, told_line, CountsRows, WritesFirstLines, WritesRows};
+ghost use Rattle.mach_cli.specs.Listings.{cut_line, past_line, text_answer, reported_line, CountsRows, WritesFirstLines, WritesRows};
 
-use crate::shows::Outcome;
+use crate::image_view::Outcome;
 use goblin_mach::describe;
 use std::io;
 use std::io::Write;
@@ -48,7 +48,7 @@ pub trait Listing {
 
 /// The state after the rows of a list up to a limit.
 #[derive(Clone, Copy, Drop)]
-pub struct Told {
+pub struct ListProgress {
     /// How many more lines may be printed.
     pub left: usize,
     /// Whether all rows up to there could be read.
@@ -73,12 +73,12 @@ pub fn print_listing<L: Listing, O: Write>(
         outcome.left (O.contents out.old) (O.contents out.new)) }
 {
     let (name, past) = (list.past_name(), list.past());
-    let told = print_rows(list, word, left, out)?;
-    print_cut(limit, told.more, out)?;
+    let reported = print_rows(list, word, left, out)?;
+    print_cut(limit, reported.more, out)?;
     print_past(name, past, out)?;
     Ok(Outcome {
-        whole: told.whole & !told.more & (past == 0),
-        left: told.left,
+        whole: reported.whole & !reported.more & (past == 0),
+        left: reported.left,
     })
 }
 
@@ -97,7 +97,7 @@ pub fn print_cut<O: Write>(limit: usize, more: bool, out: &mut O) -> io::Result<
     ensures { OnOk result (Appends (O.contents out.old) (O.contents out.new) (cut_line limit more)) }
 {
     if more {
-        writeln!(out, "limit: {limit} of them are told, and there are more")?;
+        writeln!(out, "limit: {limit} shown, and there are more")?;
     }
     Ok(())
 }
@@ -108,14 +108,14 @@ pub fn print_rows<L: Listing, O: Write>(
     word: &str,
     limit: usize,
     out: &mut O,
-) -> io::Result<Told>
+) -> io::Result<ListProgress>
     ensures { IfOk result (WritesRows word.now limit (L.left list.old) (O.contents out.old) (O.contents out.new)) }
 {
     let mut left = limit;
     let mut whole = true;
     'rows: while let Some(row) = list.next_row() {
         let Some(rest) = left.checked_sub(1) else {
-            return Ok(Told {
+            return Ok(ListProgress {
                 left: 0,
                 whole,
                 more: true,
@@ -124,7 +124,7 @@ pub fn print_rows<L: Listing, O: Write>(
         left = rest;
         whole &= print_row::<L, O>(&row, word, out)?;
     }
-    Ok(Told {
+    Ok(ListProgress {
         left,
         whole,
         more: false,
@@ -132,14 +132,14 @@ pub fn print_rows<L: Listing, O: Write>(
 }
 
 /// Visits the first rows of a list, up to a limit, and prints nothing.
-pub fn count_rows<L: Listing>(list: &mut L, limit: usize) -> Told
+pub fn count_rows<L: Listing>(list: &mut L, limit: usize) -> ListProgress
     ensures { CountsRows limit (L.left list.old) result }
 {
     let mut left = limit;
     let mut whole = true;
     'rows: while let Some(row) = list.next_row() {
         let Some(rest) = left.checked_sub(1) else {
-            return Told {
+            return ListProgress {
                 left: 0,
                 whole,
                 more: true,
@@ -148,7 +148,7 @@ pub fn count_rows<L: Listing>(list: &mut L, limit: usize) -> Told
         left = rest;
         whole &= row.is_ok();
     }
-    Told {
+    ListProgress {
         left,
         whole,
         more: false,
@@ -162,7 +162,7 @@ fn print_row<L: Listing, O: Write>(
     out: &mut O,
 ) -> io::Result<bool>
     ensures { IfOk result (λ whole. (whole ≡ is_ok answer.now) × Appends (O.contents out.old) (O.contents out.new)
-        (told_line word.now (text_answer L.text answer.now))) }
+        (reported_line word.now (text_answer L.text answer.now))) }
 {
     match answer {
         Ok(row) => {

@@ -34,8 +34,8 @@ impl Display for Misuse<'_> {
         match self {
             Misuse::UnknownOption(word) => write!(f, "unknown option '{}'", Escaped(word)),
             Misuse::UnknownWord(word) => write!(f, "unknown word '{}'", Escaped(word)),
-            Misuse::NoNumber(word) => write!(f, "'{}' is no number", Escaped(word)),
-            Misuse::NoCpu(word) => write!(f, "'{}' is no cpu", Escaped(word)),
+            Misuse::NoNumber(word) => write!(f, "'{}' is not a number", Escaped(word)),
+            Misuse::NoCpu(word) => write!(f, "'{}' is not a cpu", Escaped(word)),
             Misuse::NoText(word) => write!(f, "{word}"),
             Misuse::Missing(what) => write!(f, "no {what} is given"),
         }

@@ -56,9 +56,9 @@ pub fn names_of<A: Allocator>(alloc: A, end: u8, list: &[u8]) -> Result<Vec<&[u8
 {
     let mut names = Vec::new(alloc);
     let mut rest = list;
-    'ends: while let Some((name, behind)) = first_name(end, rest) {
+    'ends: while let Some((name, following)) = first_name(end, rest) {
         names.push(name)?;
-        rest = behind;
+        rest = following;
     }
     names.push(rest)?;
     Ok(names)

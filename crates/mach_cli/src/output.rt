@@ -15,7 +15,7 @@ const CLOSED: u8 = 141;
 /// Prints a text, and returns the exit status: 0, or that of a failed write of the program of this name.
 pub fn say<O: Write, E: Write>(name: &str, text: &str, out: &mut O, err: &mut E) -> u8
     ensures status { result ≢ 0 → IsUnwritten result }
-    ensures said { result ≡ 0 → Appends (O.contents out.old) (O.contents out.new) text.now }
+    ensures message { result ≡ 0 → Appends (O.contents out.old) (O.contents out.new) text.now }
 {
     match put(text, out) {
         Ok(()) => 0,

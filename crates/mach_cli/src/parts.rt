@@ -11,8 +11,8 @@ pub(crate) mod shown;
 
 use goblin_mach::fat::FAT_MAGIC;
 use goblin_mach::{
-    Content, FAT_MAGIC_64, Images, Input, InputItem, MultiArch, MultiArch64, Place, begins_archive,
-    peek,
+    Content, FAT_MAGIC_64, Images, Input, InputItem, ItemPlace, MultiArch, MultiArch64,
+    begins_archive, peek,
 };
 use mach_archive::Archive;
 use std::alloc::Global;
@@ -80,9 +80,9 @@ impl<'a> Parts<'a> {
                 Some(images) => images.next()?,
                 None => return None,
             };
-            let is_told = !self.only_of_archives || is_of_archive(self.last, &item);
+            let is_reported = !self.only_of_archives || is_of_archive(self.last, &item);
             self.last = entry_of_member(&item);
-            if is_told {
+            if is_reported {
                 return Some(item);
             }
         }
@@ -102,7 +102,7 @@ impl<'a> Iterator for Parts<'a> {
         match self.itself {
             Some(bytes) => {
                 self.itself = None;
-                let place = Place {
+                let place = ItemPlace {
                     entry: None,
                     cpu: None,
                     offset: 0,
@@ -141,7 +141,7 @@ fn container(alloc: Global, bytes: &[u8]) -> Option<Input<'_>>
 }
 
 // Returns the parts of a container.
-#[tactic(auto, using(crate::proofs::PartsHeld::told_all, crate::proofs::PartsHeld::of_archive, crate::proofs::PartsHeld::of_wide, crate::proofs::PartsHeld::of_narrow))]
+#[tactic(auto, using(crate::proofs::PartsHeld::reported_all, crate::proofs::PartsHeld::of_archive, crate::proofs::PartsHeld::of_wide, crate::proofs::PartsHeld::of_narrow))]
 fn parts_within<'a>(bytes: &'a [u8], input: &Input<'a>) -> Parts<'a>
     requires { IsContainer bytes.now input.now }
     ensures { parts_left result ≡ parts_in bytes.now }

@@ -49,13 +49,13 @@ impl Program {
     pub fn call<'a>(&self, rt: &HostRuntime, words: &'a [Word]) -> Result<Call<'a, Global>, u8>
         ensures { IfErr result IsStatus }
     {
-        let behind = words.get(1..).unwrap_or(&[]);
+        let following = words.get(1..).unwrap_or(&[]);
         let options = Options {
             has_limit: self.has_limit,
             has_cpu: self.has_cpu,
             has_files: self.has_files,
         };
-        match understand(&rt.alloc(), options, behind) {
+        match understand(&rt.alloc(), options, following) {
             Ok(Request::Help) => Err(self.say(rt, self.usage)),
             Ok(Request::Version) => Err(self.say(rt, self.version)),
             Ok(Request::Call(call)) => Ok(call),

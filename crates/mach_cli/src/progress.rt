@@ -38,20 +38,20 @@ pub struct Progress {
     /// The time of the next report, by the clock; None if there is never one.
     pub due: Option<Duration>,
     /// How many files have begun.
-    pub begun: usize,
+    pub started: usize,
 }
 
 impl Progress {
     /// Starts with a call that begins now. If the error output is no terminal, or the clock can't be read, nothing is ever reported.
     pub fn new<C: Clock>(clock: &C, is_terminal: bool) -> Progress
         ensures never { is_terminal ≡ false → result.due ≡ None }
-        ensures begun { result.begun ≡ 0 }
+        ensures started { result.started ≡ 0 }
     {
         let due = match clock.monotonic() {
             Ok(now) if is_terminal => now.checked_add(Duration::from_secs(QUIET)),
             _ => None,
         };
-        Progress { due, begun: 0 }
+        Progress { due, started: 0 }
     }
 
     /// Counts a file of this name that begins, and reports it if that is due. It returns whether the report was written.
@@ -63,12 +63,12 @@ impl Progress {
         err: &mut E,
     ) -> bool
         ensures never { self.old.due ≡ None → (self.new.due ≡ None) × (E.contents err.new ≡ E.contents err.old) }
-        ensures counted { self.new.begun ≡ min (self.old.begun + 1) (2 ^ 64 - 1) }
-        ensures told { result ≡ true → Appends (E.contents err.old) (E.contents err.new) (step_text program.now self.new.begun file.now ++ codes "\n") }
+        ensures counted { self.new.started ≡ min (self.old.started + 1) (2 ^ 64 - 1) }
+        ensures reported { result ≡ true → Appends (E.contents err.old) (E.contents err.new) (step_text program.now self.new.started file.now ++ codes "\n") }
         // The next report comes two seconds later at the earliest.
         ensures later { result ≡ true → IfSome self.old.due (λ old. IfSome self.new.due (λ new. as_nanos old + 2 * 10 ^ 9 ≤ as_nanos new)) }
     {
-        self.begun = self.begun.saturating_add(1);
+        self.started = self.started.saturating_add(1);
         let Some(due) = self.due else {
             return false;
         };
@@ -77,7 +77,7 @@ impl Progress {
                 self.due = now.checked_add(Duration::from_secs(QUIET));
                 let step = Step {
                     program,
-                    number: self.begun,
+                    number: self.started,
                     file,
                 };
                 writeln!(err, "{step}").is_ok()

@@ -2,13 +2,13 @@
 
 ghost use Rattle.std.specs.Prelude.{◌≡◌, ◌≤◌, [], IfOk, OnOk};
 ghost use Rattle.std.specs.Io.Buffered.{writer_buffer, writer_contents};
-ghost use Rattle.mach_cli.specs.Shown.{Shown, ShowsFile, Writes};
+ghost use Rattle.mach_cli.specs.Shown.{Shown, FileView, Writes};
 ghost use Rattle.mach_cli.specs.Statuses.{IsStatus, status_by};
 
 use crate::cpu::Cpu;
+use crate::image_view::ImageView;
 use crate::output::failed;
 use crate::show::show;
-use crate::shows::Shows;
 use std::alloc::Allocator;
 use std::io;
 use std::io::{BufWriter, Write};
@@ -19,7 +19,7 @@ use std::io::{BufWriter, Write};
 /// - 2 or 141 if a write fails (`failed`).
 ///
 /// Except after a failed write the buffer is flushed.
-pub fn run<S: Shows, A: Allocator + Clone, W: Write + Drop, B: Allocator, E: Write>(
+pub fn run<S: ImageView, A: Allocator + Clone, W: Write + Drop, B: Allocator, E: Write>(
     shows: &S,
     cpu: Cpu,
     limit: usize,
@@ -29,7 +29,7 @@ pub fn run<S: Shows, A: Allocator + Clone, W: Write + Drop, B: Allocator, E: Wri
     err: &mut E,
 ) -> u8
     ensures status { IsStatus result }
-    ensures shown { result ≤ 1 → (shown : Shown) × ShowsFile cpu (S.names shows.now) (S.lines shows.now) limit bytes.now shown
+    ensures shown { result ≤ 1 → (shown : Shown) × FileView cpu (S.names shows.now) (S.lines shows.now) limit bytes.now shown
         × (result ≡ status_by shown.whole)
         × Writes shown (writer_contents W.contents out.old) (writer_contents W.contents out.new) (E.contents err.old) (E.contents err.new) }
     ensures flushed { result ≤ 1 → writer_buffer out.new ≡ [] }
@@ -41,7 +41,7 @@ pub fn run<S: Shows, A: Allocator + Clone, W: Write + Drop, B: Allocator, E: Wri
 }
 
 // Shows the selected images of a file, and flushes the buffer.
-fn show_all<S: Shows, A: Allocator + Clone, W: Write + Drop, B: Allocator, E: Write>(
+fn show_all<S: ImageView, A: Allocator + Clone, W: Write + Drop, B: Allocator, E: Write>(
     shows: &S,
     cpu: Cpu,
     limit: usize,
@@ -50,7 +50,7 @@ fn show_all<S: Shows, A: Allocator + Clone, W: Write + Drop, B: Allocator, E: Wr
     out: &mut BufWriter<W, B>,
     err: &mut E,
 ) -> io::Result<bool>
-    ensures shown { IfOk result (λ whole. (shown : Shown) × ShowsFile cpu (S.names shows.now) (S.lines shows.now) limit bytes.now shown × (shown.whole ≡ whole)
+    ensures shown { IfOk result (λ whole. (shown : Shown) × FileView cpu (S.names shows.now) (S.lines shows.now) limit bytes.now shown × (shown.whole ≡ whole)
         × Writes shown (writer_contents W.contents out.old) (writer_contents W.contents out.new) (E.contents err.old) (E.contents err.new)) }
     ensures flushed { OnOk result (writer_buffer out.new ≡ []) }
 {

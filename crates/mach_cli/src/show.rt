@@ -2,24 +2,24 @@
 
 ghost use Rattle.std.specs.Prelude.{◌≡◌, ◌++◌, ℕ, List, codes, false, IfOk, IfErr, OnOk};
 ghost use Rattle.std.specs.Io.KnownBytes.{Appends};
-ghost use Rattle.mach_base.specs.Answer.{Stands};
+ghost use Rattle.mach_base.specs.Answer.{ErrorMeets};
 ghost use Rattle.mach_base.specs.Words.{words_of};
 ghost use Rattle.goblin_mach.specs.OpenImage.{IsImage};
 ghost use Rattle.goblin_mach.specs.FatEntry.{entry_at};
-ghost use Rattle.goblin_mach.specs.FatFile.{file_held};
-ghost use Rattle.goblin_mach.specs.View.{ViewFault, IsTold};
+ghost use Rattle.goblin_mach.specs.FatFile.{file_view};
+ghost use Rattle.goblin_mach.specs.View.{ViewFault, IsReported};
 ghost use Rattle.mach_cli.specs.Failures.{IfMemory};
 ghost use Rattle.mach_cli.specs.Foreigners.{refused_words};
 ghost use Rattle.mach_cli.specs.Headings.{arch_line};
 ghost use Rattle.mach_cli.specs.Held.{IsSubject};
 ghost use Rattle.mach_cli.specs.Cpus.{misses, no_entry_words, other_words};
-ghost use Rattle.mach_cli.specs.Shown.{Shown, ShowsAsked, ShowsEntry, ShowsFat, ShowsFile, Writes, complaint, entry_complaint, nothing};
+ghost use Rattle.mach_cli.specs.Shown.{Shown, ShowsSelected, ShowsEntry, ShowsFat, FileView, Writes, complaint, entry_complaint, nothing};
 
 use crate::cpu::Cpu;
-use crate::failure::Failure;
+use crate::failure::ShowFailure;
 use crate::foreign::refused_kind;
 use crate::heading::Heading;
-use crate::shows::{Outcome, Shows};
+use crate::image_view::{ImageView, Outcome};
 use goblin_mach::fat::FatArch;
 use goblin_mach::{Error, Mach, MachO, MultiArch, Result, SingleArch, describe};
 use std::alloc::{AllocError, Allocator};
@@ -36,7 +36,7 @@ enum Subject<'a, A: Allocator> {
 }
 
 /// Shows the selected images of a file, and returns whether nothing was refused and each of them is whole.
-pub fn show<S: Shows, A: Allocator + Clone, O: Write, E: Write>(
+pub fn show<S: ImageView, A: Allocator + Clone, O: Write, E: Write>(
     shows: &S,
     cpu: Cpu,
     limit: usize,
@@ -45,7 +45,7 @@ pub fn show<S: Shows, A: Allocator + Clone, O: Write, E: Write>(
     out: &mut O,
     err: &mut E,
 ) -> io::Result<bool>
-    ensures { IfOk result (λ whole. (shown : Shown) × ShowsFile cpu (S.names shows.now) (S.lines shows.now) limit bytes.now shown × (shown.whole ≡ whole)
+    ensures { IfOk result (λ whole. (shown : Shown) × FileView cpu (S.names shows.now) (S.lines shows.now) limit bytes.now shown × (shown.whole ≡ whole)
         × Writes shown (O.contents out.old) (O.contents out.new) (E.contents err.old) (E.contents err.new)) }
 {
     match open(alloc, bytes) {
@@ -69,7 +69,7 @@ pub fn show<S: Shows, A: Allocator + Clone, O: Write, E: Write>(
 // Opens a file; a fat one with its table.
 fn open<'a, A: Allocator + Clone>(alloc: &A, bytes: &'a [u8]) -> Result<Subject<'a, A>>
     ensures held { IfOk result (IsSubject bytes.now) }
-    ensures refused { IfErr result (Stands (ViewFault bytes.now)) }
+    ensures refused { IfErr result (ErrorMeets (ViewFault bytes.now)) }
 {
     let file = Mach::parse(alloc.clone()?, bytes)?;
     match file {
@@ -82,7 +82,7 @@ fn open<'a, A: Allocator + Clone>(alloc: &A, bytes: &'a [u8]) -> Result<Subject<
 }
 
 // Shows the one image of a file, if it is selected.
-fn show_image<S: Shows, A: Allocator + Clone, O: Write, E: Write>(
+fn show_image<S: ImageView, A: Allocator + Clone, O: Write, E: Write>(
     shows: &S,
     cpu: Cpu,
     limit: usize,
@@ -92,7 +92,7 @@ fn show_image<S: Shows, A: Allocator + Clone, O: Write, E: Write>(
     err: &mut E,
 ) -> io::Result<bool>
     ensures { (bytes : List ℕ) → IsImage bytes 0 image.now
-        → IfOk result (λ whole. (shown : Shown) × ShowsFile cpu (S.names shows.now) (S.lines shows.now) limit bytes shown × (shown.whole ≡ whole)
+        → IfOk result (λ whole. (shown : Shown) × FileView cpu (S.names shows.now) (S.lines shows.now) limit bytes shown × (shown.whole ≡ whole)
         × Writes shown (O.contents out.old) (O.contents out.new) (E.contents err.old) (E.contents err.new)) }
 {
     if !cpu.takes(image.header.cputype, image.header.cpusubtype) {
@@ -100,13 +100,13 @@ fn show_image<S: Shows, A: Allocator + Clone, O: Write, E: Write>(
     }
     match shows.show(alloc, image, Heading::None, limit, out) {
         Ok(outcome) => Ok(outcome.whole),
-        Err(Failure::Memory) => refuse(shows, &Error::Memory(AllocError), err),
-        Err(Failure::Unwritten(error)) => Err(error),
+        Err(ShowFailure::Memory) => refuse(shows, &Error::Memory(AllocError), err),
+        Err(ShowFailure::Unwritten(error)) => Err(error),
     }
 }
 
 // Shows the selected entries of a fat file, if it has any.
-fn show_fat<S: Shows, A: Allocator + Clone, O: Write, E: Write>(
+fn show_fat<S: ImageView, A: Allocator + Clone, O: Write, E: Write>(
     shows: &S,
     cpu: Cpu,
     limit: usize,
@@ -117,7 +117,7 @@ fn show_fat<S: Shows, A: Allocator + Clone, O: Write, E: Write>(
     err: &mut E,
 ) -> io::Result<bool>
     ensures { IfOk result (λ whole. (shown : Shown)
-        × ShowsFat cpu (S.names shows.now) (S.lines shows.now) limit (file_held container.now) records.now shown × (shown.whole ≡ whole)
+        × ShowsFat cpu (S.names shows.now) (S.lines shows.now) limit (file_view container.now) records.now shown × (shown.whole ≡ whole)
         × Writes shown (O.contents out.old) (O.contents out.new) (E.contents err.old) (E.contents err.new)) }
 {
     if cpu.misses(records) {
@@ -127,7 +127,7 @@ fn show_fat<S: Shows, A: Allocator + Clone, O: Write, E: Write>(
 }
 
 // Shows the selected entries of a fat file, until memory runs out for one, and returns whether all of them are whole.
-fn show_entries<S: Shows, A: Allocator + Clone, O: Write, E: Write>(
+fn show_entries<S: ImageView, A: Allocator + Clone, O: Write, E: Write>(
     shows: &S,
     cpu: Cpu,
     limit: usize,
@@ -138,26 +138,26 @@ fn show_entries<S: Shows, A: Allocator + Clone, O: Write, E: Write>(
     err: &mut E,
 ) -> io::Result<bool>
     ensures { misses cpu records.now ≡ false → IfOk result (λ whole. (shown : Shown)
-        × ShowsFat cpu (S.names shows.now) (S.lines shows.now) limit (file_held container.now) records.now shown × (shown.whole ≡ whole)
+        × ShowsFat cpu (S.names shows.now) (S.lines shows.now) limit (file_view container.now) records.now shown × (shown.whole ≡ whole)
         × Writes shown (O.contents out.old) (O.contents out.new) (E.contents err.old) (E.contents err.new)) }
 {
     let mut whole = true;
     let mut left = limit;
     'entries: for (index, arch) in records.iter().enumerate() {
-        match show_asked(shows, cpu, left, alloc, container, index, arch, out, err) {
+        match show_selected(shows, cpu, left, alloc, container, index, arch, out, err) {
             Ok(outcome) => {
                 whole &= outcome.whole;
                 left = outcome.left;
             }
-            Err(Failure::Memory) => return refuse(shows, &Error::Memory(AllocError), err),
-            Err(Failure::Unwritten(error)) => return Err(error),
+            Err(ShowFailure::Memory) => return refuse(shows, &Error::Memory(AllocError), err),
+            Err(ShowFailure::Unwritten(error)) => return Err(error),
         }
     }
     Ok(whole)
 }
 
 // Shows the entry of a record, if it is selected, and returns whether it is whole, and how many lines are left.
-fn show_asked<S: Shows, A: Allocator + Clone, O: Write, E: Write>(
+fn show_selected<S: ImageView, A: Allocator + Clone, O: Write, E: Write>(
     shows: &S,
     cpu: Cpu,
     left: usize,
@@ -167,9 +167,9 @@ fn show_asked<S: Shows, A: Allocator + Clone, O: Write, E: Write>(
     arch: &FatArch,
     out: &mut O,
     err: &mut E,
-) -> std::result::Result<Outcome, Failure>
+) -> std::result::Result<Outcome, ShowFailure>
     ensures shown { IfOk result (λ outcome. (shown : Shown)
-        × ShowsAsked cpu (S.names shows.now) (S.lines shows.now) left index arch.now (entry_at (file_held container.now) index) shown
+        × ShowsSelected cpu (S.names shows.now) (S.lines shows.now) left index arch.now (entry_at (file_view container.now) index) shown
         × (shown.whole ≡ outcome.whole) × (shown.left ≡ outcome.left)
         × Writes shown (O.contents out.old) (O.contents out.new) (E.contents err.old) (E.contents err.new)) }
     ensures memory { IfErr result (IfMemory (Writes (nothing left) (O.contents out.old) (O.contents out.new) (E.contents err.old) (E.contents err.new))) }
@@ -181,7 +181,7 @@ fn show_asked<S: Shows, A: Allocator + Clone, O: Write, E: Write>(
 }
 
 // Shows an entry under its heading, and returns whether it is whole, and how many lines are left.
-fn show_entry<S: Shows, A: Allocator + Clone, O: Write, E: Write>(
+fn show_entry<S: ImageView, A: Allocator + Clone, O: Write, E: Write>(
     shows: &S,
     left: usize,
     alloc: &A,
@@ -189,9 +189,9 @@ fn show_entry<S: Shows, A: Allocator + Clone, O: Write, E: Write>(
     index: usize,
     out: &mut O,
     err: &mut E,
-) -> std::result::Result<Outcome, Failure>
+) -> std::result::Result<Outcome, ShowFailure>
     ensures shown { IfOk result (λ outcome. (shown : Shown)
-        × ShowsEntry (S.names shows.now) (S.lines shows.now) left index (entry_at (file_held container.now) index) shown
+        × ShowsEntry (S.names shows.now) (S.lines shows.now) left index (entry_at (file_view container.now) index) shown
         × (shown.whole ≡ outcome.whole) × (shown.left ≡ outcome.left)
         × Writes shown (O.contents out.old) (O.contents out.new) (E.contents err.old) (E.contents err.new)) }
     ensures memory { IfErr result (IfMemory (Writes (nothing left) (O.contents out.old) (O.contents out.new) (E.contents err.old) (E.contents err.new))) }
@@ -204,7 +204,7 @@ fn show_entry<S: Shows, A: Allocator + Clone, O: Write, E: Write>(
             Ok(Outcome { whole: true, left })
         }
         Err(error) => {
-            let error = told(error)?;
+            let error = reported(error)?;
             refuse_entry(shows, index, &error, out, err)?;
             Ok(Outcome { whole: false, left })
         }
@@ -212,8 +212,8 @@ fn show_entry<S: Shows, A: Allocator + Clone, O: Write, E: Write>(
 }
 
 // Returns an error that reports a fault; a refusal of memory becomes an `AllocError`.
-fn told(error: Error) -> std::result::Result<Error, AllocError>
-    ensures { IfOk result (λ e. (e ≡ error) × IsTold e) }
+fn reported(error: Error) -> std::result::Result<Error, AllocError>
+    ensures { IfOk result (λ e. (e ≡ error) × IsReported e) }
 {
     match error {
         Error::Memory(refused) => Err(refused),
@@ -222,7 +222,7 @@ fn told(error: Error) -> std::result::Result<Error, AllocError>
 }
 
 // Reports why an entry is refused, under its heading and on the error output.
-fn refuse_entry<S: Shows, O: Write, E: Write>(
+fn refuse_entry<S: ImageView, O: Write, E: Write>(
     shows: &S,
     index: usize,
     error: &Error,
@@ -231,7 +231,7 @@ fn refuse_entry<S: Shows, O: Write, E: Write>(
 ) -> io::Result<()>
     ensures text { OnOk result (Appends (O.contents out.old) (O.contents out.new)
         (arch_line index ++ (codes "refused: " ++ words_of error.now ++ codes "\n"))) }
-    ensures said { OnOk result (Appends (E.contents err.old) (E.contents err.new) (entry_complaint (S.names shows.now) index (words_of error.now))) }
+    ensures message { OnOk result (Appends (E.contents err.old) (E.contents err.new) (entry_complaint (S.names shows.now) index (words_of error.now))) }
 {
     let (names, words) = (shows.names(), describe(error));
     writeln!(out, "arch {index}")?;
@@ -240,7 +240,7 @@ fn refuse_entry<S: Shows, O: Write, E: Write>(
 }
 
 // Reports why a file is refused: its kind, if it isn't Mach-O. So it is not whole.
-fn refuse_file<S: Shows, E: Write>(
+fn refuse_file<S: ImageView, E: Write>(
     shows: &S,
     bytes: &[u8],
     error: &Error,
@@ -258,7 +258,7 @@ fn refuse_file<S: Shows, E: Write>(
 }
 
 // Reports why no more of a file is shown; so it is not whole.
-fn refuse<S: Shows, E: Write>(shows: &S, error: &Error, err: &mut E) -> io::Result<bool>
+fn refuse<S: ImageView, E: Write>(shows: &S, error: &Error, err: &mut E) -> io::Result<bool>
     ensures { IfOk result (λ whole. (whole ≡ false)
         × Appends (E.contents err.old) (E.contents err.new) (complaint (S.names shows.now) (words_of error.now))) }
 {
@@ -268,7 +268,7 @@ fn refuse<S: Shows, E: Write>(shows: &S, error: &Error, err: &mut E) -> io::Resu
 }
 
 // Reports that the one image of a file is not selected; so it is not whole.
-fn refuse_other<S: Shows, E: Write>(shows: &S, cpu: Cpu, err: &mut E) -> io::Result<bool>
+fn refuse_other<S: ImageView, E: Write>(shows: &S, cpu: Cpu, err: &mut E) -> io::Result<bool>
     ensures { IfOk result (λ whole. (whole ≡ false)
         × Appends (E.contents err.old) (E.contents err.new) (complaint (S.names shows.now) (other_words cpu))) }
 {
@@ -278,7 +278,7 @@ fn refuse_other<S: Shows, E: Write>(shows: &S, cpu: Cpu, err: &mut E) -> io::Res
 }
 
 // Reports that no entry of a fat file is selected; so it is not whole.
-fn refuse_all<S: Shows, E: Write>(shows: &S, cpu: Cpu, err: &mut E) -> io::Result<bool>
+fn refuse_all<S: ImageView, E: Write>(shows: &S, cpu: Cpu, err: &mut E) -> io::Result<bool>
     ensures { IfOk result (λ whole. (whole ≡ false)
         × Appends (E.contents err.old) (E.contents err.new) (complaint (S.names shows.now) (no_entry_words cpu))) }
 {

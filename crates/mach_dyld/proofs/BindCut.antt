@@ -3,17 +3,17 @@ use Rattle.mach_dyld.proofs.BindNames.{◌≡◌, ℕ, ◌+◌, ◌-◌, ◌*◌
 use Rattle.mach_dyld.proofs.BindNames.{refl}
 use Rattle.mach_dyld.proofs.BindNames.{sym, ap, subst, ◌∙◌, arith, zero-add, pos, filter_map, range_with_len, cons_option, AllByRecursion, cond, map-append}
 use Rattle.mach_dyld.proofs.BindNames.{◌>>=◌}
-use Rattle.mach_dyld.proofs.BindNames.{Fault, SegmentView, Input, Range, Placed, Follow, StandsIn, AllStand, stream_end, IsBeginning, IsStream, Bind, is_done}
+use Rattle.mach_dyld.proofs.BindNames.{Fault, SegmentView, Input, Range, Placed, Follow, OccursIn, AllOccur, stream_end, IsBeginning, IsStream, Bind, is_done}
 use Rattle.mach_dyld.proofs.BindNames.{sets_segment, nearer_than, nearest_or, done_after, bind_after, binds_at, binds_from, all_from, stride_in, count_in}
 use Rattle.mach_dyld.proofs.BindNames.{library_in}
 use Rattle.mach_dyld.proofs.BindNames.{flags_in, symbol_name_in, addend_in, segment_in, offset_in, advances, Import, Target, import_of, imports_in, import_with}
 use Rattle.mach_dyld.proofs.BindNames.{target_of, BindRanges, input_in, ListsImports}
-use Rattle.mach_dyld.specs.BindCut.{HasList, ListsByStream, raised, front_range, rest_range, CutsBehindDone}
+use Rattle.mach_dyld.specs.BindCut.{HasList, ListsByStream, raised, front_range, rest_range, CutsAfterDone}
 use Rattle.mach_dyld.specs.RowsMove.{ends_after}
 use Rattle.mach_dyld.proofs.BindReading.{one_longest}
 use Rattle.mach_dyld.specs.Streams.{reader_of}
 use Rattle.mach_dyld.proofs.BindLists.{longest_stream}
-use Rattle.mach_dyld.proofs.BindTotal.{behind, onto, all_from-append}
+use Rattle.mach_dyld.proofs.BindTotal.{following, onto, all_from-append}
 use Rattle.mach_dyld.proofs.BindLast.{all-append}
 
 abbrev Item : Type 0
@@ -21,22 +21,22 @@ Item = Result Import Fault
 
 -- ---- places
 
-further : (x : Input) (upto : ℕ) (p : Placed) → StandsIn x upto p → p.place < p.after
+further : (x : Input) (upto : ℕ) (p : Placed) → OccursIn x upto p → p.place < p.after
 further x upto p s = ends_after x.pointer x.bytes p.place (p.instruction, p.after) s.read
 
-end_past : (x : Input) (upto place : ℕ) (ps : List Placed) → AllStand x upto ps → Follow place ps → place ≤ stream_end place ps
+end_past : (x : Input) (upto place : ℕ) (ps : List Placed) → AllOccur x upto ps → Follow place ps → place ≤ stream_end place ps
 end_past x upto place [] a f = omega arith
 end_past x upto place (p ∷ ps) a f =
     let h = end_past x upto p.after ps a.1 f.1 in
     let k = further x upto p a.0 in
     omega (arith, h, k, f.0)
 
-stand_before_end : (x : Input) (upto place : ℕ) (ps : List Placed) → AllStand x upto ps → Follow place ps → AllStand x (stream_end place ps) ps
-stand_before_end x upto place [] a f = tt
-stand_before_end x upto place (p ∷ ps) a f =
+occur_before_end : (x : Input) (upto place : ℕ) (ps : List Placed) → AllOccur x upto ps → Follow place ps → AllOccur x (stream_end place ps) ps
+occur_before_end x upto place [] a f = tt
+occur_before_end x upto place (p ∷ ps) a f =
     let h = end_past x upto p.after ps a.1 f.1 in
     let k = further x upto p a.0 in
-    (record { within = omega (arith, h, k); read = a.0.read }, stand_before_end x upto p.after ps a.1 f.1)
+    (record { within = omega (arith, h, k); read = a.0.read }, occur_before_end x upto p.after ps a.1 f.1)
 
 stream_end-append : (place : ℕ) (ps qs : List Placed) → stream_end place (ps ++ qs) ≡ stream_end (stream_end place ps) qs
 stream_end-append place [] qs = refl
@@ -46,13 +46,13 @@ follow-append : (place : ℕ) (ps qs : List Placed) → Follow place ps → Foll
 follow-append place [] qs f g = g
 follow-append place (p ∷ ps) qs f g = (f.0, follow-append p.after ps qs f.1 g)
 
-follow_behind : (place : ℕ) (ps qs : List Placed) → Follow place (ps ++ qs) → Follow (stream_end place ps) qs
-follow_behind place [] qs f = f
-follow_behind place (p ∷ ps) qs f = follow_behind p.after ps qs f.1
+follow_after : (place : ℕ) (ps qs : List Placed) → Follow place (ps ++ qs) → Follow (stream_end place ps) qs
+follow_after place [] qs f = f
+follow_after place (p ∷ ps) qs f = follow_after p.after ps qs f.1
 
-stand_behind : (x : Input) (upto : ℕ) (ps qs : List Placed) → AllStand x upto (ps ++ qs) → AllStand x upto qs
-stand_behind x upto [] qs a = a
-stand_behind x upto (p ∷ ps) qs a = stand_behind x upto ps qs a.1
+occur_after : (x : Input) (upto : ℕ) (ps qs : List Placed) → AllOccur x upto (ps ++ qs) → AllOccur x upto qs
+occur_after x upto [] qs a = a
+occur_after x upto (p ∷ ps) qs a = occur_after x upto ps qs a.1
 
 -- ---- looking back no further than a DONE
 
@@ -111,7 +111,7 @@ strides-done pointer r back d far s (j ∷ js) e h past =
 
 binds-done : (x : Input) (r : Range) (upto : ℕ) (back : List Placed) (d : Placed) (far : List Placed) (place : ℕ) (ps : List Placed) → is_done d ≡ true
     → r.from ≤ d.after → EndPast d.after back → d.after ≤ place
-    → Follow place ps → AllStand x upto ps
+    → Follow place ps → AllOccur x upto ps
     → binds_from x.pointer r (back ++ d ∷ far) ps ≡ map (raise (d.after - r.from)) (binds_from x.pointer (rest_range r d.after) back ps)
 unfolding all_from
 binds-done x r upto back d far place [] e h past k f a = refl
@@ -156,7 +156,7 @@ imports-raised x n (b ∷ bs) = ap (λ i. i ∷ map (import_of x) (map (raise n)
 
 -- the imports of a range whose first instructions end with a DONE
 imports_cut : (x : Input) (r : Range) (upto : ℕ) (front : List Placed) (d : Placed) (rest : List Placed) → is_done d ≡ true → r.from ≤ d.after
-    → Follow d.after rest → AllStand x upto rest
+    → Follow d.after rest → AllOccur x upto rest
     → imports_in x r ((front ++ d ∷ []) ++ rest) ≡ imports_in x (front_range r d.after) (front ++ d ∷ []) ++ map (raise_item (d.after - r.from))
     (imports_in x (rest_range r d.after) rest)
 unfolding imports_in
@@ -264,26 +264,26 @@ module _ (x : Input) (r : Range) (front : List Placed) (d : Placed) (list : List
   front_ends = stream_end-push r.from front d
 
   from_le : r.from ≤ d.after
-  from_le = let h = end_past x r.upto r.from heads b.stand front_follows in omega (arith, h, front_ends)
+  from_le = let h = end_past x r.upto r.from heads b.occur front_follows in omega (arith, h, front_ends)
 
   front_stream : IsStream x first_range heads
   front_stream =
-      let stand : AllStand x d.after heads = subst (λ (n : ℕ). AllStand x n heads) front_ends (stand_before_end x r.upto r.from heads b.stand front_follows) in
-      record { beginning = record { follow = front_follows; stand = stand }; whole = omega (arith, front_ends) }
+      let occur : AllOccur x d.after heads = subst (λ (n : ℕ). AllOccur x n heads) front_ends (occur_before_end x r.upto r.from heads b.occur front_follows) in
+      record { beginning = record { follow = front_follows; occur = occur }; whole = omega (arith, front_ends) }
 
   apart : HasList x r list → Halves
   apart h =
       let whole_follows = h.1.beginning.follow in
-      let k = behind x r.upto r.from heads h.0 b.stand front_follows h.1.beginning.stand whole_follows h.1.whole in
+      let k = following x r.upto r.from heads h.0 b.occur front_follows h.1.beginning.occur whole_follows h.1.whole in
       let rest = k.0 in
-      let stand : AllStand x r.upto rest = stand_behind x r.upto heads rest (subst (AllStand x r.upto) k.1 h.1.beginning.stand) in
-      let behind_front : Follow (stream_end r.from heads) rest = follow_behind r.from heads rest (subst (Follow r.from) k.1 whole_follows) in
-      let follow : Follow d.after rest = subst (λ (n : ℕ). Follow n rest) front_ends behind_front in
+      let occur : AllOccur x r.upto rest = occur_after x r.upto heads rest (subst (AllOccur x r.upto) k.1 h.1.beginning.occur) in
+      let after_front : Follow (stream_end r.from heads) rest = follow_after r.from heads rest (subst (Follow r.from) k.1 whole_follows) in
+      let follow : Follow d.after rest = subst (λ (n : ℕ). Follow n rest) front_ends after_front in
       let ends : stream_end r.from h.0 ≡ stream_end d.after rest = ap (stream_end r.from) k.1 ∙ stream_end-append r.from heads rest
       ∙ ap (λ n. stream_end n rest) front_ends in
-      let rest_stream : IsStream x last_range rest = record { beginning = record { follow = follow; stand = stand }; whole = omega (arith, ends, h.1.whole) } in
+      let rest_stream : IsStream x last_range rest = record { beginning = record { follow = follow; occur = occur }; whole = omega (arith, ends, h.1.whole) } in
       let all : imports_in x first_range heads ++ map (raise_item front_len) (imports_in x last_range rest) ≡ map Ok list =
-      sym (imports_cut x r r.upto front d rest e from_le follow stand) ∙ ap (imports_in x r) (sym k.1) ∙ h.2 in
+      sym (imports_cut x r r.upto front d rest e from_le follow occur) ∙ ap (imports_in x r) (sym k.1) ∙ h.2 in
       let p = parts_of (imports_in x first_range heads) (map (raise_item front_len) (imports_in x last_range rest)) list all in
       let l = lowered front_len (imports_in x last_range rest) p.back p.is_back in
       (p.front, l.0, (heads, front_stream, p.is_front), (rest, rest_stream, l.1), p.joined ∙ ap (λ y. p.front ++ y) l.2)
@@ -300,11 +300,11 @@ module _ (x : Input) (r : Range) (front : List Placed) (d : Placed) (list : List
         record {
           beginning = record {
             follow = follow-append r.from heads k.0 front_follows follow;
-            stand = all-append (StandsIn x r.upto) heads k.0 b.stand k.1.beginning.stand;
+            occur = all-append (OccursIn x r.upto) heads k.0 b.occur k.1.beginning.occur;
           };
           whole = omega (arith, ends, k.1.whole);
         },
-        imports_cut x r r.upto front d k.0 e from_le rest_follows k.1.beginning.stand
+        imports_cut x r r.upto front d k.0 e from_le rest_follows k.1.beginning.occur
             ∙ ap (λ y. y ++ map (raise_item front_len) (imports_in x last_range k.0)) first
             ∙ ap (λ y. map Ok one ++ map (raise_item front_len) y) k.2
             ∙ ap (λ y. map Ok one ++ y) (raised_oks front_len two)
@@ -312,5 +312,5 @@ module _ (x : Input) (r : Range) (front : List Placed) (d : Placed) (list : List
             ∙ ap (map Ok) (sym j),
       )
 
-pub cuts : CutsBehindDone
+pub cuts : CutsAfterDone
 cuts x r front d list b e = (apart x r front d list b e, together x r front d list b e)

@@ -1,8 +1,9 @@
 -- A list of imports that ends at an error, and one that ends with both streams.
-use Rattle.mach_dyld.proofs.BindNames.{◌≡◌, ◌∙◌, ℕ, List, [], ◌∷◌, ◌++◌, Result, Err, sym, ap, Stands, Fault, fault_of, Error, Stands-reported, SegmentView}
+use Rattle.mach_dyld.proofs.BindNames.{◌≡◌, ◌∙◌, ℕ, List, [], ◌∷◌, ◌++◌, Result}
+use Rattle.mach_dyld.proofs.BindNames.{Err, sym, ap, ErrorMeets, Fault, fault_of, Error, ErrorMeets-reported, SegmentView}
 use Rattle.mach_dyld.proofs.BindNames.{Placed}
 use Rattle.mach_dyld.proofs.BindNames.{Import, BindRanges, input_in, ListsImports, BindFault, AreBindItems}
-use Rattle.mach_dyld.proofs.BindLists.{oks, stands_from_items, items_from_list, no_error}
+use Rattle.mach_dyld.proofs.BindLists.{oks, occurs_from_items, items_from_list, no_error}
 
 module _ (b : BindRanges) (pointer : ℕ) (libs : List (List ℕ)) (segments : List SegmentView) (ps qs : List Placed) (items : List (Result Import Fault))
     (are : AreBindItems (input_in b pointer libs segments) b.non_lazy b.lazy ps qs items) (found : List Import) (left : List (Result Import Fault))
@@ -11,10 +12,10 @@ module _ (b : BindRanges) (pointer : ℕ) (libs : List (List ℕ)) (segments : L
   all : items ≡ oks found ++ Err (fault_of e) ∷ []
   all = split ∙ ap (λ m. oks found ++ m) ends
 
-  pub refuses : Stands (BindFault b pointer libs segments) e
+  pub refuses : ErrorMeets (BindFault b pointer libs segments) e
   refuses =
-      Stands-reported (BindFault b pointer libs segments) e
-      (stands_from_items (input_in b pointer libs segments) b.non_lazy b.lazy ps qs items (oks found) (fault_of e) [] are all)
+      ErrorMeets-reported (BindFault b pointer libs segments) e
+      (occurs_from_items (input_in b pointer libs segments) b.non_lazy b.lazy ps qs items (oks found) (fault_of e) [] are all)
 
   pub has_none : (list : List Import) → ListsImports b pointer libs segments list → ⊥
   has_none list l =

@@ -14,9 +14,9 @@ pub use Rattle.std.specs.List.{filter_map, range_with_len, cons_option, AllByRec
 pub use Rattle.std.specs.Prelude.{All, IfOk, slice_get, pos, ◌==◌, ℤ, IsErr, IsOk, codes, IfErr, IfSome}
 pub use Rattle.std.specs.Str.{is_utf8, IsUtf8}
 pub use Rattle.mach_base.proofs.Binds.{bind_ok, same_ok, chosen}
-pub use Rattle.mach_base.proofs.Faults.{Stands-reported, FailsAs-read, Stands-in, Stands-failed}
+pub use Rattle.mach_base.proofs.Faults.{ErrorMeets-reported, FailsAs-read, ErrorMeets-in, ErrorMeets-failed}
 pub use Rattle.mach_base.specs.Among.{IsAmong}
-pub use Rattle.mach_base.specs.Answer.{◌>>=◌, Stands, FailsAs, IsOkUnlessMemory}
+pub use Rattle.mach_base.specs.Answer.{◌>>=◌, ErrorMeets, FailsAs, IsOkUnlessMemory}
 pub use Rattle.mach_base.specs.Context.{pointer_size}
 pub use Rattle.mach_base.specs.Fault.{Fault, malformed, fault_of, bad_offset, bad_input, too_short, fault_item}
 pub use Rattle.mach_base.specs.Leb128.{leb_at, spelled_at, first_groups, is_short, is_short_signed, groups_value, signed_value}
@@ -35,7 +35,7 @@ pub use Rattle.mach_dyld.specs.Machine.{input_of, lazy_of, state_of, range_of, I
 pub use Rattle.mach_dyld.specs.Machine.{bind_of, Rules, ReadsForward, Moves, reader_by, set_after}
 unfoldable pub use Rattle.mach_dyld.specs.Machine.{items_left, opcodes_left, rest_of, items_of, reads_of, strides, after_strides, reading_within, moved}
 unfoldable pub use Rattle.mach_dyld.specs.Machine.{set_by, run, executed}
-pub use Rattle.mach_dyld.specs.BindViews.{imports_seen, import_seen}
+pub use Rattle.mach_dyld.specs.BindViews.{bind_imports_view, bind_import_view}
 pub use Rattle.mach_dyld.specs.Binds.{Bind, binds_of, is_done, sets_segment, nearer_than, nearest_or, done_after, binds_at, stride_in, count_in, library_in}
 pub use Rattle.mach_dyld.specs.Binds.{flags_in, symbol_name_in, addend_in, segment_in, offset_in, advances, last_setting, advance_in, sequence_of, reached}
 pub use Rattle.mach_dyld.specs.Binds.{binds_from}
@@ -44,5 +44,5 @@ pub use Rattle.mach_dyld.specs.Imports.{Import, Target, holding, import_with, in
 unfoldable pub use Rattle.mach_dyld.specs.Imports.{target_of, import_of, imports_in}
 pub use Rattle.mach_dyld.specs.Instructions.{Instruction, done, library, symbol, addend, segment, advance, binds}
 unfoldable pub use Rattle.mach_dyld.specs.Instructions.{byte_at, with_uleb, addend_at, symbol_operand_at, times_at, row_at, instruction_at}
-pub use Rattle.mach_dyld.specs.Streams.{Input, Range, Placed, Follow, StandsIn, AllStand, stream_end, IsBeginning, IsStream, IsLongest, BeginningsHave, Stops}
-pub use Rattle.mach_dyld.specs.Streams.{Reader, StandsBy, AllStandBy, IsBeginningBy, StopsBy, IsLongestBy}
+pub use Rattle.mach_dyld.specs.Streams.{Input, Range, Placed, Follow, OccursIn, AllOccur, stream_end, IsBeginning, IsStream, IsLongest, BeginningsHave, Stops}
+pub use Rattle.mach_dyld.specs.Streams.{Reader, OccursBy, AllOccurBy, IsBeginningBy, StopsBy, IsLongestBy}

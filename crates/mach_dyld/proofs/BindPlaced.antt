@@ -51,9 +51,9 @@ target_library x number k offset t e =
     let p = target_spot x number k offset t e in found_text (slice_get x.libs number) p.0 p.1 ∙ ap (λ (y : Target). Some y.dylib) p.2.made
 
 -- the name and the library of an import
-pub import_tells : (x : Input) (b : Bind) (i : Import) → import_of x b ≡ Ok i → (b.name ≡ i.name) × (slice_get x.libs b.library ≡ Some i.dylib)
+pub import_reports : (x : Input) (b : Bind) (i : Import) → import_of x b ≡ Ok i → (b.name ≡ i.name) × (slice_get x.libs b.library ≡ Some i.dylib)
 unfolding import_of
-import_tells x b i e =
+import_reports x b i e =
     let t = bind_ok (target_of x b.library b.segment b.offset) (λ (t : Target). Ok (import_with b t)) i e in
     let same : import_with b t.0 ≡ i = same_ok t.2 in
     (ap (λ (j : Import). j.name) same, target_library x b.library b.segment b.offset t.0 t.1 ∙ ap (λ (j : Import). Some j.dylib) same)
@@ -80,10 +80,10 @@ made_of x g b i e = by_test (is_complete g) refl e
     by_test false t e = absurd (cc)
 
 -- the name of a binding
-pub binding_tells : (x : Input) (g : SetBefore) (b : Bind) (i : Binding) → binding_of x g b ≡ Ok i → b.name ≡ i.name
-binding_tells x g b i e = let made = made_of x g b i e in ap (λ (j : Binding). j.name) made.5
+pub binding_reports : (x : Input) (g : SetBefore) (b : Bind) (i : Binding) → binding_of x g b ≡ Ok i → b.name ≡ i.name
+binding_reports x g b i e = let made = made_of x g b i e in ap (λ (j : Binding). j.name) made.5
 
 -- a name that is known is there
-pub stands : (bytes name : List ℕ) (place : ℕ) → IsNamed bytes name place → (name ≡ []) ⊎ (text_at bytes place ≡ Ok name)
-stands bytes name place (inl none) = inl none.0
-stands bytes name place (inr there) = inr there
+pub occurs : (bytes name : List ℕ) (place : ℕ) → IsNamed bytes name place → (name ≡ []) ⊎ (text_at bytes place ≡ Ok name)
+occurs bytes name place (inl none) = inl none.0
+occurs bytes name place (inr there) = inr there

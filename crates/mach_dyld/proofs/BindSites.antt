@@ -4,14 +4,14 @@ use Rattle.mach_dyld.proofs.BindNames.{append-nil, replicate, bind_ok, same_ok, 
 use Rattle.mach_dyld.proofs.BindNames.{Range, Placed, Reader, Moves, State, executed, executed_by, start_of, reading_from, all_from}
 use Rattle.mach_dyld.specs.Instructions.{nothing, strong}
 use Rattle.mach_dyld.specs.Binds.{rows_in}
-use Rattle.mach_dyld.specs.Sites.{AreSites, Site, no_site, site_after, site_behind, site_by, sites_at, sites_from, sites_in}
+use Rattle.mach_dyld.specs.Sites.{AreSites, Site, no_site, site_after, site_following, site_by, sites_at, sites_from, sites_in}
 unfoldable use Rattle.mach_dyld.specs.Sites.{sites_run, sites_of}
 use Rattle.mach_dyld.proofs.BindReading.{reads_next, nothing_left, reading_longest}
 
 -- ---- settings that run forward are those that looking back finds
 
-same_site : (back : List Placed) (place after : ℕ) (i : Instruction) → site_after (place + 1) i (site_behind back)
-    ≡ site_behind (record { place = place; instruction = i; after = after } ∷ back)
+same_site : (back : List Placed) (place after : ℕ) (i : Instruction) → site_after (place + 1) i (site_following back)
+    ≡ site_following (record { place = place; instruction = i; after = after } ∷ back)
 same_site back place after done = refl
 same_site back place after (library n) = refl
 same_site back place after (symbol flags name) = refl
@@ -22,7 +22,7 @@ same_site back place after (binds count skip) = refl
 same_site back place after nothing = refl
 same_site back place after (strong flags name) = refl
 
-runs_back : (back ps : List Placed) → sites_run (site_behind back) ps ≡ all_from sites_at back ps
+runs_back : (back ps : List Placed) → sites_run (site_following back) ps ≡ all_from sites_at back ps
 unfolding sites_run all_from
 runs_back back [] = refl
 runs_back back (p ∷ ps) =

@@ -4,7 +4,7 @@ use Rattle.mach_dyld.proofs.BindNames.{Option, Some, None, Result, Ok, Err, refl
 use Rattle.mach_dyld.proofs.BindNames.{bind_ok}
 use Rattle.mach_dyld.proofs.BindNames.{sym, ap, ◌∙◌, pos, cond, slice_get, range_with_len, filter_map, cons_option, AllByRecursion, IfOk, subst, same_ok}
 use Rattle.mach_dyld.proofs.BindNames.{lt-ltb}
-use Rattle.mach_dyld.proofs.BindNames.{arith, ◌==◌, ne_eqb, bit_and, Fault, malformed, holding, SegmentView, Input, Range, Reader, AllStandBy, StopsBy}
+use Rattle.mach_dyld.proofs.BindNames.{arith, ◌==◌, ne_eqb, bit_and, Fault, malformed, holding, SegmentView, Input, Range, Reader, AllOccurBy, StopsBy}
 use Rattle.mach_dyld.proofs.BindNames.{Placed, Instruction, Follow, stream_end, fault_item, upto_fault, all_from, row_at}
 use Rattle.mach_dyld.proofs.BindNames.{done, library, symbol, segment, binds, byte_at, Bind, bind_after, binds_at, advances, advance_in, reached}
 use Rattle.mach_dyld.proofs.BindNames.{flags_in, symbol_name_in, addend_in, segment_in, offset_in, sets_segment, count_in, sequence_of, Target, import_with}
@@ -20,8 +20,9 @@ use Rattle.mach_dyld.specs.Bindings.{SetBefore, binding_with, holding_all, ordin
 use Rattle.mach_dyld.specs.Bindings.{bindings_in}
 use Rattle.mach_dyld.specs.Bindings.{highest_opcode, done_leads_to}
 unfoldable use Rattle.mach_dyld.specs.Bindings.{spot_of, binding_of, opcode_at, bindings_row}
-use Rattle.mach_dyld.specs.BindingLaws.{IsPlain, told_item, told_by_import, told_by_binding, library_name, EachTells, IsSetAnew, AreSetAnew, AreReadAlike}
-use Rattle.mach_dyld.specs.BindingLaws.{StreamsTellTheSame}
+use Rattle.mach_dyld.specs.BindingLaws.{IsPlain, reported_item, reported_by_import, reported_by_binding}
+use Rattle.mach_dyld.specs.BindingLaws.{library_name, EachReports, IsSetAnew, AreSetAnew, AreReadAlike}
+use Rattle.mach_dyld.specs.BindingLaws.{StreamsReportTheSame}
 use Rattle.mach_dyld.specs.BindItems.{AreBindItems}
 use Rattle.mach_dyld.specs.Bindings.{AreBindings}
 use Rattle.mach_dyld.proofs.BindPlaced.{made_of}
@@ -299,10 +300,10 @@ same_before_done pointer r back own h = rw (undone-all back h) refl
 abbrev Bound : Result Target Fault → Bind → Result Import Fault
 Bound t b = t >>= λ y. Ok (import_with b y)
 
-told_sequence : (t : Result Target Fault) (b : Bind) (n : ℕ)
-    → told_item told_by_import (Bound t b) ≡ told_item told_by_import (Bound t (record b { sequence = n }))
-told_sequence (Ok t) b n = refl
-told_sequence (Err f) b n = refl
+reported_sequence : (t : Result Target Fault) (b : Bind) (n : ℕ)
+    → reported_item reported_by_import (Bound t b) ≡ reported_item reported_by_import (Bound t (record b { sequence = n }))
+reported_sequence (Ok t) b n = refl
+reported_sequence (Err f) b n = refl
 
 -- a DONE makes no bind
 done_count : (i : Instruction) → done_is i ≡ true → count_of i ≡ 0
@@ -329,57 +330,59 @@ module _ (x : Input) (first : List ℕ) (others : List (List ℕ)) (libs : x.lib
   named zero p h = (first, rw libs refl, ap (library_name first) (sym (same_ok h)))
   named (suc n) p h = named_by n (slice_get x.libs (suc n)) p refl h
 
-  abbrev Tells : Result Import Fault → Result Binding Fault → Type 0
-  Tells i b = IfOk b (λ found. told_item told_by_import i ≡ Ok (told_by_binding first found))
+  abbrev ReportsFault : Result Import Fault → Result Binding Fault → Type 0
+  ReportsFault i b = IfOk b (λ found. reported_item reported_by_import i ≡ Ok (reported_by_binding first found))
 
-  bind_tells : (g : SetBefore) (b : Bind) (item : Result Binding Fault) → g.ordinal ≡ pos b.library → binding_of x g b ≡ item → Tells (import_of x b) item
+  bind_reports : (g : SetBefore) (b : Bind) (item : Result Binding Fault) → g.ordinal ≡ pos b.library → binding_of x g b ≡ item
+      → ReportsFault (import_of x b) item
   unfolding import_of target_of
-  bind_tells g b (Err f) o e = tt
-  bind_tells g b (Ok found) o e =
+  bind_reports g b (Err f) o e = tt
+  bind_reports g b (Ok found) o e =
       let made = made_of x g b found e in
       let lib = named b.library made.0 (ap (provider_of x.libs) (sym o) ∙ made.3) in
       let s = spot_parts x.pointer x.segments b.segment b.offset made.1 made.4 in
       let holds = still_held x.pointer b.offset s.segment more s.holds in
       let same : binding_with b made.0 (spot_at s.in_file s.address) ≡ found = ap (binding_with b made.0) s.made ∙ made.5 in
-      let here : told_item told_by_import (import_of x b) ≡ Ok (told_by_binding first (binding_with b made.0 (spot_at s.in_file s.address))) =
+      let here : reported_item reported_by_import (import_of x b) ≡ Ok (reported_by_binding first (binding_with b made.0 (spot_at s.in_file s.address))) =
       rw (lib.1, s.there, holds, s.in_file_is, s.address_is, lib.2) refl in
-      here ∙ ap (λ (q : Binding). Ok (told_by_binding first q)) same
+      here ∙ ap (λ (q : Binding). Ok (reported_by_binding first q)) same
 
   abbrev Item : Type 0
   Item = Result Import Fault
 
-  one_tells : (i : Item) (b : Result Binding Fault) (is : List Item) (bs : List (Result Binding Fault)) → Tells i b → EachTells first is bs
-      → EachTells first (i ∷ is) (b ∷ bs)
-  one_tells i (Ok b) is bs h k = (h, k)
-  one_tells i (Err f) is bs h k = tt
+  one_reports : (i : Item) (b : Result Binding Fault) (is : List Item) (bs : List (Result Binding Fault)) → ReportsFault i b → EachReports first is bs
+      → EachReports first (i ∷ is) (b ∷ bs)
+  one_reports i (Ok b) is bs h k = (h, k)
+  one_reports i (Err f) is bs h k = tt
 
   -- the binding of what bindings read agrees with the import of what imports read
   bind_alike : (r : Range) (back : List Placed) (g : SetBefore) (own : ℕ) → IsSameBind x.pointer r back own
       → g.ordinal ≡ pos (last_setting 0 library_in (map undone back))
-      → Tells (import_of x (bind_after x.pointer r back own)) (binding_of x g (bind_after x.pointer r (map undone back) own))
+      → ReportsFault (import_of x (bind_after x.pointer r back own)) (binding_of x g (bind_after x.pointer r (map undone back) own))
   unfolding import_of bind_after
   bind_alike r back g own same o =
       let b = bind_after x.pointer r back own in
       let c = bind_after x.pointer r (map undone back) own in
       let t = target_of x b.library b.segment b.offset in
-      let both : told_item told_by_import (import_of x b) ≡ told_item told_by_import (import_of x c) =
-      told_sequence t b (sequence_of r.from (map undone back)) ∙ ap (λ d. told_item told_by_import (import_of x d)) (sym same) in
-      tells_by (import_of x b) (import_of x c) both (binding_of x g c) (bind_tells g c (binding_of x g c) o refl)
+      let both : reported_item reported_by_import (import_of x b) ≡ reported_item reported_by_import (import_of x c) =
+      reported_sequence t b (sequence_of r.from (map undone back)) ∙ ap (λ d. reported_item reported_by_import (import_of x d)) (sym same) in
+      reports_by (import_of x b) (import_of x c) both (binding_of x g c) (bind_reports g c (binding_of x g c) o refl)
     where
-      tells_by : (i j : Item) → told_item told_by_import i ≡ told_item told_by_import j → (item : Result Binding Fault) → Tells j item → Tells i item
-      tells_by i j e (Ok found) h = e ∙ h
-      tells_by i j e (Err f) h = tt
+      reports_by : (i j : Item) → reported_item reported_by_import i ≡ reported_item reported_by_import j → (item : Result Binding Fault)
+          → ReportsFault j item → ReportsFault i item
+      reports_by i j e (Ok found) h = e ∙ h
+      reports_by i j e (Err f) h = tt
 
   -- ---- instructions
 
-  strides_tell : (r : Range) (back : List Placed) (g : SetBefore) (s : ℕ) (js : List ℕ) (is : List Item) (bs : List (Result Binding Fault))
-      → ((own : ℕ) → IsSameBind x.pointer r back own) → g.ordinal ≡ pos (last_setting 0 library_in (map undone back)) → EachTells first is bs
-      → EachTells first (map (import_of x) (map (λ j. bind_after x.pointer r back (j * s)) js) ++ is)
+  strides_report : (r : Range) (back : List Placed) (g : SetBefore) (s : ℕ) (js : List ℕ) (is : List Item) (bs : List (Result Binding Fault))
+      → ((own : ℕ) → IsSameBind x.pointer r back own) → g.ordinal ≡ pos (last_setting 0 library_in (map undone back)) → EachReports first is bs
+      → EachReports first (map (import_of x) (map (λ j. bind_after x.pointer r back (j * s)) js) ++ is)
       (map (binding_of x g) (map (λ j. bind_after x.pointer r (map undone back) (j * s)) js) ++ bs)
-  strides_tell r back g s [] is bs same o e = e
-  strides_tell r back g s (j ∷ js) is bs same o e =
-      one_tells (import_of x (bind_after x.pointer r back (j * s))) (binding_of x g (bind_after x.pointer r (map undone back) (j * s))) _ _
-      (bind_alike r back g (j * s) (same (j * s)) o) (strides_tell r back g s js is bs same o e)
+  strides_report r back g s [] is bs same o e = e
+  strides_report r back g s (j ∷ js) is bs same o e =
+      one_reports (import_of x (bind_after x.pointer r back (j * s))) (binding_of x g (bind_after x.pointer r (map undone back) (j * s))) _ _
+      (bind_alike r back g (j * s) (same (j * s)) o) (strides_report r back g s js is bs same o e)
 
   abbrev imports_at : Range → List Placed → Placed → List Item
   imports_at r back p = map (import_of x) (binds_at x.pointer r back p)
@@ -388,17 +391,17 @@ module _ (x : Input) (first : List ℕ) (others : List (List ℕ)) (libs : x.lib
   placed place i after = record { place = place; instruction = i; after = after }
 
   -- the items of one instruction of both
-  here_tells : (r : Range) (back : List Placed) (place after : ℕ) (i : Instruction) (is : List Item) (bs : List (Result Binding Fault))
+  here_reports : (r : Range) (back : List Placed) (place after : ℕ) (i : Instruction) (is : List Item) (bs : List (Result Binding Fault))
       → (0 < count_of i → (own : ℕ) → IsSameBind x.pointer r back own)
       → last_ordinal x.bytes (undone (placed place i after) ∷ map undone back)
       ≡ pos (last_setting 0 library_in (undone (placed place i after) ∷ map undone back))
-      → EachTells first is bs
-      → EachTells first (imports_at r back (placed place i after) ++ is) (bindings_at x r (map undone back) (undone (placed place i after)) ++ bs)
-  here_tells r back place after (binds zero skip) is bs same o e = e
-  here_tells r back place after (binds (suc n) skip) is bs same o e =
-      strides_tell r back (last_given x.bytes r.is_lazy (placed place (binds (suc n) skip) after ∷ map undone back)) (skip + x.pointer)
+      → EachReports first is bs
+      → EachReports first (imports_at r back (placed place i after) ++ is) (bindings_at x r (map undone back) (undone (placed place i after)) ++ bs)
+  here_reports r back place after (binds zero skip) is bs same o e = e
+  here_reports r back place after (binds (suc n) skip) is bs same o e =
+      strides_report r back (last_given x.bytes r.is_lazy (placed place (binds (suc n) skip) after ∷ map undone back)) (skip + x.pointer)
       (range_with_len 0 (suc n)) is bs (same (omega arith)) o e
-  here_tells r back place after _ is bs same o e = e
+  here_reports r back place after _ is bs same o e = e
 
   -- ---- two readings of a range
 
@@ -484,24 +487,24 @@ module _ (x : Input) (first : List ℕ) (others : List (List ℕ)) (libs : x.lib
     ends_by [] dones h k = ends_dones dones k
     ends_by (p ∷ front) dones h k = ((λ e. absurd (let n = h.0 in cc)), ends_by front dones h.1 k)
 
-    done_among : (front behind : List Placed) (p : Placed) → Dones (front ++ p ∷ behind) → is_done p ≡ true
-    done_among [] behind p h = h.0
-    done_among (y ∷ front) behind p h = done_among front behind p h.1
+    done_among : (front following : List Placed) (p : Placed) → Dones (front ++ p ∷ following) → is_done p ≡ true
+    done_among [] following p h = h.0
+    done_among (y ∷ front) following p h = done_among front following p h.1
 
     -- no DONE comes before a bind
-    before_bind : (ps front : List Placed) (p : Placed) (behind : List Placed) → Ends ps → ps ≡ front ++ p ∷ behind → 0 < count_in p → NoDone front
-    before_bind ps [] p behind h e more = tt
-    before_bind [] (y ∷ front) p behind h e more = absurd (cc)
-    before_bind (z ∷ ps) (y ∷ front) p behind h e more =
-        let tail : ps ≡ front ++ p ∷ behind = cc in
+    before_bind : (ps front : List Placed) (p : Placed) (following : List Placed) → Ends ps → ps ≡ front ++ p ∷ following → 0 < count_in p → NoDone front
+    before_bind ps [] p following h e more = tt
+    before_bind [] (y ∷ front) p following h e more = absurd (cc)
+    before_bind (z ∷ ps) (y ∷ front) p following h e more =
+        let tail : ps ≡ front ++ p ∷ following = cc in
         let head : z ≡ y = cc in
-        (by_test (is_done y) refl tail head, before_bind ps front p behind h.1 tail more)
+        (by_test (is_done y) refl tail head, before_bind ps front p following h.1 tail more)
       where
-        by_test : (d : Bool) → is_done y ≡ d → ps ≡ front ++ p ∷ behind → z ≡ y → is_done y ≡ false
+        by_test : (d : Bool) → is_done y ≡ d → ps ≡ front ++ p ∷ following → z ≡ y → is_done y ≡ false
         by_test false d tail head = d
         by_test true d tail head =
-            let all : Dones (front ++ p ∷ behind) = subst Dones tail (h.0 (ap (λ (w : Placed). is_done w) head ∙ d)) in
-            let none = done_count p.instruction (done_among front behind p all) in
+            let all : Dones (front ++ p ∷ following) = subst Dones tail (h.0 (ap (λ (w : Placed). is_done w) head ∙ d)) in
+            let none = done_count p.instruction (done_among front following p all) in
             absurd (omega (arith, none, more))
 
     none_onto : (front back : List Placed) → NoDone front → NoDone back → NoDone (onto front back)
@@ -512,7 +515,7 @@ module _ (x : Input) (first : List ℕ) (others : List (List ℕ)) (libs : x.lib
 
     abbrev AllSame : List Placed → List Placed → Type 0
     AllSame back ps =
-        (front : List Placed) (p : Placed) (behind : List Placed) → ps ≡ front ++ p ∷ behind → 0 < count_in p → (own : ℕ)
+        (front : List Placed) (p : Placed) (following : List Placed) → ps ≡ front ++ p ∷ following → 0 < count_in p → (own : ℕ)
         → IsSameBind x.pointer r (onto front back) own
 
     abbrev from_binds : List Placed → List Placed → List Item
@@ -525,64 +528,65 @@ module _ (x : Input) (first : List ℕ) (others : List (List ℕ)) (libs : x.lib
     placed_is p q e f = ap (λ n. placed n q.instruction q.after) e ∙ ap (λ (y : Found). placed p.place y.0 y.1) f
 
     -- after the end of the range nothing is read
-    nothing_behind : (place : ℕ) (qs : List Placed) (s : Option Fault) → r.upto ≤ place → AllStandBy read_bindings r.upto qs → Follow place qs
+    nothing_after : (place : ℕ) (qs : List Placed) (s : Option Fault) → r.upto ≤ place → AllOccurBy read_bindings r.upto qs → Follow place qs
         → StopsBy read_bindings r.upto (stream_end place qs) s → (qs ≡ []) × (s ≡ None)
-    nothing_behind place [] None h a f e = (refl, refl)
-    nothing_behind place [] (Some g) h a f e = absurd (omega (arith, h, e.0))
-    nothing_behind place (q ∷ qs) s h a f e = absurd (omega (arith, h, a.0.within, f.0))
+    nothing_after place [] None h a f e = (refl, refl)
+    nothing_after place [] (Some g) h a f e = absurd (omega (arith, h, e.0))
+    nothing_after place (q ∷ qs) s h a f e = absurd (omega (arith, h, a.0.within, f.0))
 
     -- the items of both, before the items of others
-    abbrev Tell : List Placed → List Placed → List Placed → Option Fault → Option Fault → List Item → List (Result Binding Fault) → Type 0
-    Tell back ps qs s t is bs = EachTells first (from_binds back ps ++ (fault_item s ++ is)) (from_bindings (map undone back) qs ++ (fault_item t ++ bs))
+    abbrev SameReports : List Placed → List Placed → List Placed → Option Fault → Option Fault → List Item → List (Result Binding Fault) → Type 0
+    SameReports back ps qs s t is bs = EachReports first (from_binds back ps ++ (fault_item s ++ is)) (from_bindings (map undone back) qs ++
+        (fault_item t ++ bs))
 
-    both_tell : (place : ℕ) (back ps qs : List Placed) (s t : Option Fault) (is : List Item) (bs : List (Result Binding Fault))
-        → AllStandBy read_binds r.upto ps → Follow place ps → StopsBy read_binds r.upto (stream_end place ps) s
-        → AllStandBy read_bindings r.upto qs → Follow place qs → StopsBy read_bindings r.upto (stream_end place qs) t
-        → Plain x.bytes (map undone back) → Plain x.bytes ps → AllSame back ps → (r.is_lazy ≡ false → Ends ps × (s ≡ None)) → EachTells first is bs
-        → Tell back ps qs s t is bs
+    both_report : (place : ℕ) (back ps qs : List Placed) (s t : Option Fault) (is : List Item) (bs : List (Result Binding Fault))
+        → AllOccurBy read_binds r.upto ps → Follow place ps → StopsBy read_binds r.upto (stream_end place ps) s
+        → AllOccurBy read_bindings r.upto qs → Follow place qs → StopsBy read_bindings r.upto (stream_end place qs) t
+        → Plain x.bytes (map undone back) → Plain x.bytes ps → AllSame back ps → (r.is_lazy ≡ false → Ends ps × (s ≡ None)) → EachReports first is bs
+        → SameReports back ps qs s t is bs
     unfolding all_from
-    both_tell place back ps [] s (Some g) is bs a f e b h k plain more same ends rest = tt
-    both_tell place back [] [] None None is bs a f e b h k plain more same ends rest = rest
-    both_tell place back [] [] (Some g) None is bs a f e b h k plain more same ends rest = absurd (omega (arith, k, e.0))
-    both_tell place back (p ∷ ps) [] s None is bs a f e b h k plain more same ends rest = absurd (omega (arith, k, a.0.within, f.0))
-    both_tell place back [] (q ∷ qs) None t is bs a f e b h k plain more same ends rest = absurd (omega (arith, e, b.0.within, h.0))
-    both_tell place back [] (q ∷ qs) (Some g) t is bs a f e b h k plain more same ends rest =
+    both_report place back ps [] s (Some g) is bs a f e b h k plain more same ends rest = tt
+    both_report place back [] [] None None is bs a f e b h k plain more same ends rest = rest
+    both_report place back [] [] (Some g) None is bs a f e b h k plain more same ends rest = absurd (omega (arith, k, e.0))
+    both_report place back (p ∷ ps) [] s None is bs a f e b h k plain more same ends rest = absurd (omega (arith, k, a.0.within, f.0))
+    both_report place back [] (q ∷ qs) None t is bs a f e b h k plain more same ends rest = absurd (omega (arith, e, b.0.within, h.0))
+    both_report place back [] (q ∷ qs) (Some g) t is bs a f e b h k plain more same ends rest =
         absurd (both_read place g (q.instruction, q.after) e.1 (subst (λ (n : ℕ). read_bindings n ≡ Ok (q.instruction, q.after)) h.0 b.0.read))
-    both_tell place back (p ∷ ps) (q ∷ qs) s t is bs a f e b h k plain more same ends rest =
-        by_reading (λ follow stops. both_tell p.after (p ∷ back) ps qs s t is bs a.1 f.1 e b.1 follow stops (more.0, plain) more.1
-        (λ front y behind is_so c own. same (p ∷ front) y behind (ap (λ ys. p ∷ ys) is_so) c own) (λ l. ((ends l).0.1, (ends l).1)) rest)
+    both_report place back (p ∷ ps) (q ∷ qs) s t is bs a f e b h k plain more same ends rest =
+        by_reading (λ follow stops. both_report p.after (p ∷ back) ps qs s t is bs a.1 f.1 e b.1 follow stops (more.0, plain) more.1
+        (λ front y following is_so c own. same (p ∷ front) y following (ap (λ ys. p ∷ ys) is_so) c own) (λ l. ((ends l).0.1, (ends l).1)) rest)
         (reads_as place (p.instruction, p.after) (q.instruction, q.after)
         (subst (λ (n : ℕ). read_binds n ≡ Ok (p.instruction, p.after)) f.0 a.0.read)
         (subst (λ (n : ℕ). read_bindings n ≡ Ok (q.instruction, q.after)) h.0 b.0.read))
       where
-        by_reading : (Follow p.after qs → StopsBy read_bindings r.upto (stream_end p.after qs) t → Tell (p ∷ back) ps qs s t is bs)
-            → ReadsAs (p.instruction, p.after) (q.instruction, q.after) → Tell back (p ∷ ps) (q ∷ qs) s t is bs
+        by_reading : (Follow p.after qs → StopsBy read_bindings r.upto (stream_end p.after qs) t → SameReports (p ∷ back) ps qs s t is bs)
+            → ReadsAs (p.instruction, p.after) (q.instruction, q.after) → SameReports back (p ∷ ps) (q ∷ qs) s t is bs
         by_reading further (inl is_undone) =
             let same_place : q ≡ undone p = placed_is p q (h.0 ∙ sym f.0) is_undone in
             let follow : Follow p.after qs = subst (λ (y : Placed). Follow y.after qs) same_place h.1 in
             let stops : StopsBy read_bindings r.upto (stream_end p.after qs) t =
             subst (λ (y : Placed). StopsBy read_bindings r.upto (stream_end y.after qs) t) same_place k in
             let ordinal = last_library x.bytes (undone p ∷ map undone back) (more.0, plain) in
-            let here = here_tells r back p.place p.after p.instruction (from_binds (p ∷ back) ps ++ (fault_item s ++ is))
+            let here = here_reports r back p.place p.after p.instruction (from_binds (p ∷ back) ps ++ (fault_item s ++ is))
             (from_bindings (map undone (p ∷ back)) qs ++ (fault_item t ++ bs)) (λ c own. same [] p ps refl c own) ordinal (further follow stops) in
-            subst (λ (y : Placed). Tell back (p ∷ ps) (y ∷ qs) s t is bs) (sym same_place)
-            (subst (λ m. EachTells first m (from_bindings (map undone back) (undone p ∷ qs) ++ (fault_item t ++ bs)))
+            subst (λ (y : Placed). SameReports back (p ∷ ps) (y ∷ qs) s t is bs) (sym same_place)
+            (subst (λ m. EachReports first m (from_bindings (map undone back) (undone p ∷ qs) ++ (fault_item t ++ bs)))
             (sym (append_assoc (imports_at r back p) (from_binds (p ∷ back) ps) (fault_item s ++ is)))
-            (subst (EachTells first (imports_at r back p ++ (from_binds (p ∷ back) ps ++ (fault_item s ++ is))))
+            (subst (EachReports first (imports_at r back p ++ (from_binds (p ∷ back) ps ++ (fault_item s ++ is))))
             (sym (append_assoc (bindings_at x r (map undone back) (undone p)) (from_bindings (map undone (p ∷ back)) qs) (fault_item t ++ bs))) here))
         by_reading further (inr (d, l, n, past)) =
-            let none = nothing_behind q.after qs t past b.1 h.1 k in
+            let none = nothing_after q.after qs t past b.1 h.1 k in
             let all = no_imports back (p ∷ ps) (d, (ends l).0.0 d) in
             let empty : from_bindings (map undone back) (q ∷ []) ≡ [] = rw n refl in
-            subst (λ u. Tell back (p ∷ ps) (q ∷ qs) s u is bs) (sym none.1) (subst (λ ys. Tell back (p ∷ ps) (q ∷ ys) s None is bs) (sym none.0)
-            (subst (λ m. EachTells first (from_binds back (p ∷ ps) ++ (fault_item s ++ is)) (m ++ bs)) (sym empty)
-            (subst (λ u. EachTells first (from_binds back (p ∷ ps) ++ (fault_item u ++ is)) bs) (sym (ends l).1)
-            (subst (λ m. EachTells first (m ++ is) bs) (sym all) rest))))
+            subst (λ u. SameReports back (p ∷ ps) (q ∷ qs) s u is bs) (sym none.1) (subst (λ ys. SameReports back (p ∷ ps) (q ∷ ys) s None is bs) (sym none.0)
+            (subst (λ m. EachReports first (from_binds back (p ∷ ps) ++ (fault_item s ++ is)) (m ++ bs)) (sym empty)
+            (subst (λ u. EachReports first (from_binds back (p ∷ ps) ++ (fault_item u ++ is)) bs) (sym (ends l).1)
+            (subst (λ m. EachReports first (m ++ is) bs) (sym all) rest))))
 
 -- ---- both streams
 
-each_upto : (first : List ℕ) (is : List (Result Import Fault)) (bs : List (Result Binding Fault)) → EachTells first is bs
-    → EachTells first (upto_fault is) (upto_fault bs)
+each_upto : (first : List ℕ) (is : List (Result Import Fault)) (bs : List (Result Binding Fault)) → EachReports first is bs
+    → EachReports first (upto_fault is) (upto_fault bs)
 each_upto first is [] e = ap upto_fault e
 each_upto first is (Err f ∷ bs) e = tt
 each_upto first [] (Ok b ∷ bs) e = absurd e
@@ -596,43 +600,44 @@ imports_from : (x : Input) (r : Range) (ps : List Placed) → imports_in x r ps 
 unfolding imports_in
 imports_from x r ps = sym (all-map (import_of x) (binds_at x.pointer r) [] ps)
 
-each_tells : (x : Input) (non_lazy lazy : Range) (first : List ℕ) (others : List (List ℕ)) (ps qs ps' qs' : List Placed) (imports : List (Result Import Fault))
+each_reports : (x : Input) (non_lazy lazy : Range) (first : List ℕ) (others : List (List ℕ)) (ps qs ps' qs' : List Placed) (imports : List
+    (Result Import Fault))
     (bindings : List (Result Binding Fault)) → x.libs ≡ first ∷ others → 0 < x.pointer → lazy.is_lazy ≡ true → AreReadAlike x non_lazy lazy ps qs
-    → AreBindItems x non_lazy lazy ps qs imports → AreBindings x non_lazy lazy ps' qs' bindings → EachTells first imports bindings
-each_tells x non_lazy lazy first others ps qs ps' qs' imports bindings libs more second h i b =
+    → AreBindItems x non_lazy lazy ps qs imports → AreBindings x non_lazy lazy ps' qs' bindings → EachReports first imports bindings
+each_reports x non_lazy lazy first others ps qs ps' qs' imports bindings libs more second h i b =
     let stop : i.stop ≡ None = (one_longest (reader_of x) non_lazy ps ps i.stop None i.longest (longest_stream x non_lazy ps h.whole)).1 in
     let ended = h.ends in
     let ends : Ends x first others libs more non_lazy ps = subst (Ends x first others libs more non_lazy) (sym ended.2)
     (ends_by x first others libs more non_lazy ended.0 ended.1 ended.3 ended.4) in
-    let lazy_tells = both_tell x first others libs more lazy lazy.from [] qs qs' i.lazy_stop b.lazy_stop [] [] i.lazy_longest.beginning.stand
-    i.lazy_longest.beginning.follow i.lazy_longest.stops b.lazy_longest.beginning.stand b.lazy_longest.beginning.follow b.lazy_longest.stops tt h.lazy_plain
-    (λ front p behind e c own. same_anew x.pointer lazy (onto front []) own
-    (subst AreSetAnew (sym (onto-reverse front [] ∙ append-nil (reverse front))) (h.anew front p behind e c)))
+    let lazy_reports = both_report x first others libs more lazy lazy.from [] qs qs' i.lazy_stop b.lazy_stop [] [] i.lazy_longest.beginning.occur
+    i.lazy_longest.beginning.follow i.lazy_longest.stops b.lazy_longest.beginning.occur b.lazy_longest.beginning.follow b.lazy_longest.stops tt h.lazy_plain
+    (λ front p following e c own. same_anew x.pointer lazy (onto front []) own
+    (subst AreSetAnew (sym (onto-reverse front [] ∙ append-nil (reverse front))) (h.anew front p following e c)))
     (λ l. absurd (let k = second in cc)) refl in
-    let tells = both_tell x first others libs more non_lazy non_lazy.from [] ps ps' i.stop b.stop _ _ i.longest.beginning.stand
-    i.longest.beginning.follow i.longest.stops b.longest.beginning.stand b.longest.beginning.follow b.longest.stops tt h.plain
-    (λ front p behind e c own. same_before_done x.pointer non_lazy (onto front []) own
-    (none_onto x first others libs more non_lazy front [] (before_bind x first others libs more non_lazy ps front p behind ends e c) tt))
-    (λ l. (ends, stop)) lazy_tells in
+    let reports = both_report x first others libs more non_lazy non_lazy.from [] ps ps' i.stop b.stop _ _ i.longest.beginning.occur
+    i.longest.beginning.follow i.longest.stops b.longest.beginning.occur b.longest.beginning.follow b.longest.stops tt h.plain
+    (λ front p following e c own. same_before_done x.pointer non_lazy (onto front []) own
+    (none_onto x first others libs more non_lazy front [] (before_bind x first others libs more non_lazy ps front p following ends e c) tt))
+    (λ l. (ends, stop)) lazy_reports in
     let is : imports ≡ upto_fault (from_binds x first others libs more non_lazy [] ps ++ (fault_item i.stop ++ (from_binds x first others libs more lazy [] qs
     ++ (fault_item i.lazy_stop ++ [])))) = i.are ∙ ap upto_fault (joined _ (fault_item i.stop) _ (fault_item i.lazy_stop)
     ∙ ap (λ m. m ++ (fault_item i.stop ++ (imports_in x lazy qs ++ (fault_item i.lazy_stop ++ [])))) (imports_from x non_lazy ps)
     ∙ ap (λ m. from_binds x first others libs more non_lazy [] ps ++ (fault_item i.stop ++ (m ++ (fault_item i.lazy_stop ++ [])))) (imports_from x lazy qs)) in
     let bs = b.are ∙ ap upto_fault (joined (bindings_in x non_lazy ps') (fault_item b.stop) (bindings_in x lazy qs') (fault_item b.lazy_stop)) in
-    subst (λ m. EachTells first m bindings) (sym is) (subst (EachTells first _) (sym bs) (each_upto first _ _ tells))
+    subst (λ m. EachReports first m bindings) (sym is) (subst (EachReports first _) (sym bs) (each_upto first _ _ reports))
 
-one_for_one : (first : List ℕ) (imports : List (Result Import Fault)) (list : List Binding) → EachTells first imports (map Ok list)
-    → map (told_item told_by_import) imports ≡ map (λ b. Ok (told_by_binding first b)) list
-one_for_one first imports [] e = ap (map (told_item told_by_import)) e
+one_for_one : (first : List ℕ) (imports : List (Result Import Fault)) (list : List Binding) → EachReports first imports (map Ok list)
+    → map (reported_item reported_by_import) imports ≡ map (λ b. Ok (reported_by_binding first b)) list
+one_for_one first imports [] e = ap (map (reported_item reported_by_import)) e
 one_for_one first [] (b ∷ list) e = absurd e
 one_for_one first (i ∷ imports) (b ∷ list) e =
-    ap (λ t. t ∷ map (told_item told_by_import) imports) e.0 ∙ ap (λ ts. Ok (told_by_binding first b) ∷ ts) (one_for_one first imports list e.1)
+    ap (λ t. t ∷ map (reported_item reported_by_import) imports) e.0 ∙ ap (λ ts. Ok (reported_by_binding first b) ∷ ts) (one_for_one first imports list e.1)
 
-pub tell_the_same : StreamsTellTheSame
-tell_the_same x non_lazy lazy first others ps qs ps' qs' us vs imports bindings libs more second h i b =
+pub report_the_same : StreamsReportTheSame
+report_the_same x non_lazy lazy first others ps qs ps' qs' us vs imports bindings libs more second h i b =
     let front = (one_longest (reader_of x) non_lazy ps ps' None i.stop (longest_stream x non_lazy ps h.whole) i.longest).0 in
     let back = (one_longest (reader_of x) lazy qs qs' h.lazy_stop i.lazy_stop h.lazy_longest i.lazy_longest).0 in
     let alike : AreReadAlike x non_lazy lazy ps' qs' =
     subst (λ ys. AreReadAlike x non_lazy lazy ys qs') front (subst (AreReadAlike x non_lazy lazy ps) back h) in
-    let each = each_tells x non_lazy lazy first others ps' qs' us vs imports bindings libs more second alike i b in
-    (each, (λ list is. one_for_one first imports list (subst (EachTells first imports) is each)))
+    let each = each_reports x non_lazy lazy first others ps' qs' us vs imports bindings libs more second alike i b in
+    (each, (λ list is. one_for_one first imports list (subst (EachReports first imports) is each)))

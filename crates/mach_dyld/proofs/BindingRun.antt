@@ -2,14 +2,14 @@
 use Rattle.mach_dyld.proofs.BindNames.{◌≡◌, ℕ, ℤ, ◌+◌, ◌-◌, List, ◌∷◌, Bool, true, false, Option, Some, None, Ok, refl, sym, ap, subst}
 use Rattle.mach_dyld.proofs.BindNames.{◌∙◌, pos, cond, ◌==◌, bit_and, nat_lt, inl, inr, cases_eq, cases_Bool, ne_eqb, bind_ok, same_ok}
 use Rattle.mach_dyld.proofs.BindNames.{Instruction, done, byte_at, Placed, Range, Input, bind_after}
-use Rattle.mach_dyld.proofs.BindNames.{is_done, fresh, set_by, run, set_after, library_in, last_setting, moved, StandsBy, AllStandBy, reader_by}
+use Rattle.mach_dyld.proofs.BindNames.{is_done, fresh, set_by, run, set_after, library_in, last_setting, moved, OccursBy, AllOccurBy, reader_by}
 use Rattle.mach_dyld.specs.Instructions.{nothing}
 use Rattle.mach_dyld.specs.Binds.{done_is}
 use Rattle.mach_dyld.specs.Bindings.{SetBefore, last_given, ordinal_in, kind_set_by, sets_in, first_kind, gives_ordinal, gives_name, gives_segment}
 use Rattle.mach_dyld.specs.Bindings.{highest_opcode, bindings_in}
 unfoldable use Rattle.mach_dyld.specs.Bindings.{binding_of, opcode_at, bindings_row}
 use Rattle.mach_dyld.specs.BindingsLeft.{binding_rules, given_now, first_extra, extra_after, ordinal_now, special_after}
-use Rattle.mach_dyld.specs.declared.bindings.Extra.{Extra}
+use Rattle.mach_dyld.specs.declared.bindings.BindingSettings.{BindingSettings}
 use Rattle.mach_dyld.proofs.BindSettings.{one_binds, tied_at_start}
 use Rattle.mach_dyld.proofs.BindingSet.{set_or, setting-step, ordinal_after}
 use Rattle.mach_dyld.proofs.BindQuiet.{binding_quiet}
@@ -38,10 +38,10 @@ given_is a b o k h n s =
     ∙ ap (λ q. given_by b.ordinal b.kind q a.has_name a.has_segment) h ∙ ap (λ q. given_by b.ordinal b.kind b.has_ordinal q a.has_segment) n
     ∙ ap (given_by b.ordinal b.kind b.has_ordinal b.has_name) s
 
-abbrev Tied : Input → Range → Extra → List Placed → Type 0
+abbrev Tied : Input → Range → BindingSettings → List Placed → Type 0
 Tied x r m back = given_now m (last_setting 0 library_in back) ≡ last_given x.bytes r.is_lazy back
 
-module _ (x : Input) (r : Range) (back : List Placed) (p : Placed) (m : Extra) (byte : ℕ) (there : byte_at x.bytes p.place ≡ Ok byte)
+module _ (x : Input) (r : Range) (back : List Placed) (p : Placed) (m : BindingSettings) (byte : ℕ) (there : byte_at x.bytes p.place ≡ Ok byte)
     (tied : Tied x r m back) where
   abbrev opcode : ℕ
   opcode = bit_and byte 0xf0
@@ -87,25 +87,25 @@ module _ (x : Input) (r : Range) (back : List Placed) (p : Placed) (m : Extra) (
   ]
 
 -- after an instruction at its place
-next_given : (x : Input) (r : Range) (m : Extra) (back : List Placed) (p : Placed) → StandsBy (reader_by binding_rules x r) r.upto p → Tied x r m back
+next_given : (x : Input) (r : Range) (m : BindingSettings) (back : List Placed) (p : Placed) → OccursBy (reader_by binding_rules x r) r.upto p → Tied x r m back
     → Tied x r (set_after binding_rules (byte_at x.bytes p.place) m) (p ∷ back)
 unfolding opcode_at
-next_given x r m back p stands tied =
+next_given x r m back p occurs tied =
     let b = bind_ok (byte_at x.bytes p.place)
-    (λ (byte : ℕ). bindings_row r x.pointer x.bytes (bit_and byte 0xf0) (bit_and byte 0x0f) (p.place + 1)) (p.instruction, p.after) stands.read in
+    (λ (byte : ℕ). bindings_row r x.pointer x.bytes (bit_and byte 0xf0) (bit_and byte 0x0f) (p.place + 1)) (p.instruction, p.after) occurs.read in
     rw b.1 (by_table x r back p m b.0 b.1 tied b.2)
 
 -- a bind's library is that of the instructions before it
-same_library : (x : Input) (r : Range) (m : Extra) (back : List Placed) (g : SetBefore) (own : ℕ) → given_now m (last_setting 0 library_in back) ≡ g
+same_library : (x : Input) (r : Range) (m : BindingSettings) (back : List Placed) (g : SetBefore) (own : ℕ) → given_now m (last_setting 0 library_in back) ≡ g
     → binding_of x (given_now m (bind_after x.pointer r back own).library) (bind_after x.pointer r back own) ≡ binding_of x g (bind_after x.pointer r back own)
 unfolding bind_after
 same_library x r m back g own t = ap (λ q. binding_of x q (bind_after x.pointer r back own)) t
 
 -- at a range's start
-pub bindings_at_start : (x : Input) (r : Range) (ps : List Placed) → AllStandBy (reader_by binding_rules x r) r.upto ps
+pub bindings_at_start : (x : Input) (r : Range) (ps : List Placed) → AllOccurBy (reader_by binding_rules x r) r.upto ps
     → run binding_rules x r (fresh r.is_lazy 0) (first_extra r.is_lazy) ps ≡ bindings_in x r ps
-bindings_at_start x r ps stand =
+bindings_at_start x r ps occur =
     tied_at_start binding_rules x r (λ back. binding_of x (last_given x.bytes r.is_lazy back)) (Tied x r)
     (λ p s. binding_quiet r x.pointer x.bytes p.place (p.instruction, p.after) s.read) (next_given x r)
     (λ m back place count skip after own t. same_library x r m back (last_given x.bytes r.is_lazy (one_binds place count skip after ∷ back)) own t)
-    (first_extra r.is_lazy) ps stand refl
+    (first_extra r.is_lazy) ps occur refl

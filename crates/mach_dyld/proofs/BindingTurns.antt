@@ -27,20 +27,20 @@ module _ {A : Type 0} where
   fault-front (Ok i ∷ a) b e = fault-front a b e
   fault-front (Err f ∷ a) b e = refl
 
-  pub fault-behind : (a b : List (Result A Fault)) → has_fault a ≡ false → has_fault (a ++ b) ≡ has_fault b
-  fault-behind [] b e = refl
-  fault-behind (Ok i ∷ a) b e = fault-behind a b e
-  fault-behind (Err f ∷ a) b e = absurd (cc)
+  pub fault-following : (a b : List (Result A Fault)) → has_fault a ≡ false → has_fault (a ++ b) ≡ has_fault b
+  fault-following [] b e = refl
+  fault-following (Ok i ∷ a) b e = fault-following a b e
+  fault-following (Err f ∷ a) b e = absurd (cc)
 
   fault-upto : (a : List (Result A Fault)) → has_fault (upto_fault a) ≡ has_fault a
   fault-upto [] = refl
   fault-upto (Ok i ∷ a) = fault-upto a
   fault-upto (Err f ∷ a) = refl
 
-  upto-behind : (a b : List (Result A Fault)) → has_fault a ≡ false → upto_fault (a ++ b) ≡ a ++ upto_fault b
-  upto-behind [] b e = refl
-  upto-behind (Ok i ∷ a) b e = ap (λ items. Ok i ∷ items) (upto-behind a b e)
-  upto-behind (Err f ∷ a) b e = absurd (cc)
+  upto-following : (a b : List (Result A Fault)) → has_fault a ≡ false → upto_fault (a ++ b) ≡ a ++ upto_fault b
+  upto-following [] b e = refl
+  upto-following (Ok i ∷ a) b e = ap (λ items. Ok i ∷ items) (upto-following a b e)
+  upto-following (Err f ∷ a) b e = absurd (cc)
 
   fault-cons : (r : Result A Fault) (items : List (Result A Fault)) → has_fault items ≡ true → has_fault (r ∷ items) ≡ true
   fault-cons (Ok i) items e = e
@@ -85,9 +85,9 @@ after_all c s (suc k) =
     let sum : s + suc k * s ≡ suc (suc k) * s = omega arith in
     after_all (moved s c) s k ∙ moved-twice s (suc k * s) c ∙ ap (λ n. moved n c) sum
 
-pub behind_all : (c : Bind) (s k : ℕ) → 0 < k → moved ((s * k) % 2 ^ 64) c ≡ after_strides c s k
-behind_all c s zero some = absurd (omega (arith, some))
-behind_all c s (suc k) some =
+pub following_all : (c : Bind) (s k : ℕ) → 0 < k → moved ((s * k) % 2 ^ 64) c ≡ after_strides c s k
+following_all c s zero some = absurd (omega (arith, some))
+following_all c s (suc k) some =
     let product : s * suc k ≡ suc k * s = omega arith in
     moved-mod (s * suc k) c ∙ ap (λ n. moved n c) product ∙ sym (after_all c s k)
 
@@ -176,16 +176,16 @@ module _ {M A : Type 0} (u : Rules M A) (x : Input) (lazy : Range) (m : M) (s : 
       ap (λ front. front ++ ran ++ stop ++ lasts) (map-append (λ d. u.makes x d m) (strides s.settings s.stride n) more)
       ∙ apart first (map (λ d. u.makes x d m) more) ran stop lasts
 
-  behind_first : s.ended ≡ false
+  after_first : s.ended ≡ false
       → items_of u x lazy m passed ≡ upto_fault (then_all (after_strides (after_strides s.settings s.stride n) s.stride k) more)
   unfolding items_of rest_of
-  behind_first on = rw on refl
+  after_first on = rw on refl
 
   pub pass_items : s.ended ≡ false → has_fault first ≡ false → items_of u x lazy m s ≡ first ++ items_of u x lazy m passed
   pass_items on none =
       all_of on ∙ ap upto_fault (of_parts ∙ in_front (after_strides (after_strides s.settings s.stride n) s.stride k))
-      ∙ upto-behind first (then_all (after_strides (after_strides s.settings s.stride n) s.stride k) more) none
-      ∙ ap (λ items. first ++ items) (sym (behind_first on))
+      ∙ upto-following first (then_all (after_strides (after_strides s.settings s.stride n) s.stride k) more) none
+      ∙ ap (λ items. first ++ items) (sym (after_first on))
 
 -- ---- a pointer's spot
 

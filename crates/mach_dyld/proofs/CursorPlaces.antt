@@ -97,9 +97,9 @@ module _ (bytes : List ℕ) (libs : List (List ℕ)) (lib : List ℕ) (name : Op
           | inr good ↦ (
               let t = in_terminal a.0.0 a.0.1 good.1 in
               let o = in_own a.0.0 a.0.1 t.0 t.1 t.2 in
-              let behind = λ (flags : ℕ × ℕ). uleb_at bytes flags.1 in
-              let first = ap (λ (r : Result (ℕ × ℕ) Fault). r >>= λ (size : ℕ × ℕ). uleb_at bytes size.1 >>= behind) a.1 in
-              let second = ap (λ (r : Result (ℕ × ℕ) Fault). r >>= behind) o.1 in
+              let following = λ (flags : ℕ × ℕ). uleb_at bytes flags.1 in
+              let first = ap (λ (r : Result (ℕ × ℕ) Fault). r >>= λ (size : ℕ × ℕ). uleb_at bytes size.1 >>= following) a.1 in
+              let second = ap (λ (r : Result (ℕ × ℕ) Fault). r >>= following) o.1 in
               (o.2, first ∙ second ∙ o.3, o.4))
         ]
 

@@ -2,7 +2,7 @@
 use Rattle.mach_dyld.proofs.TrieNames.{◌≡◌, ◌<◌, ◌≤◌, ◌-◌, length, Some, ℕ, List, [], ◌⊎◌, refl, ap, arith, inl, inr, malformed, Entry, ExportsFault}
 use Rattle.mach_dyld.proofs.TrieNames.{ListBegins, TrieRange, ListsExports, trie_there, Unfolds, nothing_read, passed, Open}
 use Rattle.mach_dyld.proofs.Starts.{starts_from}
-use Rattle.mach_dyld.proofs.Readings.{reading, tree_or_twice, cut_stands}
+use Rattle.mach_dyld.proofs.Readings.{reading, tree_or_twice, cut_occurs}
 use Rattle.mach_dyld.proofs.OpenNodes as nodes
 use Rattle.mach_dyld.proofs.Unfoldings as met
 use Rattle.mach_dyld.specs.CursorState.{below, name_met_last, IsStopped, IsAsBefore, TurnGives, HasCome, at_root, between, all_met}
@@ -29,7 +29,7 @@ module _ {t : TrieRange} {libs : List (List ℕ)} {c : TrieCursor} {name : List 
       → NextGives t libs found given d name' stack'
   next_gives (Export info) come stopped gives = gives.0
   next_gives (End) come stopped gives = (gives.0, (gives.1, gives.2), whole_or_not t libs gives.2)
-  next_gives (Refused e) come stopped gives = record { cut = gives; stands = cut_stands (starts_from t.bytes libs t.from t.upto) gives }
+  next_gives (Refused e) come stopped gives = record { cut = gives; occurs = cut_occurs (starts_from t.bytes libs t.from t.upto) gives }
   next_gives (NameTooLong n) come stopped gives = let b = stopped tt in rw (b.same_cursor, b.same_name, b.same_stack) come
   next_gives (StackTooShort) come stopped gives = let b = stopped tt in rw (b.same_cursor, b.same_name, b.same_stack) come
 

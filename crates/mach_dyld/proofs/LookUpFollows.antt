@@ -14,25 +14,25 @@ use Rattle.mach_dyld.specs.LookUpState.{IsPassed, LeadsOn, SearchVisits}
 use Rattle.mach_dyld.specs.Views.{source_trie}
 use Rattle.mach_dyld.specs.declared.trie.walk.Source.{Source}
 use Rattle.mach_dyld.proofs.Starts.{starts_from}
-use Rattle.mach_dyld.proofs.TriePaths.{Leads-append, leads_to_one, leads_behind, among_append}
+use Rattle.mach_dyld.proofs.TriePaths.{Leads-append, leads_to_one, leads_after, among_append}
 use Rattle.mach_dyld.proofs.TrieVisits.{no_more_paths, few_paths}
-use Rattle.mach_dyld.proofs.LookUpPaths.{spells_on, way_behind}
+use Rattle.mach_dyld.proofs.LookUpPaths.{spells_on, way_after}
 
-abbrev behind_path : List ℕ → List (List ℕ) → List (List ℕ)
-behind_path p qs = map (λ q. p ++ q) qs
+abbrev after_path : List ℕ → List (List ℕ) → List (List ℕ)
+after_path p qs = map (λ q. p ++ q) qs
 
-in_behind : (p : List ℕ) (qs : List (List ℕ)) (r : List ℕ) → IsAmong r (behind_path p qs) → (q : List ℕ) × IsAmong q qs × (r ≡ p ++ q)
-in_behind p [] r i = absurd i
-in_behind p (q ∷ qs) r i = elim i [ inl e ↦ (q, inl refl, e) | inr more ↦ (let rest = in_behind p qs r more in (rest.0, inr rest.1, rest.2)) ]
+in_after : (p : List ℕ) (qs : List (List ℕ)) (r : List ℕ) → IsAmong r (after_path p qs) → (q : List ℕ) × IsAmong q qs × (r ≡ p ++ q)
+in_after p [] r i = absurd i
+in_after p (q ∷ qs) r i = elim i [ inl e ↦ (q, inl refl, e) | inr more ↦ (let rest = in_after p qs r more in (rest.0, inr rest.1, rest.2)) ]
 
-apart_behind : (t : Trie) (p : List ℕ) (a b : ℕ) (qs : List (List ℕ)) → Leads t p a b → AreApart t b qs → AreApart t a (behind_path p qs)
-apart_behind t p a b [] l apart = tt
-apart_behind t p a b (q ∷ qs) l apart = (
+apart_after : (t : Trie) (p : List ℕ) (a b : ℕ) (qs : List (List ℕ)) → Leads t p a b → AreApart t b qs → AreApart t a (after_path p qs)
+apart_after t p a b [] l apart = tt
+apart_after t p a b (q ∷ qs) l apart = (
   λ r at i x y.
-      let other = in_behind p qs r i in
-      apart.0 other.0 at other.1 (leads_behind t p q a b at l x)
-      (leads_behind t p other.0 a b at l (subst (λ (z : List ℕ). Leads t z a at) other.2 y)),
-  apart_behind t p a b qs l apart.1,
+      let other = in_after p qs r i in
+      apart.0 other.0 at other.1 (leads_after t p q a b at l x)
+      (leads_after t p other.0 a b at l (subst (λ (z : List ℕ). Leads t z a at) other.2 y)),
+  apart_after t p a b qs l apart.1,
 )
 
 module _ (s : Source) (name : List ℕ) where
@@ -100,17 +100,17 @@ module _ (s : Source) (name : List ℕ) where
     pub searched : {now end : ℕ} → now ≡ steps + 1 → SearchVisits (source_trie s) start rest now end → LookUpVisits (source_trie s) s.from name first end
     searched {now} {end} one_more sv = record {
       paths = h.before;
-      searched = behind_path h.path sv.paths;
+      searched = after_path h.path sv.paths;
       on_way = λ p i. on_way p (inr i);
       searched_on_way = λ p i.
-          let q = in_behind h.path sv.paths p i in
+          let q = in_after h.path sv.paths p i in
           subst (IsOnWay (source_trie s) s.from name) (sym q.2)
-          (way_behind (source_trie s) h.path q.0 s.from start name rest h.leads h.spelled (sv.on_way q.0 q.1));
+          (way_after (source_trie s) h.path q.0 s.from start name rest h.leads h.spelled (sv.on_way q.0 q.1));
       apart = h.apart;
-      searched_apart = apart_behind (source_trie s) h.path s.from start sv.paths h.leads sv.apart;
+      searched_apart = apart_after (source_trie s) h.path s.from start sv.paths h.leads sv.apart;
       differ = λ p i j.
           let short = (h.each p i).3 in
-          let q = in_behind h.path sv.paths p j in
+          let q = in_after h.path sv.paths p j in
           let same = ap (λ (x : List ℕ). length x) q.2 in
           let long = length-append h.path q.0 in omega (arith, short);
       count = let count = h.count in let all = sv.count in let b = length-map sv.paths (λ (q : List ℕ). h.path ++ q) in omega (arith, one_more, count, all, b);
@@ -121,15 +121,15 @@ module _ (s : Source) (name : List ℕ) where
       on : LeadsOn (source_trie s) rest turn.1.0.branches child len
       on = turn.1.3
 
-      rest_behind : on.others ≡ drop len rest
-      rest_behind = sym (drop-append_seam on.branch.label on.others)
+      rest_after : on.others ≡ drop len rest
+      rest_after = sym (drop-append_seam on.branch.label on.others)
           ∙ (ap (λ n. drop n (on.branch.label ++ on.others)) on.len_is ∙ ap (drop len) (sym on.spells))
 
       pub len_within : len ≤ length rest
       len_within = let a = ap (λ (x : List ℕ). length x) on.spells in let b = length-append on.branch.label on.others in let c = on.len_is in omega arith
 
       pub goes_on : {others : List ℕ} {now : ℕ} → others ≡ drop len rest → now ≡ steps + 1 → Follows child others first now
-      goes_on {others} {now} is one_more = subst (λ x. Follows child x first now) (rest_behind ∙ sym is) (record {
+      goes_on {others} {now} is one_more = subst (λ x. Follows child x first now) (rest_after ∙ sym is) (record {
         path = h.path ++ on.number ∷ [];
         before = h.path ∷ h.before;
         leads = Leads-append (source_trie s) h.path (on.number ∷ []) s.from start child h.leads

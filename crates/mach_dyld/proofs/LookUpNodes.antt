@@ -9,7 +9,7 @@ use Rattle.mach_base.specs.Leb128.{uleb_at}
 use Rattle.mach_base.specs.declared.error.Error.{Error}
 use Rattle.mach_base.proofs.Faults.{FailsAs-read}
 use Rattle.mach_dyld.specs.Trie.{Info, Branch, Node}
-use Rattle.mach_dyld.specs.Views.{node_behind}
+use Rattle.mach_dyld.specs.Views.{node_after}
 use Rattle.mach_dyld.specs.LookUpState.{OwnEnds, IsPassed}
 use Rattle.mach_dyld.specs.Views.{node_in, own_in}
 unfoldable use Rattle.mach_dyld.specs.Nodes.{children_at, terminal_at, inner_at, node_at}
@@ -37,30 +37,30 @@ module _ (s : Source) where
   with_branches own after = children_at s.bytes.now s.from after >>= λ (bs : List Branch). Ok (record { own = own; branches = bs })
 
   module _ (size place : ℕ) where
-    pub own_none : size ≡ 0 → node_behind s size place ≡ with_branches None place
+    pub own_none : size ≡ 0 → node_after s size place ≡ with_branches None place
     unfolding inner_at
     own_none zero = rw zero refl
 
-    pub own_some : size ≢ 0 → node_behind s size place ≡ (own_in s size place >>= λ (own : Info × ℕ). with_branches (Some own.0) own.1)
+    pub own_some : size ≢ 0 → node_after s size place ≡ (own_in s size place >>= λ (own : Info × ℕ). with_branches (Some own.0) own.1)
     unfolding terminal_at
     own_some some = let test : eqb size 0 ≡ false = ne_eqb size 0 some in rw test refl
 
     -- the own export, then the branches
-    pub in_parts : (own : Option Info) (after : ℕ) → OwnEnds s size place own after → node_behind s size place ≡ with_branches own after
+    pub in_parts : (own : Option Info) (after : ℕ) → OwnEnds s size place own after → node_after s size place ≡ with_branches own after
     in_parts None after h = own_none h.0 ∙ rw h.1 refl
     in_parts (Some info) after h = own_some h.0 ∙ rw h.1 refl
 
-    pub own_fails : (e : Error) → size ≢ 0 → FailsAs e (own_in s size place) → FailsAs e (node_behind s size place)
-    own_fails e some fails = FailsAs-first e (own_in s size place) (node_behind s size place) (λ f err. own_some some ∙ rw err refl) fails
+    pub own_fails : (e : Error) → size ≢ 0 → FailsAs e (own_in s size place) → FailsAs e (node_after s size place)
+    own_fails e some fails = FailsAs-first e (own_in s size place) (node_after s size place) (λ f err. own_some some ∙ rw err refl) fails
 
     pub branches_fail : (e : Error) (own : Option Info) (after : ℕ) → OwnEnds s size place own after
-        → children_at s.bytes.now s.from after ≡ Err (fault_of e) → FailsAs e (node_behind s size place)
-    branches_fail e own after h err = FailsAs-read e (node_behind s size place) (in_parts own after h ∙ rw err refl)
+        → children_at s.bytes.now s.from after ≡ Err (fault_of e) → FailsAs e (node_after s size place)
+    branches_fail e own after h err = FailsAs-read e (node_after s size place) (in_parts own after h ∙ rw err refl)
 
   module _ (start : ℕ) where
-    pub behind_size : (size place : ℕ) → uleb_at s.bytes.now start ≡ Ok (size, place) → node_in s start ≡ node_behind s size place
+    pub after_size : (size place : ℕ) → uleb_at s.bytes.now start ≡ Ok (size, place) → node_in s start ≡ node_after s size place
     unfolding node_at
-    behind_size size place read = rw read refl
+    after_size size place read = rw read refl
 
     pub size_fails : (f : Fault) → uleb_at s.bytes.now start ≡ Err f → node_in s start ≡ Err f
     unfolding node_at
@@ -77,7 +77,7 @@ module _ (s : Source) where
         → children_at s.bytes.now s.from after ≡ Ok bs → P bs → IsPassed s start rest P
     passed_by size place after rest own bs P read ends other children p = (
       record { own = own; branches = bs },
-      behind_size size place read ∙ (in_parts size place own after ends ∙ rw children refl),
+      after_size size place read ∙ (in_parts size place own after ends ∙ rw children refl),
       elsewhere size place rest own after ends other,
       p,
     )

@@ -4,9 +4,9 @@ use Rattle.std.proofs.Common.{append_assoc}
 use Rattle.std.specs.Prelude.{slice_get, IfErr}
 use Rattle.std.proofs.lemmas.List.{append_cancel_left}
 use Rattle.mach_base.specs.Fault.{Fault}
-use Rattle.mach_base.specs.Answer.{Stands}
+use Rattle.mach_base.specs.Answer.{ErrorMeets}
 use Rattle.mach_base.specs.declared.error.Error.{Error}
-use Rattle.mach_base.proofs.Faults.{Stands-in}
+use Rattle.mach_base.proofs.Faults.{ErrorMeets-in}
 use Rattle.mach_dyld.specs.Trie.{Branch, Node, Trie}
 use Rattle.mach_dyld.specs.TrieFault.{TrieFault, at_node, met_again}
 use Rattle.mach_dyld.specs.Paths.{Leads}
@@ -50,27 +50,27 @@ module _ (t : Trie) where
       append_nil_own (x ∷ xs) = ap (λ (ys : List ℕ). x ∷ ys) (append_nil_own xs)
 
   -- what is on the way from a node on it is on the way
-  pub way_behind : (p q : List ℕ) (a b : ℕ) (name rest : List ℕ) → Leads t p a b → PathSpells t a name p rest → IsOnWay t b rest q → IsOnWay t a name (p ++ q)
-  way_behind p q a b name rest l spelled way = (
+  pub way_after : (p q : List ℕ) (a b : ℕ) (name rest : List ℕ) → Leads t p a b → PathSpells t a name p rest → IsOnWay t b rest q → IsOnWay t a name (p ++ q)
+  way_after p q a b name rest l spelled way = (
     (way.0.0, Leads-append t p q a b way.0.0 l way.0.1, way.0.2),
     way.1,
     spells_append p q a b name rest way.1 l spelled way.2,
   )
 
   -- and so are the faults there
-  pub fault_behind : (p : List ℕ) (a b : ℕ) (name rest : List ℕ) (f : Fault) → Leads t p a b → PathSpells t a name p rest → FaultOnWay t b rest f
+  pub fault_after : (p : List ℕ) (a b : ℕ) (name rest : List ℕ) (f : Fault) → Leads t p a b → PathSpells t a name p rest → FaultOnWay t b rest f
       → FaultOnWay t a name f
-  fault_behind p a b name rest _ l spelled (at_node_on_way g q at way more err) =
-      at_node_on_way g (p ++ q) at (way_behind p q a b name rest l spelled way) (Leads-append t p q a b at l more) err
-  fault_behind p a b name rest _ l spelled (met_on_way q r at one_way two_way one two other) =
-      met_on_way (p ++ q) (p ++ r) at (way_behind p q a b name rest l spelled one_way) (way_behind p r a b name rest l spelled two_way)
+  fault_after p a b name rest _ l spelled (at_node_on_way g q at way more err) =
+      at_node_on_way g (p ++ q) at (way_after p q a b name rest l spelled way) (Leads-append t p q a b at l more) err
+  fault_after p a b name rest _ l spelled (met_on_way q r at one_way two_way one two other) =
+      met_on_way (p ++ q) (p ++ r) at (way_after p q a b name rest l spelled one_way) (way_after p r a b name rest l spelled two_way)
       (Leads-append t p q a b at l one) (Leads-append t p r a b at l two) (λ e. other (append_cancel_left p q r e))
 
-  pub stands_behind : {X : Type 0} (p : List ℕ) (a b : ℕ) (name rest : List ℕ) (r : Result X Error) → Leads t p a b → PathSpells t a name p rest
-      → IfErr r (Stands (FaultOnWay t b rest)) → IfErr r (Stands (FaultOnWay t a name))
-  stands_behind p a b name rest (Ok x) l spelled h = tt
-  stands_behind p a b name rest (Err e) l spelled h =
-      Stands-in (FaultOnWay t b rest) (FaultOnWay t a name) e (λ f fault. fault_behind p a b name rest f l spelled fault) h
+  pub occurs_after : {X : Type 0} (p : List ℕ) (a b : ℕ) (name rest : List ℕ) (r : Result X Error) → Leads t p a b → PathSpells t a name p rest
+      → IfErr r (ErrorMeets (FaultOnWay t b rest)) → IfErr r (ErrorMeets (FaultOnWay t a name))
+  occurs_after p a b name rest (Ok x) l spelled h = tt
+  occurs_after p a b name rest (Err e) l spelled h =
+      ErrorMeets-in (FaultOnWay t b rest) (FaultOnWay t a name) e (λ f fault. fault_after p a b name rest f l spelled fault) h
 
   -- a fault on the way of a name is a fault of the trie
   pub fault_of_trie : (root : ℕ) (name : List ℕ) (f : Fault) → FaultOnWay t root name f → TrieFault t root f
@@ -79,7 +79,7 @@ module _ (t : Trie) where
   fault_of_trie root name _ (met_on_way path other at way _ one two differ) =
       met_again path other at one two (subst (λ x. x < t.upto) (leads_to_one t path root way.0.0 at way.0.1 one) way.0.2) differ
 
-  pub stands_in_trie : {X : Type 0} (root : ℕ) (name : List ℕ) (r : Result X Error) → IfErr r (Stands (FaultOnWay t root name))
-      → IfErr r (Stands (TrieFault t root))
-  stands_in_trie root name (Ok x) h = tt
-  stands_in_trie root name (Err e) h = Stands-in (FaultOnWay t root name) (TrieFault t root) e (λ f fault. fault_of_trie root name f fault) h
+  pub occurs_in_trie : {X : Type 0} (root : ℕ) (name : List ℕ) (r : Result X Error) → IfErr r (ErrorMeets (FaultOnWay t root name))
+      → IfErr r (ErrorMeets (TrieFault t root))
+  occurs_in_trie root name (Ok x) h = tt
+  occurs_in_trie root name (Err e) h = ErrorMeets-in (FaultOnWay t root name) (TrieFault t root) e (λ f fault. fault_of_trie root name f fault) h

@@ -4,7 +4,7 @@ use Rattle.mach_dyld.proofs.TrieNames.{replicate, Option, Some, None, Ok, Err, r
 use Rattle.mach_dyld.proofs.TrieNames.{Fault, malformed, IsAmong, Info, Branch, Node, Trie, Leads, Before, branch_at, branches_at, IsBeside, AreMarked}
 use Rattle.mach_dyld.proofs.TrieNames.{branches_of, IsReadable, source_trie, node_in, Source}
 use Rattle.std.proofs.Math.Seq.{drop-append_seam}
-use Rattle.mach_dyld.specs.Finds.{IsElsewhere, Finds, BranchesFind, here, below, none_left, behind, gone_back}
+use Rattle.mach_dyld.specs.Finds.{IsElsewhere, Finds, BranchesFind, here, below, none_left, following, gone_back}
 use Rattle.mach_dyld.specs.LookUp.{PathSpells, IsOnWay, FaultOnWay, at_node_on_way, met_on_way}
 use Rattle.mach_dyld.specs.LookUpState.{Settles, FirstBranchLeads, SearchVisits}
 use Rattle.mach_dyld.specs.declared.trie.look_up.Choice.{Choice}
@@ -340,7 +340,7 @@ module _ (s : Source) (root : ℕ) (name : List ℕ) where
       -- what is found through the branch, or through the others if nothing is
       through_branch : (info : Info) → Finds (source_trie s) start others (Some info) → BranchesFind (source_trie s) h.top.rest (left_of h.top) (Some info)
       through_branch info finds = subst (λ (x : List Branch). BranchesFind (source_trie s) h.top.rest x (Some info)) (sym rest_of.1)
-          (behind others info rest_is finds refl)
+          (following others info rest_is finds refl)
 
       past_branch : (found : Option Info) → Finds (source_trie s) start others None → BranchesFind (source_trie s) h.top.rest (left_of (later h.top 1)) found
           → BranchesFind (source_trie s) h.top.rest (left_of h.top) found

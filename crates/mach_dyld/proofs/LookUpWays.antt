@@ -2,10 +2,10 @@
 use Rattle.std.proofs.Common.{◌≡◌, ◌<◌, ◌≤◌, ℕ, zero, suc, List, [], ◌∷◌, ◌++◌, ◌⊎◌, inl, inr, length, Option, Some, None, refl, sym, subst}
 use Rattle.std.specs.Prelude.{slice_get}
 use Rattle.mach_dyld.specs.Trie.{Info, Branch, Trie}
-use Rattle.mach_dyld.specs.Finds.{Finds, BranchesFind, at_nothing, none_left, passed, behind, gone_back}
+use Rattle.mach_dyld.specs.Finds.{Finds, BranchesFind, at_nothing, none_left, passed, following, gone_back}
 use Rattle.mach_dyld.specs.LookUpState.{Goes}
-use Rattle.mach_dyld.specs.declared.trie.look_up.Way.{Way}
-use Rattle.mach_dyld.specs.declared.trie.look_up.Way.TheVariants.{Nowhere, One, Several}
+use Rattle.mach_dyld.specs.declared.trie.look_up.Branching.{Branching}
+use Rattle.mach_dyld.specs.declared.trie.look_up.Branching.TheVariants.{Nowhere, One, Several}
 use Rattle.mach_dyld.proofs.Beginnings.{begins_or_not}
 
 module _ (t : Trie) (rest : List ℕ) where
@@ -14,14 +14,14 @@ module _ (t : Trie) (rest : List ℕ) where
       → BranchesFind t rest (xs ++ ys) found
   none_then [] ys nothing found (none_left e) is more = more
   none_then (b ∷ xs) ys nothing found (passed other finds) is more = passed other (none_then xs ys nothing found finds is more)
-  none_then (b ∷ xs) ys nothing found (behind others info r finds e) is more = absurd (cc)
+  none_then (b ∷ xs) ys nothing found (following others info r finds e) is more = absurd (cc)
   none_then (b ∷ xs) ys nothing found (gone_back others r absent finds) is more = gone_back others r absent (none_then xs ys nothing found finds is more)
 
   -- nothing is found through the branches after some, which decide
   then_none : (xs ys : List Branch) (found : Option Info) → BranchesFind t rest xs found → BranchesFind t rest ys None → BranchesFind t rest (xs ++ ys) found
   then_none [] ys found (none_left e) over = subst (BranchesFind t rest ys) (sym e) over
   then_none (b ∷ xs) ys found (passed other finds) over = passed other (then_none xs ys found finds over)
-  then_none (b ∷ xs) ys found (behind others info r finds e) over = behind others info r finds e
+  then_none (b ∷ xs) ys found (following others info r finds e) over = following others info r finds e
   then_none (b ∷ xs) ys found (gone_back others r absent finds) over = gone_back others r absent (then_none xs ys found finds over)
 
   still_there : (xs ys : List Branch) (k : ℕ) (b : Branch) → slice_get xs k ≡ Some b → slice_get (xs ++ ys) k ≡ Some b
@@ -46,12 +46,13 @@ module _ (t : Trie) (rest : List ℕ) where
   one_decides : (b : Branch) (others : List ℕ) (found : Option Info) → rest ≡ b.label ++ others → Finds t b.start others found
       → BranchesFind t rest (b ∷ []) found
   one_decides b others None r finds = gone_back others r finds (none_left refl)
-  one_decides b others (Some info) r finds = behind others info r finds refl
+  one_decides b others (Some info) r finds = following others info r finds refl
 
   pub begins : Goes t rest [] Nowhere
   begins = none_left refl
 
-  pub stays : (front : List Branch) (b : Branch) (way : Way) → Goes t rest front way → (t.upto ≤ b.start) ⊎ ((others : List ℕ) → rest ≡ b.label ++ others → ⊥)
+  pub stays : (front : List Branch) (b : Branch) (way : Branching) → Goes t rest front way → (t.upto ≤ b.start) ⊎ ((others : List ℕ)
+      → rest ≡ b.label ++ others → ⊥)
       → Goes t rest (front ++ b ∷ []) way
   stays front b (Nowhere) goes h = none_then front (b ∷ []) None None goes refl (one_passed b None [] h (none_left refl))
   stays front b (One start len) goes h = record {

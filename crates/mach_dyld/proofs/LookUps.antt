@@ -7,8 +7,8 @@ use Rattle.mach_dyld.proofs.TriePaths.{same_node, same_some}
 use Rattle.mach_dyld.specs.Trie.{Info, Branch, Node, Trie, Entry, own_entries}
 use Rattle.mach_dyld.specs.Lists.{Lists, BranchesList, nothing, a_node, no_more, one_more}
 use Rattle.mach_dyld.specs.TerminalPaths.{EndsWith, IsNameOf}
-use Rattle.mach_dyld.specs.LookUp.{IsFirstOf, IsExportOf, StandsFor}
-use Rattle.mach_dyld.specs.Finds.{IsElsewhere, Finds, BranchesFind, at_nothing, here, below, none_left, passed, behind, gone_back}
+use Rattle.mach_dyld.specs.LookUp.{IsFirstOf, IsExportOf, IsAnswerFor}
+use Rattle.mach_dyld.specs.Finds.{IsElsewhere, Finds, BranchesFind, at_nothing, here, below, none_left, passed, following, gone_back}
 
 -- lists one after another
 
@@ -83,7 +83,7 @@ mutual
       (none_then (p ++ rest) xs ys found
       (not_listed t b.start (p ++ b.label) xs (p ++ rest) first (λ q h. other q (append_cancel_left p rest (b.label ++ q) (h ∙ joined p b.label q))))
       (first_of_branches t p rest bs ys found finds more))
-  first_of_branches t p rest (b ∷ bs) zs found (behind others info r finds e) (one_more {first = xs} {others = ys} first more eq) =
+  first_of_branches t p rest (b ∷ bs) zs found (following others info r finds e) (one_more {first = xs} {others = ys} first more eq) =
       let name : (p ++ b.label) ++ others ≡ p ++ rest = joined p b.label others ∙ ap (λ (x : List ℕ). p ++ x) (sym r) in
       subst (λ (z : List Entry). IsFirstOf (p ++ rest) z found) (sym eq) (subst (IsFirstOf (p ++ rest) (xs ++ ys)) (sym e)
       (some_then (p ++ rest) xs ys info (subst (λ (x : List ℕ). IsFirstOf x xs (Some info)) name
@@ -97,14 +97,14 @@ mutual
 -- by the paths
 
 mutual
-  pub found_stands : (t : Trie) (s : ℕ) (rest : List ℕ) (found : Option Info) (info : Info) → Finds t s rest found → found ≡ Some info
+  pub found_occurs : (t : Trie) (s : ℕ) (rest : List ℕ) (found : Option Info) (info : Info) → Finds t s rest found → found ≡ Some info
       → IsExportOf t s rest info
-  found_stands t s rest found info (at_nothing out e) some = absurd (cc)
-  found_stands t s rest found info (here node info2 is own r e) some =
+  found_occurs t s rest found info (at_nothing out e) some = absurd (cc)
+  found_occurs t s rest found info (here node info2 is own r e) some =
       let same : info2 ≡ info = cc in
       ([], record { at = s; leads = refl; node = node; is_node = is; own = own ∙ ap (λ x. Some x) same }, r)
-  found_stands t s rest found info (below node is other finds) some =
-      let b = found_behind t rest node.branches found info finds some in (
+  found_occurs t s rest found info (below node is other finds) some =
+      let b = found_after t rest node.branches found info finds some in (
         b.0 ∷ b.3.0,
         record {
           at = b.3.1.at;
@@ -116,23 +116,23 @@ mutual
         (node, b.1, b.2, is.1, b.4, b.3.2, b.5),
       )
 
-  pub found_behind : (t : Trie) (rest : List ℕ) (bs : List Branch) (found : Option Info) (info : Info) → BranchesFind t rest bs found → found ≡ Some info
+  pub found_after : (t : Trie) (rest : List ℕ) (bs : List Branch) (found : Option Info) (info : Info) → BranchesFind t rest bs found → found ≡ Some info
       → (k : ℕ) × (b : Branch) × (others : List ℕ) × IsExportOf t b.start others info × (slice_get bs k ≡ Some b) × (rest ≡ b.label ++ others)
-  found_behind t rest [] found info (none_left e) some = absurd (cc)
-  found_behind t rest (b ∷ bs) found info (passed other finds) some = let r = found_behind t rest bs found info finds some in (suc r.0, r.1, r.2, r.3, r.4, r.5)
-  found_behind t rest (b ∷ bs) found info (behind others info2 r finds e) some = let same : Some info2 ≡ Some info = cc in
-      (0, b, others, found_stands t b.start others (Some info2) info finds same, refl, r)
-  found_behind t rest (b ∷ bs) found info (gone_back others r none finds) some = let r = found_behind t rest bs found info finds some in
+  found_after t rest [] found info (none_left e) some = absurd (cc)
+  found_after t rest (b ∷ bs) found info (passed other finds) some = let r = found_after t rest bs found info finds some in (suc r.0, r.1, r.2, r.3, r.4, r.5)
+  found_after t rest (b ∷ bs) found info (following others info2 r finds e) some = let same : Some info2 ≡ Some info = cc in
+      (0, b, others, found_occurs t b.start others (Some info2) info finds same, refl, r)
+  found_after t rest (b ∷ bs) found info (gone_back others r none finds) some = let r = found_after t rest bs found info finds some in
       (suc r.0, r.1, r.2, r.3, r.4, r.5)
 
 mutual
-  pub none_stands : (t : Trie) (s : ℕ) (rest : List ℕ) (found : Option Info) → Finds t s rest found → found ≡ None → (path : List ℕ) (info : Info)
+  pub none_occurs : (t : Trie) (s : ℕ) (rest : List ℕ) (found : Option Info) → Finds t s rest found → found ≡ None → (path : List ℕ) (info : Info)
       → EndsWith t s path info → IsNameOf t s path rest → ⊥
-  none_stands t s rest found (here node info2 is own r e) none path info ends named = cc
-  none_stands t s rest found (at_nothing out e) none [] info ends named =
+  none_occurs t s rest found (here node info2 is own r e) none path info ends named = cc
+  none_occurs t s rest found (at_nothing out e) none [] info ends named =
       let inside = ends.is_node.0 in let at : s ≡ ends.at = ends.leads in omega arith
-  none_stands t s rest found (at_nothing out e) none (k ∷ ks) info ends named = let inside = ends.leads.2 in omega arith
-  none_stands t s rest found (below node is other finds) none [] info ends named =
+  none_occurs t s rest found (at_nothing out e) none (k ∷ ks) info ends named = let inside = ends.leads.2 in omega arith
+  none_occurs t s rest found (below node is other finds) none [] info ends named =
       let at : s ≡ ends.at = ends.leads in
       let there : t.node s ≡ Ok ends.node = subst (λ x. t.node x ≡ Ok ends.node) (sym at) ends.is_node.1 in
       let same : node ≡ ends.node = same_node is.1 there in
@@ -140,37 +140,37 @@ mutual
         | inl no_own ↦ (let own : node.own ≡ Some info = ap (λ (n : Node). n.own) same ∙ ends.own in cc)
         | inr more ↦ more named
       ]
-  none_stands t s rest found (below node is other finds) none (k ∷ ks) info ends named =
+  none_occurs t s rest found (below node is other finds) none (k ∷ ks) info ends named =
       let same : ends.leads.0 ≡ node = same_node ends.leads.3 is.1 in
       let same2 : named.0 ≡ node = same_node named.3 is.1 in
       let at : slice_get node.branches k ≡ Some ends.leads.1 = subst (λ (n : Node). slice_get n.branches k ≡ Some ends.leads.1) same ends.leads.4 in
       let at2 : slice_get node.branches k ≡ Some named.1 = subst (λ (n : Node). slice_get n.branches k ≡ Some named.1) same2 named.4 in
       let one : named.1 ≡ ends.leads.1 = same_some at2 at in
-      none_behind t rest node.branches found finds none k ends.leads.1 ks info at
+      none_after t rest node.branches found finds none k ends.leads.1 ks info at
       (record { at = ends.at; leads = ends.leads.5; node = ends.node; is_node = ends.is_node; own = ends.own })
       named.2 (subst (λ (b : Branch). IsNameOf t b.start ks named.2) one named.5) (subst (λ (b : Branch). rest ≡ b.label ++ named.2) one named.6)
 
-  none_behind : (t : Trie) (rest : List ℕ) (bs : List Branch) (found : Option Info) → BranchesFind t rest bs found → found ≡ None → (k : ℕ) (b : Branch)
+  none_after : (t : Trie) (rest : List ℕ) (bs : List Branch) (found : Option Info) → BranchesFind t rest bs found → found ≡ None → (k : ℕ) (b : Branch)
       (ks : List ℕ) (info : Info) → slice_get bs k ≡ Some b
       → EndsWith t b.start ks info → (others : List ℕ) → IsNameOf t b.start ks others → rest ≡ b.label ++ others → ⊥
-  none_behind t rest [] found (none_left e) none k b ks info at ends others named r = cc
-  none_behind t rest (c ∷ bs) found (passed other finds) none zero b ks info at ends others named r = let same : b ≡ c = cc in other others
+  none_after t rest [] found (none_left e) none k b ks info at ends others named r = cc
+  none_after t rest (c ∷ bs) found (passed other finds) none zero b ks info at ends others named r = let same : b ≡ c = cc in other others
       (subst (λ (x : Branch). rest ≡ x.label ++ others) same r)
-  none_behind t rest (c ∷ bs) found (passed other finds) none (suc k) b ks info at ends others named r =
-      none_behind t rest bs found finds none k b ks info at ends others named r
-  none_behind t rest (c ∷ bs) found (behind others2 info2 r2 finds e) none k b ks info at ends others named r = cc
-  none_behind t rest (c ∷ bs) found (gone_back others2 r2 absent finds) none zero b ks info at ends others named r =
+  none_after t rest (c ∷ bs) found (passed other finds) none (suc k) b ks info at ends others named r =
+      none_after t rest bs found finds none k b ks info at ends others named r
+  none_after t rest (c ∷ bs) found (following others2 info2 r2 finds e) none k b ks info at ends others named r = cc
+  none_after t rest (c ∷ bs) found (gone_back others2 r2 absent finds) none zero b ks info at ends others named r =
       let same : b ≡ c = cc in
       let r3 : rest ≡ c.label ++ others = subst (λ (x : Branch). rest ≡ x.label ++ others) same r in
       let tail : others ≡ others2 = append_cancel_left c.label others others2 (sym r3 ∙ r2) in
-      none_stands t c.start others2 None absent refl ks info (subst (λ (x : Branch). EndsWith t x.start ks info) same ends)
+      none_occurs t c.start others2 None absent refl ks info (subst (λ (x : Branch). EndsWith t x.start ks info) same ends)
       (subst (IsNameOf t c.start ks) tail (subst (λ (x : Branch). IsNameOf t x.start ks others) same named))
-  none_behind t rest (c ∷ bs) found (gone_back others2 r2 absent finds) none
-      (suc k) b ks info at ends others named r = none_behind t rest bs found finds none k b ks info at ends others named r
+  none_after t rest (c ∷ bs) found (gone_back others2 r2 absent finds) none
+      (suc k) b ks info at ends others named r = none_after t rest bs found finds none k b ks info at ends others named r
 
-pub stands_for : (t : Trie) (s : ℕ) (rest : List ℕ) (found : Option Info) → Finds t s rest found → StandsFor t s rest found
-stands_for t s rest None finds = λ info e. none_stands t s rest None finds refl e.0 info e.1 e.2
-stands_for t s rest (Some info) finds = found_stands t s rest (Some info) info finds refl
+pub is_answer_for : (t : Trie) (s : ℕ) (rest : List ℕ) (found : Option Info) → Finds t s rest found → IsAnswerFor t s rest found
+is_answer_for t s rest None finds = λ info e. none_occurs t s rest None finds refl e.0 info e.1 e.2
+is_answer_for t s rest (Some info) finds = found_occurs t s rest (Some info) info finds refl
 
 pub ok_in : {X E : Type 0} (r : Result X E) (P Q : X → Type 0) → ((x : X) → P x → Q x) → IfOk r P → IfOk r Q
 ok_in (Ok x) P Q to h = to x h

@@ -6,7 +6,7 @@ use Rattle.mach_dyld.proofs.TrieNames.{arith, inl, inr, length, nat_le, cases_lt
 use Rattle.mach_base.specs.Answer.{FailsAs}
 use Rattle.mach_dyld.proofs.TrieNames.{uleb_at, branches_at, children_at, node_in, Branch, Info, Trie, Entry, Error}
 use Rattle.mach_dyld.specs.LookUpState.{OwnEnds}
-use Rattle.mach_dyld.proofs.LookUpNodes.{behind_size, in_parts, with_branches, FailsAs-first}
+use Rattle.mach_dyld.proofs.LookUpNodes.{after_size, in_parts, with_branches, FailsAs-first}
 use Rattle.mach_dyld.proofs.TrieNames.{Ahead, ahead, Unfolds, passed, HasRead, Source}
 use Rattle.mach_dyld.proofs.Marking.{not_both}
 use Rattle.mach_dyld.proofs.Readings as reading
@@ -67,9 +67,9 @@ count_inside bytes from place bs e = elim (cases_lt place (length bytes)) [
 module _ (s : Source) (start size place : ℕ) (own : Option Info) (after : ℕ) (read : uleb_at s.bytes.now start ≡ Ok (size, place))
     (ends : OwnEnds s size place own after) where
   pub node_there : (bs : List Branch) → children_at s.bytes.now s.from after ≡ Ok bs → node_in s start ≡ Ok (record { own = own; branches = bs })
-  node_there bs list = behind_size s start size place read ∙ (in_parts s size place own after ends ∙ rw list refl)
+  node_there bs list = after_size s start size place read ∙ (in_parts s size place own after ends ∙ rw list refl)
 
   pub list_fails : (e : Error) → FailsAs e (children_at s.bytes.now s.from after) → FailsAs e (node_in s start)
   list_fails e fails =
-      let whole = behind_size s start size place read ∙ in_parts s size place own after ends in
+      let whole = after_size s start size place read ∙ in_parts s size place own after ends in
       rw whole (FailsAs-first e (children_at s.bytes.now s.from after) (with_branches s own after) (λ f err. rw err refl) fails)

@@ -73,9 +73,9 @@ module _ {t : Trie} {root : ℕ} where
   ]
 
   -- after a node's own export more exports were met
-  not_behind : {n m : ℕ} {found : List Entry} {x : Ahead} {others left : List Ahead} (u : Unfolds t root n found (x ∷ others)) (node : Node) (info : Info)
+  not_after : {n m : ℕ} {found : List Entry} {x : Ahead} {others left : List Ahead} (u : Unfolds t root n found (x ∷ others)) (node : Node) (info : Info)
       → IsNode t x.start node → node.own ≡ Some info → (v : Unfolds t root m found left) → steps u < steps v → ⊥
-  not_behind {found = found} {x = x} u node info is own v less =
+  not_after {found = found} {x = x} u node info is own v less =
       let r = up_to v (suc (steps u)) (omega arith) in
       let w : Unfolds t root _ (found ++ own_entries x.name node.own) _ = node_read node u is refl refl in
       let same = (one_reading w r.read (sym r.count)).1 in
@@ -86,9 +86,9 @@ module _ {t : Trie} {root : ℕ} where
   pub one_next : (found : List Entry) (m n : List ℕ) (a b : ℕ) (v w : Node) (x y : Info) → IsNextNode t root found m a → IsNextNode t root found n b
       → IsNode t a v → v.own ≡ Some x → IsNode t b w → w.own ≡ Some y → (m ≡ n) × (a ≡ b)
   one_next found m n a b v w x y p q is own also has = elim (cases_lt (steps p.read) (steps q.read)) [
-    | inl less ↦ absurd (not_behind p.read v x is own q.read less)
+    | inl less ↦ absurd (not_after p.read v x is own q.read less)
     | inr more ↦ elim (cases_lt (steps q.read) (steps p.read)) [
-      | inl less ↦ absurd (not_behind q.read w y also has p.read less)
+      | inl less ↦ absurd (not_after q.read w y also has p.read less)
       | inr no_more ↦ (
           let next = same_head (one_reading p.read q.read (omega arith)).2 in
           (ap (λ (z : Ahead). z.name) next, ap (λ (z : Ahead). z.start) next))

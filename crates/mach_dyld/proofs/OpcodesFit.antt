@@ -12,7 +12,7 @@ use Rattle.mach_dyld.specs.Bindings.{BindingsHave, opcode_at}
 use Rattle.mach_dyld.specs.Instructions.{instruction_at}
 use Rattle.mach_dyld.specs.Machine.{Moves}
 use Rattle.mach_dyld.specs.RowsMove.{import_reads, binding_reads}
-use Rattle.mach_dyld.specs.Streams.{Reader, Range, Placed, Follow, AllStandBy, IsBeginning, IsBeginningBy, Input, StreamsHave, BeginningsHave}
+use Rattle.mach_dyld.specs.Streams.{Reader, Range, Placed, Follow, AllOccurBy, IsBeginning, IsBeginningBy, Input, StreamsHave, BeginningsHave}
 use Rattle.mach_dyld.specs.OpcodesFit.{bytes_in, WeakOpcodesFit, RebaseOpcodesFit, BindOpcodesFit, opcode_bytes, OpcodeBytesFit}
 use Rattle.mach_dyld.specs.Rebases.{rebase_opcode_at}
 use Rattle.mach_dyld.specs.StreamsMove.{weak_reads, rebase_reads}
@@ -42,33 +42,33 @@ module _ (reader : Reader) (bytes : List ℕ) (moves : Moves reader)
       by (inr h) = let refused = none place (bad_offset place) (no_byte bytes place h.1) in absurd (cc)
 
   -- from a place on there are at most as many as bytes up to the end
-  few : (upto place : ℕ) (ps : List Placed) → Follow place ps → AllStandBy reader upto ps → (length ps ≤ upto - place) × (length ps ≤ length bytes - place)
-  few upto place [] follow stand = (omega arith, omega arith)
-  few upto place (p ∷ ps) follow stand =
-      let first = stand.0 in
+  few : (upto place : ℕ) (ps : List Placed) → Follow place ps → AllOccurBy reader upto ps → (length ps ≤ upto - place) × (length ps ≤ length bytes - place)
+  few upto place [] follow occur = (omega arith, omega arith)
+  few upto place (p ∷ ps) follow occur =
+      let first = occur.0 in
       let there = begins p.place _ first.read in
-      let behind = moves p.place _ first.read in
-      let rest = few upto p.after ps follow.1 stand.1 in
+      let following = moves p.place _ first.read in
+      let rest = few upto p.after ps follow.1 occur.1 in
       let within = first.within in
       let at = follow.0 in
-      (omega (arith, within, behind, rest.0, at), omega (arith, there, behind, rest.1, at))
+      (omega (arith, within, following, rest.0, at), omega (arith, there, following, rest.1, at))
 
   pub fit : (r : Range) (ps : List Placed) → IsBeginningBy reader r ps → length ps ≤ bytes_in bytes r
-  fit r ps is = let both = few r.upto r.from ps is.follow is.stand in least r.upto (length bytes) r.from (length ps) both.0 both.1
+  fit r ps is = let both = few r.upto r.from ps is.follow is.occur in least r.upto (length bytes) r.from (length ps) both.0 both.1
 
   -- and they take at most the bytes that exist from the place on
-  short : (upto place : ℕ) (ps : List Placed) → Follow place ps → AllStandBy reader upto ps → opcode_bytes bytes ps ≤ length bytes - place
-  short upto place [] follow stand = omega arith
-  short upto place (p ∷ ps) follow stand =
-      let first = stand.0 in
+  short : (upto place : ℕ) (ps : List Placed) → Follow place ps → AllOccurBy reader upto ps → opcode_bytes bytes ps ≤ length bytes - place
+  short upto place [] follow occur = omega arith
+  short upto place (p ∷ ps) follow occur =
+      let first = occur.0 in
       let there = begins p.place _ first.read in
-      let behind = moves p.place _ first.read in
-      let rest = short upto p.after ps follow.1 stand.1 in
+      let following = moves p.place _ first.read in
+      let rest = short upto p.after ps follow.1 occur.1 in
       let at = follow.0 in
-      omega (arith, there, behind, rest, at)
+      omega (arith, there, following, rest, at)
 
   pub bytes_fit : (r : Range) (ps : List Placed) → IsBeginningBy reader r ps → opcode_bytes bytes ps ≤ length bytes - r.from
-  bytes_fit r ps is = short r.upto r.from ps is.follow is.stand
+  bytes_fit r ps is = short r.upto r.from ps is.follow is.occur
 
 pub weak_opcodes_lem : WeakOpcodesFit
 weak_opcodes_lem x r ps items are =

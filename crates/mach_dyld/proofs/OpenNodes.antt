@@ -64,8 +64,8 @@ module _ (bytes : List ℕ) (from : ℕ) where
         let cut = length-take o.name_len name in
         let fits = a.3 in omega arith
 
-    pub behind : AreAhead bytes from given (o ∷ os) left
-    behind =
+    pub following : AreAhead bytes from given (o ∷ os) left
+    following =
         let front = length-take o.name_len name in
         let fits = a.3 in
         let len = given_len in
@@ -78,8 +78,8 @@ module _ (bytes : List ℕ) (from : ℕ) where
     pub opened : (c : Open) (os' : List Open) (branches : List Branch) → c.name_len ≡ length given → branches_at bytes from c.left c.place ≡ Ok branches
         → (0 < o.left → os' ≡ o ∷ os) → (o.left ≡ 0 → os' ≡ os) → AreAhead bytes from given (c ∷ os') (ahead given branches ++ left)
     opened c os' branches len read over in_place = put_over given c os' branches left len read (elim (cases_eq o.left 0) [
-      | inl none ↦ rw (in_place none) (dropped given o os left none behind)
-      | inr some ↦ rw (over (omega arith)) behind
+      | inl none ↦ rw (in_place none) (dropped given o os left none following)
+      | inr some ↦ rw (over (omega arith)) following
     ])
 
 -- ---- turns of a reading
@@ -129,7 +129,7 @@ module _ {t : TrieRange} {libs : List (List ℕ)} {name : List ℕ} {found : Lis
       enters_leaf none = record {
         left = k.left;
         read = node_read node k.read is refl (split x.name node.branches [] [] k.left none);
-        ahead = behind t.bytes t.from name o os k.left label x.name spelled k.ahead;
+        ahead = following t.bytes t.from name o os k.left label x.name spelled k.ahead;
       }
 
       -- a node whose branches all lead nowhere
@@ -138,7 +138,7 @@ module _ {t : TrieRange} {libs : List (List ℕ)} {name : List ℕ} {found : Lis
       enters_barren none = record {
         left = k.left;
         read = all_passed x.name node.branches k.left none (node_read node k.read is refl refl);
-        ahead = behind t.bytes t.from name o os k.left label x.name spelled k.ahead;
+        ahead = following t.bytes t.from name o os k.left label x.name spelled k.ahead;
       }
 
   -- between two branches

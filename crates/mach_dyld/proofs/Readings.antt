@@ -5,7 +5,7 @@ use Rattle.mach_dyld.proofs.TrieNames.{Trie}
 use Rattle.mach_dyld.proofs.TrieNames.{IsNode, Entry, own_entries, Leads, Path, Before, IsTree, StartsFrom, IsAmong, AreApart, TrieFault, at_node, met_again}
 use Rattle.mach_dyld.proofs.TrieNames.{Ahead, ahead, to_root, Unfolds, nothing_read, passed, node_read, IsCutBy}
 use Rattle.mach_dyld.proofs.TrieNames.{AreLed, IsBeside, AreBeside, AreLastFirst, GoesOnFromOne, HasRead}
-use Rattle.mach_dyld.proofs.TriePaths.{same_node, leads_to_one, leads_inside, leads_behind, Leads-append, drop_head, not_before_itself}
+use Rattle.mach_dyld.proofs.TriePaths.{same_node, leads_to_one, leads_inside, leads_after, Leads-append, drop_head, not_before_itself}
 use Rattle.mach_dyld.proofs.TriePaths.{among_left, among_right, among_append}
 use Rattle.mach_dyld.proofs.TrieVisits.{few_paths}
 
@@ -117,7 +117,7 @@ module _ {t : Trie} {root : ℕ} where
         | inr b ↦ elim b.2 [
           | inl e ↦ absurd (
               let whole = subst (λ z. Leads t z root path.0) (b.3 ∙ ap (λ (z : List ℕ). z ++ b.1) e) path.1 in
-              let inside = leads_inside t b.1 x.start path.0 (leads_behind t q b.1 root x.start path.0 h.led.0 whole) path.2 in omega arith)
+              let inside = leads_inside t b.1 x.start path.0 (leads_after t q b.1 root x.start path.0 h.led.0 whole) path.2 in omega arith)
           | inr more ↦ inr (b.0, b.1, more, b.3)
         ]
       ];
@@ -151,17 +151,17 @@ module _ {t : Trie} {root : ℕ} where
       all = λ p path. elim (h.all p path) [
         | inl old ↦ inl (inr old)
         | inr b ↦ elim b.2 [
-          | inl e ↦ behind b.1 p (b.3 ∙ ap (λ (z : List ℕ). z ++ b.1) e) path
+          | inl e ↦ following b.1 p (b.3 ∙ ap (λ (z : List ℕ). z ++ b.1) e) path
           | inr more ↦ inr (b.0, b.1, among_right b.0 (children q 0 node.branches) qs more, b.3)
         ]
       ];
     },
   )
     where
-      behind : (rest p : List ℕ) → p ≡ q ++ rest → Path t root p → IsAmong p (q ∷ paths) ⊎ GoesOnFromOne (children q 0 node.branches ++ qs) p
-      behind [] p e path = inl (inl (e ∙ append-nil q))
-      behind (k ∷ ks) p e path =
-          let way = leads_behind t q (k ∷ ks) root x.start path.0 h.led.0 (subst (λ z. Leads t z root path.0) e path.1) in
+      following : (rest p : List ℕ) → p ≡ q ++ rest → Path t root p → IsAmong p (q ∷ paths) ⊎ GoesOnFromOne (children q 0 node.branches ++ qs) p
+      following [] p e path = inl (inl (e ∙ append-nil q))
+      following (k ∷ ks) p e path =
+          let way = leads_after t q (k ∷ ks) root x.start path.0 h.led.0 (subst (λ z. Leads t z root path.0) e path.1) in
           let there = subst (λ (z : Node). slice_get z.branches k ≡ Some way.1) (same_node way.3 is.1) way.4 in
           inr (
             q ++ k ∷ [],
@@ -276,8 +276,8 @@ module _ {t : Trie} {root : ℕ} where
       ]
 
   -- what cuts a reading short is a fault of the trie
-  pub cut_stands : {found : List Entry} {f : Fault} → StartsFrom t root → IsCutBy t root found f → TrieFault t root f
-  cut_stands {found} {f} starts cut = elim cut.why [
+  pub cut_occurs : {found : List Entry} {f : Fault} → StartsFrom t root → IsCutBy t root found f → TrieFault t root f
+  cut_occurs {found} {f} starts cut = elim cut.why [
     | inl bad ↦ (let next = next_path (reading cut.read).met in at_node f next.0 cut.next.start next.3 cut.inside bad)
     | inr many ↦ subst (λ (x : Fault). TrieFault t root x) (sym many.1) (twice starts (reading cut.read) cut.inside many.0)
   ]

@@ -1,7 +1,7 @@
 -- The rebases by settings that run forward are what looking back finds.
 use Rattle.mach_dyld.proofs.BindNames.{◌≡◌, ℕ, ◌+◌, ◌*◌, List, ◌∷◌, Bool, true, false, Result, Ok, Err, refl, sym, ap, ◌∙◌, subst, ◌>>=◌, ◌==◌, Fault}
 use Rattle.mach_dyld.proofs.BindNames.{cond, bit_and, bind_ok, same_ok, malformed, uleb_at, Instruction, segment, advance, binds, byte_at, with_uleb, times_at}
-use Rattle.mach_dyld.proofs.BindNames.{Placed, Range, Input, Bind, fresh, run, set_after, bind_after, StandsBy, AllStandBy, reader_by}
+use Rattle.mach_dyld.proofs.BindNames.{Placed, Range, Input, Bind, fresh, run, set_after, bind_after, OccursBy, AllOccurBy, reader_by}
 use Rattle.mach_base.specs.declared.context.Endian.{Endian}
 use Rattle.mach_dyld.specs.Instructions.{nothing}
 use Rattle.mach_dyld.specs.Binds.{done_is, strong_is}
@@ -58,12 +58,12 @@ calm_row r pointer bytes opcode imm place =
     (calm_either (opcode == 0x80) _ _ (calm_times bytes place) (calm_none malformed)))))))))
 
 -- the byte at the place of an instruction
-read_at : (x : Input) (r : Range) (p : Placed) → StandsBy (reader_by rebase_rules x r) r.upto p
+read_at : (x : Input) (r : Range) (p : Placed) → OccursBy (reader_by rebase_rules x r) r.upto p
     → (byte : ℕ) × (byte_at x.bytes p.place ≡ Ok byte) × Calm p.instruction
 unfolding rebase_opcode_at
-read_at x r p stands =
+read_at x r p occurs =
     let b = bind_ok (byte_at x.bytes p.place)
-    (λ (byte : ℕ). rebase_row r x.pointer x.bytes (bit_and byte 0xf0) (bit_and byte 0x0f) (p.place + 1)) (p.instruction, p.after) stands.read in
+    (λ (byte : ℕ). rebase_row r x.pointer x.bytes (bit_and byte 0xf0) (bit_and byte 0x0f) (p.place + 1)) (p.instruction, p.after) occurs.read in
     (b.0, b.1, calm_row r x.pointer x.bytes (bit_and b.0 0xf0) (bit_and b.0 0x0f) (p.place + 1) (p.instruction, p.after) b.2)
 
 -- ---- what is set
@@ -89,10 +89,10 @@ after_byte x le m back p byte there none t = record {
       (ap (λ (g : RebaseSet). g.has_segment) t.same));
 }
 
-tied_next : (x : Input) (le : Endian) (r : Range) (m : Rebasing) (back : List Placed) (p : Placed) → StandsBy (reader_by rebase_rules x r) r.upto p
+tied_next : (x : Input) (le : Endian) (r : Range) (m : Rebasing) (back : List Placed) (p : Placed) → OccursBy (reader_by rebase_rules x r) r.upto p
     → Tied x le m back → Tied x le (set_after rebase_rules (byte_at x.bytes p.place) m) (p ∷ back)
-tied_next x le r m back p stands t =
-    let b = read_at x r p stands in
+tied_next x le r m back p occurs t =
+    let b = read_at x r p occurs in
     subst (λ (there : Result ℕ Fault). Tied x le (set_after rebase_rules there m) (p ∷ back)) (sym b.1) (after_byte x le m back p b.0 b.1 b.2.0 t)
 
 rebase_made : (x : Input) (le : Endian) (m : Rebasing) (g : RebaseSet) (b : Bind) → m.le ≡ le → rebase_set_now m ≡ g
@@ -100,11 +100,11 @@ rebase_made : (x : Input) (le : Endian) (m : Rebasing) (g : RebaseSet) (b : Bind
 rebase_made x le m g b order same = ap (λ (e : Endian). rebase_of x e (rebase_set_now m) b) order ∙ ap (λ (s : RebaseSet). rebase_of x le s b) same
 
 -- at a range's start
-pub rebases_at_start : (x : Input) (le : Endian) (r : Range) (ps : List Placed) → AllStandBy (reader_by rebase_rules x r) r.upto ps
+pub rebases_at_start : (x : Input) (le : Endian) (r : Range) (ps : List Placed) → AllOccurBy (reader_by rebase_rules x r) r.upto ps
     → run rebase_rules x r (fresh r.is_lazy 0) (first_rebasing le) ps ≡ rebases_in x le r ps
-rebases_at_start x le r ps stand =
-    tied_at_start rebase_rules x r (λ back. rebase_of x le (last_rebase_set x.bytes back)) (Tied x le) (λ p stands. (read_at x r p stands).2.1)
+rebases_at_start x le r ps occur =
+    tied_at_start rebase_rules x r (λ back. rebase_of x le (last_rebase_set x.bytes back)) (Tied x le) (λ p occurs. (read_at x r p occurs).2.1)
     (tied_next x le r)
     (λ m back place count skip after own t.
     rebase_made x le m (last_rebase_set x.bytes (one_binds place count skip after ∷ back)) (bind_after x.pointer r back own) t.order t.same)
-    (first_rebasing le) ps stand (record { order = refl; same = refl })
+    (first_rebasing le) ps occur (record { order = refl; same = refl })

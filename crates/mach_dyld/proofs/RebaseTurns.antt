@@ -18,8 +18,8 @@ unfoldable use Rattle.mach_dyld.specs.RebaseRuns.{turned, turn_rebases}
 use Rattle.mach_dyld.specs.RebasesLeft.{highest_rebase, opcode_rebases_left, rebase_rules}
 use Rattle.mach_dyld.specs.declared.rebases.RebaseKind.{RebaseKind}
 use Rattle.mach_dyld.specs.declared.rebases.OpcodeRebaseIterator.{OpcodeRebaseIterator}
-use Rattle.mach_dyld.specs.declared.rebases.run.Run.{Run}
-use Rattle.mach_dyld.specs.declared.rebases.run.Turn.{Turn}
+use Rattle.mach_dyld.specs.declared.rebases.rebase_run.Run.{Run}
+use Rattle.mach_dyld.specs.declared.rebases.rebase_run.Turn.{Turn}
 use Rattle.mach_dyld.proofs.StreamTurns.{rebase_inside}
 
 -- the turn is at an offset of a segment
@@ -93,9 +93,9 @@ oks (y ∷ ys) = oks ys
 pub no_fault_left : (r : Run) → has_fault (run_left r) ≡ false
 no_fault_left r = oks (turn_rebases r.turn r.left)
 
-pub behind_none : (it : OpcodeRebaseIterator) → it.run.left ≡ 0 → opcode_rebases_left it ≡ items_left rebase_rules it.stream
+pub after_none : (it : OpcodeRebaseIterator) → it.run.left ≡ 0 → opcode_rebases_left it ≡ items_left rebase_rules it.stream
 unfolding turn_rebases
-behind_none it e = rw e refl
+after_none it e = rw e refl
 
 pub wide_is : (w : ℕ) → (w ≡ 4) ⊎ (w ≡ 8) → cond (nat_eq w 8) 8 4 ≡ w
 wide_is w either = elim either [

@@ -55,8 +55,8 @@ by_one (suc n) step some = let e : suc n - 1 ≡ n = omega arith in rw e (omega 
 abbrev back_of : Turns → ℕ
 back_of t = t.step - t.size % t.step
 
-abbrev behind : Turns → Turns
-behind t = record { count = last_turn_place t / t.size; first = (t.first + back_of t) % t.step; step = back_of t % t.step; size = t.step }
+abbrev following : Turns → Turns
+following t = record { count = last_turn_place t / t.size; first = (t.first + back_of t) % t.step; step = back_of t % t.step; size = t.step }
 
 -- a whole ring and that distance are whole steps
 whole_steps : (t : Turns) → 0 < t.step → t.size + back_of t ≡ (t.size / t.step + 1) * t.step
@@ -73,8 +73,8 @@ mod-mul_second a k b m =
     sym (add-mul-mod_self_right (a + k * (b % m)) (k * q) m) ∙ ap (λ n. n % m) (whole ∙ ap (λ c. a + k * c) (sym parts))
 
 -- place k among the first places of new rounds
-behind_place : (t : Turns) (k : ℕ) → turn_place (behind t) k ≡ (t.first + (k + 1) * back_of t) % t.step
-behind_place t k =
+after_place : (t : Turns) (k : ℕ) → turn_place (following t) k ≡ (t.first + (k + 1) * back_of t) % t.step
+after_place t k =
     let back : ℕ = back_of t in
     let all : t.first + back + k * back ≡ t.first + (k + 1) * back = omega arith in
     mod-add_first (t.first + back) (k * (back % t.step)) t.step
@@ -96,7 +96,7 @@ module _ (t : Turns) (limit : ℕ) (ring : IsRing t) (some : 0 < t.count) (step 
       let in_ : w * (q * t.step) ≡ w * q * t.step = omega arith in
       out ∙ ap (λ n. w * n) whole ∙ in_
 
-  from_there : AnyBelow limit t → AnyBelow limit (behind t)
+  from_there : AnyBelow limit t → AnyBelow limit (following t)
   from_there (j, lt, below) =
       let at : ℕ = t.first + j * t.step in
       let w : ℕ = at / t.size in
@@ -115,15 +115,15 @@ module _ (t : Turns) (limit : ℕ) (ring : IsRing t) (some : 0 < t.count) (step 
       let there : (t.first + w * back) % t.step ≡ v =
       sym (add-mul-mod_self_right (t.first + w * back) j t.step) ∙ ap (λ n. n % t.step) sum
       ∙ add-mul-mod_self_right v (w * q) t.step ∙ mod-eq_of_lt (omega (arith, below, short)) in
-      let place : turn_place (behind t) k ≡ v = behind_place t k ∙ ap (λ n. (t.first + n * back) % t.step) next ∙ there in
+      let place : turn_place (following t) k ≡ v = after_place t k ∙ ap (λ n. (t.first + n * back) % t.step) next ∙ there in
       (k, omega (arith, counted, next), subst (λ n. n < limit) (sym place) below)
 
-  from_here : AnyBelow limit (behind t) → AnyBelow limit t
+  from_here : AnyBelow limit (following t) → AnyBelow limit t
   from_here (k, lt, there) =
       let w : ℕ = k + 1 in
       let v : ℕ = (t.first + w * back) % t.step in
       let p : ℕ = (t.first + w * back) / t.step in
-      let below : v < limit = subst (λ n. n < limit) (behind_place t k) there in
+      let below : v < limit = subst (λ n. n < limit) (after_place t k) there in
       let parts : v + p * t.step ≡ t.first + w * back = mod-add-div' (t.first + w * back) t.step in
       let whole = rounds w in
       let sum : w * t.size + v + p * t.step ≡ t.first + w * q * t.step = omega (arith, parts, whole) in
@@ -152,8 +152,8 @@ module _ (t : Turns) (limit : ℕ) (ring : IsRing t) (some : 0 < t.count) (step 
         | inr le ↦ le
       ]
 
-  pub behind_same : AnyBelow limit (behind t) ↔ AnyBelow limit t
-  behind_same = (from_here, from_there)
+  pub after_same : AnyBelow limit (following t) ↔ AnyBelow limit t
+  after_same = (from_here, from_there)
 
 -- ---- a step of at most the limit
 
@@ -172,13 +172,13 @@ module _ (t : Turns) (limit : ℕ) (ring : IsRing t) (some : 0 < t.count) (above
       let found = crossing (t.count - 1) past in
       let j : ℕ = found.0 in
       let upto = found.1 in
-      let behind = found.2 in
+      let following = found.2 in
       let near = found.3 in
       let small = ring.step in
       let r : ℕ = t.first + j * t.step - t.size in
-      let at : 1 * t.size + r ≡ t.first + j * t.step = omega (arith, behind) in
-      let below : r < limit = omega (arith, near, short, behind) in
-      let here : turn_place t j ≡ r = ap (λ n. n % t.size) (sym at) ∙ mod-mul-add 1 t.size r (omega (arith, near, small, behind)) in
+      let at : 1 * t.size + r ≡ t.first + j * t.step = omega (arith, following) in
+      let below : r < limit = omega (arith, near, short, following) in
+      let here : turn_place t j ≡ r = ap (λ n. n % t.size) (sym at) ∙ mod-mul-add 1 t.size r (omega (arith, near, small, following)) in
       (j, omega (arith, upto, some), subst (λ n. n < limit) (sym here) below)
 
   has_end : AnyBelow limit t → t.size ≤ last_turn_place t

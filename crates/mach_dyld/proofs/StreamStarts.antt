@@ -1,7 +1,7 @@
 -- What is left of two streams at their start, and what holds of all their items.
 use Rattle.mach_dyld.proofs.BindNames.{◌≡◌, ℕ, ◌+◌, length, List, [], ◌∷◌, ◌++◌, map, All, Bool, true, false, Option, Some, None, Result, Ok, Err, IfOk, refl}
 use Rattle.mach_dyld.proofs.BindNames.{sym, ap, subst, ◌∙◌, append_assoc, cond, Fault, fault_item, upto_fault, AreItems, Input, Range, Placed, Reader}
-use Rattle.mach_dyld.proofs.BindNames.{AllStandBy, IsLongestBy}
+use Rattle.mach_dyld.proofs.BindNames.{AllOccurBy, IsLongestBy}
 use Rattle.mach_dyld.proofs.BindNames.{Rules, ReadsForward, reader_by, ReadAhead, reading_from, fresh, start_of, strides, after_strides, run, rest_of}
 use Rattle.mach_dyld.proofs.BindNames.{items_of, reads_of}
 use Rattle.std.proofs.lemmas.List.Elements.{All-nil, All-cons, All-head, All-tail, All-append}
@@ -12,7 +12,7 @@ use Rattle.mach_dyld.proofs.BindNames.{append-nil, add-zero}
 -- ---- at the start, by the items of the instructions of a range
 
 abbrev ComesTo : {M A : Type 0} → Rules M A → Input → (Range → List Placed → List (Result A Fault)) → Type 0
-ComesTo u x made = (r : Range) (ps : List Placed) → AllStandBy (reader_by u x r) r.upto ps → run u x r (fresh r.is_lazy 0) (u.first r.is_lazy) ps ≡ made r ps
+ComesTo u x made = (r : Range) (ps : List Placed) → AllOccurBy (reader_by u x r) r.upto ps → run u x r (fresh r.is_lazy 0) (u.first r.is_lazy) ps ≡ made r ps
 
 module _ {M A : Type 0} (u : Rules M A) (laws : ReadsForward u) (x : Input) (made : Range → List Placed → List (Result A Fault))
     (comes : ComesTo u x made) where
@@ -27,7 +27,7 @@ module _ {M A : Type 0} (u : Rules M A) (laws : ReadsForward u) (x : Input) (mad
   unfolding rest_of strides after_strides
   start_rest r is_lazy e =
       ap (λ (t : Bool). rest_of u x (u.first t) (start_of r)) (sym e)
-      ∙ ap (λ items. items ++ fault_item (ahead r).stop) (comes r (ahead r).read (longest r).beginning.stand)
+      ∙ ap (λ items. items ++ fault_item (ahead r).stop) (comes r (ahead r).read (longest r).beginning.occur)
 
   module _ (non_lazy lazy : Range) (first : non_lazy.is_lazy ≡ false) (second : lazy.is_lazy ≡ true) where
     start_items : AreItems (reader_by u x) made non_lazy lazy (ahead non_lazy).read (ahead lazy).read (items_of u x lazy (u.first false) (start_of non_lazy))
@@ -65,7 +65,7 @@ module _ {M A : Type 0} (u : Rules M A) (laws : ReadsForward u) (x : Input) (mad
 
 module _ {M A : Type 0} (u : Rules M A) (laws : ReadsForward u) (x : Input) (lazy r : Range) (last : r.is_lazy ≡ true) (m : M)
     (made : List Placed → List (Result A Fault))
-    (comes : (ps : List Placed) → AllStandBy (reader_by u x r) r.upto ps → run u x r (fresh r.is_lazy 0) m ps ≡ made ps) where
+    (comes : (ps : List Placed) → AllOccurBy (reader_by u x r) r.upto ps → run u x r (fresh r.is_lazy 0) m ps ≡ made ps) where
   abbrev alone : ReadAhead
   alone = reading_from (reader_by u x r) r.upto r.from
 
@@ -74,7 +74,7 @@ module _ {M A : Type 0} (u : Rules M A) (laws : ReadsForward u) (x : Input) (laz
 
   alone_rest : rest_of u x m (start_of r) ≡ made alone.read ++ fault_item alone.stop
   unfolding rest_of strides after_strides
-  alone_rest = ap (λ items. items ++ fault_item alone.stop) (comes alone.read alone_longest.beginning.stand)
+  alone_rest = ap (λ items. items ++ fault_item alone.stop) (comes alone.read alone_longest.beginning.occur)
 
   alone_items : items_of u x lazy m (start_of r) ≡ upto_fault (made alone.read ++ fault_item alone.stop)
   unfolding items_of

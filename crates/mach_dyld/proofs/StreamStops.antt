@@ -27,6 +27,6 @@ module _ {M A : Type 0} (u : Rules M A) (laws : ReadsForward u) (it : Stream M) 
   unfolding items_left opcodes_left
   left_at_end a = after_range u laws (input_of it.source) (lazy_of it) it.more (state_of it.state) a.count a.on a.is_lazy a.past
 
-  pub behind_end : it.state.ended ≡ true → IsEmpty
+  pub after_end : it.state.ended ≡ true → IsEmpty
   unfolding items_left opcodes_left
-  behind_end e = at_end u laws (input_of it.source) (lazy_of it) it.more (state_of it.state) e
+  after_end e = at_end u laws (input_of it.source) (lazy_of it) it.more (state_of it.state) e

@@ -1,9 +1,9 @@
 -- A prefix of a list of exports, as `ListBegins` defines it, is a prefix of the list itself, if there is one.
 use Rattle.mach_dyld.proofs.TrieNames.{◌≡◌, ℕ, List, [], ◌∷◌, ◌++◌, refl, sym, ap, subst, ◌∙◌, arith, append_assoc, inl, inr, Branch, Node, Trie, Entry}
-use Rattle.mach_dyld.proofs.TrieNames.{own_entries, Lists, BranchesList, nothing, a_node, one_more, ListBegins, BranchesBegin, none_yet, node_begun}
-use Rattle.mach_dyld.proofs.TrieNames.{no_further, one_begun, one_whole, source_trie, HasFound}
+use Rattle.mach_dyld.proofs.TrieNames.{own_entries, Lists, BranchesList, nothing, a_node, one_more, ListBegins, BranchesBegin, none_yet, node_started}
+use Rattle.mach_dyld.proofs.TrieNames.{no_further, one_started, one_whole, source_trie, HasFound}
 use Rattle.mach_dyld.proofs.TrieNames.{Source, TrieRange, trie_there, ListsExports, ExportsFault, ExportsEnd, HasListed, IsTree, TrieFault, Error}
-use Rattle.mach_dyld.proofs.TrieNames.{Stands, Stands-in, fault_in, IsEndOfWalk}
+use Rattle.mach_dyld.proofs.TrieNames.{ErrorMeets, ErrorMeets-in, fault_in, IsEndOfWalk}
 use Rattle.mach_dyld.proofs.TriePaths.{same_node}
 use Rattle.mach_dyld.proofs.TrieRelation.{one_list}
 use Rattle.mach_dyld.proofs.Unfoldings.{met_begins}
@@ -13,8 +13,8 @@ use Rattle.mach_dyld.specs.declared.trie.walk.Walker.{Walker}
 mutual
   pub prefix_of : (t : Trie) (s : ℕ) (p : List ℕ) (xs ys : List Entry) → ListBegins t s p xs → Lists t s p ys → (zs : List Entry) × (ys ≡ xs ++ zs)
   prefix_of t s p [] ys none_yet list = (ys, refl)
-  prefix_of t s p xs ys (node_begun node is part e) (nothing out) = absurd (let inside = is.0 in omega arith)
-  prefix_of t s p xs ys (node_begun {others = some} node is part e) (a_node {others = all} other is' list e') =
+  prefix_of t s p xs ys (node_started node is part e) (nothing out) = absurd (let inside = is.0 in omega arith)
+  prefix_of t s p xs ys (node_started {others = some} node is part e) (a_node {others = all} other is' list e') =
       let same : other ≡ node = same_node is'.1 is.1 in
       let rest = branches_prefix t p node.branches some all part (subst (λ (n : Node). BranchesList t p n.branches all) same list) in
       let whole : ys ≡ own_entries p node.own ++ all = e' ∙ ap (λ (n : Node). own_entries p n.own ++ all) same in (
@@ -26,7 +26,7 @@ mutual
   branches_prefix : (t : Trie) (p : List ℕ) (bs : List Branch) (xs ys : List Entry) → BranchesBegin t p bs xs → BranchesList t p bs ys
       → (zs : List Entry) × (ys ≡ xs ++ zs)
   branches_prefix t p bs [] ys no_further list = (ys, refl)
-  branches_prefix t p (b ∷ bs) xs ys (one_begun part) (one_more {first = first} {others = others} one rest e) =
+  branches_prefix t p (b ∷ bs) xs ys (one_started part) (one_more {first = first} {others = others} one rest e) =
       let here = prefix_of t b.start (p ++ b.label) xs first part one in
       (here.0 ++ others, e ∙ (ap (λ (x : List Entry). x ++ others) here.1 ∙ append_assoc xs here.0 others))
   branches_prefix t p (b ∷ bs) xs ys (one_whole {first = first} {others = some} whole part e) (one_more {first = first'} {others = others} one rest e') =
@@ -53,15 +53,15 @@ module _ (s : Source) (t : TrieRange) (libs : List (List ℕ)) (same : source_tr
     subst (λ (x : Trie). Lists x t.from [] found) same (subst (λ (r : ℕ). Lists (source_trie s) r [] found) from l.listed),
   )
 
-  pub fault_there : (e : Error) → Stands (fault_in s) e → Stands (ExportsFault t libs) e
-  fault_there e stands = Stands-in (fault_in s) (ExportsFault t libs) e
-      (λ f k. subst (λ (x : Trie). TrieFault x t.from f) same (subst (λ (r : ℕ). TrieFault (source_trie s) r f) from k)) stands
+  pub fault_there : (e : Error) → ErrorMeets (fault_in s) e → ErrorMeets (ExportsFault t libs) e
+  fault_there e occurs = ErrorMeets-in (fault_in s) (ExportsFault t libs) e
+      (λ f k. subst (λ (x : Trie). TrieFault x t.from f) same (subst (λ (r : ℕ). TrieFault (source_trie s) r f) from k)) occurs
 
-  pub end_there : (found : List Entry) (e : Error) → Stands (IsEndOfWalk (source_trie s) s.from found) e
-      → Stands (ExportsEnd t libs found) e
-  end_there found e stands = Stands-in (IsEndOfWalk (source_trie s) s.from found) (ExportsEnd t libs found) e
-      (λ f k. subst (λ (x : Trie). IsEndOfWalk x t.from found f) same (subst (λ (r : ℕ). IsEndOfWalk (source_trie s) r found f) from k)) stands
+  pub end_there : (found : List Entry) (e : Error) → ErrorMeets (IsEndOfWalk (source_trie s) s.from found) e
+      → ErrorMeets (ExportsEnd t libs found) e
+  end_there found e occurs = ErrorMeets-in (IsEndOfWalk (source_trie s) s.from found) (ExportsEnd t libs found) e
+      (λ f k. subst (λ (x : Trie). IsEndOfWalk x t.from found f) same (subst (λ (r : ℕ). IsEndOfWalk (source_trie s) r found f) from k)) occurs
 
-  pub begun_there : {found : List Entry} → ListBegins (source_trie s) s.from [] found → ListBegins (trie_there t libs) t.from [] found
-  begun_there {found} b =
+  pub started_there : {found : List Entry} → ListBegins (source_trie s) s.from [] found → ListBegins (trie_there t libs) t.from [] found
+  started_there {found} b =
       subst (λ (x : Trie). ListBegins x t.from [] found) same (subst (λ (r : ℕ). ListBegins (source_trie s) r [] found) from b)

@@ -14,9 +14,9 @@ pub use Rattle.std.specs.List.{range_with_len}
 pub use Rattle.std.specs.Prelude.{slice_get, ◌==◌, IsErr, IsOk, codes, IfErr, IfSome}
 pub use Rattle.std.specs.Str.{is_utf8, IsUtf8}
 pub use Rattle.mach_base.proofs.Binds.{bind_ok, same_ok, chosen}
-pub use Rattle.mach_base.proofs.Faults.{Stands-reported, Stands-in}
+pub use Rattle.mach_base.proofs.Faults.{ErrorMeets-reported, ErrorMeets-in}
 pub use Rattle.mach_base.specs.Among.{IsAmong}
-pub use Rattle.mach_base.specs.Answer.{◌>>=◌, Stands, IsOkUnlessMemory}
+pub use Rattle.mach_base.specs.Answer.{◌>>=◌, ErrorMeets, IsOkUnlessMemory}
 pub use Rattle.mach_base.specs.Fault.{Fault, malformed, fault_of, bad_offset, bad_input, too_short}
 unfoldable pub use Rattle.mach_base.specs.Leb128.{uleb_at}
 pub use Rattle.mach_base.specs.Sums.{found_or_malformed, sum_of}
@@ -27,7 +27,7 @@ pub use Rattle.mach_dyld.specs.Exports.{entries}
 pub use Rattle.mach_base.specs.Text.{texts}
 pub use Rattle.mach_dyld.specs.Lists.{nothing, Lists, BranchesList, a_node, no_more, one_more, lists_of, node_list, ListsWithin}
 unfoldable pub use Rattle.mach_dyld.specs.Lists.{list_within}
-pub use Rattle.mach_dyld.specs.Lists.{ListBegins, BranchesBegin, none_yet, node_begun, no_further, one_begun, one_whole}
+pub use Rattle.mach_dyld.specs.Lists.{ListBegins, BranchesBegin, none_yet, node_started, no_further, one_started, one_whole}
 pub use Rattle.mach_dyld.specs.Nodes.{own_at, trie_of}
 unfoldable pub use Rattle.mach_dyld.specs.Nodes.{branch_at, branches_at, children_at, terminal_at, inner_at, node_at}
 pub use Rattle.mach_dyld.specs.Paths.{StartsFrom, Leads, Before, Path, IsTree}

@@ -26,12 +26,12 @@ Leads-append t [] q a b c e h = subst (λ x. Leads t q x c) (sym e) h
 Leads-append t (k ∷ ks) q a b c l h = (l.0, l.1, l.2, l.3, l.4, Leads-append t ks q l.1.start b c l.5 h)
 
 -- the second part of a path
-pub leads_behind : (t : Trie) (p q : List ℕ) (a b c : ℕ) → Leads t p a b → Leads t (p ++ q) a c → Leads t q b c
-leads_behind t [] q a b c l all = subst (λ x. Leads t q x c) l all
-leads_behind t (k ∷ ks) q a b c l all =
+pub leads_after : (t : Trie) (p q : List ℕ) (a b c : ℕ) → Leads t p a b → Leads t (p ++ q) a c → Leads t q b c
+leads_after t [] q a b c l all = subst (λ x. Leads t q x c) l all
+leads_after t (k ∷ ks) q a b c l all =
     let node : all.0 ≡ l.0 = same_node all.3 l.3 in
     let branch : all.1 ≡ l.1 = same_some (subst (λ (x : Node). slice_get x.branches k ≡ Some all.1) node all.4) l.4 in
-    leads_behind t ks q l.1.start b c l.5 (subst (λ (x : Branch). Leads t (ks ++ q) x.start c) branch all.5)
+    leads_after t ks q l.1.start b c l.5 (subst (λ (x : Branch). Leads t (ks ++ q) x.start c) branch all.5)
 
 pub leads_from : (t : Trie) (from : ℕ) → StartsFrom t from → (p : List ℕ) (a b : ℕ) → from ≤ a → Leads t p a b → from ≤ b
 leads_from t from starts [] a b low l = subst (λ x. from ≤ x) l low

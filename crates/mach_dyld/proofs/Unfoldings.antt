@@ -1,7 +1,7 @@
 -- What a reading of a trie has met is a prefix of its list, and all of it if nothing is ahead.
 use Rattle.mach_dyld.proofs.TrieNames.{◌≡◌, ℕ, List, [], ◌∷◌, ◌++◌, ◌⊎◌, inl, inr, refl, sym, ap, subst, ◌∙◌, append_assoc, append-nil}
 use Rattle.mach_dyld.proofs.TrieNames.{Branch, Trie, Entry, own_entries, Lists, BranchesList, a_node, nothing}
-use Rattle.mach_dyld.proofs.TrieNames.{no_more, one_more, ListBegins, BranchesBegin, none_yet, node_begun, no_further, one_begun, one_whole}
+use Rattle.mach_dyld.proofs.TrieNames.{no_more, one_more, ListBegins, BranchesBegin, none_yet, node_started, no_further, one_started, one_whole}
 use Rattle.mach_dyld.proofs.TrieNames.{Ahead, ahead, Unfolds, nothing_read, passed, node_read}
 
 -- ---- lists
@@ -50,7 +50,7 @@ whole_branches t prefix (b ∷ bs) es (one_more {others = others} one rest e) = 
 
 pub whole_list : (t : Trie) (s : ℕ) (p : List ℕ) (xs : List Entry) → Lists t s p xs → ListBegins t s p xs
 whole_list t s p [] (nothing out) = none_yet
-whole_list t s p xs (a_node {others = others} node is all e) = node_begun node is (whole_branches t p node.branches others all) e
+whole_list t s p xs (a_node {others = others} node is all e) = node_started node is (whole_branches t p node.branches others all) e
 
 -- a prefix of the lists of what is ahead
 abbrev pub BegunAhead : Trie → List Ahead → List Entry → Type 0
@@ -62,7 +62,7 @@ branches_begin : (t : Trie) (prefix : List ℕ) (bs : List Branch) (others : Lis
     → BranchesBegin t prefix bs es
     ⊎ ((here : List Entry) × (rest : List Entry) × BranchesList t prefix bs here × BegunAhead t others rest × (es ≡ here ++ rest))
 branches_begin t prefix [] others es l = inr ([], es, no_more, l, refl)
-branches_begin t prefix (b ∷ bs) others es (inl part) = inl (one_begun part)
+branches_begin t prefix (b ∷ bs) others es (inl part) = inl (one_started part)
 branches_begin t prefix (b ∷ bs) others es (inr l) = elim (branches_begin t prefix bs others l.1 l.3) [
   | inl part ↦ inl (one_whole l.2 part l.4)
   | inr more ↦ inr (
@@ -84,7 +84,7 @@ begun_ahead {t} {root} {found = met} (node_read {found = found} {next = next} {o
     let own = own_entries next.name node.own in
     let part : ListBegins t root [] (found ++ (own ++ es)) =
     elim (branches_begin t next.name node.branches others es (subst (λ (x : List Ahead). BegunAhead t x es) left_is l)) [
-      | inl part ↦ begun_ahead before (own ++ es) (inl (node_begun node is part refl))
+      | inl part ↦ begun_ahead before (own ++ es) (inl (node_started node is part refl))
       | inr split ↦ begun_ahead before (own ++ es) (inr (
         own ++ split.0,
         split.1,

@@ -1,7 +1,7 @@
 -- The weak binds by settings that run forward are what looking back finds.
 use Rattle.mach_dyld.proofs.BindNames.{◌≡◌, ℕ, ◌+◌, List, [], ◌∷◌, map, Bool, true, false, Result, Ok, refl, sym, ap, ◌∙◌, subst, ◌>>=◌, ◌==◌, Fault}
 use Rattle.mach_dyld.proofs.BindNames.{cond, bit_and, inl, inr, cases_eq, cases_Bool, ne_eqb, nat_lt, bind_ok, same_ok, text_at, length, Instruction, symbol}
-use Rattle.mach_dyld.proofs.BindNames.{binds, byte_at, Placed, Range, Input, Bind, fresh, run, set_after, set_by, StandsBy, AllStandBy, reader_by}
+use Rattle.mach_dyld.proofs.BindNames.{binds, byte_at, Placed, Range, Input, Bind, fresh, run, set_after, set_by, OccursBy, AllOccurBy, reader_by}
 use Rattle.mach_dyld.proofs.BindNames.{strides, stride_in, binds_at}
 use Rattle.mach_dyld.specs.Instructions.{nothing, strong}
 use Rattle.mach_dyld.specs.Binds.{done_is, strong_is, rows_in}
@@ -12,7 +12,7 @@ use Rattle.mach_dyld.proofs.BindingOpcodes.{at_byte, no_done}
 use Rattle.mach_dyld.specs.WeakBinds.{WeakSet, strong_name, is_own, name_set, name_before_end, last_weak_set, weak_binds_at, weak_binds_in}
 unfoldable use Rattle.mach_dyld.specs.WeakBinds.{weak_bind_of, weak_name_at, weak_row, weak_opcode_at}
 use Rattle.mach_dyld.specs.WeakBindsLeft.{first_weak, set_now, weak_after, weak_made, weak_rules}
-use Rattle.mach_dyld.specs.declared.weak_binds.WeakExtra.{WeakExtra}
+use Rattle.mach_dyld.specs.declared.weak_binds.WeakBindSettings.{WeakBindSettings}
 use Rattle.mach_dyld.proofs.StreamSettings.{setting_after}
 
 -- ---- what an opcode reads
@@ -67,7 +67,7 @@ abbrev own_head : List Placed → Bool
 own_head [] = false
 own_head (p ∷ back) = strong_is p.instruction
 
-record Tied (x : Input) (m : WeakExtra) (back : List Placed) : Type 0 where
+record Tied (x : Input) (m : WeakBindSettings) (back : List Placed) : Type 0 where
   same : set_now m ≡ last_weak_set x.bytes back
   own : own_head back ≡ m.is_own
 
@@ -77,7 +77,7 @@ weak_set k n s = record { kind = k; has_name = n; has_segment = s }
 set_is : (a b : WeakSet) → a.kind ≡ b.kind → a.has_name ≡ b.has_name → a.has_segment ≡ b.has_segment → a ≡ b
 set_is a b k n s = ap (λ q. weak_set q a.has_name a.has_segment) k ∙ ap (λ q. weak_set b.kind q a.has_segment) n ∙ ap (weak_set b.kind b.has_name) s
 
-after_byte : (x : Input) (m : WeakExtra) (back : List Placed) (p : Placed) (byte : ℕ) → byte_at x.bytes p.place ≡ Ok byte
+after_byte : (x : Input) (m : WeakBindSettings) (back : List Placed) (p : Placed) (byte : ℕ) → byte_at x.bytes p.place ≡ Ok byte
     → Known (bit_and byte 0xf0) (bit_and byte 0x0f) p.instruction → Tied x m back
     → Tied x (weak_after (bit_and byte 0xf0) (bit_and byte 0x0f) m) (p ∷ back)
 after_byte x m back p byte there known t = record {
@@ -91,25 +91,25 @@ after_byte x m back p byte there known t = record {
   own = known.1;
 }
 
-tied_next : (x : Input) (r : Range) (m : WeakExtra) (back : List Placed) (p : Placed) → StandsBy (reader_by weak_rules x r) r.upto p → Tied x m back
+tied_next : (x : Input) (r : Range) (m : WeakBindSettings) (back : List Placed) (p : Placed) → OccursBy (reader_by weak_rules x r) r.upto p → Tied x m back
     → Tied x (set_after weak_rules (byte_at x.bytes p.place) m) (p ∷ back)
 unfolding weak_opcode_at
-tied_next x r m back p stands t =
+tied_next x r m back p occurs t =
     let b = bind_ok (byte_at x.bytes p.place)
-    (λ (byte : ℕ). weak_row r x.pointer x.bytes (bit_and byte 0xf0) (bit_and byte 0x0f) (p.place + 1)) (p.instruction, p.after) stands.read in
+    (λ (byte : ℕ). weak_row r x.pointer x.bytes (bit_and byte 0xf0) (bit_and byte 0x0f) (p.place + 1)) (p.instruction, p.after) occurs.read in
     subst (λ (there : Result ℕ Fault). Tied x (set_after weak_rules there m) (p ∷ back)) (sym b.1)
     (after_byte x m back p b.0 b.1
     (known_row r x.pointer x.bytes (bit_and b.0 0xf0) (bit_and b.0 0x0f) (p.place + 1) (p.instruction, p.after) b.2) t)
 
 -- ---- its rows
 
-binds_made : (x : Input) (m : WeakExtra) (g : WeakSet) (ds : List Bind) → false ≡ m.is_own → set_now m ≡ g
+binds_made : (x : Input) (m : WeakBindSettings) (g : WeakSet) (ds : List Bind) → false ≡ m.is_own → set_now m ≡ g
     → map (λ d. weak_made x d m) ds ≡ map (weak_bind_of x g) ds
 binds_made x m g ds own same =
     ap (λ (t : Bool). map (λ (d : Bind). cond t (Ok (strong_name d.name)) (weak_bind_of x (set_now m) d)) ds) (sym own)
     ∙ ap (λ (s : WeakSet). map (weak_bind_of x s) ds) same
 
-same_rows : (x : Input) (r : Range) (m : WeakExtra) (back : List Placed) (place after : ℕ) (i : Instruction) → Tied x m (at_byte place i after ∷ back)
+same_rows : (x : Input) (r : Range) (m : WeakBindSettings) (back : List Placed) (place after : ℕ) (i : Instruction) → Tied x m (at_byte place i after ∷ back)
     → map (λ d. weak_made x d m)
     (strides (set_here x.pointer r back (at_byte place i after)) (stride_in x.pointer (at_byte place i after)) (rows_in (at_byte place i after)))
     ≡ weak_binds_at x r back (at_byte place i after)
@@ -123,8 +123,8 @@ same_rows x r m back place after (binds count skip) t =
 same_rows x r m back place after _ t = refl
 
 -- at a range's start
-pub weak_at_start : (x : Input) (r : Range) (ps : List Placed) → AllStandBy (reader_by weak_rules x r) r.upto ps
+pub weak_at_start : (x : Input) (r : Range) (ps : List Placed) → AllOccurBy (reader_by weak_rules x r) r.upto ps
     → run weak_rules x r (fresh r.is_lazy 0) first_weak ps ≡ weak_binds_in x r ps
-weak_at_start x r ps stand =
-    rows_at_start weak_rules x r (weak_binds_at x r) (Tied x) (tied_next x r) (λ m back p stands t. same_rows x r m back p.place p.after p.instruction t)
-    first_weak ps stand (record { same = refl; own = refl })
+weak_at_start x r ps occur =
+    rows_at_start weak_rules x r (weak_binds_at x r) (Tied x) (tied_next x r) (λ m back p occurs t. same_rows x r m back p.place p.after p.instruction t)
+    first_weak ps occur (record { same = refl; own = refl })

@@ -7,9 +7,9 @@ use Rattle.mach_parts.specs.Bindings.{Binding, binding_view}
 use Rattle.mach_dyld.specs.BindLeft.{import_rules}
 use Rattle.mach_dyld.specs.Machine as machine
 use Rattle.mach_dyld.specs.Machine.{State, items_of}
-use Rattle.mach_dyld.specs.BindViews.{import_seen}
+use Rattle.mach_dyld.specs.BindViews.{bind_import_view}
 use Rattle.mach_dyld.specs.BindingsLeft.{binding_rules}
-use Rattle.mach_dyld.specs.declared.bindings.Extra.{Extra}
+use Rattle.mach_dyld.specs.declared.bindings.BindingSettings.{BindingSettings}
 use Rattle.mach_dyld.specs.Binds.{Bind}
 use Rattle.mach_dyld.specs.Imports.{Import}
 use Rattle.mach_dyld.specs.NamePlaces.{text_or_none}
@@ -48,7 +48,7 @@ abbrev pub special_in : BindCursor → Option ℤ
 special_in c = if says_yes (bit_and c.ordinal 2) then Some c.special else None
 
 -- the settings of bindings beyond those of a bind
-abbrev pub extra_in : BindCursor → Extra
+abbrev pub extra_in : BindCursor → BindingSettings
 extra_in c = record {
   special = special_in c;
   kind = c.kind;
@@ -58,12 +58,12 @@ extra_in c = record {
 }
 
 -- the imports after a cursor, if this is the lazy stream
-abbrev pub imports_behind : Input → Range → BindCursor → List (Result Import Fault)
-imports_behind x lazy c = items_of import_rules x lazy (record {}) (state_in x.bytes c)
+abbrev pub imports_after : Input → Range → BindCursor → List (Result Import Fault)
+imports_after x lazy c = items_of import_rules x lazy (record {}) (state_in x.bytes c)
 
 -- the bindings after it
-abbrev pub opcode_bindings_behind : Input → Range → BindCursor → List (Result Binding Fault)
-opcode_bindings_behind x lazy c = items_of binding_rules x lazy (extra_in c) (state_in x.bytes c)
+abbrev pub opcode_bindings_after : Input → Range → BindCursor → List (Result Binding Fault)
+opcode_bindings_after x lazy c = items_of binding_rules x lazy (extra_in c) (state_in x.bytes c)
 
 -- the iterator reads this input, and has the place of its name
 abbrev pub IsOverImports : Input → Range → BindIterator → Type 0
@@ -81,7 +81,7 @@ HasEndedOpcodeBindings it = machine.HasEnded binding_rules it.stream
 
 -- what was read, as an import without its places or a fault
 abbrev pub placed_read : Result PlacedImport Error → Result Import Fault
-placed_read (Ok p) = Ok (import_seen p.import)
+placed_read (Ok p) = Ok (bind_import_view p.import)
 placed_read (Err e) = Err (fault_of e)
 
 abbrev pub placed_binding_read : Result PlacedBinding Error → Result Binding Fault
@@ -89,10 +89,10 @@ placed_binding_read (Ok p) = Ok (binding_view p.binding)
 placed_binding_read (Err e) = Err (fault_of e)
 
 -- a text is at a place; a text of no bytes may have no place
-abbrev pub TextStands : List ℕ → ℕ → List ℕ → Type 0
-TextStands bytes place text = (text ≡ []) ⊎ (text_at bytes place ≡ Ok text)
+abbrev pub TextIsAt : List ℕ → ℕ → List ℕ → Type 0
+TextIsAt bytes place text = (text ≡ []) ⊎ (text_at bytes place ≡ Ok text)
 
 -- its name is at its place, and its library is the one with its number
 pub record IsPlaced (x : Input) (p : PlacedImport) : Type 0 where
-  pub name : TextStands x.bytes p.name_place p.import.name.now
+  pub name : TextIsAt x.bytes p.name_place p.import.name.now
   pub library_is : slice_get x.libs p.library ≡ Some p.import.dylib.now

@@ -30,8 +30,8 @@ rest_range r cut = record { from = cut; upto = r.upto; is_lazy = r.is_lazy }
 -- If the first instructions of a range end with a DONE, the range has a list exactly if its parts before and after that
 -- place have one. It is the list of the first part, then that of the second with the sequences raised by the first part's
 -- length.
-abbrev pub CutsBehindDone : Type 0
-CutsBehindDone = (x : Input) (r : Range) (front : List Placed) (d : Placed) (list : List Import)
+abbrev pub CutsAfterDone : Type 0
+CutsAfterDone = (x : Input) (r : Range) (front : List Placed) (d : Placed) (list : List Import)
     → IsBeginning x r (front ++ d ∷ []) → is_done d ≡ true
     → HasList x r list
     ↔ ((one : List Import) × (two : List Import) × HasList x (front_range r d.after) one

@@ -6,16 +6,16 @@ use Rattle.mach_base.specs.declared.error.Error.{Error}
 use Rattle.mach_dyld.specs.Instructions.{instruction_at}
 use Rattle.mach_dyld.specs.Imports.{Target, import_of}
 use Rattle.mach_dyld.specs.Imports as imports
-use Rattle.mach_dyld.specs.BindViews.{import_seen}
+use Rattle.mach_dyld.specs.BindViews.{bind_import_view}
 use Rattle.mach_dyld.specs.Machine.{Rules, items_left, opcodes_left, item_read}
 pub use Rattle.mach_dyld.specs.Machine.{State, fresh, moved, start_of, input_of, bind_of, state_of, items_of, executed, executed_by, set_by}
-use Rattle.mach_dyld.specs.declared.imports.source.Place.{Place}
+use Rattle.mach_dyld.specs.declared.imports.source.BindTarget.{BindTarget}
 use Rattle.mach_dyld.specs.declared.imports.Import.{Import}
 use Rattle.mach_dyld.specs.declared.imports.iterator.BindIterator.{BindIterator}
-use Rattle.mach_dyld.specs.declared.imports.iterator.Plain.{Plain}
+use Rattle.mach_dyld.specs.declared.imports.iterator.ImportSettings.{ImportSettings}
 
 -- all opcodes are read, and a bind needs nothing beyond its settings
-abbrev pub import_rules : Rules Plain imports.Import
+abbrev pub import_rules : Rules ImportSettings imports.Import
 import_rules = record {
   first = λ is_lazy. record {};
   set = λ byte m. m;
@@ -23,11 +23,11 @@ import_rules = record {
   makes = λ x b m. import_of x b;
 }
 
-abbrev pub target_in : Place → Target
+abbrev pub target_in : BindTarget → Target
 target_in t = record { dylib = t.dylib.now; offset = t.offset; address = t.address }
 
 abbrev pub import_read : Result Import Error → Result imports.Import Fault
-import_read = item_read import_seen fault_of
+import_read = item_read bind_import_view fault_of
 
 -- the imports that are left, up to the first fault
 abbrev pub imports_left : BindIterator → List (Result imports.Import Fault)

@@ -46,7 +46,7 @@ abbrev pub IsPlain : List ℕ → Placed → Type 0
 IsPlain bytes p = (byte : ℕ) → byte_at bytes p.place ≡ Ok byte → bit_and byte 0xf0 ≢ 0x30
 
 -- what imports and bindings both have, the library by its name
-pub record Told : Type 0 where
+pub record Reported : Type 0 where
   pub name : List ℕ
   pub library : Option (List ℕ)
   pub offset : ℕ
@@ -55,8 +55,8 @@ pub record Told : Type 0 where
   pub is_weak : Bool
   pub is_lazy : Bool
 
-abbrev pub told_by_import : Import → Told
-told_by_import i = record {
+abbrev pub reported_by_import : Import → Reported
+reported_by_import i = record {
   name = i.name;
   library = Some i.dylib;
   offset = i.offset;
@@ -74,8 +74,8 @@ library_name first main_executable = None
 library_name first flat = None
 library_name first weak_lookup = None
 
-abbrev pub told_by_binding : List ℕ → Binding → Told
-told_by_binding first b = record {
+abbrev pub reported_by_binding : List ℕ → Binding → Reported
+reported_by_binding first b = record {
   name = b.name;
   library = library_name first b.provider;
   offset = b.offset;
@@ -85,16 +85,16 @@ told_by_binding first b = record {
   is_lazy = b.is_lazy;
 }
 
-abbrev pub told_item : {A : Type 0} → (A → Told) → Result A Fault → Result Told Fault
-told_item tell (Ok i) = Ok (tell i)
-told_item tell (Err f) = Err f
+abbrev pub reported_item : {A : Type 0} → (A → Reported) → Result A Fault → Result Reported Fault
+reported_item report (Ok i) = Ok (report i)
+reported_item report (Err f) = Err f
 
 -- each binding agrees with the import at its place, and the bindings end where the imports do, or at a fault
-abbrev pub EachTells : List ℕ → List (Result Import Fault) → List (Result Binding Fault) → Type 0
-EachTells first imports [] = imports ≡ []
-EachTells first imports (Err f ∷ bindings) = Unit {0}
-EachTells first [] (Ok b ∷ bindings) = ⊥
-EachTells first (i ∷ imports) (Ok b ∷ bindings) = (told_item told_by_import i ≡ Ok (told_by_binding first b)) × EachTells first imports bindings
+abbrev pub EachReports : List ℕ → List (Result Import Fault) → List (Result Binding Fault) → Type 0
+EachReports first imports [] = imports ≡ []
+EachReports first imports (Err f ∷ bindings) = Unit {0}
+EachReports first [] (Ok b ∷ bindings) = ⊥
+EachReports first (i ∷ imports) (Ok b ∷ bindings) = (reported_item reported_by_import i ≡ Ok (reported_by_binding first b)) × EachReports first imports bindings
 
 -- after the last DONE, an instruction has the operand: the list has the nearest first
 abbrev pub IsSetAnew : {A : Type 0} → (Placed → Option A) → List Placed → Type 0
@@ -109,7 +109,7 @@ pub record AreSetAnew (back : List Placed) : Type 0 where
 
 -- this holds before each instruction that binds
 abbrev pub SetsAnew : List Placed → Type 0
-SetsAnew ps = (front : List Placed) (p : Placed) (behind : List Placed) → ps ≡ front ++ p ∷ behind → 0 < count_in p → AreSetAnew (reverse front)
+SetsAnew ps = (front : List Placed) (p : Placed) (following : List Placed) → ps ≡ front ++ p ∷ following → 0 < count_in p → AreSetAnew (reverse front)
 
 -- after the first DONE there are only DONEs
 abbrev pub EndsInDones : List Placed → Type 0
@@ -129,13 +129,13 @@ pub record AreReadAlike (x : Input) (non_lazy lazy : Range) (ps qs : List Placed
   pub anew : SetsAnew qs
 
 -- if bindings have no fault, they agree with the imports one for one, so there are equally many
-abbrev pub TellOneForOne : List ℕ → List (Result Import Fault) → List (Result Binding Fault) → Type 0
-TellOneForOne first imports bindings =
-    (list : List Binding) → bindings ≡ map Ok list → map (told_item told_by_import) imports ≡ map (λ b. Ok (told_by_binding first b)) list
+abbrev pub ReportOneForOne : List ℕ → List (Result Import Fault) → List (Result Binding Fault) → Type 0
+ReportOneForOne first imports bindings =
+    (list : List Binding) → bindings ≡ map Ok list → map (reported_item reported_by_import) imports ≡ map (λ b. Ok (reported_by_binding first b)) list
 
 -- this holds for bindings and imports of streams that are read alike, over a list of libraries that isn't empty
-abbrev pub StreamsTellTheSame : Type 0
-StreamsTellTheSame = (x : Input) (non_lazy lazy : Range) (first : List ℕ) (others : List (List ℕ)) (ps qs ps' qs' us vs : List Placed)
+abbrev pub StreamsReportTheSame : Type 0
+StreamsReportTheSame = (x : Input) (non_lazy lazy : Range) (first : List ℕ) (others : List (List ℕ)) (ps qs ps' qs' us vs : List Placed)
     (imports : List (Result Import Fault)) (bindings : List (Result Binding Fault)) → x.libs ≡ first ∷ others → 0 < x.pointer → lazy.is_lazy ≡ true
     → AreReadAlike x non_lazy lazy ps qs → AreBindItems x non_lazy lazy ps' qs' imports → AreBindings x non_lazy lazy us vs bindings
-    → EachTells first imports bindings × TellOneForOne first imports bindings
+    → EachReports first imports bindings × ReportOneForOne first imports bindings

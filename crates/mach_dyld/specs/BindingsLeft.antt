@@ -6,14 +6,14 @@ use Rattle.mach_parts.specs.Bindings.{Binding}
 use Rattle.mach_dyld.specs.Bindings.{SetBefore, special_ordinal, first_kind, gives_ordinal, gives_name, gives_segment, binding_of, opcode_at}
 use Rattle.mach_dyld.specs.Machine.{Rules, items_left}
 use Rattle.mach_dyld.specs.declared.bindings.OpcodeBindingIterator.{OpcodeBindingIterator}
-use Rattle.mach_dyld.specs.declared.bindings.Extra.{Extra}
+use Rattle.mach_dyld.specs.declared.bindings.BindingSettings.{BindingSettings}
 
 -- the special ordinal, if one was set, else the one of the library
 abbrev pub ordinal_now : Option ℤ → ℕ → ℤ
 ordinal_now None library = pos library
 ordinal_now (Some special) library = special
 
-abbrev pub given_now : Extra → ℕ → SetBefore
+abbrev pub given_now : BindingSettings → ℕ → SetBefore
 given_now m library = record {
   ordinal = ordinal_now m.special library;
   kind = m.kind;
@@ -22,7 +22,7 @@ given_now m library = record {
   has_segment = m.has_segment;
 }
 
-abbrev pub first_extra : Bool → Extra
+abbrev pub first_extra : Bool → BindingSettings
 first_extra is_lazy = record { special = None; kind = first_kind is_lazy; has_ordinal = false; has_name = false; has_segment = false }
 
 -- the special ordinal after an opcode with its immediate
@@ -34,7 +34,7 @@ special_after special opcode imm =
     else special))
 
 -- the settings after an opcode with its immediate
-abbrev pub extra_after : ℕ → ℕ → Extra → Extra
+abbrev pub extra_after : ℕ → ℕ → BindingSettings → BindingSettings
 extra_after opcode imm m = record {
   special = special_after m.special opcode imm;
   kind = if opcode == 0x50 then imm else m.kind;
@@ -43,7 +43,7 @@ extra_after opcode imm m = record {
   has_segment = if gives_segment opcode then true else m.has_segment;
 }
 
-abbrev pub binding_rules : Rules Extra Binding
+abbrev pub binding_rules : Rules BindingSettings Binding
 binding_rules = record {
   first = first_extra;
   set = λ byte m. extra_after (bit_and byte 0xf0) (bit_and byte 0x0f) m;

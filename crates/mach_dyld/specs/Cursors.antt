@@ -29,7 +29,7 @@ AreAllMet t libs found = (n : ℕ) × Unfolds (trie_there t libs) t.from n found
 -- These exports are met in reading the trie as if it were a tree, and this fault, which occurs in it, cuts the reading short.
 pub record IsCutShort (t : TrieRange) (libs : List (List ℕ)) (found : List Entry) (f : Fault) : Type 0 where
   pub cut : IsCutBy (trie_there t libs) t.from found f
-  pub stands : ExportsFault t libs f
+  pub occurs : ExportsFault t libs f
 
 -- What comes after these exports: one more export; the end, if all were met, and then they are the trie's list unless two
 -- paths lead to one node; the fault that cuts the reading short; or nothing yet, because the memory is too short.
@@ -48,13 +48,13 @@ abbrev pub IsOwnAt : List ℕ → List (List ℕ) → ℕ → ℕ → Info → T
 IsOwnAt bytes libs from start info = (branches : List Branch) × (node_at bytes libs from start ≡ Ok (record { own = Some info; branches = branches }))
 
 -- an export that was returned is that of the node at this start
-abbrev pub StandsAt : List ℕ → List (List ℕ) → ℕ → ℕ → Option NextExport → Type 0
-StandsAt bytes libs from start None = Unit {0}
-StandsAt bytes libs from start (Some (Export info)) = IsOwnAt bytes libs from start (info_of info)
-StandsAt bytes libs from start (Some (End)) = Unit {0}
-StandsAt bytes libs from start (Some (Refused e)) = Unit {0}
-StandsAt bytes libs from start (Some (NameTooLong n)) = Unit {0}
-StandsAt bytes libs from start (Some (StackTooShort)) = Unit {0}
+abbrev pub OccursAt : List ℕ → List (List ℕ) → ℕ → ℕ → Option NextExport → Type 0
+OccursAt bytes libs from start None = Unit {0}
+OccursAt bytes libs from start (Some (Export info)) = IsOwnAt bytes libs from start (info_of info)
+OccursAt bytes libs from start (Some (End)) = Unit {0}
+OccursAt bytes libs from start (Some (Refused e)) = Unit {0}
+OccursAt bytes libs from start (Some (NameTooLong n)) = Unit {0}
+OccursAt bytes libs from start (Some (StackTooShort)) = Unit {0}
 
 -- an export returned after these is that of the next node at this start, and a path of its name leads to the node
 abbrev pub IsLedTo : TrieRange → List (List ℕ) → List Entry → NextExport → TrieCursor → List ℕ → Type 0

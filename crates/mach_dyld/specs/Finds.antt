@@ -21,7 +21,7 @@ mutual
     none_left : {rest : List ℕ} {found : Option Info} → found ≡ None → BranchesFind t rest [] found
     passed : {rest : List ℕ} {b : Branch} {bs : List Branch} {found : Option Info} → ((others : List ℕ) → rest ≡ b.label ++ others → ⊥)
         → BranchesFind t rest bs found → BranchesFind t rest (b ∷ bs) found
-    behind : {rest : List ℕ} {b : Branch} {bs : List Branch} {found : Option Info} (others : List ℕ) (info : Info) → rest ≡ b.label ++ others
+    following : {rest : List ℕ} {b : Branch} {bs : List Branch} {found : Option Info} (others : List ℕ) (info : Info) → rest ≡ b.label ++ others
         → Finds t b.start others (Some info) → found ≡ Some info → BranchesFind t rest (b ∷ bs) found
     gone_back : {rest : List ℕ} {b : Branch} {bs : List Branch} {found : Option Info} (others : List ℕ) → rest ≡ b.label ++ others
         → Finds t b.start others None → BranchesFind t rest bs found → BranchesFind t rest (b ∷ bs) found

@@ -11,8 +11,8 @@ use Rattle.mach_dyld.specs.Nodes.{branches_at}
 use Rattle.mach_dyld.specs.Exports.{info_of}
 use Rattle.mach_dyld.specs.Views.{source_trie, node_in, own_in}
 use Rattle.mach_dyld.specs.declared.trie.walk.Source.{Source}
-use Rattle.mach_dyld.specs.declared.trie.look_up.Way.{Way}
-use Rattle.mach_dyld.specs.declared.trie.look_up.Way.TheVariants.{Nowhere, One, Several}
+use Rattle.mach_dyld.specs.declared.trie.look_up.Branching.{Branching}
+use Rattle.mach_dyld.specs.declared.trie.look_up.Branching.TheVariants.{Nowhere, One, Several}
 use Rattle.mach_dyld.specs.declared.trie.look_up.Outcome.{Outcome}
 use Rattle.mach_dyld.specs.declared.trie.look_up.Outcome.TheVariants.{Found, Ends, Child, Open}
 
@@ -45,7 +45,7 @@ pub record LeadsOn (t : Trie) (rest : List ℕ) (bs : List trie.Branch) (start l
   pub finds : (found : Option Info) → Finds t start others found → BranchesFind t rest bs found
 
 -- which of the branches match
-abbrev pub Goes : Trie → List ℕ → List trie.Branch → Way → Type 0
+abbrev pub Goes : Trie → List ℕ → List trie.Branch → Branching → Type 0
 Goes t rest bs (Nowhere) = BranchesFind t rest bs None
 Goes t rest bs (One start len) = LeadsOn t rest bs start len
 Goes t rest bs (Several) = Unit {0}

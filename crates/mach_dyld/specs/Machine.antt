@@ -11,7 +11,7 @@ use Rattle.mach_dyld.specs.Streams.{Input, Range, Placed, Reader}
 use Rattle.mach_dyld.specs.Binds.{Bind, row_count, stride_of, rows_in, stride_in}
 use Rattle.mach_dyld.specs.Faults.{upto_fault}
 use Rattle.mach_base.specs.Text.{texts}
-use Rattle.mach_dyld.specs.NamePlaces.{NameStands}
+use Rattle.mach_dyld.specs.NamePlaces.{NameIsSet}
 use Rattle.mach_dyld.specs.declared.imports.settings.Settings.{Settings}
 use Rattle.mach_dyld.specs.declared.imports.source.Source.{Source}
 use Rattle.mach_dyld.specs.declared.imports.state.State as state
@@ -259,10 +259,10 @@ pub record HasEnded {M A : Type 0} (u : Rules M A) (it : Stream M) : Type 0 wher
 pub record IsOver {M : Type 0} (x : Input) (lazy : Range) (it : Stream M) : Type 0 where
   pub source : input_of it.source ≡ x
   pub lazy_is : lazy_of it ≡ lazy
-  pub named : NameStands it.source.bytes.now it.state.settings
+  pub named : NameIsSet it.source.bytes.now it.state.settings
 
 -- it reads the same input as before, and has the place of its name if it had it before
 pub record Keeps {M : Type 0} (old new : Stream M) : Type 0 where
   pub source : new.source ≡ old.source
   pub lazy_is : lazy_of new ≡ lazy_of old
-  pub named : NameStands old.source.bytes.now old.state.settings → NameStands old.source.bytes.now new.state.settings
+  pub named : NameIsSet old.source.bytes.now old.state.settings → NameIsSet old.source.bytes.now new.state.settings

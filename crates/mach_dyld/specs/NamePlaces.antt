@@ -13,8 +13,8 @@ abbrev pub IsUnnamed : Settings → Type 0
 IsUnnamed s = (s.name.now ≡ []) × (s.name_place ≡ 2 ^ 64 - 1)
 
 -- the name is the text at its place, if one was set
-abbrev pub NameStands : List ℕ → Settings → Type 0
-NameStands bytes s = IsNamed bytes s.name.now s.name_place
+abbrev pub NameIsSet : List ℕ → Settings → Type 0
+NameIsSet bytes s = IsNamed bytes s.name.now s.name_place
 
 -- the text, if there is one
 abbrev pub text_or_none : Result (List ℕ) Fault → List ℕ

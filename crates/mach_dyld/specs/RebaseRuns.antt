@@ -3,8 +3,8 @@
 use Rattle.std.specs.Prelude.{◌+◌, ◌%◌, ◌^◌, ℕ, zero, suc, List, [], ◌∷◌, map, None, Result, Ok, if◌then◌else◌}
 use Rattle.mach_base.specs.Fault.{Fault}
 use Rattle.mach_dyld.specs.Rebases.{Rebase, memory_number}
-use Rattle.mach_dyld.specs.declared.rebases.run.Run.{Run}
-use Rattle.mach_dyld.specs.declared.rebases.run.Turn.{Turn}
+use Rattle.mach_dyld.specs.declared.rebases.rebase_run.Run.{Run}
+use Rattle.mach_dyld.specs.declared.rebases.rebase_run.Turn.{Turn}
 
 -- the number of bytes that are corrected
 abbrev pub turn_width : Turn → ℕ

@@ -6,7 +6,7 @@ use Rattle.mach_base.specs.declared.error.Error.{Error}
 use Rattle.mach_base.specs.declared.context.Endian.{Endian}
 use Rattle.mach_base.specs.declared.context.Endian.TheVariants.{Little}
 use Rattle.mach_parts.specs.Segment.{SegmentView}
-use Rattle.mach_parts.specs.PointerSigning.{auth_seen}
+use Rattle.mach_parts.specs.PointerSigning.{auth_option_view}
 use Rattle.mach_dyld.specs.Machine.{Rules, HasEnded, items_left, item_read, opcodes_left}
 use Rattle.mach_dyld.specs.RebaseRuns.{run_left}
 use Rattle.mach_dyld.specs.Rebases.{Rebase, RebaseSet, gives_rebase_segment, rebase_of, rebase_opcode_at}
@@ -44,7 +44,7 @@ rebase_view r = record {
   address = r.address;
   target = r.target;
   kind = r.kind;
-  auth = auth_seen r.auth;
+  auth = auth_option_view r.auth;
 }
 
 abbrev pub rebase_read : Result (declared.Rebase) Error → Result Rebase Fault

@@ -122,16 +122,16 @@ unfolding bindings_row
 past_bindings r pointer bytes opcode imm place =
     past_either (nat_lt (highest_opcode r.is_lazy) opcode) place _ _ (past_none malformed place)
     (past_either (opcode == 0x00) place _ _
-    (past_here nothing place (cond r.is_lazy place (place + (r.upto - place))) (behind r.is_lazy))
+    (past_here nothing place (cond r.is_lazy place (place + (r.upto - place))) (following r.is_lazy))
     (past_row pointer bytes opcode imm place))
   where
-    behind : (l : Bool) → place ≤ cond l place (place + (r.upto - place))
-    behind true = omega arith
-    behind false = omega arith
+    following : (l : Bool) → place ≤ cond l place (place + (r.upto - place))
+    following true = omega arith
+    following false = omega arith
 
-ends_behind : (r : Range) (pointer : ℕ) (bytes : List ℕ) (place : ℕ) (found : Instruction × ℕ) → opcode_at r pointer bytes place ≡ Ok found → place < found.1
+ends_following : (r : Range) (pointer : ℕ) (bytes : List ℕ) (place : ℕ) (found : Instruction × ℕ) → opcode_at r pointer bytes place ≡ Ok found → place < found.1
 unfolding opcode_at
-ends_behind r pointer bytes place found e =
+ends_following r pointer bytes place found e =
     let b = bind_ok (byte_at bytes place) (λ (byte : ℕ). bindings_row r pointer bytes (bit_and byte 0xf0) (bit_and byte 0x0f) (place + 1)) found e in
     let h = past_bindings r pointer bytes (bit_and b.0 0xf0) (bit_and b.0 0x0f) (place + 1) found b.2 in
     omega (arith, h)
@@ -142,6 +142,6 @@ no_opcode r pointer bytes place f e = rw e refl
 
 pub binding_reads : ReadsForward binding_rules
 binding_reads = record {
-  moves = λ r pointer bytes place found e. ends_behind r pointer bytes place found e;
+  moves = λ r pointer bytes place found e. ends_following r pointer bytes place found e;
   bytes = λ r pointer bytes place f e. no_opcode r pointer bytes place f e;
 }

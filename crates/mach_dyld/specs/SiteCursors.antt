@@ -20,8 +20,8 @@ place_named (Ok text) place = place
 place_named (Err f) place = 2 ^ 64 - 1
 
 -- the site in the numbers of a cursor, over some bytes
-abbrev pub site_seen : List ℕ → BindCursor → Site
-site_seen bytes c = record { name_place = place_named (text_at bytes c.name_place) c.name_place; library = c.library }
+abbrev pub site_view : List ℕ → BindCursor → Site
+site_view bytes c = record { name_place = place_named (text_at bytes c.name_place) c.name_place; library = c.library }
 
 -- ---- imports
 
@@ -30,8 +30,8 @@ abbrev pub AreImportSites : Input → Range → Range → List Site → Type 0
 AreImportSites x non_lazy lazy sites = AreSites (λ r. instruction_at x.pointer x.bytes) non_lazy lazy sites
 
 -- the sites of the imports after a cursor, if this is the lazy stream
-abbrev pub import_sites_behind : Input → Range → BindCursor → List Site
-import_sites_behind x lazy c = sites_of (λ r. instruction_at x.pointer x.bytes) lazy (site_seen x.bytes c) (state_in x.bytes c)
+abbrev pub import_sites_after : Input → Range → BindCursor → List Site
+import_sites_after x lazy c = sites_of (λ r. instruction_at x.pointer x.bytes) lazy (site_view x.bytes c) (state_in x.bytes c)
 
 -- the sites of the imports that are left
 abbrev pub import_sites_left : BindIterator → List Site
@@ -46,8 +46,8 @@ site_of p = record { name_place = p.name_place; library = p.library }
 abbrev pub AreBindingSites : Input → Range → Range → List Site → Type 0
 AreBindingSites x non_lazy lazy sites = AreSites (λ r. opcode_at r x.pointer x.bytes) non_lazy lazy sites
 
-abbrev pub binding_sites_behind : Input → Range → BindCursor → List Site
-binding_sites_behind x lazy c = sites_of (λ r. opcode_at r x.pointer x.bytes) lazy (site_seen x.bytes c) (state_in x.bytes c)
+abbrev pub binding_sites_after : Input → Range → BindCursor → List Site
+binding_sites_after x lazy c = sites_of (λ r. opcode_at r x.pointer x.bytes) lazy (site_view x.bytes c) (state_in x.bytes c)
 
 abbrev pub binding_sites_left : OpcodeBindingIterator → List Site
 binding_sites_left it = sites_left binding_rules it.stream

@@ -26,11 +26,11 @@ abbrev pub name_place_in : Placed → Option ℕ
 name_place_in p = place_by p.instruction (p.place + 1)
 
 -- the place of the name set last, or the last place of 64 bits, and the library set last, or 0
-abbrev pub site_behind : List Placed → Site
-site_behind back = record { name_place = last_setting (2 ^ 64 - 1) name_place_in back; library = last_setting 0 library_in back }
+abbrev pub site_following : List Placed → Site
+site_following back = record { name_place = last_setting (2 ^ 64 - 1) name_place_in back; library = last_setting 0 library_in back }
 
 abbrev pub sites_at : List Placed → Placed → List Site
-sites_at back p = replicate (rows_in p) (site_behind (p ∷ back))
+sites_at back p = replicate (rows_in p) (site_following (p ∷ back))
 
 -- the sites of the binds of the first instructions of a range
 abbrev pub sites_in : List Placed → List Site

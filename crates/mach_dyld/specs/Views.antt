@@ -34,7 +34,7 @@ IsReadable bytes from b = branches_at bytes from b.left b.place ≡ Ok (branches
 -- the first branch, and those after it
 abbrev pub branches_in : List ℕ → ℕ → Option Branches → List trie.Branch
 branches_in bytes from None = []
-branches_in bytes from (Some b) = branch_of b.first ∷ branches_of bytes from b.behind
+branches_in bytes from (Some b) = branch_of b.first ∷ branches_of bytes from b.following
 
 -- ---- nodes
 
@@ -61,8 +61,8 @@ abbrev pub node_in : Source → ℕ → Result Node Fault
 node_in s start = node_at s.bytes.now (texts s.libs.now) s.from start
 
 -- the node after its size
-abbrev pub node_behind : Source → ℕ → ℕ → Result Node Fault
-node_behind s size place = if size == 0 then inner_at s.bytes.now s.from place else terminal_at s.bytes.now (texts s.libs.now) s.from size place
+abbrev pub node_after : Source → ℕ → ℕ → Result Node Fault
+node_after s size place = if size == 0 then inner_at s.bytes.now s.from place else terminal_at s.bytes.now (texts s.libs.now) s.from size place
 
 abbrev pub own_in : Source → ℕ → ℕ → Result (Info × ℕ) Fault
 own_in s size place = own_at s.bytes.now (texts s.libs.now) size place

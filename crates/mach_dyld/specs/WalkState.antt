@@ -2,7 +2,7 @@
 -- Callers don't need it: they see what a walk has returned.
 use Rattle.std.specs.Prelude.{◌≡◌, ◌<◌, ◌≤◌, ◌+◌, ◌-◌, ◌*◌, ℕ, Bool, true, false, List, [], ◌∷◌, ◌++◌, ◌⊎◌, Option, Some, None, Result, Ok, Err}
 use Rattle.std.specs.Prelude.{length, reverse, take, sum_by, if◌then◌else◌}
-use Rattle.mach_base.specs.Answer.{Stands}
+use Rattle.mach_base.specs.Answer.{ErrorMeets}
 use Rattle.mach_base.specs.Text.{texts}
 use Rattle.mach_base.specs.declared.error.Error.{Error}
 use Rattle.mach_dyld.specs.Trie.{Entry, entry}
@@ -67,8 +67,8 @@ IsWalk w = w.over ≡ false → ∥ ((found : List Entry) × (n : ℕ) × HasFou
 
 -- why a walk that had found these exports in n visits fails, and how the count of visits grew
 pub record IsRefusedWalk (s : Source) (found : List Entry) (n old new : ℕ) (e : Error) : Type 0 where
-  pub fault : Stands (fault_in s) e
-  pub ends : Stands (IsEndOfWalk (source_trie s) s.from found) e
+  pub fault : ErrorMeets (fault_in s) e
+  pub ends : ErrorMeets (IsEndOfWalk (source_trie s) s.from found) e
   pub visited : ℕ
   pub visits : Visits {X = ℕ} {E = ℕ} (source_trie s) s.from 0 visited (Err 0)
   pub few_visits : visited ≤ s.upto - s.from

@@ -1,7 +1,7 @@
 -- What a walk of an export trie returns, as callers see it.
 use Rattle.std.specs.Prelude.{◌≡◌, ◌<◌, ◌≤◌, ◌+◌, ◌++◌, ◌∷◌, [], ℕ, true, List, Option, Some, None, Result, Ok, Err}
 use Rattle.std.specs.Borrow.{Bor}
-use Rattle.mach_base.specs.Answer.{Stands}
+use Rattle.mach_base.specs.Answer.{ErrorMeets}
 use Rattle.mach_base.specs.declared.error.Error.{Error}
 use Rattle.mach_dyld.specs.Trie.{Entry, entry}
 use Rattle.mach_dyld.specs.TrieRange.{TrieRange, trie_there, ListsExports, ExportsFault, ExportsEnd}
@@ -31,13 +31,13 @@ nodes_left w = unmarked w.walker.marks
 abbrev pub SaysOfTrie : {X : Type 0} → TrieRange → List (List ℕ) → List Entry → Option (Result X Error) → Type 0
 SaysOfTrie t libs found None = ListsExports t libs found
 SaysOfTrie t libs found (Some (Ok x)) = Unit {0}
-SaysOfTrie t libs found (Some (Err e)) = Stands (ExportsFault t libs) e
+SaysOfTrie t libs found (Some (Err e)) = ErrorMeets (ExportsFault t libs) e
 
 -- an error is the fault for which a walk of the trie ends after these exports
 abbrev pub SaysWhereItEnds : {X : Type 0} → TrieRange → List (List ℕ) → List Entry → Option (Result X Error) → Type 0
 SaysWhereItEnds t libs found None = Unit {0}
 SaysWhereItEnds t libs found (Some (Ok x)) = Unit {0}
-SaysWhereItEnds t libs found (Some (Err e)) = Stands (ExportsEnd t libs found) e
+SaysWhereItEnds t libs found (Some (Err e)) = ErrorMeets (ExportsEnd t libs found) e
 
 -- how a walk continues after a result: it is over after an error and at the end; else it has returned one more export and
 -- has less work left

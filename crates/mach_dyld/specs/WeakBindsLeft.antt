@@ -11,17 +11,17 @@ use Rattle.mach_dyld.specs.Streams.{Input}
 use Rattle.mach_dyld.specs.WeakBinds.{WeakBind, WeakSet, strong_name, weakly_bound, is_own, weak_bind_of, weak_opcode_at}
 use Rattle.mach_dyld.specs.declared.weak_binds.WeakBind as declared
 use Rattle.mach_dyld.specs.declared.weak_binds.WeakBind.TheVariants as variants
-use Rattle.mach_dyld.specs.declared.weak_binds.WeakExtra.{WeakExtra}
+use Rattle.mach_dyld.specs.declared.weak_binds.WeakBindSettings.{WeakBindSettings}
 use Rattle.mach_dyld.specs.declared.weak_binds.WeakBindIterator.{WeakBindIterator}
 
-abbrev pub set_now : WeakExtra → WeakSet
+abbrev pub set_now : WeakBindSettings → WeakSet
 set_now m = record { kind = m.kind; has_name = m.has_name; has_segment = m.has_segment }
 
-abbrev pub first_weak : WeakExtra
+abbrev pub first_weak : WeakBindSettings
 first_weak = record { kind = 0; has_name = false; has_segment = false; is_own = false }
 
 -- the settings after an opcode with its immediate
-abbrev pub weak_after : (opcode imm : ℕ) → WeakExtra → WeakExtra
+abbrev pub weak_after : (opcode imm : ℕ) → WeakBindSettings → WeakBindSettings
 weak_after opcode imm m = record {
   kind = if opcode == 0x50 then imm else m.kind;
   has_name = if gives_name opcode then true else m.has_name;
@@ -30,10 +30,10 @@ weak_after opcode imm m = record {
 }
 
 -- a name that the image itself defines, or a bind
-abbrev pub weak_made : Input → Bind → WeakExtra → Result WeakBind Fault
+abbrev pub weak_made : Input → Bind → WeakBindSettings → Result WeakBind Fault
 weak_made x b m = if m.is_own then Ok (strong_name b.name) else weak_bind_of x (set_now m) b
 
-abbrev pub weak_rules : Rules WeakExtra WeakBind
+abbrev pub weak_rules : Rules WeakBindSettings WeakBind
 weak_rules = record {
   first = λ is_lazy. first_weak;
   set = λ byte m. weak_after (bit_and byte 0xf0) (bit_and byte 0x0f) m;

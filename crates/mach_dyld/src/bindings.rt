@@ -28,7 +28,7 @@ use crate::imports::instruction::instruction_error;
 use crate::imports::settings::Settings;
 use crate::imports::source::Source;
 use crate::imports::state::State;
-use crate::imports::stream::{Makes, Stop, Stream};
+use crate::imports::stream::{BindRules, Stop, Stream};
 use mach_base::{Ctx, Error, Result, ScrollError, Steps};
 use mach_parts::binding::{Binding, Provider};
 use mach_parts::segment::Segment;
@@ -37,7 +37,7 @@ use mach_parts::segment::Segment;
 /// It allocates nothing.
 #[derive(Drop)]
 pub struct OpcodeBindingIterator<'a, 'b> {
-    pub(crate) stream: Stream<'a, 'b, Extra>,
+    pub(crate) stream: Stream<'a, 'b, BindingSettings>,
 }
 
 impl<'a> BindInterpreter<'a> {
@@ -83,7 +83,7 @@ pub fn spot(pointer: u8, segments: &[Segment<'_>], number: u8, offset: u64) -> O
 
 // Returns the place of the instruction after a DONE: the next one in the bytes.
 #[inline(always)]
-fn behind_done(state: &State<'_>) -> usize
+fn following_done(state: &State<'_>) -> usize
     requires { state.now.place < state.now.upto }
     ensures { result ≡ done_leads_to (range_of state.now) (state.now.place + 1) }
 {
@@ -125,7 +125,7 @@ fn special_ordinal(imm: u8) -> i64
 
 /// The settings of dyld's binds beyond those in `Settings`.
 #[derive(Clone, Copy)]
-pub struct Extra {
+pub struct BindingSettings {
     /// The special ordinal, if one was set after the library.
     pub special: Option<i64>,
     /// The type.
@@ -136,7 +136,7 @@ pub struct Extra {
     pub has_segment: bool,
 }
 
-impl Extra {
+impl BindingSettings {
     // Returns the provider that the ordinal set last names.
     #[inline(always)]
     fn provider<'a>(self, libs: &[&'a str], library: u64) -> Option<Provider<'a>>
@@ -159,7 +159,7 @@ impl Extra {
     }
 }
 
-impl<'a> Makes<'a> for Extra {
+impl<'a> BindRules<'a> for BindingSettings {
     type Item = Binding<'a>;
 
     type Why = Error;
@@ -184,7 +184,7 @@ impl<'a> Makes<'a> for Extra {
     fn first(is_lazy: bool) -> Self
         ensures { result ≡ first_extra is_lazy }
     {
-        Extra {
+        BindingSettings {
             special: None,
             kind: if is_lazy { BIND_TYPE_POINTER } else { 0 },
             has_ordinal: false,
@@ -222,7 +222,7 @@ impl<'a> Makes<'a> for Extra {
             return None;
         }
         if opcode == BIND_OPCODE_DONE {
-            let to = behind_done(state);
+            let to = following_done(state);
             state.go_to(to);
             return Some(());
         }
@@ -321,7 +321,7 @@ impl Default for OpcodeBindingIterator<'_, '_> {
     /// Returns an iterator without bindings.
     fn default() -> Self {
         OpcodeBindingIterator {
-            stream: Stream::none(<Extra as Makes<'_>>::first(true)),
+            stream: Stream::none(<BindingSettings as BindRules<'_>>::first(true)),
         }
     }
 }

@@ -38,7 +38,7 @@ impl<'a, 'b, A: Allocator> ExportWalk<'a, 'b, A> {
             → SaysOfTrie t libs found result }
         ensures cut { (t : TrieRange) (libs : List (List ℕ)) (found : List Entry) → HasGiven t libs found self.old
             → SaysWhereItEnds t libs found result }
-        ensures begun { (t : TrieRange) (libs : List (List ℕ)) (found : List Entry) → HasGiven t libs found self.old
+        ensures started { (t : TrieRange) (libs : List (List ℕ)) (found : List Entry) → HasGiven t libs found self.old
             → ListBegins (trie_there t libs) t.from [] found }
         ensures over { GivesNoMore self.old → IsNone result }
         ensures* goes_on { sem 𝓛 (follows_so
@@ -56,7 +56,7 @@ impl<'a, 'b, A: Allocator> ExportWalk<'a, 'b, A> {
             → SaysOfTrie t libs found result }
         ensures cut { (t : TrieRange) (libs : List (List ℕ)) (found : List Entry) → HasGiven t libs found self.old
             → SaysWhereItEnds t libs found result }
-        ensures begun { (t : TrieRange) (libs : List (List ℕ)) (found : List Entry) → HasGiven t libs found self.old
+        ensures started { (t : TrieRange) (libs : List (List ℕ)) (found : List Entry) → HasGiven t libs found self.old
             → ListBegins (trie_there t libs) t.from [] found }
         ensures over { GivesNoMore self.old → IsNone result }
         ensures* goes_on { sem 𝓛 (follows_so

@@ -1,7 +1,7 @@
 //! The exports of an image, which a trie lists.
 
 ghost use Rattle.std.specs.Prelude.{◌≡◌, ◌≤◌, ◌<◌, ◌+◌, ◌-◌, List, [], length, IfOk, IfErr};
-ghost use Rattle.mach_base.specs.Answer.{Stands, IsOkUnlessMemory};
+ghost use Rattle.mach_base.specs.Answer.{ErrorMeets, IsOkUnlessMemory};
 ghost use Rattle.mach_dyld.specs.Trie.{Entry, offset_of};
 ghost use Rattle.mach_dyld.specs.Exports.{info_of, entries};
 ghost use Rattle.mach_base.specs.Text.{texts};
@@ -193,7 +193,7 @@ impl<'a> ExportTrie<'a> {
     ) -> Result<Vec<Export<'a, A>, A>>
         ensures listed { IfOk result (λ v. ListsExports self.now (texts libs.now) (entries v.items)) }
         ensures only { (list : List Entry) → ListsExports self.now (texts libs.now) list → IsOkUnlessMemory result }
-        ensures refused { IfErr result (Stands (ExportsFault self.now (texts libs.now))) }
+        ensures refused { IfErr result (ErrorMeets (ExportsFault self.now (texts libs.now))) }
         ensures few_exports { IfOk result (λ v. length v.items ≤ self.now.upto - self.now.from) }
     {
         self.exports_counted(alloc, libs, &mut Steps::new())
@@ -209,7 +209,7 @@ impl<'a> ExportTrie<'a> {
     ) -> Result<Vec<Export<'a, A>, A>>
         ensures listed { IfOk result (λ v. ListsExports self.now (texts libs.now) (entries v.items)) }
         ensures only { (list : List Entry) → ListsExports self.now (texts libs.now) list → IsOkUnlessMemory result }
-        ensures refused { IfErr result (Stands (ExportsFault self.now (texts libs.now))) }
+        ensures refused { IfErr result (ErrorMeets (ExportsFault self.now (texts libs.now))) }
         ensures few_exports { IfOk result (λ v. length v.items ≤ self.now.upto - self.now.from) }
         ensures visits { Visits (trie_there self.now (texts libs.now)) self.now.from steps.old steps.new result }
         ensures few_visits { steps.new ≤ steps.old + (self.now.upto - self.now.from) }

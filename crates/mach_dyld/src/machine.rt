@@ -4,6 +4,6 @@ pub use crate::imports::instruction::instruction_error;
 pub use crate::imports::settings::Settings;
 pub use crate::imports::source::Source;
 pub use crate::imports::state::State;
-pub use crate::imports::stream::{Makes, Stop, Stream};
+pub use crate::imports::stream::{BindRules, Stop, Stream};
 pub use crate::stream_faults::JudgesAll;
 pub use crate::stride::none_above;

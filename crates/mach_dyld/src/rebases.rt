@@ -10,7 +10,7 @@ ghost use Rattle.mach_base.specs.Fault.{malformed, fault_of};
 ghost use Rattle.mach_parts.specs.Segment.{segment_view};
 ghost use Rattle.mach_dyld.specs.Instructions.{byte_at};
 ghost use Rattle.mach_dyld.specs.Machine.{StopsFor, executed_by, range_of, state_of};
-ghost use Rattle.mach_dyld.specs.NamePlaces.{NameStands};
+ghost use Rattle.mach_dyld.specs.NamePlaces.{NameIsSet};
 ghost use Rattle.mach_dyld.specs.Sites.{site_by, site_in};
 ghost use Rattle.mach_dyld.specs.Streams.{Placed, Range};
 ghost use Rattle.mach_dyld.specs.Cut.{cut_stream, cut_input, cut_range};
@@ -21,14 +21,14 @@ ghost use Rattle.mach_dyld.specs.RebasesLeft.{first_rebasing, rebasing_after};
 
 mod faults;
 mod memory;
-pub mod run;
+pub mod rebase_run;
 
 use crate::bind_opcodes::Opcode;
 use crate::bindings::holds_all;
-use crate::machine::{Makes, Settings, Source, State, Stop, Stream};
+use crate::machine::{BindRules, Settings, Source, State, Stop, Stream};
 use crate::rebase_opcodes::*;
 use crate::rebases::memory::memory_number;
-use crate::rebases::run::Run;
+use crate::rebases::rebase_run::Run;
 use crate::stream_prefix::Cut;
 use mach_base::{ByteCount, Ctx, Endian, Error, Result, ScrollError, Steps, quick_uleb, uleb};
 use mach_parts::binding::PointerAuth;
@@ -203,7 +203,7 @@ fn execute<'a>(
     ensures from { state.new.from ≡ state.old.from }
     ensures ended { state.new.ended ≡ state.old.ended }
     ensures is_lazy { state.new.settings.is_lazy ≡ state.old.settings.is_lazy }
-    ensures named { NameStands bytes.now state.old.settings → NameStands bytes.now state.new.settings }
+    ensures named { NameIsSet bytes.now state.old.settings → NameIsSet bytes.now state.new.settings }
     ensures site { (r : Range) → IfSome result (λ _. site_by place (rebase_row r pointer bytes.now opcode imm place) (site_in state.old.settings)
         ≡ Ok (site_in state.new.settings)) }
 {
@@ -277,7 +277,7 @@ fn test_opcode(bytes: &[u8], pointer: u8, opcode: Opcode, imm: u8, place: usize)
     Ok(())
 }
 
-impl<'a> Makes<'a> for Rebasing {
+impl<'a> BindRules<'a> for Rebasing {
     type Item = Rebase;
 
     type Why = Error;

@@ -7,11 +7,11 @@ ghost use Rattle.mach_dyld.specs.Machine.{bind_of, input_of, items_left, opcodes
 
 use crate::imports::settings::Settings;
 use crate::imports::source::Source;
-use crate::imports::stream::{Makes, Stream};
+use crate::imports::stream::{BindRules, Stream};
 use mach_base::Steps;
 
 /// Rules by which all binds of one instruction are checked together.
-pub trait JudgesAll<'a>: Makes<'a> {
+pub trait JudgesAll<'a>: BindRules<'a> {
     /// Whether each of `count` binds makes an item. The first has these settings, and each next one is a stride further.
     fn all_make(
         self,

@@ -44,7 +44,7 @@ impl Turns {
     }
 
     // Returns the first place of each new round, as places on a ring of a step's size.
-    fn behind_starts(self) -> Turns
+    fn after_starts(self) -> Turns
         requires ring { IsRing self }
         requires some { 0 < self.count }
         requires step { 0 < self.step }
@@ -75,7 +75,7 @@ impl Turns {
             if short.step <= limit {
                 return short.last() >= short.size;
             }
-            turns = short.behind_starts();
+            turns = short.after_starts();
         }
         false
     }

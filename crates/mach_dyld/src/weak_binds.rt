@@ -7,7 +7,7 @@ ghost use Rattle.mach_base.specs.Fault.{malformed, fault_of};
 ghost use Rattle.mach_parts.specs.Segment.{segment_view};
 ghost use Rattle.mach_dyld.specs.Instructions.{byte_at};
 ghost use Rattle.mach_dyld.specs.Machine.{executed_by, range_of, state_of};
-ghost use Rattle.mach_dyld.specs.NamePlaces.{NameStands};
+ghost use Rattle.mach_dyld.specs.NamePlaces.{NameIsSet};
 ghost use Rattle.mach_dyld.specs.Sites.{site_by, site_in};
 ghost use Rattle.mach_dyld.specs.Streams.{Placed};
 ghost use Rattle.mach_dyld.specs.Cut.{cut_stream, cut_input, cut_range};
@@ -19,7 +19,7 @@ mod faults;
 
 use crate::bind_opcodes::*;
 use crate::bindings::spot;
-use crate::machine::{Makes, Settings, Source, State, Stream, instruction_error};
+use crate::machine::{BindRules, Settings, Source, State, Stream, instruction_error};
 use crate::stream_prefix::Cut;
 use mach_base::{ByteCount, Ctx, Error, Result, ScrollError, Steps, quick_text, read_text};
 use mach_parts::binding::{Binding, Provider};
@@ -87,7 +87,7 @@ impl<'a> WeakBindStream<'a> {
                 self.cut.source(segments, ctx),
                 self.cut.from,
                 self.cut.upto,
-                <WeakExtra as Makes<'_>>::first(true),
+                <WeakBindSettings as BindRules<'_>>::first(true),
             ),
         }
     }
@@ -95,7 +95,7 @@ impl<'a> WeakBindStream<'a> {
 
 /// The settings of weak binds beyond those in `Settings`.
 #[derive(Clone, Copy)]
-pub struct WeakExtra {
+pub struct WeakBindSettings {
     /// The type.
     pub kind: u8,
     /// Whether a name was set; the next field says the same of a segment.
@@ -105,7 +105,7 @@ pub struct WeakExtra {
     pub is_own: bool,
 }
 
-impl WeakExtra {
+impl WeakBindSettings {
     // Whether a name, a segment and a type were set.
     #[inline(always)]
     fn is_complete(self) -> bool
@@ -138,7 +138,7 @@ fn execute_name<'a>(state: &mut State<'a>, bytes: &'a [u8], flags: u8, place: us
     ensures from { state.new.from ≡ state.old.from }
     ensures ended { state.new.ended ≡ state.old.ended }
     ensures is_lazy { state.new.settings.is_lazy ≡ state.old.settings.is_lazy }
-    ensures named { NameStands bytes.now state.old.settings → NameStands bytes.now state.new.settings }
+    ensures named { NameIsSet bytes.now state.old.settings → NameIsSet bytes.now state.new.settings }
     ensures site { IfSome result (λ _. site_by place (weak_name_at flags bytes.now place) (site_in state.old.settings)
         ≡ Ok (site_in state.new.settings)) }
 {
@@ -168,7 +168,7 @@ fn name_error(bytes: &[u8], flags: u8, place: usize) -> Error
     }
 }
 
-impl<'a> Makes<'a> for WeakExtra {
+impl<'a> BindRules<'a> for WeakBindSettings {
     type Item = WeakBind<'a>;
 
     type Why = Error;
@@ -191,7 +191,7 @@ impl<'a> Makes<'a> for WeakExtra {
     fn first(_is_lazy: bool) -> Self
         ensures { result ≡ first_weak }
     {
-        WeakExtra {
+        WeakBindSettings {
             kind: 0,
             has_name: false,
             has_segment: false,
@@ -307,7 +307,7 @@ const HIGHEST_WEAK: Opcode = BIND_OPCODE_DO_BIND_ULEB_TIMES_SKIPPING_ULEB;
 /// An iterator over the rows of a stream of weak binds. The first fault is its last item. It allocates nothing.
 #[derive(Drop)]
 pub struct WeakBindIterator<'a, 'b> {
-    pub(crate) stream: Stream<'a, 'b, WeakExtra>,
+    pub(crate) stream: Stream<'a, 'b, WeakBindSettings>,
 }
 
 impl<'a> WeakBindIterator<'a, '_> {
@@ -348,7 +348,7 @@ impl Default for WeakBindIterator<'_, '_> {
     /// Returns an iterator without weak binds.
     fn default() -> Self {
         WeakBindIterator {
-            stream: Stream::none(<WeakExtra as Makes<'_>>::first(true)),
+            stream: Stream::none(<WeakBindSettings as BindRules<'_>>::first(true)),
         }
     }
 }

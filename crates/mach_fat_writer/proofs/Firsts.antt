@@ -47,8 +47,9 @@ abbrev one_later : Option ℕ → Option ℕ
 one_later None = None
 one_later (Some i) = Some (1 + i)
 
-behind_one : (test : FatEntryView → Bool) (e : FatEntryView) (es : List FatEntryView) → test e ≡ false → first_at test (e ∷ es) ≡ one_later (first_at test es)
-behind_one test e es no_match = elim (cases_Bool (list_any test es)) [
+following_one : (test : FatEntryView → Bool) (e : FatEntryView) (es : List FatEntryView) → test e ≡ false
+    → first_at test (e ∷ es) ≡ one_later (first_at test es)
+following_one test e es no_match = elim (cases_Bool (list_any test es)) [
   | inl there ↦ rw (no_match, there) refl
   | inr none ↦ rw (no_match, none) refl
 ]
@@ -67,10 +68,10 @@ first_more test [] e = elim (cases_Bool (test e)) [
 first_more test (x ∷ es) e = elim (cases_Bool (test x)) [
   | inl there ↦ rw there refl
   | inr none ↦
-      behind_one test x (es ++ e ∷ []) none
+      following_one test x (es ++ e ∷ []) none
       ∙ (ap one_later (first_more test es e)
       ∙ (later_or (first_at test es) (test e) (length es)
-      ∙ (ap (λ (o : Option ℕ). first_or o (test e) (1 + length es)) (sym (behind_one test x es none))
+      ∙ (ap (λ (o : Option ℕ). first_or o (test e) (1 + length es)) (sym (following_one test x es none))
       ∙ ap (first_or (first_at test (x ∷ es)) (test e)) (let one : 1 + length es ≡ suc (length es) = omega arith in one))))
 ]
 

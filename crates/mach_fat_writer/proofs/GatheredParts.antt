@@ -1,7 +1,7 @@
 -- Entries that are collected part by part, and the error if they can't be.
 use Rattle.std.proofs.Common.{◌≡◌, ℕ, ◌+◌, ◌<◌, ◌≤◌, List, [], ◌∷◌, ◌++◌, length, drop, get_or, Result, Ok, Err, inl, inr, refl, sym, ap, ◌∙◌, append_assoc}
 use Rattle.std.proofs.lemmas.List.{append-nil, at_drop_more, drop_all}
-use Rattle.mach_base.specs.Answer.{FailsAs, Stands, ◌>>=◌}
+use Rattle.mach_base.specs.Answer.{FailsAs, ErrorMeets, ◌>>=◌}
 use Rattle.mach_base.specs.Fault.{Fault}
 use Rattle.mach_base.specs.declared.error.Error.{Error}
 use Rattle.mach_base.specs.declared.error.Error.TheVariants as errors
@@ -54,17 +54,17 @@ module _ (bytes : List ℕ) (parts : List FatPart) where
       gathered ∙ ap (λ ps. before found (part_entries bytes ps)) (drop_all i parts past) ∙ ap Ok (append-nil found)
 
   -- an error that says why a part isn't there is one that says why there is no file
-  pub parts_stand : (form : FatForm) (e : Error) → FailsAs e (part_entries bytes parts) → Stands (IsPartsFault bytes parts form) e
-  parts_stand form (errors.Malformed msg) why = inl why
-  parts_stand form (errors.BadMagic magic) why = inl why
-  parts_stand form (errors.Scroll e) why = inl why
-  parts_stand form (errors.BufferTooShort count what) why = inl why
-  parts_stand form (errors.Memory e) why = tt
+  pub parts_occur : (form : FatForm) (e : Error) → FailsAs e (part_entries bytes parts) → ErrorMeets (IsPartsFault bytes parts form) e
+  parts_occur form (errors.Malformed msg) why = inl why
+  parts_occur form (errors.BadMagic magic) why = inl why
+  parts_occur form (errors.Scroll e) why = inl why
+  parts_occur form (errors.BufferTooShort count what) why = inl why
+  parts_occur form (errors.Memory e) why = tt
 
-  pub file_stands : (form : FatForm) (es : List FatEntryView) (e : Error) → part_entries bytes parts ≡ Ok es → RefusesFat e (fat_file_of form es)
-      → Stands (IsPartsFault bytes parts form) e
-  file_stands form es (errors.Malformed msg) are why = inr (es, are, (why.0, why.1), refl)
-  file_stands form es (errors.BadMagic magic) are why = absurd why
-  file_stands form es (errors.Scroll e) are why = absurd why
-  file_stands form es (errors.BufferTooShort count what) are why = absurd why
-  file_stands form es (errors.Memory e) are why = tt
+  pub file_occurs : (form : FatForm) (es : List FatEntryView) (e : Error) → part_entries bytes parts ≡ Ok es → RefusesFat e (fat_file_of form es)
+      → ErrorMeets (IsPartsFault bytes parts form) e
+  file_occurs form es (errors.Malformed msg) are why = inr (es, are, (why.0, why.1), refl)
+  file_occurs form es (errors.BadMagic magic) are why = absurd why
+  file_occurs form es (errors.Scroll e) are why = absurd why
+  file_occurs form es (errors.BufferTooShort count what) are why = absurd why
+  file_occurs form es (errors.Memory e) are why = tt

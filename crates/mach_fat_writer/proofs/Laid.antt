@@ -8,7 +8,7 @@ use Rattle.mach_base.specs.Record.{spelling}
 use Rattle.mach_base.specs.declared.context.Endian.TheVariants.{Big}
 use Rattle.mach_fat_writer.specs.declared.entry.FatEntry.{FatEntry}
 use Rattle.mach_fat_writer.specs.Entries.{FatEntryView, fat_entry_view, entry_views}
-use Rattle.mach_fat_writer.specs.FatForms.{FatForm, gap_behind, fat_place_behind, end_behind, fat_end, fat_records, fat_contents}
+use Rattle.mach_fat_writer.specs.FatForms.{FatForm, gap_after, fat_place_after, end_after, fat_end, fat_records, fat_contents}
 use Rattle.mach_fat_writer.specs.FatWrites.{is_far_aligned, can_lie, all_can_lie}
 
 -- the entries from index i on
@@ -20,9 +20,9 @@ none_left F es i past = ap (λ (xs : List FatEntry). F (entry_views xs)) (drop_a
 
 -- an entry whose place and length fit
 pub record Lies (form : FatForm) (from : ℕ) (e : FatEntryView) : Type 0 where
-  pub place : fat_place_behind from e ≤ form.most
+  pub place : fat_place_after from e ≤ form.most
   pub len : length e.bytes ≤ form.most
-  pub end : end_behind from e < 2 ^ 64
+  pub end : end_after from e < 2 ^ 64
 
 lies : (form : FatForm) (from : ℕ) (e : FatEntryView) → can_lie form from e ≡ true → Lies form from e
 lies form from e can =
@@ -40,19 +40,19 @@ aligned_first es i d inside none =
 
 pub lie_first : (form : FatForm) (from : ℕ) (es : List FatEntry) (i : ℕ) (d : FatEntry) → i < length es → all_can_lie form from (left_at es i) ≡ true
     → Lies form from (fat_entry_view (get_or es i d))
-    × (all_can_lie form (end_behind from (fat_entry_view (get_or es i d))) (left_at es (i + 1)) ≡ true)
+    × (all_can_lie form (end_after from (fat_entry_view (get_or es i d))) (left_at es (i + 1)) ≡ true)
 lie_first form from es i d inside all =
     let e = fat_entry_view (get_or es i d) in
     let step = at_drop_more (λ (xs : List FatEntry). all_can_lie form from (entry_views xs)) es i d inside in
-    let both = and_parts (can_lie form from e) (all_can_lie form (end_behind from e) (left_at es (i + 1))) (sym step ∙ all) in
+    let both = and_parts (can_lie form from e) (all_can_lie form (end_after from e) (left_at es (i + 1))) (sym step ∙ all) in
     (lies form from e both.0, both.1)
 
 pub within_more : (form : FatForm) (from : ℕ) (es : List FatEntry) (i : ℕ) (d : FatEntry) → i < length es
     → can_lie form from (fat_entry_view (get_or es i d)) ≡ true
-    → all_can_lie form from (left_at es i) ≡ all_can_lie form (end_behind from (fat_entry_view (get_or es i d))) (left_at es (i + 1))
+    → all_can_lie form from (left_at es i) ≡ all_can_lie form (end_after from (fat_entry_view (get_or es i d))) (left_at es (i + 1))
 within_more form from es i d inside can =
     at_drop_more (λ (xs : List FatEntry). all_can_lie form from (entry_views xs)) es i d inside
-    ∙ ap (λ (b : Bool). b && all_can_lie form (end_behind from (fat_entry_view (get_or es i d))) (left_at es (i + 1))) can
+    ∙ ap (λ (b : Bool). b && all_can_lie form (end_after from (fat_entry_view (get_or es i d))) (left_at es (i + 1))) can
 
 pub within_not : (form : FatForm) (from : ℕ) (es : List FatEntry) (i : ℕ) (d : FatEntry) → i < length es
     → can_lie form from (fat_entry_view (get_or es i d)) ≡ false → all_can_lie form from (left_at es i) ≡ false
@@ -61,28 +61,28 @@ within_not form from es i d inside not_there =
     ∙ and_left _ _ not_there
 
 pub ends_more : (from : ℕ) (es : List FatEntry) (i : ℕ) (d : FatEntry) → i < length es
-    → fat_end from (left_at es i) ≡ fat_end (end_behind from (fat_entry_view (get_or es i d))) (left_at es (i + 1))
+    → fat_end from (left_at es i) ≡ fat_end (end_after from (fat_entry_view (get_or es i d))) (left_at es (i + 1))
 ends_more from es i d inside = at_drop_more (λ (xs : List FatEntry). fat_end from (entry_views xs)) es i d inside
 
 pub records_more : (form : FatForm) (from : ℕ) (es : List FatEntry) (i : ℕ) (d : FatEntry) (out : List ℕ) → i < length es
     → let e = fat_entry_view (get_or es i d) in
     out ++ fat_records form from (left_at es i)
-    ≡ (out ++ spelling Big form.fields (form.values e (fat_place_behind from e))) ++ fat_records form (end_behind from e) (left_at es (i + 1))
+    ≡ (out ++ spelling Big form.fields (form.values e (fat_place_after from e))) ++ fat_records form (end_after from e) (left_at es (i + 1))
 records_more form from es i d out inside =
     let e = fat_entry_view (get_or es i d) in
     ap (λ (xs : List ℕ). out ++ xs) (at_drop_more (λ (xs : List FatEntry). fat_records form from (entry_views xs)) es i d inside)
-    ∙ sym (append_assoc out (spelling Big form.fields (form.values e (fat_place_behind from e))) (fat_records form (end_behind from e) (left_at es (i + 1))))
+    ∙ sym (append_assoc out (spelling Big form.fields (form.values e (fat_place_after from e))) (fat_records form (end_after from e) (left_at es (i + 1))))
 
 pub contents_more : (from : ℕ) (es : List FatEntry) (i : ℕ) (d : FatEntry) (out : List ℕ) → i < length es
     → let e = fat_entry_view (get_or es i d) in
     out ++ fat_contents from (left_at es i)
-    ≡ ((out ++ replicate (gap_behind from e.align) 0) ++ e.bytes) ++ fat_contents (end_behind from e) (left_at es (i + 1))
+    ≡ ((out ++ replicate (gap_after from e.align) 0) ++ e.bytes) ++ fat_contents (end_after from e) (left_at es (i + 1))
 contents_more from es i d out inside =
     let e = fat_entry_view (get_or es i d) in
-    let zeros = replicate (gap_behind from e.align) 0 in
-    let behind = fat_contents (end_behind from e) (left_at es (i + 1)) in
+    let zeros = replicate (gap_after from e.align) 0 in
+    let following = fat_contents (end_after from e) (left_at es (i + 1)) in
     ap (λ (xs : List ℕ). out ++ xs) (at_drop_more (λ (xs : List FatEntry). fat_contents from (entry_views xs)) es i d inside)
-    ∙ (sym (append_assoc out zeros (e.bytes ++ behind)) ∙ sym (append_assoc (out ++ zeros) e.bytes behind))
+    ∙ (sym (append_assoc out zeros (e.bytes ++ following)) ∙ sym (append_assoc (out ++ zeros) e.bytes following))
 
 -- a test of entries, and of their views
 pub any_of_views : (test : FatEntryView → Bool) (es : List FatEntry) → list_any (λ e. test (fat_entry_view e)) es ≡ list_any test (entry_views es)

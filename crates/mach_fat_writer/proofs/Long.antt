@@ -10,7 +10,7 @@ use Rattle.mach_base.specs.declared.context.Endian.TheVariants.{Big}
 use Rattle.mach_base.specs.declared.error.Error.{Error}
 use Rattle.mach_parts.specs.Fat.{fat_header_fields}
 use Rattle.mach_fat_writer.specs.Entries.{FatEntryView}
-use Rattle.mach_fat_writer.specs.FatForms.{FatForm, fat_form_32, fat_form_64, table_end, fat_place_behind, end_behind}
+use Rattle.mach_fat_writer.specs.FatForms.{FatForm, fat_form_32, fat_form_64, table_end, fat_place_after, end_after}
 use Rattle.mach_fat_writer.specs.FatForms.{fat_end, fat_front, fat_records, fat_contents, fat_bytes}
 use Rattle.mach_fat_writer.specs.FatWrites.{fat_file_of, RefusesFat}
 use Rattle.mach_fat_writer.specs.Placed.{AreSet, IsWrittenInto}
@@ -38,15 +38,15 @@ module _ (form : FatForm) (are : (e : FatEntryView) (at : ℕ) → AreNumbers fo
   long_records : (from : ℕ) (es : List FatEntryView) → length (fat_records form from es) ≡ size form.fields * length es
   long_records from [] = omega arith
   long_records from (e ∷ es) =
-      let vs = form.values e (fat_place_behind from e) in
-      let later = long_records (end_behind from e) es in
+      let vs = form.values e (fat_place_after from e) in
+      let later = long_records (end_after from e) es in
       let more : size form.fields * suc (length es) ≡ size form.fields * length es + size form.fields = mul-suc (size form.fields) (length es) in
       omega (
         arith,
         later,
         more,
-        length-append (spelling Big form.fields vs) (fat_records form (end_behind from e) es),
-        long_spelling form.fields vs (are e (fat_place_behind from e)),
+        length-append (spelling Big form.fields vs) (fat_records form (end_after from e) es),
+        long_spelling form.fields vs (are e (fat_place_after from e)),
       )
 
   long_file : (es : List FatEntryView) → length (fat_bytes form es) ≡ fat_end (table_end form (length es)) es

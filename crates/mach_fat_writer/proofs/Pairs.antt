@@ -86,12 +86,12 @@ apart k (n ∷ ns) below =
     rw test (apart k ns (λ i inside. below (suc i) (omega (arith, inside))))
 
 -- in a sorted list a repeated number follows its equal
-again_behind : (last : ℕ) (ns : List ℕ) → IsNonDecreasingBy (λ n. n) (last ∷ ns)
+again_after : (last : ℕ) (ns : List ℕ) → IsNonDecreasingBy (λ n. n) (last ∷ ns)
     → any_again (Some last) ns ≡ (list_any (λ n. last == n) ns || any_same ns)
-again_behind last [] up = refl
-again_behind last (n ∷ ns) up =
+again_after last [] up = refl
+again_after last (n ∷ ns) up =
     let later : IsNonDecreasingBy (λ m. m) (n ∷ ns) = IsNonDecreasingBy-drop (λ m. m) 1 (last ∷ n ∷ ns) up in
-    let step = again_behind n ns later in
+    let step = again_after n ns later in
     elim (cases_Bool (last == n)) [
       | inl same ↦ rw same refl
       | inr other ↦
@@ -110,18 +110,18 @@ again_behind last (n ∷ ns) up =
 
 again_first : (ns : List ℕ) → IsNonDecreasingBy (λ n. n) ns → any_again None ns ≡ any_same ns
 again_first [] up = refl
-again_first (n ∷ ns) up = again_behind n ns up
+again_first (n ∷ ns) up = again_after n ns up
 
 -- so a sort decides it
-pub sort_tells : (ms ns : List ℕ) → IsPermutation ms ns → IsNonDecreasingBy (λ n. n) ns → any_again None ns ≡ any_two (λ m n. m == n) ms
-sort_tells ms ns moved up = again_first ns up ∙ any_same-moved ms ns moved
+pub sort_reports : (ms ns : List ℕ) → IsPermutation ms ns → IsNonDecreasingBy (λ n. n) ns → any_again None ns ≡ any_two (λ m n. m == n) ms
+sort_reports ms ns moved up = again_first ns up ∙ any_same-moved ms ns moved
 
 -- equal numbers come from equal cpus
 one_number : (a b k l : ℕ) → k < 2 ^ 24 → l < 2 ^ 24 → a * 2 ^ 24 + k ≡ b * 2 ^ 24 + l → (a ≡ b) × (k ≡ l)
 one_number a b k l low lower e = (omega (arith, low, lower, e), omega (arith, low, lower, e))
 
-cpu_numbers_tell : (e f : FatEntryView) → (cpu_number e == cpu_number f) ≡ are_of_one_cpu e f
-cpu_numbers_tell e f =
+cpu_numbers_report : (e f : FatEntryView) → (cpu_number e == cpu_number f) ≡ are_of_one_cpu e f
+cpu_numbers_report e f =
     let low : kind_of_cpu e.cpusubtype < 2 ^ 24 = mod-lt e.cpusubtype (omega arith) in
     let lower : kind_of_cpu f.cpusubtype < 2 ^ 24 = mod-lt f.cpusubtype (omega arith) in
     same_bools (cpu_number e == cpu_number f) (are_of_one_cpu e f)
@@ -135,7 +135,7 @@ cpu_numbers_tell e f =
 
 any_number : (e : FatEntryView) (es : List FatEntryView) → list_any (λ n. cpu_number e == n) (map cpu_number es) ≡ list_any (are_of_one_cpu e) es
 any_number e [] = refl
-any_number e (f ∷ es) = rw (cpu_numbers_tell e f, any_number e es) refl
+any_number e (f ∷ es) = rw (cpu_numbers_report e f, any_number e es) refl
 
 pub any_two_numbers : (es : List FatEntryView) → any_two (λ m n. m == n) (map cpu_number es) ≡ any_two are_of_one_cpu es
 any_two_numbers [] = refl

@@ -5,7 +5,7 @@ use Rattle.std.specs.List.{list_any, remove}
 use Rattle.std.specs.Prelude.{if◌then◌else◌}
 use Rattle.std.proofs.lemmas.Bool.{ne_eqb, eq-eqb, lt-ltb, le-ltb}
 use Rattle.std.proofs.lemmas.List.{at_drop_more, drop_all, map-append, take-map, drop-map, length-map}
-use Rattle.mach_base.specs.Answer.{Stands}
+use Rattle.mach_base.specs.Answer.{ErrorMeets}
 use Rattle.mach_base.specs.declared.error.Error.{Error}
 use Rattle.mach_fat_writer.proofs.Laid.{any_of_views}
 use Rattle.mach_fat_writer.specs.CreatedEntries.{created_entry}
@@ -24,27 +24,27 @@ use Rattle.mach_fat_writer.specs.declared.refusal.FileRefusal.{FileRefusal}
 
 -- a search for an entry among records; those before it are for other cpus
 module _ (bytes : List ℕ) (cputype : ℕ) (records : List EntryRecord) (i : ℕ) where
-  pub cpu_behind : (d : EntryRecord) → i < length records → ((get_or records i d).cputype ≡ cputype → ⊥)
+  pub cpu_after : (d : EntryRecord) → i < length records → ((get_or records i d).cputype ≡ cputype → ⊥)
       → first_for_cpu bytes cputype 0 records ≡ first_for_cpu bytes cputype i (drop i records)
       → first_for_cpu bytes cputype 0 records ≡ first_for_cpu bytes cputype (i + 1) (drop (i + 1) records)
-  cpu_behind d inside other sought =
+  cpu_after d inside other target =
       let r = get_or records i d in
       let pick : Bool → Result (List ℕ) Unfit
       = λ b. if b then slice_or_out i (slice_of bytes r) else first_for_cpu bytes cputype (i + 1) (drop (i + 1) records) in
-      sought ∙ at_drop_more (λ rs. first_for_cpu bytes cputype i rs) records i d inside ∙ ap pick (ne_eqb r.cputype cputype other)
+      target ∙ at_drop_more (λ rs. first_for_cpu bytes cputype i rs) records i d inside ∙ ap pick (ne_eqb r.cputype cputype other)
 
   pub cpu_here : (d : EntryRecord) → i < length records → (get_or records i d).cputype ≡ cputype
       → first_for_cpu bytes cputype 0 records ≡ first_for_cpu bytes cputype i (drop i records)
       → first_for_cpu bytes cputype 0 records ≡ slice_or_out i (slice_of bytes (get_or records i d))
-  cpu_here d inside same sought =
+  cpu_here d inside same target =
       let r = get_or records i d in
       let pick : Bool → Result (List ℕ) Unfit
       = λ b. if b then slice_or_out i (slice_of bytes r) else first_for_cpu bytes cputype (i + 1) (drop (i + 1) records) in
-      sought ∙ at_drop_more (λ rs. first_for_cpu bytes cputype i rs) records i d inside ∙ ap pick (eq-eqb r.cputype cputype same)
+      target ∙ at_drop_more (λ rs. first_for_cpu bytes cputype i rs) records i d inside ∙ ap pick (eq-eqb r.cputype cputype same)
 
-  pub no_cpu_behind : length records ≤ i → first_for_cpu bytes cputype 0 records ≡ first_for_cpu bytes cputype i (drop i records)
+  pub no_cpu_after : length records ≤ i → first_for_cpu bytes cputype 0 records ≡ first_for_cpu bytes cputype i (drop i records)
       → first_for_cpu bytes cputype 0 records ≡ Err (no_such_cpu cputype)
-  no_cpu_behind past sought = sought ∙ ap (λ rs. first_for_cpu bytes cputype i rs) (drop_all i records past)
+  no_cpu_after past target = target ∙ ap (λ rs. first_for_cpu bytes cputype i rs) (drop_all i records past)
 
 -- entries, of which one is for the cpu of `new`, or none
 module _ (es : List FatEntry) (new : FatEntryView) where
@@ -88,20 +88,20 @@ module _ (i : ℕ) (es : List FatEntry) where
 
 -- the entries of a fat file with another file's instead of some, step by step
 module _ (bytes new : List ℕ) (form : FatForm) where
-  abbrev behind_entries : List FatEntryView → Result (List FatEntryView) UnfitFile
-  behind_entries es = if_fit (λ e. of_file 0 (replaced_among es e)) (of_file 1 (if_read (created_entry new)))
+  abbrev after_entries : List FatEntryView → Result (List FatEntryView) UnfitFile
+  after_entries es = if_fit (λ e. of_file 0 (replaced_among es e)) (of_file 1 (if_read (created_entry new)))
 
   pub fat_refused : (why : EntryRefusal) → RefusesAs why (fat_entries_in form bytes)
       → RefusesFiles (record { file = 0; why = why }) (replaced_in bytes new form)
   fat_refused why refuses =
-      refused_more behind_entries (record { file = 0; why = why }) (of_file 0 (fat_entries_in form bytes))
+      refused_more after_entries (record { file = 0; why = why }) (of_file 0 (fat_entries_in form bytes))
       (refused_file 0 why (fat_entries_in form bytes) refuses)
 
   pub new_refused : (es : List FatEntryView) (why : EntryRefusal) → fat_entries_in form bytes ≡ Ok es → RefusesAs why (if_read (created_entry new))
       → RefusesFiles (record { file = 1; why = why }) (replaced_in bytes new form)
   new_refused es why are refuses =
       let refusal : FileRefusal = record { file = 1; why = why } in
-      refused_then behind_entries refusal (of_file 0 (fat_entries_in form bytes)) es (ap (of_file 0) are)
+      refused_then after_entries refusal (of_file 0 (fat_entries_in form bytes)) es (ap (of_file 0) are)
       (refused_more (λ e. of_file 0 (replaced_among es e)) refusal (of_file 1 (if_read (created_entry new)))
       (refused_file 1 why (if_read (created_entry new)) refuses))
 
@@ -110,20 +110,20 @@ module _ (bytes new : List ℕ) (form : FatForm) where
       → RefusesFiles (record { file = 0; why = why }) (replaced_in bytes new form)
   cpu_refused es e why are is refuses =
       let refusal : FileRefusal = record { file = 0; why = why } in
-      refused_then behind_entries refusal (of_file 0 (fat_entries_in form bytes)) es (ap (of_file 0) are)
+      refused_then after_entries refusal (of_file 0 (fat_entries_in form bytes)) es (ap (of_file 0) are)
       (refused_then (λ x. of_file 0 (replaced_among es x)) refusal (of_file 1 (if_read (created_entry new))) e (ap (of_file 1) is)
       (refused_file 0 why (replaced_among es e) refuses))
 
   pub replaced_there : (es xs : List FatEntryView) (e : FatEntryView) → fat_entries_in form bytes ≡ Ok es → if_read (created_entry new) ≡ Ok e
       → replaced_among es e ≡ Ok xs → replaced_in bytes new form ≡ Ok xs
   replaced_there es xs e are is replaced =
-      ap (λ there. if_fit behind_entries (of_file 0 there)) are
+      ap (λ there. if_fit after_entries (of_file 0 there)) are
       ∙ ap (λ there. if_fit (λ x. of_file 0 (replaced_among es x)) (of_file 1 there)) is
       ∙ ap (of_file 0) replaced
 
 -- why there is no file of entries in which some are replaced
 pub refused_order : (bytes new : List ℕ) (form : FatForm) (given : List FatEntry) (e : Error) → fat_form_in bytes ≡ Ok form
-    → replaced_in bytes new form ≡ Ok (entry_views given) → RefusesInOrder form given e → Stands (λ f. ⊥) e ⊎ RefusesReplaced bytes new e
+    → replaced_in bytes new form ≡ Ok (entry_views given) → RefusesInOrder form given e → ErrorMeets (λ f. ⊥) e ⊎ RefusesReplaced bytes new e
 refused_order bytes new form given e is are (inl want) = inl want
 refused_order bytes new form given e is are (inr none) =
     inr (record { form = form; is_form = is; refuses = record { given = given; are_entries = are; has_none = none } })

@@ -7,12 +7,12 @@ use Rattle.mach_base.specs.Record.{Field, size, spelling}
 use Rattle.mach_base.specs.declared.context.Endian.TheVariants.{Big}
 use Rattle.mach_fat_writer.specs.declared.entry.FatEntry.{FatEntry}
 use Rattle.mach_fat_writer.specs.Entries.{FatEntryView, fat_entry_view, entry_views}
-use Rattle.mach_fat_writer.specs.FatForms.{FatForm, gap_behind, end_behind, fat_place_behind, fat_end, fat_contents, fat_records, table_end, fat_front}
+use Rattle.mach_fat_writer.specs.FatForms.{FatForm, gap_after, end_after, fat_place_after, fat_end, fat_contents, fat_records, table_end, fat_front}
 use Rattle.mach_fat_writer.specs.FatForms.{fat_bytes}
 use Rattle.mach_fat_writer.specs.FatWrites.{is_far_aligned, all_can_lie}
 use Rattle.mach_fat_writer.proofs.Files.{bytes_are}
 use Rattle.mach_fat_writer.proofs.Laid.{left_at, aligned_first, lie_first, ends_more, contents_more, records_more}
-use Rattle.mach_fat_writer.proofs.Places.{ends_behind}
+use Rattle.mach_fat_writer.proofs.Places.{ends_following}
 
 -- the buffer after bytes were set up to a place: they follow what came before, and nothing after them changed
 pub record Sets (old : List ℕ) (from : ℕ) (bytes new : List ℕ) (to : ℕ) : Type 0 where
@@ -32,37 +32,37 @@ pub record Setting (form : FatForm) (es : List FatEntry) (from : ℕ) (old : Lis
 
 -- the first of the entries left ends within what all of them take
 pub first_within : (from : ℕ) (es : List FatEntry) (i most : ℕ) (d : FatEntry) → i < length es → fat_end from (left_at es i) ≤ most
-    → end_behind from (fat_entry_view (get_or es i d)) ≤ most
+    → end_after from (fat_entry_view (get_or es i d)) ≤ most
 first_within from es i most d inside room =
     let same = ends_more from es i d inside in
-    let later = ends_behind (end_behind from (fat_entry_view (get_or es i d))) (left_at es (i + 1)) in
+    let later = ends_following (end_after from (fat_entry_view (get_or es i d))) (left_at es (i + 1)) in
     omega (arith, same, later, room)
 
 pub zeros_fit : (end : ℕ) (es : List FatEntry) (i most : ℕ) (d : FatEntry) (gap : ℕ) → i < length es → fat_end end (left_at es i) ≤ most
-    → gap ≡ gap_behind end (get_or es i d).align → end + gap ≤ most
+    → gap ≡ gap_after end (get_or es i d).align → end + gap ≤ most
 zeros_fit end es i most d gap inside room is = let all = first_within end es i most d inside room in omega (arith, all, is)
 
 pub bytes_fit : (end : ℕ) (es : List FatEntry) (i most : ℕ) (d : FatEntry) (gap middle long : ℕ) → i < length es → fat_end end (left_at es i) ≤ most
-    → gap ≡ gap_behind end (get_or es i d).align → middle ≡ end + gap → long ≡ most → middle + length (get_or es i d).bytes.now ≤ long
+    → gap ≡ gap_after end (get_or es i d).align → middle ≡ end + gap → long ≡ most → middle + length (get_or es i d).bytes.now ≤ long
 bytes_fit end es i most d gap middle long inside room is_gap is_middle is_long =
     let all = first_within end es i most d inside room in
     omega (arith, all, is_gap, is_middle, is_long)
 
 -- one more: its zeros, and its bytes
 pub set_more : (form : FatForm) (es : List FatEntry) (from : ℕ) (old : List ℕ) (end i : ℕ) (out : List ℕ) (d : FatEntry) (gap middle to : ℕ)
-    (between new : List ℕ) → i < length es → Setting form es from old end i out → gap ≡ gap_behind end (get_or es i d).align → middle ≡ end + gap
+    (between new : List ℕ) → i < length es → Setting form es from old end i out → gap ≡ gap_after end (get_or es i d).align → middle ≡ end + gap
     → Sets out end (replicate gap 0) between middle → to ≡ middle + length (get_or es i d).bytes.now
     → Sets between middle (get_or es i d).bytes.now new to → Setting form es from old to (i + 1) new
 set_more form es from old end i out d gap middle to between new inside s is_gap is_middle zeros is_to bytes =
     let e = fat_entry_view (get_or es i d) in
     let left = left_at es (i + 1) in
-    let at : to ≡ end_behind end e = is_to ∙ ap (λ n. n + length e.bytes) (is_middle ∙ ap (λ g. end + g) is_gap) in
+    let at : to ≡ end_after end e = is_to ∙ ap (λ n. n + length e.bytes) (is_middle ∙ ap (λ g. end + g) is_gap) in
     let ends : fat_end to left ≡ fat_end from (entry_views es) = ap (λ n. fat_end n left) at ∙ (sym (ends_more end es i d inside) ∙ s.ends) in
     let before = s.ends in
     let room = s.room in
     let one = zeros.long in
     let two = bytes.long in
-    let later = ends_behind to left in
+    let later = ends_following to left in
     record {
       aligned = (aligned_first es i d inside s.aligned).1;
       within = subst (λ (n : ℕ). all_can_lie form n left ≡ true) (sym at) (lie_first form end es i d inside s.within).1;
@@ -71,11 +71,11 @@ set_more form es from old end i out d gap middle to between new inside s is_gap 
       written =
           ap (λ (xs : List ℕ). xs ++ fat_contents to left)
           (bytes.front ∙ ap (λ (xs : List ℕ). xs ++ e.bytes) (zeros.front ∙ ap (λ (g : ℕ). take end out ++ replicate g 0) is_gap))
-          ∙ (ap (λ (n : ℕ). ((take end out ++ replicate (gap_behind end e.align) 0) ++ e.bytes) ++ fat_contents n left) at
+          ∙ (ap (λ (n : ℕ). ((take end out ++ replicate (gap_after end e.align) 0) ++ e.bytes) ++ fat_contents n left) at
           ∙ (sym (contents_more end es i d (take end out) inside) ∙ s.written));
       rest = λ n less.
-          let behind : to ≤ n = omega (arith, ends, later, less) in
-          bytes.rest n behind ∙ (zeros.rest n (omega (arith, behind, is_to)) ∙ s.rest n less);
+          let following : to ≤ n = omega (arith, ends, later, less) in
+          bytes.rest n following ∙ (zeros.rest n (omega (arith, following, is_to)) ∙ s.rest n less);
       long = two ∙ (one ∙ s.long);
     }
 
@@ -91,13 +91,13 @@ pub record Recording (form : FatForm) (width : ℕ) (es : List FatEntry) (begin 
 -- one more
 pub record_more : (form : FatForm) (width : ℕ) (es : List FatEntry) (begin from : ℕ) (old : List ℕ) (at end i : ℕ) (out : List ℕ) (d : FatEntry)
     (place last to : ℕ) (new : List ℕ) → i < length es → Recording form width es begin from old at end i out
-    → place ≡ fat_place_behind end (fat_entry_view (get_or es i d)) → last ≡ place + length (get_or es i d).bytes.now → to ≡ at + width
+    → place ≡ fat_place_after end (fat_entry_view (get_or es i d)) → last ≡ place + length (get_or es i d).bytes.now → to ≡ at + width
     → Sets out at (spelling Big form.fields (form.values (fat_entry_view (get_or es i d)) place)) new to
     → Recording form width es begin from old to last (i + 1) new
 record_more form width es begin from old at end i out d place last to new inside s is_place is_last is_to set =
     let e = fat_entry_view (get_or es i d) in
     let left = left_at es (i + 1) in
-    let ends : last ≡ end_behind end e = is_last ∙ ap (λ n. n + length e.bytes) is_place in
+    let ends : last ≡ end_after end e = is_last ∙ ap (λ n. n + length e.bytes) is_place in
     let at_is = s.place in
     record {
       aligned = (aligned_first es i d inside s.aligned).1;
@@ -106,7 +106,7 @@ record_more form width es begin from old at end i out d place last to new inside
       written =
           ap (λ (xs : List ℕ). xs ++ fat_records form last left)
           (set.front ∙ ap (λ (p : ℕ). take at out ++ spelling Big form.fields (form.values e p)) is_place)
-          ∙ (ap (λ (n : ℕ). (take at out ++ spelling Big form.fields (form.values e (fat_place_behind end e))) ++ fat_records form n left) ends
+          ∙ (ap (λ (n : ℕ). (take at out ++ spelling Big form.fields (form.values e (fat_place_after end e))) ++ fat_records form n left) ends
           ∙ (sym (records_more form end es i d (take at out) inside) ∙ s.written));
       rest = λ n less. set.rest n less ∙ s.rest n (omega (arith, is_to, less));
       long = set.long ∙ s.long;
@@ -121,19 +121,19 @@ pub all_set : (form : FatForm) (es : List FatEntryView) (from : ℕ) (old one tw
     → second ≡ from → first ≤ second → Sets two from (fat_contents from es) new last → last ≡ fat_end from es
     → new ≡ fat_bytes form es ++ drop (fat_end from es) old
 all_set form es from old one two new first second last table front rest records is_second less contents is_last =
-    let later = ends_behind from es in
+    let later = ends_following from es in
     let whole : take last new ≡ fat_bytes form es =
     contents.front
     ∙ (ap (λ (n : ℕ). take n two ++ fat_contents from es) (sym is_second)
     ∙ (ap (λ (xs : List ℕ). xs ++ fat_contents from es) (records.front ∙ ap (λ (xs : List ℕ). xs ++ fat_records form from es) front)
     ∙ bytes_are form es from table))
     in
-    let behind : drop last new ≡ drop (fat_end from es) old =
+    let following : drop last new ≡ drop (fat_end from es) old =
     contents.rest last (omega arith)
     ∙ (records.rest last (omega (arith, is_second, is_last, later))
     ∙ (rest last (omega (arith, is_second, is_last, later, less)) ∙ ap (λ (n : ℕ). drop n old) is_last))
     in
-    sym (take-append-drop last new) ∙ (ap (λ (xs : List ℕ). xs ++ drop last new) whole ∙ ap (λ (xs : List ℕ). fat_bytes form es ++ xs) behind)
+    sym (take-append-drop last new) ∙ (ap (λ (xs : List ℕ). xs ++ drop last new) whole ∙ ap (λ (xs : List ℕ). fat_bytes form es ++ xs) following)
 
 -- where the table ends, by the size of a record
 pub table_is : (form : FatForm) (width : ℕ) (fields : List Field) (es : List FatEntry) (from : ℕ) → width ≡ size fields → fields ≡ form.fields

@@ -43,7 +43,7 @@ pub table_is : (form : FatForm) (bytes : List ℕ) (n : ℕ) (records : Result (
 table_is form bytes n records header fits are = rw (header, le-leb n (length bytes / size form.fields) fits) are
 
 -- a fault is the one that `?` returns
-pub told : {X Y : Type 0} (view : X → Y) (r : Result X Error) (e : Error) → IsErrAnd r (λ x. x ≡ e) → (there : Result Y Fault)
+pub reported : {X Y : Type 0} (view : X → Y) (r : Result X Error) (e : Error) → IsErrAnd r (λ x. x ≡ e) → (there : Result Y Fault)
     → there ≡ Err (fault_of e) → Gives view r there
-told view (Ok x) e left there is = absurd left
-told view (Err x) e left there is = rw left (FailsAs-read e there is)
+reported view (Ok x) e left there is = absurd left
+reported view (Err x) e left there is = rw left (FailsAs-read e there is)

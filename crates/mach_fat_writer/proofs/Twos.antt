@@ -5,32 +5,32 @@ use Rattle.std.proofs.lemmas.Bool.{or_cases, or_left, or_right}
 use Rattle.mach_fat_writer.specs.Entries.{any_two, HasTwo}
 
 module _ {A : Type 0} (test : A → A → Bool) where
-  record Behind (x : A) (xs : List A) : Type 0 where
+  record Following (x : A) (xs : List A) : Type 0 where
     pub between : List A
     pub y : A
     pub after : List A
     pub is : xs ≡ between ++ y ∷ after
     pub passes : test x y ≡ true
 
-  behind_of : (x : A) (xs : List A) → list_any (test x) xs ≡ true → Behind x xs
-  behind_of x [] e = absurd (cc)
-  behind_of x (y ∷ xs) e = elim (or_cases (test x y) (list_any (test x) xs) e) [
+  after_of : (x : A) (xs : List A) → list_any (test x) xs ≡ true → Following x xs
+  after_of x [] e = absurd (cc)
+  after_of x (y ∷ xs) e = elim (or_cases (test x y) (list_any (test x) xs) e) [
     | inl here ↦ record { between = []; y = y; after = xs; is = refl; passes = here }
     | inr later ↦
-        let found = behind_of x xs later in
+        let found = after_of x xs later in
         record { between = y ∷ found.between; y = found.y; after = found.after; is = ap (λ (ys : List A). y ∷ ys) found.is; passes = found.passes }
   ]
 
-  any_behind : (x y : A) (between after : List A) → test x y ≡ true → list_any (test x) (between ++ y ∷ after) ≡ true
-  any_behind x y [] after passes = or_left (test x y) (list_any (test x) after) passes
-  any_behind x y (z ∷ between) after passes =
-      or_right (test x z) (list_any (test x) (between ++ y ∷ after)) (any_behind x y between after passes)
+  any_after : (x y : A) (between after : List A) → test x y ≡ true → list_any (test x) (between ++ y ∷ after) ≡ true
+  any_after x y [] after passes = or_left (test x y) (list_any (test x) after) passes
+  any_after x y (z ∷ between) after passes =
+      or_right (test x z) (list_any (test x) (between ++ y ∷ after)) (any_after x y between after passes)
 
   has_two : (xs : List A) → any_two test xs ≡ true → HasTwo test xs
   has_two [] e = absurd (cc)
   has_two (x ∷ xs) e = elim (or_cases (list_any (test x) xs) (any_two test xs) e) [
     | inl here ↦
-        let found = behind_of x xs here in
+        let found = after_of x xs here in
         record {
           before = [];
           first = x;
@@ -55,7 +55,7 @@ module _ {A : Type 0} (test : A → A → Bool) where
 
   any_two_in : (before between after : List A) (x y : A) → test x y ≡ true → any_two test (before ++ x ∷ (between ++ y ∷ after)) ≡ true
   any_two_in [] between after x y passes =
-      or_left (list_any (test x) (between ++ y ∷ after)) (any_two test (between ++ y ∷ after)) (any_behind x y between after passes)
+      or_left (list_any (test x) (between ++ y ∷ after)) (any_two test (between ++ y ∷ after)) (any_after x y between after passes)
   any_two_in (z ∷ before) between after x y passes =
       or_right (list_any (test z) (before ++ x ∷ (between ++ y ∷ after))) (any_two test (before ++ x ∷ (between ++ y ∷ after)))
       (any_two_in before between after x y passes)

@@ -2,7 +2,7 @@
 use Rattle.std.specs.Prelude.{◌≡◌, ◌==◌, ◌⊎◌, ℕ, ◌+◌, List, [], ◌∷◌, ◌++◌, length, take, drop, map, nat_lt, slice_get, Option, Some, None, Result, Ok, Err}
 use Rattle.std.specs.Prelude.{if◌then◌else◌}
 use Rattle.std.specs.List.{list_any}
-use Rattle.mach_base.specs.Answer.{Stands}
+use Rattle.mach_base.specs.Answer.{ErrorMeets}
 use Rattle.mach_base.specs.Fault.{Fault, bad_magic}
 use Rattle.mach_base.specs.declared.context.Ctx.{Ctx}
 use Rattle.mach_base.specs.declared.error.Error.{Error}
@@ -105,7 +105,7 @@ pub record RefusesReplaced (bytes new : List ℕ) (e : Error) : Type 0 where
 -- Why there is no such file: one of both files is refused, or the entries together, or memory ran out.
 abbrev pub RefusesReplace : List ℕ → List ℕ → MakeRefusal → Type 0
 RefusesReplace bytes new (OfFile refusal) = RefusesFiles refusal (if_fit (replaced_in bytes new) (of_file 0 (fat_form_in bytes)))
-RefusesReplace bytes new (OfAll e) = Stands (λ f. ⊥) e ⊎ RefusesReplaced bytes new e
+RefusesReplace bytes new (OfAll e) = ErrorMeets (λ f. ⊥) e ⊎ RefusesReplaced bytes new e
 
 -- The fat file without the entry at an index: the form and the order of the others are the same.
 pub record IsWithout (bytes : List ℕ) (i : ℕ) (file : List ℕ) : Type 0 where
@@ -126,4 +126,4 @@ pub record RefusesOthers (bytes : List ℕ) (i : ℕ) (e : Error) : Type 0 where
 -- Why there is no such file: the file is refused, or the others together, or memory ran out.
 abbrev pub RefusesRemove : List ℕ → ℕ → MakeRefusal → Type 0
 RefusesRemove bytes i (OfFile refusal) = RefusesFiles refusal (if_fit (λ form. of_file 0 (others_in bytes i form)) (of_file 0 (fat_form_in bytes)))
-RefusesRemove bytes i (OfAll e) = Stands (λ f. ⊥) e ⊎ RefusesOthers bytes i e
+RefusesRemove bytes i (OfAll e) = ErrorMeets (λ f. ⊥) e ⊎ RefusesOthers bytes i e

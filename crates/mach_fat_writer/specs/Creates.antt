@@ -2,7 +2,7 @@
 use Rattle.std.specs.Prelude.{◌≡◌, ◌⊎◌, ℕ, ◌+◌, List, [], ◌∷◌, ◌++◌, map, Result, Ok, Err}
 use Rattle.std.specs.Borrow.{Bor}
 use Rattle.std.specs.List.Sorted.{IsPermutation, IsSortedByKey, IsStableByKey}
-use Rattle.mach_base.specs.Answer.{Stands}
+use Rattle.mach_base.specs.Answer.{ErrorMeets}
 use Rattle.mach_base.specs.declared.error.Error.{Error}
 use Rattle.mach_fat_writer.specs.CreatedOrder.{fat_rank, fat_rank_cmp}
 use Rattle.mach_fat_writer.specs.Entries.{FatEntryView, fat_entry_view, entry_views}
@@ -58,7 +58,7 @@ pub record HasNoFileInOrder (form : FatForm) (given : List FatEntry) (e : Error)
 
 -- why there is none, or that memory ran out
 abbrev pub RefusesInOrder : FatForm → List FatEntry → Error → Type 0
-RefusesInOrder form given e = Stands (λ f. ⊥) e ⊎ HasNoFileInOrder form given e
+RefusesInOrder form given e = ErrorMeets (λ f. ⊥) e ⊎ HasNoFileInOrder form given e
 
 -- The fat file of entries that could be read, in that order.
 pub record IsFileOf (form : FatForm) (there : Result (List FatEntryView) UnfitFile) (file : List ℕ) : Type 0 where
@@ -79,4 +79,4 @@ IsCreated form files file = IsFileOf form (entries_of_files 0 files) file
 -- Why none is created: one of the files is refused, or there is no file of all their entries, or memory ran out.
 abbrev pub RefusesCreate : FatForm → List (List ℕ) → MakeRefusal → Type 0
 RefusesCreate form files (OfFile refusal) = RefusesFiles refusal (entries_of_files 0 files)
-RefusesCreate form files (OfAll e) = Stands (λ f. ⊥) e ⊎ RefusesEntries form (entries_of_files 0 files) e
+RefusesCreate form files (OfAll e) = ErrorMeets (λ f. ⊥) e ⊎ RefusesEntries form (entries_of_files 0 files) e

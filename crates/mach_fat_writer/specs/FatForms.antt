@@ -35,35 +35,35 @@ abbrev pub table_end : FatForm → ℕ → ℕ
 table_end form n = 8 + size form.fields * n
 
 -- how many bytes of padding lie between a place and the next multiple of 2 to the power of align
-abbrev pub gap_behind : ℕ → ℕ → ℕ
-gap_behind from align = (2 ^ align - from % 2 ^ align) % 2 ^ align
+abbrev pub gap_after : ℕ → ℕ → ℕ
+gap_after from align = (2 ^ align - from % 2 ^ align) % 2 ^ align
 
 -- the offset of an entry after the bytes that end at `from`, and where it ends
-abbrev pub fat_place_behind : ℕ → FatEntryView → ℕ
-fat_place_behind from e = from + gap_behind from e.align
+abbrev pub fat_place_after : ℕ → FatEntryView → ℕ
+fat_place_after from e = from + gap_after from e.align
 
-abbrev pub end_behind : ℕ → FatEntryView → ℕ
-end_behind from e = fat_place_behind from e + length e.bytes
+abbrev pub end_after : ℕ → FatEntryView → ℕ
+end_after from e = fat_place_after from e + length e.bytes
 
 -- the offsets of entries, the first of which follows the bytes that end at `from`, and where the last one ends
 abbrev pub fat_places : ℕ → List FatEntryView → List ℕ
 fat_places from [] = []
-fat_places from (e ∷ es) = fat_place_behind from e ∷ fat_places (end_behind from e) es
+fat_places from (e ∷ es) = fat_place_after from e ∷ fat_places (end_after from e) es
 
 abbrev pub fat_end : ℕ → List FatEntryView → ℕ
 fat_end from [] = from
-fat_end from (e ∷ es) = fat_end (end_behind from e) es
+fat_end from (e ∷ es) = fat_end (end_after from e) es
 
 -- the records of entries, one after the other
 abbrev pub fat_records : FatForm → ℕ → List FatEntryView → List ℕ
 fat_records form from [] = []
 fat_records form from (e ∷ es) =
-    spelling Big form.fields (form.values e (fat_place_behind from e)) ++ fat_records form (end_behind from e) es
+    spelling Big form.fields (form.values e (fat_place_after from e)) ++ fat_records form (end_after from e) es
 
 -- the entries' bytes, each after its padding
 abbrev pub fat_contents : ℕ → List FatEntryView → List ℕ
 fat_contents from [] = []
-fat_contents from (e ∷ es) = replicate (gap_behind from e.align) 0 ++ (e.bytes ++ fat_contents (end_behind from e) es)
+fat_contents from (e ∷ es) = replicate (gap_after from e.align) 0 ++ (e.bytes ++ fat_contents (end_after from e) es)
 
 -- the file: magic and count, the table, the entries; nothing follows the last one
 abbrev pub fat_front : FatForm → ℕ → List ℕ

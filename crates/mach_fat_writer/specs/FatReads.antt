@@ -7,7 +7,7 @@ use Rattle.mach_base.specs.Record.{Value, number_among, record_at, size}
 use Rattle.mach_base.specs.declared.context.Endian.TheVariants.{Big}
 use Rattle.mach_parts.specs.Fat.{part_of}
 use Rattle.mach_fat_writer.specs.Entries.{FatEntryView}
-use Rattle.mach_fat_writer.specs.FatForms.{FatForm, fat_place_behind, end_behind}
+use Rattle.mach_fat_writer.specs.FatForms.{FatForm, fat_place_after, end_after}
 
 -- cputypes and cpusubtypes are numbers of 32 bits
 abbrev pub HaveNumbers : List FatEntryView → Type 0
@@ -15,17 +15,17 @@ HaveNumbers [] = Unit {0}
 HaveNumbers (e ∷ es) = (e.cputype < 2 ^ 32) × (e.cpusubtype < 2 ^ 32) × HaveNumbers es
 
 -- the values of record i of a file, or why it isn't there
-abbrev pub record_said : FatForm → List ℕ → ℕ → Result (List Value) Fault
-record_said form file i = record_at Big form.fields file (8 + size form.fields * i)
+abbrev pub declared_record : FatForm → List ℕ → ℕ → Result (List Value) Fault
+declared_record form file i = record_at Big form.fields file (8 + size form.fields * i)
 
 -- the values of all records, as many as the header says
-abbrev pub records_said : FatForm → List ℕ → Result (List (List Value)) Fault
-records_said form file = all_read (items_from (record_said form file) 0 (number Big 4 (drop 4 file)))
+abbrev pub declared_records : FatForm → List ℕ → Result (List (List Value)) Fault
+declared_records form file = all_read (items_from (declared_record form file) 0 (number Big 4 (drop 4 file)))
 
 -- the values of the records of entries, the first of which follows the bytes that end at `from`
 abbrev pub records_of : FatForm → ℕ → List FatEntryView → List (List Value)
 records_of form from [] = []
-records_of form from (e ∷ es) = form.values e (fat_place_behind from e) ∷ records_of form (end_behind from e) es
+records_of form from (e ∷ es) = form.values e (fat_place_after from e) ∷ records_of form (end_after from e) es
 
 -- the entry of a record, with the bytes at its offset
 abbrev pub entry_of_record : List ℕ → List Value → FatEntryView

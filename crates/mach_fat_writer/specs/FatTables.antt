@@ -7,7 +7,7 @@ use Rattle.mach_base.specs.Number.{number, number_at, bounded}
 use Rattle.mach_base.specs.Record.{Value, number_among, size}
 use Rattle.mach_base.specs.declared.context.Endian.TheVariants.{Big}
 use Rattle.mach_fat_writer.specs.FatForms.{FatForm, fat_form_32, fat_form_64}
-use Rattle.mach_fat_writer.specs.FatReads.{record_said}
+use Rattle.mach_fat_writer.specs.FatReads.{declared_record}
 use Rattle.mach_fat_writer.specs.declared.form.Form.{Form}
 use Rattle.mach_fat_writer.specs.declared.form.Form.TheVariants.{Bits32, Bits64}
 use Rattle.mach_fat_writer.specs.declared.entry_record.EntryRecord.{EntryRecord}
@@ -38,7 +38,7 @@ record_of_values vs =
 
 -- the record at an index, or why it isn't there
 abbrev pub fat_record_in : FatForm → List ℕ → ℕ → Result EntryRecord Fault
-fat_record_in form bytes i = record_said form bytes i >>= (λ vs. Ok (record_of_values vs))
+fat_record_in form bytes i = declared_record form bytes i >>= (λ vs. Ok (record_of_values vs))
 
 -- n records, if the bytes could hold them; else the fault of the first that isn't there
 abbrev pub fat_table_by : FatForm → List ℕ → ℕ → Result (List EntryRecord) Fault

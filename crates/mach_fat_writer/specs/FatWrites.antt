@@ -4,7 +4,7 @@ use Rattle.std.specs.List.{list_any}
 use Rattle.mach_base.specs.declared.error.Error.{Error}
 use Rattle.mach_base.specs.declared.error.Error.TheVariants as errors
 use Rattle.mach_fat_writer.specs.Entries.{FatEntryView, are_of_one_cpu, any_two}
-use Rattle.mach_fat_writer.specs.FatForms.{FatForm, table_end, fat_place_behind, end_behind, fat_bytes}
+use Rattle.mach_fat_writer.specs.FatForms.{FatForm, table_end, fat_place_after, end_after, fat_bytes}
 
 -- why entries are refused: an alignment is above 2^15; two entries are for one cpu; or an offset, a length or the count is more
 -- than the file can hold
@@ -24,22 +24,22 @@ is_far_aligned e = nat_lt 15 e.align
 -- whether a record can hold the offset and the length of an entry after the bytes that end at `from`, and its end is a number of 64 bits
 abbrev pub can_lie : FatForm → ℕ → FatEntryView → Bool
 can_lie form from e =
-    (nat_le (fat_place_behind from e) form.most && nat_le (length e.bytes) form.most) && nat_lt (end_behind from e) (2 ^ 64)
+    (nat_le (fat_place_after from e) form.most && nat_le (length e.bytes) form.most) && nat_lt (end_after from e) (2 ^ 64)
 
 -- the same for entries one after the other
 abbrev pub all_can_lie : FatForm → ℕ → List FatEntryView → Bool
 all_can_lie form from [] = true
-all_can_lie form from (e ∷ es) = can_lie form from e && all_can_lie form (end_behind from e) es
+all_can_lie form from (e ∷ es) = can_lie form from e && all_can_lie form (end_after from e) es
 
-abbrev pub can_be_said : FatForm → List FatEntryView → Bool
-can_be_said form es = nat_lt (length es) (2 ^ 32) && all_can_lie form (table_end form (length es)) es
+abbrev pub is_encodable : FatForm → List FatEntryView → Bool
+is_encodable form es = nat_lt (length es) (2 ^ 32) && all_can_lie form (table_end form (length es)) es
 
 -- the file of some entries, or the first of the three refusals that applies
 abbrev pub fat_file_of : FatForm → List FatEntryView → Result (List ℕ) FatRefusal
 fat_file_of form es =
     if list_any is_far_aligned es then Err far_aligned
     else (if any_two are_of_one_cpu es then Err one_cpu_twice
-    else (if can_be_said form es then Ok (fat_bytes form es) else Err too_far))
+    else (if is_encodable form es then Ok (fat_bytes form es) else Err too_far))
 
 -- an error says why there is no file, or that memory ran out
 abbrev pub RefusesFat : Error → Result (List ℕ) FatRefusal → Type 0

@@ -1,7 +1,7 @@
 -- Why the entries of a file are refused, and the texts of refusals.
 use Rattle.std.specs.Prelude.{◌≡◌, ℕ, List, ◌++◌, false, codes, Result, Ok, Err}
 use Rattle.std.specs.Fmt.{decimal, digits}
-use Rattle.mach_base.specs.Answer.{Stands}
+use Rattle.mach_base.specs.Answer.{ErrorMeets}
 use Rattle.mach_base.specs.Fault.{Fault}
 use Rattle.mach_base.specs.Words.{words_of}
 use Rattle.mach_fat_writer.specs.declared.refusal.EntryRefusal.{EntryRefusal}
@@ -29,7 +29,7 @@ if_read (Err f) = Err (unread f)
 
 -- a refusal says why nothing is there, seen by `view`, or that memory ran out
 abbrev pub RefusesBy : {Y E : Type 0} → (Unfit → E) → EntryRefusal → Result Y E → Type 0
-RefusesBy view (Unread e) there = Stands (λ f. there ≡ Err (view (unread f))) e
+RefusesBy view (Unread e) there = ErrorMeets (λ f. there ≡ Err (view (unread f))) e
 RefusesBy view NotFat there = there ≡ Err (view not_fat)
 RefusesBy view (NoEntry i) there = there ≡ Err (view (no_such_entry i))
 RefusesBy view (OutOfFile i) there = there ≡ Err (view (out_of_file i))

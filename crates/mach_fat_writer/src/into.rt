@@ -7,13 +7,13 @@ ghost use Rattle.mach_base.specs.Record.{spelling};
 ghost use Rattle.mach_base.specs.declared.context.Endian.TheVariants.{Big};
 ghost use Rattle.mach_fat_writer.specs.Entries.{entry_views};
 ghost use Rattle.mach_fat_writer.specs.FatForms.{fat_form_32, fat_form_64, fat_front, fat_records, fat_contents, fat_bytes, fat_end, table_end};
-ghost use Rattle.mach_fat_writer.specs.FatWrites.{is_far_aligned, all_can_lie, can_be_said, fat_file_of, RefusesFat};
+ghost use Rattle.mach_fat_writer.specs.FatWrites.{is_far_aligned, all_can_lie, is_encodable, fat_file_of, RefusesFat};
 ghost use Rattle.mach_fat_writer.specs.Placed.{AreSet, IsWrittenInto};
 
 use crate::entry::FatEntry;
 use crate::fat_record::FatRecord;
 use crate::put::gap;
-use crate::write::ends_of_said;
+use crate::write::declared_ends;
 use mach_base::{Endian, Record, Result};
 use mach_parts::FatArch64;
 use mach_parts::fat::{FatArch, FatHeader};
@@ -121,7 +121,7 @@ fn set_contents<R: FatRecord>(out: &mut [u8], from: usize, entries: &[FatEntry<'
 // Writes a fat file, given where its table and its last entry end.
 fn set_all<R: FatRecord>(out: &mut [u8], from: usize, entries: &[FatEntry<'_>])
     requires aligned { list_any is_far_aligned (entry_views entries.now) ≡ false }
-    requires said { can_be_said R.form (entry_views entries.now) ≡ true }
+    requires encodable { is_encodable R.form (entry_views entries.now) ≡ true }
     requires table { from ≡ table_end R.form (length (entry_views entries.now)) }
     requires room { fat_end from (entry_views entries.now) ≤ length out.old }
     ensures { out.new ≡ fat_bytes R.form (entry_views entries.now) ++ drop (fat_end from (entry_views entries.now)) out.old }
@@ -139,7 +139,7 @@ fn set_where_it_fits<R: FatRecord>(
     entries: &[FatEntry<'_>],
 )
     requires aligned { list_any is_far_aligned (entry_views entries.now) ≡ false }
-    requires said { can_be_said R.form (entry_views entries.now) ≡ true }
+    requires encodable { is_encodable R.form (entry_views entries.now) ≡ true }
     requires table { from ≡ table_end R.form (length (entry_views entries.now)) }
     requires ends { end ≡ fat_end from (entry_views entries.now) }
     ensures { out.new ≡ (if nat_le end (length out.old) then fat_bytes R.form (entry_views entries.now) ++ drop end out.old else out.old) }
@@ -159,7 +159,7 @@ fn write_by<R: FatRecord, A: Allocator>(
         (λ e. RefusesFat e (fat_file_of R.form (entry_views entries.now))) }
     ensures kept { OnErr result (out.new ≡ out.old) }
 {
-    let (from, end) = ends_of_said::<R, A>(alloc, entries)?;
+    let (from, end) = declared_ends::<R, A>(alloc, entries)?;
     set_where_it_fits::<R>(out, from, end, entries);
     Ok(end)
 }

@@ -1,7 +1,7 @@
 //! Parts of one buffer as entries of a fat file.
 
 ghost use Rattle.std.specs.Prelude.{◌≡◌, MatchResult, OnErr, Ok};
-ghost use Rattle.mach_base.specs.Answer.{Gives, Reads, Stands};
+ghost use Rattle.mach_base.specs.Answer.{Gives, Reads, ErrorMeets};
 ghost use Rattle.mach_fat_writer.specs.Entries.{entry_views, fat_entry_view};
 ghost use Rattle.mach_fat_writer.specs.FatWrites.{fat_file_of, RefusesFat};
 ghost use Rattle.mach_fat_writer.specs.Placed.{IsWrittenInto};
@@ -93,7 +93,7 @@ pub fn write_parts<A: Allocator>(
     out: &mut [u8],
 ) -> Result<usize>
     ensures written { MatchResult result (λ len. MakesFat bytes.now parts.now (form_by is_64) len out.old out.new)
-        (λ e. Stands (IsPartsFault bytes.now parts.now (form_by is_64)) e) }
+        (λ e. ErrorMeets (IsPartsFault bytes.now parts.now (form_by is_64)) e) }
     ensures kept { OnErr result (out.new ≡ out.old) }
 {
     let entries = entries_of(&alloc, bytes, parts)?;

@@ -5,7 +5,7 @@ ghost use Rattle.std.specs.List.{list_any};
 ghost use Rattle.mach_base.specs.Record.{spelling};
 ghost use Rattle.mach_base.specs.declared.context.Endian.TheVariants.{Big};
 ghost use Rattle.mach_fat_writer.specs.Entries.{entry_views, fat_entry_view};
-ghost use Rattle.mach_fat_writer.specs.FatForms.{gap_behind, fat_place_behind, end_behind, fat_front, fat_records, fat_contents, fat_end};
+ghost use Rattle.mach_fat_writer.specs.FatForms.{gap_after, fat_place_after, end_after, fat_front, fat_records, fat_contents, fat_end};
 ghost use Rattle.mach_fat_writer.specs.FatWrites.{is_far_aligned, can_lie, all_can_lie};
 
 use crate::entry::FatEntry;
@@ -17,7 +17,7 @@ use std::alloc::{AllocError, Allocator};
 /// Returns how many bytes of padding lie between a place and the next multiple of 2 to the power of `align`.
 pub(crate) fn gap(from: usize, align: u32) -> usize
     requires { align ≤ 15 }
-    ensures value { result ≡ gap_behind from align }
+    ensures value { result ≡ gap_after from align }
     ensures small { result < 2 ^ 15 }
 {
     let unit = 1usize << align;
@@ -25,10 +25,10 @@ pub(crate) fn gap(from: usize, align: u32) -> usize
 }
 
 // Returns where an entry ends that follows the bytes up to `from`, if a record can hold its offset and its length.
-fn end_behind<R: FatRecord>(from: usize, entry: &FatEntry<'_>) -> Option<usize>
+fn end_after<R: FatRecord>(from: usize, entry: &FatEntry<'_>) -> Option<usize>
     requires { entry.now.align ≤ 15 }
     ensures { MatchOption result (can_lie R.form from (fat_entry_view entry.now) ≡ false)
-        (λ end. (can_lie R.form from (fat_entry_view entry.now) ≡ true) × (end ≡ end_behind from (fat_entry_view entry.now))) }
+        (λ end. (can_lie R.form from (fat_entry_view entry.now) ≡ true) × (end ≡ end_after from (fat_entry_view entry.now))) }
 {
     let place = from.checked_add(gap(from, entry.align))?;
     if place > R::MOST || entry.bytes.len() > R::MOST {
@@ -45,7 +45,7 @@ pub(crate) fn end_of<R: FatRecord>(from: usize, entries: &[FatEntry<'_>]) -> Opt
 {
     let mut end = from;
     for entry in entries {
-        end = end_behind::<R>(end, entry)?;
+        end = end_after::<R>(end, entry)?;
     }
     Some(end)
 }

@@ -5,7 +5,7 @@ ghost use Rattle.std.specs.List.{list_any};
 ghost use Rattle.mach_fat_writer.specs.Entries.{entry_views, fat_entry_view};
 ghost use Rattle.mach_base.specs.Answer.{IsOkUnlessMemory};
 ghost use Rattle.mach_fat_writer.specs.FatForms.{fat_form_32, fat_form_64, table_end, fat_end, fat_bytes};
-ghost use Rattle.mach_fat_writer.specs.FatWrites.{is_far_aligned, can_be_said, fat_file_of, RefusesFat};
+ghost use Rattle.mach_fat_writer.specs.FatWrites.{is_far_aligned, is_encodable, fat_file_of, RefusesFat};
 
 use crate::cpus::any_two_of_one_cpu;
 use crate::entry::FatEntry;
@@ -50,17 +50,17 @@ fn write_by<R: FatRecord, A: Allocator>(alloc: A, entries: &[FatEntry<'_>]) -> R
     ensures { MatchResult result (λ file. fat_file_of R.form (entry_views entries.now) ≡ Ok file.items)
         (λ e. RefusesFat e (fat_file_of R.form (entry_views entries.now))) }
 {
-    let (from, end) = ends_of_said::<R, &A>(&alloc, entries)?;
+    let (from, end) = declared_ends::<R, &A>(&alloc, entries)?;
     write_all::<R, A>(alloc, from, end, entries)
 }
 
 /// Returns where the table and the file of some entries end, or why there is no such file.
-pub(crate) fn ends_of_said<R: FatRecord, A: Allocator>(
+pub(crate) fn declared_ends<R: FatRecord, A: Allocator>(
     alloc: A,
     entries: &[FatEntry<'_>],
 ) -> Result<(usize, usize)>
     ensures aligned { OnOk result (list_any is_far_aligned (entry_views entries.now) ≡ false) }
-    ensures said { OnOk result (can_be_said R.form (entry_views entries.now) ≡ true) }
+    ensures encodable { OnOk result (is_encodable R.form (entry_views entries.now) ≡ true) }
     ensures ends { IfOk result (λ ends. (ends.0 ≡ table_end R.form (length (entry_views entries.now)))
         × (ends.1 ≡ fat_end ends.0 (entry_views entries.now))) }
     ensures there { MatchResult result (λ ends. fat_file_of R.form (entry_views entries.now) ≡ Ok (fat_bytes R.form (entry_views entries.now)))
@@ -81,8 +81,8 @@ pub(crate) fn ends_of_said<R: FatRecord, A: Allocator>(
 // Returns where the table and the file end, if records can hold all offsets and lengths, and the header the count.
 fn ends_of<R: FatRecord>(entries: &[FatEntry<'_>]) -> Option<(usize, usize)>
     requires { list_any is_far_aligned (entry_views entries.now) ≡ false }
-    ensures { MatchOption result (can_be_said R.form (entry_views entries.now) ≡ false)
-        (λ ends. (can_be_said R.form (entry_views entries.now) ≡ true) × (ends.0 ≡ table_end R.form (length (entry_views entries.now)))
+    ensures { MatchOption result (is_encodable R.form (entry_views entries.now) ≡ false)
+        (λ ends. (is_encodable R.form (entry_views entries.now) ≡ true) × (ends.0 ≡ table_end R.form (length (entry_views entries.now)))
         × (ends.1 ≡ fat_end ends.0 (entry_views entries.now))) }
 {
     if entries.len() > u32::MAX as usize {
@@ -100,7 +100,7 @@ fn write_all<R: FatRecord, A: Allocator>(
     entries: &[FatEntry<'_>],
 ) -> Result<Vec<u8, A>>
     requires aligned { list_any is_far_aligned (entry_views entries.now) ≡ false }
-    requires said { can_be_said R.form (entry_views entries.now) ≡ true }
+    requires encodable { is_encodable R.form (entry_views entries.now) ≡ true }
     requires table { from ≡ table_end R.form (length (entry_views entries.now)) }
     ensures written { IfOk result (λ file. file.items ≡ fat_bytes R.form (entry_views entries.now)) }
     ensures only { IsOkUnlessMemory result }

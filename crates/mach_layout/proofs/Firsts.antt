@@ -24,9 +24,9 @@ pub again_next : (fs : List LayoutFault) (xs : List LoadCommand) (i : ℕ) (d : 
 again_next fs xs i d lt =
     let before = map command_of (take i xs) in
     let c = command_of (get_or xs i d) in
-    let behind = map command_of (drop (i + 1) xs) in
-    onto (command_again before c) fs (commands_again (map command_of (take (i + 1) xs)) behind)
-    ∙ ap (λ (b : List Command). fs ++ cons_option (command_again before c) (commands_again b behind)) (before_next xs i d lt)
+    let following = map command_of (drop (i + 1) xs) in
+    onto (command_again before c) fs (commands_again (map command_of (take (i + 1) xs)) following)
+    ∙ ap (λ (b : List Command). fs ++ cons_option (command_again before c) (commands_again b following)) (before_next xs i d lt)
     ∙ ap (λ (left : List Command). fs ++ commands_again before left) (sym (from_here xs i d lt))
 
 or_none : (o : Option Command) → option_map command_owner (option_or o None) ≡ option_map command_owner o
@@ -80,13 +80,14 @@ pub of_set : (c : Command) (s own : ℕ) → set_of c.kind ≡ Some own → is_o
 of_set c s own e = ap (is_number s) e
 
 -- the faults so far, followed by those from the next command on, are the same after the next command
-pub told_on : (fs more all : List LayoutFault) (xs : List LoadCommand) (i : ℕ) (d : LoadCommand) (told : Option LayoutFault) → i < length xs
-    → command_again (map command_of (take i xs)) (command_of (get_or xs i d)) ≡ told → more ≡ fs ++ option_to_list told
+pub reported_on : (fs more all : List LayoutFault) (xs : List LoadCommand) (i : ℕ) (d : LoadCommand) (reported : Option LayoutFault) → i < length xs
+    → command_again (map command_of (take i xs)) (command_of (get_or xs i d)) ≡ reported → more ≡ fs ++ option_to_list reported
     → fs ++ commands_again (map command_of (take i xs)) (map command_of (drop i xs)) ≡ all
     → more ++ commands_again (map command_of (take (i + 1) xs)) (map command_of (drop (i + 1) xs)) ≡ all
-told_on fs more all xs i d told lt is added so_far =
-    let behind = commands_again (map command_of (take (i + 1) xs)) (map command_of (drop (i + 1) xs)) in
-    ap (λ (gs : List LayoutFault). gs ++ behind) (added ∙ ap (λ (o : Option LayoutFault). fs ++ option_to_list o) (sym is)) ∙ again_next fs xs i d lt ∙ so_far
+reported_on fs more all xs i d reported lt is added so_far =
+    let following = commands_again (map command_of (take (i + 1) xs)) (map command_of (drop (i + 1) xs)) in
+    ap (λ (gs : List LayoutFault). gs ++ following) (added ∙ ap (λ (o : Option LayoutFault). fs ++ option_to_list o) (sym is))
+    ∙ again_next fs xs i d lt ∙ so_far
 
 -- the marks hold the first command of each set, among the first ones, as an owner
 abbrev pub AreFirsts : List (Option Owner) → List Command → Type 0
@@ -136,20 +137,20 @@ module _ (fs more all : List LayoutFault) (marks : List (Option Owner)) (xs : Li
   abbrev next_one : Command
   next_one = command_of (get_or xs i d)
 
-  pub told_none : more ≡ fs → set_of next_one.kind ≡ None → goes_on more
-  told_none same e = told_on fs more all xs i d None lt (again_none (map command_of (take i xs)) next_one e) (same ∙ sym (append-nil fs)) so_far
+  pub reported_none : more ≡ fs → set_of next_one.kind ≡ None → goes_on more
+  reported_none same e = reported_on fs more all xs i d None lt (again_none (map command_of (take i xs)) next_one e) (same ∙ sym (append-nil fs)) so_far
 
-  told_by : (own : ℕ) (first : Option Owner) → own < 22 → AreFirsts marks (map command_of (take i xs)) → set_of next_one.kind ≡ Some own
+  reported_by : (own : ℕ) (first : Option Owner) → own < 22 → AreFirsts marks (map command_of (take i xs)) → set_of next_one.kind ≡ Some own
       → get_or marks own None ≡ first → more ≡ fs ++ option_to_list (option_map (once_more next_one) first) → goes_on more
-  told_by own first few were e mark added =
-      told_on fs more all xs i d (option_map (once_more next_one) first) lt
+  reported_by own first few were e mark added =
+      reported_on fs more all xs i d (option_map (once_more next_one) first) lt
       (again_by (map command_of (take i xs)) next_one own first e (sym (were own few) ∙ mark)) added so_far
 
-  pub told_first : (own : ℕ) → own < 22 → AreFirsts marks (map command_of (take i xs)) → set_of next_one.kind ≡ Some own
+  pub reported_first : (own : ℕ) → own < 22 → AreFirsts marks (map command_of (take i xs)) → set_of next_one.kind ≡ Some own
       → get_or marks own None ≡ None → more ≡ fs → goes_on more
-  told_first own few were e mark same = told_by own None few were e mark (same ∙ sym (append-nil fs))
+  reported_first own few were e mark same = reported_by own None few were e mark (same ∙ sym (append-nil fs))
 
-  pub told_again : (own : ℕ) (first : Owner) (f : LayoutFault) → own < 22 → AreFirsts marks (map command_of (take i xs)) → set_of next_one.kind ≡ Some own
+  pub reported_again : (own : ℕ) (first : Owner) (f : LayoutFault) → own < 22 → AreFirsts marks (map command_of (take i xs)) → set_of next_one.kind ≡ Some own
       → get_or marks own None ≡ Some first → more ≡ fs ++ f ∷ [] → f ≡ once_more next_one first → goes_on more
-  told_again own first f few were e mark added is =
-      told_by own (Some first) few were e mark (added ∙ ap (λ (g : LayoutFault). fs ++ g ∷ []) is)
+  reported_again own first f few were e mark added is =
+      reported_by own (Some first) few were e mark (added ∙ ap (λ (g : LayoutFault). fs ++ g ∷ []) is)

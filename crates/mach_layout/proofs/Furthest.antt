@@ -4,7 +4,7 @@ use Rattle.std.proofs.lemmas.List.{take_more}
 use Rattle.std.proofs.Math.Seq.{drop-cons}
 use Rattle.std.specs.List.{cons_option}
 use Rattle.std.specs.Prelude.{option_to_list}
-use Rattle.mach_layout.specs.Sweep.{further, furthest_from, furthest, shared, shared_behind}
+use Rattle.mach_layout.specs.Sweep.{further, furthest_from, furthest, shared, shared_after}
 use Rattle.mach_layout.specs.declared.fault.LayoutFault.{LayoutFault}
 use Rattle.mach_layout.specs.declared.fault.Rule.{Rule}
 use Rattle.mach_layout.specs.declared.claim.Claim.{Claim}
@@ -22,16 +22,16 @@ onto None xs ys = append_assoc xs [] ys
 onto (Some x) xs ys = append_assoc xs (x ∷ []) ys
 
 -- the fault of the next range comes before the faults of those after it
-pub told_next : (rule : Rule) (fs : List LayoutFault) (rs : List Claim) (k : ℕ) (d : Claim) → k < length rs
-    → (fs ++ option_to_list (shared rule (furthest (take k rs)) (get_or rs k d))) ++ shared_behind rule (take (k + 1) rs) (drop (k + 1) rs)
-    ≡ fs ++ shared_behind rule (take k rs) (drop k rs)
-told_next rule fs rs k d lt =
+pub reported_next : (rule : Rule) (fs : List LayoutFault) (rs : List Claim) (k : ℕ) (d : Claim) → k < length rs
+    → (fs ++ option_to_list (shared rule (furthest (take k rs)) (get_or rs k d))) ++ shared_after rule (take (k + 1) rs) (drop (k + 1) rs)
+    ≡ fs ++ shared_after rule (take k rs) (drop k rs)
+reported_next rule fs rs k d lt =
     let before = take k rs in
     let r = get_or rs k d in
     let here : drop k rs ≡ r ∷ drop (k + 1) rs = rw add-one (drop-cons rs k d lt) in
-    onto (shared rule (furthest before) r) fs (shared_behind rule (take (k + 1) rs) (drop (k + 1) rs))
-    ∙ ap (λ (b : List Claim). fs ++ cons_option (shared rule (furthest before) r) (shared_behind rule b (drop (k + 1) rs))) (take_more rs k d lt)
-    ∙ ap (λ (left : List Claim). fs ++ shared_behind rule before left) (sym here)
+    onto (shared rule (furthest before) r) fs (shared_after rule (take (k + 1) rs) (drop (k + 1) rs))
+    ∙ ap (λ (b : List Claim). fs ++ cons_option (shared rule (furthest before) r) (shared_after rule b (drop (k + 1) rs))) (take_more rs k d lt)
+    ∙ ap (λ (left : List Claim). fs ++ shared_after rule before left) (sym here)
 
 -- the furthest, after the next one was taken
 pub furthest_here : (rs : List Claim) (k : ℕ) (d : Claim) (f : Option Claim) (r : Claim) → k < length rs → f ≡ furthest (take k rs)

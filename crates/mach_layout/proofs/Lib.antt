@@ -6,7 +6,7 @@ pub mod OneByOne
 mod States
 mod Firsts
 pub mod Joined
-pub mod Told
+pub mod Reported
 pub mod Names
 pub mod Chains
 pub mod Ahead

@@ -49,10 +49,10 @@ abbrev pub place_of : Option PlacedSegment → Option ℕ
 place_of o = option_map (λ (s : PlacedSegment). s.place) o
 
 -- what is kept for a name after one more segment
-pub kept_behind : (q : List ℕ) (earlier : List PlacedSegment) (s : PlacedSegment) (old new : Option ℕ)
+pub kept_after : (q : List ℕ) (earlier : List PlacedSegment) (s : PlacedSegment) (old new : Option ℕ)
     → old ≡ place_of (named_among q earlier) → new ≡ first_place_kept old (segment_name s) s.place q
     → new ≡ place_of (named_among q (earlier ++ s ∷ []))
-kept_behind q earlier s old new before now =
+kept_after q earlier s old new before now =
     now ∙ ap (λ (o : Option ℕ). first_place_kept o (segment_name s) s.place q) before
     ∙ by (named_among q earlier) (bytes_eq (segment_name s) q) refl
     ∙ ap place_of (sym (find-append (λ (t : PlacedSegment). bytes_eq (segment_name t) q) earlier (s ∷ [])))
@@ -64,23 +64,23 @@ kept_behind q earlier s old new before now =
     by None false e = rw e refl
 
 -- the fault of one more segment comes after those before it
-pub told_behind : (front pushed : List LayoutFault) (earlier rest : List PlacedSegment) (s : PlacedSegment) (met : Option ℕ)
+pub reported_after : (front pushed : List LayoutFault) (earlier rest : List PlacedSegment) (s : PlacedSegment) (met : Option ℕ)
     → met ≡ place_of (named_among (segment_name s) earlier) → pushed ≡ front ++ name_again met s.place
     → front ++ names_again earlier (s ∷ rest) ≡ pushed ++ names_again (earlier ++ s ∷ []) rest
-told_behind front pushed earlier rest s met same more =
+reported_after front pushed earlier rest s met same more =
     let after : List LayoutFault = names_again (earlier ++ s ∷ []) rest in
-    let told_as : Option PlacedSegment → List LayoutFault =
+    let reported_as : Option PlacedSegment → List LayoutFault =
     λ o. cons_option (option_map (λ (t : PlacedSegment). same_name s.place t.place) o) after in
     let by : (o : Option PlacedSegment) → named_among (segment_name s) earlier ≡ o → front ++ names_again earlier (s ∷ rest) ≡ pushed ++ after = λ o.
     elim o as (λ (o : Option PlacedSegment). named_among (segment_name s) earlier ≡ o → front ++ names_again earlier (s ∷ rest) ≡ pushed ++ after) [
       | None ↦ λ e.
           let none : met ≡ None = same ∙ ap place_of e in
           let all : pushed ≡ front = more ∙ ap (λ (o : Option ℕ). front ++ name_again o s.place) none ∙ append-nil front in
-          ap (λ (o : Option PlacedSegment). front ++ told_as o) e ∙ ap (λ (l : List LayoutFault). l ++ after) (sym all)
+          ap (λ (o : Option PlacedSegment). front ++ reported_as o) e ∙ ap (λ (l : List LayoutFault). l ++ after) (sym all)
       | Some t ↦ λ e.
           let some : met ≡ Some t.place = same ∙ ap place_of e in
           let all : pushed ≡ front ++ same_name s.place t.place ∷ [] = more ∙ ap (λ (o : Option ℕ). front ++ name_again o s.place) some in
-          ap (λ (o : Option PlacedSegment). front ++ told_as o) e
+          ap (λ (o : Option PlacedSegment). front ++ reported_as o) e
           ∙ sym (append_assoc front (same_name s.place t.place ∷ []) after)
           ∙ ap (λ (l : List LayoutFault). l ++ after) (sym all)
     ] in
@@ -131,9 +131,9 @@ module _ (cs : List LoadCommand) (i : ℕ) (d : LoadCommand) (inside : i < lengt
     with_segment s e was now all more =
         let b : before cs (i + 1) ≡ before cs i ++ s ∷ [] = before_next ∙ ap (λ (o : Option PlacedSegment). before cs i ++ cons_option o []) e in
         let r : from_on cs i ≡ s ∷ from_on cs (i + 1) = from_here ∙ ap (λ (o : Option PlacedSegment). cons_option o (from_on cs (i + 1))) e in (
-          λ (q : List ℕ). kept_behind q (before cs i) s (old q) (new q) (was q) (now q) ∙ ap (λ (l : List PlacedSegment). place_of (named_among q l)) (sym b),
+          λ (q : List ℕ). kept_after q (before cs i) s (old q) (new q) (was q) (now q) ∙ ap (λ (l : List PlacedSegment). place_of (named_among q l)) (sym b),
           all ∙ ap (λ (l : List PlacedSegment). front ++ names_again (before cs i) l) r
-              ∙ told_behind front pushed (before cs i) (from_on cs (i + 1)) s (old (segment_name s)) (was (segment_name s)) more
+              ∙ reported_after front pushed (before cs i) (from_on cs (i + 1)) s (old (segment_name s)) (was (segment_name s)) more
               ∙ ap (λ (l : List PlacedSegment). pushed ++ names_again l (from_on cs (i + 1))) (sym b),
         )
 

@@ -8,7 +8,7 @@ use Rattle.std.specs.List.{filter}
 use Rattle.std.specs.List.Sorted.{IsNonDecreasingBy, ties}
 use Rattle.std.specs.Ordering.{is_lt, nat_cmp}
 use Rattle.std.specs.declared.cmp.Ordering.TheVariants.{Less, Equal}
-use Rattle.mach_layout.specs.Sweep.{IsByStart, AreShared, shared_behind}
+use Rattle.mach_layout.specs.Sweep.{IsByStart, AreShared, shared_after}
 use Rattle.mach_layout.specs.declared.claim.Claim.{Claim}
 use Rattle.mach_layout.specs.declared.fault.LayoutFault.{LayoutFault}
 use Rattle.mach_layout.specs.declared.fault.Rule.{Rule}
@@ -33,8 +33,8 @@ neither a b above below =
     ]
 
 module _ {X : Type 0} (n : X → ℕ) (t : X → X → Bool) (yes : (x y : X) → n x ≡ n y → t x y ≡ true) (no : (x y : X) → n x < n y → t x y ≡ false) where
-  rises_behind : (x : X) (xs : List X) → IsNonDecreasingBy n (x ∷ xs) → IsNonDecreasingBy n xs
-  rises_behind x xs h = λ i j d le lt. h (suc i) (suc j) d (omega (arith, le)) (omega (arith, lt))
+  rises_after : (x : X) (xs : List X) → IsNonDecreasingBy n (x ∷ xs) → IsNonDecreasingBy n xs
+  rises_after x xs h = λ i j d le lt. h (suc i) (suc j) d (omega (arith, le)) (omega (arith, lt))
 
   -- in a rising list, no item ties with a smaller one
   none_less : (y z : X) (zs : List X) → IsNonDecreasingBy n (z ∷ zs) → n y < n z → filter (t y) (z ∷ zs) ≡ []
@@ -59,7 +59,7 @@ module _ {X : Type 0} (n : X → ℕ) (t : X → X → Bool) (yes : (x y : X) �
       let heads : y ∷ filter (t y) ys ≡ z ∷ filter (t y) zs = sym (first_kept y y ys refl) ∙ same y ∙ first_kept y z zs equal in
       let first : y ≡ z = cc in
       let rest : ys ≡ zs =
-      one_rising ys zs (rises_behind y ys h) (rises_behind z zs g)
+      one_rising ys zs (rises_after y ys h) (rises_after z zs g)
       (λ x. kept (t x y) y (filter (t x) ys) (filter (t x) zs) (same x ∙ ap (λ (w : X). filter (t x) (w ∷ zs)) (sym first))) in
       ap (λ (w : X). w ∷ ys) first ∙ ap (λ (ws : List X). z ∷ ws) rest
 
@@ -85,7 +85,7 @@ one_by_start ranges xs ys p q =
     (λ x. p.stable x ∙ sym (q.stable x))
 
 -- the faults of ranges that share a place are one list
-pub one_shared : (rule : Rule) (ranges : List Claim) (told others : List LayoutFault) → AreShared rule ranges told → AreShared rule ranges others
-    → told ≡ others
-one_shared rule ranges told others p q =
-    p.each ∙ ap (λ (sorted : List Claim). shared_behind rule [] sorted) (one_by_start ranges p.sorted q.sorted p.by_start q.by_start) ∙ sym q.each
+pub one_shared : (rule : Rule) (ranges : List Claim) (reported others : List LayoutFault) → AreShared rule ranges reported → AreShared rule ranges others
+    → reported ≡ others
+one_shared rule ranges reported others p q =
+    p.each ∙ ap (λ (sorted : List Claim). shared_after rule [] sorted) (one_by_start ranges p.sorted q.sorted p.by_start q.by_start) ∙ sym q.each

@@ -14,8 +14,8 @@ use Rattle.mach_layout.specs.declared.placed_sections.PlacedSection.{PlacedSecti
 use Rattle.mach_layout.specs.declared.placed_sections.PlacedSegment.{PlacedSegment}
 
 module _ (ctx : Ctx) (bytes : List ℕ) (s : PlacedSegment) (k : ℕ) where
-  abbrev behind : List PlacedSection
-  behind = sections_from ctx bytes s (k + 1)
+  abbrev following : List PlacedSection
+  following = sections_from ctx bytes s (k + 1)
 
   -- those from number k on are section k and those after it
   from_here : k < own_sections ctx.container s → sections_from ctx bytes s k
@@ -31,7 +31,7 @@ module _ (ctx : Ctx) (bytes : List ℕ) (s : PlacedSegment) (k : ℕ) where
   taken_or_over (Err e) inside reads = from_here inside ∙ rw reads refl
 
   -- after the last there is none
-  pub none_behind : own_sections ctx.container s ≤ k → sections_from ctx bytes s k ≡ []
-  none_behind past =
+  pub none_after : own_sections ctx.container s ≤ k → sections_from ctx bytes s k ≡ []
+  none_after past =
       let none : own_sections ctx.container s - k ≡ 0 = omega arith in
       ap (λ (n : ℕ). in_front (items_from (placed_section_at ctx bytes s) k n)) none

@@ -10,7 +10,7 @@ use Rattle.mach_layout.specs.Claim.{end_of}
 use Rattle.mach_layout.specs.Claims.{claims_of}
 use Rattle.mach_layout.specs.Laid.{Laid}
 use Rattle.mach_layout.specs.Ranges.{lone_claims, is_lone_claim}
-use Rattle.mach_layout.specs.Sweep.{AreShared, IsOfTwo, further, furthest, furthest_from, shared, shared_behind}
+use Rattle.mach_layout.specs.Sweep.{AreShared, IsOfTwo, further, furthest, furthest_from, shared, shared_after}
 use Rattle.mach_layout.specs.declared.claim.Claim.{Claim}
 use Rattle.mach_layout.specs.declared.fault.LayoutFault.{LayoutFault}
 use Rattle.mach_layout.specs.declared.fault.Rule.{Rule}
@@ -31,36 +31,36 @@ module _ (rule : Rule) (ranges : List Claim) where
   furthest_in f (r ∷ rs) there all =
       furthest_in (Some (further f r)) rs (further_in f r there (All-head In r rs all)) (All-tail In r rs all)
 
-  one_told : (f : Option Claim) (r : Claim) (told : List LayoutFault) → IfSome f In → In r → All OfTwo told
-      → All OfTwo (cons_option (shared rule f r) told)
-  one_told None r told there here all = all
-  one_told (Some f) r told there here all = elim (cases_Bool (nat_lt r.start (end_of f))) [
+  one_reported : (f : Option Claim) (r : Claim) (reported : List LayoutFault) → IfSome f In → In r → All OfTwo reported
+      → All OfTwo (cons_option (shared rule f r) reported)
+  one_reported None r reported there here all = all
+  one_reported (Some f) r reported there here all = elim (cases_Bool (nat_lt r.start (end_of f))) [
     | inl e ↦
         let fault : LayoutFault = record { rule = rule; owner = r.owner; other = Some f.owner; found = r.start; limit = place_after f.start f.len } in
         let two : OfTwo fault = record { first = f; second = r; has_first = there; has_second = here; shares = ltb-true r.start (end_of f) e; is = refl } in
-        rw e (All-cons OfTwo fault told two all)
+        rw e (All-cons OfTwo fault reported two all)
     | inr e ↦ rw e all
   ]
 
-  all_told : (before rs : List Claim) → All In before → All In rs → All OfTwo (shared_behind rule before rs)
-  all_told before [] front all = All-nil OfTwo
-  all_told before (r ∷ rs) front all =
+  all_reported : (before rs : List Claim) → All In before → All In rs → All OfTwo (shared_after rule before rs)
+  all_reported before [] front all = All-nil OfTwo
+  all_reported before (r ∷ rs) front all =
       let here : In r = All-head In r rs all in
-      one_told (furthest before) r (shared_behind rule (before ++ r ∷ []) rs) (furthest_in None before tt front) here
-      (all_told (before ++ r ∷ []) rs (All-push In before r front here) (All-tail In r rs all))
+      one_reported (furthest before) r (shared_after rule (before ++ r ∷ []) rs) (furthest_in None before tt front) here
+      (all_reported (before ++ r ∷ []) rs (All-push In before r front here) (All-tail In r rs all))
 
 -- for the ranges that are checked, which are all among others
-told_among : (rule : Rule) (ranges among : List Claim) (told : List LayoutFault) → All (Contains among) ranges → AreShared rule ranges told
-    → All (IsOfTwo rule among) told
-told_among rule ranges among told all are =
+reported_among : (rule : Rule) (ranges among : List Claim) (reported : List LayoutFault) → All (Contains among) ranges → AreShared rule ranges reported
+    → All (IsOfTwo rule among) reported
+reported_among rule ranges among reported all are =
     let sorted : All (Contains among) are.sorted = All-permutation (Contains among) ranges are.sorted are.by_start.same all in
-    subst (λ (list : List LayoutFault). All (IsOfTwo rule among) list) (sym are.each) (all_told rule among [] are.sorted (All-nil (Contains among)) sorted)
+    subst (λ (list : List LayoutFault). All (IsOfTwo rule among) list) (sym are.each) (all_reported rule among [] are.sorted (All-nil (Contains among)) sorted)
 
-pub shared_are_ranges : (rule : Rule) (ranges : List Claim) (told : List LayoutFault) → AreShared rule ranges told → All (IsOfTwo rule ranges) told
-shared_are_ranges rule ranges told are = told_among rule ranges ranges told (All-contains_itself ranges) are
+pub shared_are_ranges : (rule : Rule) (ranges : List Claim) (reported : List LayoutFault) → AreShared rule ranges reported → All (IsOfTwo rule ranges) reported
+shared_are_ranges rule ranges reported are = reported_among rule ranges ranges reported (All-contains_itself ranges) are
 
-pub shared_are_claims : (laid : Laid) (rule : Rule) (told : List LayoutFault) → AreShared rule (lone_claims laid) told
-    → All (IsOfTwo rule (claims_of laid)) told
-shared_are_claims laid rule told are =
+pub shared_are_claims : (laid : Laid) (rule : Rule) (reported : List LayoutFault) → AreShared rule (lone_claims laid) reported
+    → All (IsOfTwo rule (claims_of laid)) reported
+shared_are_claims laid rule reported are =
     let all = All-contains_itself (claims_of laid) in
-    told_among rule (lone_claims laid) (claims_of laid) told (All-filter (is_lone_claim laid) (Contains (claims_of laid)) (claims_of laid) all) are
+    reported_among rule (lone_claims laid) (claims_of laid) reported (All-filter (is_lone_claim laid) (Contains (claims_of laid)) (claims_of laid) all) are

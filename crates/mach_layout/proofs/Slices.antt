@@ -9,7 +9,7 @@ use Rattle.mach_base.specs.Fault.{Fault}
 use Rattle.mach_parts.specs.ArchForms.{ArchForm}
 use Rattle.mach_layout.specs.Containers.{AreContainerFaults, placed_slice_at, before_fault, slices_from, slices_of, records_end, records_out_of_file}
 use Rattle.mach_layout.specs.Containers.{slice_owner, slice_range, slice_sees}
-use Rattle.mach_layout.specs.Rules.{told_over}
+use Rattle.mach_layout.specs.Rules.{reported_over}
 use Rattle.mach_layout.specs.Sweep.{AreShared}
 use Rattle.mach_layout.specs.declared.containers.RangeOf.TheVariants.{Cpu, Bytes}
 use Rattle.mach_layout.specs.declared.containers.PlacedSlice.{PlacedSlice}
@@ -25,9 +25,9 @@ onto (Some x) xs ys = append_assoc xs (x ∷ []) ys
 pub kept_next : {X Y : Type 0} (f : X → Option Y) (o : Option Y) (old new : List Y) (xs : List X) (i : ℕ) (d : X) → i < length xs
     → o ≡ f (get_or xs i d) → new ≡ old ++ option_to_list o → new ++ filter_map f (drop (i + 1) xs) ≡ old ++ filter_map f (drop i xs)
 kept_next {X} {Y} f o old new xs i d lt is added =
-    let behind = filter_map f (drop (i + 1) xs) in
+    let following = filter_map f (drop (i + 1) xs) in
     let here : drop i xs ≡ get_or xs i d ∷ drop (i + 1) xs = rw add-one (drop-cons xs i d lt) in
-    ap (λ (ys : List Y). ys ++ behind) added ∙ onto o old behind ∙ ap (λ (p : Option Y). old ++ cons_option p behind) is
+    ap (λ (ys : List Y). ys ++ following) added ∙ onto o old following ∙ ap (λ (p : Option Y). old ++ cons_option p following) is
     ∙ ap (λ (left : List X). old ++ filter_map f left) (sym here)
 
 pub kept_all : {X Y : Type 0} (f : X → Option Y) (ys : List Y) (xs : List X) (i : ℕ) → length xs ≤ i → ys ++ filter_map f (drop i xs) ≡ ys
@@ -61,27 +61,27 @@ pub and_more : {X : Type 0} (more : List X) {f g x : List X} → f ≡ x → g �
 and_more {X} more e then = then ∙ ap (λ (l : List X). l ++ more) e
 
 -- the faults that some rules find in some slices
-abbrev pub told_by : List ℕ → ℕ → List Rule → List PlacedSlice → List LayoutFault
-told_by bytes end rules slices = told_over rules (λ r. slice_owner) (slice_sees bytes end) slices
+abbrev pub reported_by : List ℕ → ℕ → List Rule → List PlacedSlice → List LayoutFault
+reported_by bytes end rules slices = reported_over rules (λ r. slice_owner) (slice_sees bytes end) slices
 
 abbrev pub alone : List Rule
 alone = rule.SliceOutOfFile ∷ rule.SliceInRecords ∷ rule.SliceAlignment ∷ rule.SliceUnaligned ∷ []
 
 -- the faults of all rules are those of the table
-pub table_told : {R : Type 0} (form : ArchForm R) (bytes : List ℕ) (slices : List PlacedSlice) (end : ℕ) (f0 f1 f2 f3 f4 f5 : List LayoutFault)
+pub table_reported : {R : Type 0} (form : ArchForm R) (bytes : List ℕ) (slices : List PlacedSlice) (end : ℕ) (f0 f1 f2 f3 f4 f5 : List LayoutFault)
     → slices ≡ slices_of form bytes → end ≡ records_end form bytes → f0 ≡ []
-    → f1 ≡ f0 ++ option_to_list (records_out_of_file form bytes) → f2 ≡ f1 ++ told_by bytes end alone slices
+    → f1 ≡ f0 ++ option_to_list (records_out_of_file form bytes) → f2 ≡ f1 ++ reported_by bytes end alone slices
     → ((again : List LayoutFault) × AreShared rule.SliceAgain (filter_map (slice_range Cpu) slices) again × (f3 ≡ f2 ++ again))
-    → f4 ≡ f3 ++ told_by bytes end (rule.SliceOfOtherCpu ∷ []) slices
+    → f4 ≡ f3 ++ reported_by bytes end (rule.SliceOfOtherCpu ∷ []) slices
     → ((sharing : List LayoutFault) × AreShared rule.SlicesShare (filter_map (slice_range Bytes) slices) sharing × (f5 ≡ f4 ++ sharing))
     → AreContainerFaults form bytes f5
-table_told form bytes slices end f0 f1 f2 f3 f4 f5 is ends e0 e1 e2 e3 e4 e5 =
+table_reported form bytes slices end f0 f1 f2 f3 f4 f5 is ends e0 e1 e2 e3 e4 e5 =
     let out = option_to_list (records_out_of_file form bytes) in
     let first : f1 ≡ out = e1 ∙ ap (λ (l : List LayoutFault). l ++ out) e0 in
-    let more = λ (rules : List Rule) (old new front : List LayoutFault) (so_far : old ≡ front) (e : new ≡ old ++ told_by bytes end rules slices).
-    and_more (told_by bytes (records_end form bytes) rules (slices_of form bytes)) so_far
-    (e ∙ ap (λ (n : ℕ). old ++ told_by bytes n rules slices) ends
-    ∙ ap (λ (ss : List PlacedSlice). old ++ told_by bytes (records_end form bytes) rules ss) is)
+    let more = λ (rules : List Rule) (old new front : List LayoutFault) (so_far : old ≡ front) (e : new ≡ old ++ reported_by bytes end rules slices).
+    and_more (reported_by bytes (records_end form bytes) rules (slices_of form bytes)) so_far
+    (e ∙ ap (λ (n : ℕ). old ++ reported_by bytes n rules slices) ends
+    ∙ ap (λ (ss : List PlacedSlice). old ++ reported_by bytes (records_end form bytes) rules ss) is)
     in
     let second = more alone f1 f2 _ first e2 in
     let third = and_more e3.0 second e3.2 in

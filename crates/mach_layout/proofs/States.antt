@@ -42,6 +42,6 @@ went_on (suc n) size le rest next words total within room inv is fits next_is =
     let short : length (drop (8 + 4 * words) rest) ≡ length rest - (8 + 4 * words) = length-drop (8 + 4 * words) rest in
     let all : next ≡ drop (8 + 4 * words) rest = next_is ∙ take_all (length rest - (8 + 4 * words)) (drop (8 + 4 * words) rest) (omega arith) in
     let one = one_state n le rest (omega arith) in
-    let behind : states_size n le (drop (state_size le rest) rest) ≡ states_size n le next =
+    let following : states_size n le (drop (state_size le rest) rest) ≡ states_size n le next =
     ap (λ (k : ℕ). states_size n le (drop k rest)) e ∙ ap (states_size n le) (sym all) in
-    (n, omega (arith, ap length all), omega (arith, one, behind, inv, e))
+    (n, omega (arith, ap length all), omega (arith, one, following, inv, e))

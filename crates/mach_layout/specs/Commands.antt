@@ -24,10 +24,10 @@ use Rattle.mach_records.specs.Segments.{section32_fields, section64_fields, segm
 use Rattle.mach_records.specs.SymbolTables.{dysymtab_command_fields, symseg_command_fields, symtab_command_fields, twolevel_hints_command_fields}
 use Rattle.mach_records.specs.Umbrellas.{sub_client_command_fields, sub_framework_command_fields, sub_library_command_fields, sub_umbrella_command_fields}
 use Rattle.mach_records.specs.Versions.{build_tool_version_fields, build_version_command_fields, source_version_command_fields, version_min_command_fields}
-use Rattle.mach_layout.specs.Header.{header_told}
+use Rattle.mach_layout.specs.Header.{header_reported}
 use Rattle.mach_layout.specs.Laid.{Laid, declared_end}
 use Rattle.mach_layout.specs.Libraries.{text_of, place_sees, text_sees, is_library_file, says_id}
-use Rattle.mach_layout.specs.Rules.{measured, sound, sees_there, owner_at, told_over}
+use Rattle.mach_layout.specs.Rules.{measured, sound, sees_there, owner_at, reported_over}
 use Rattle.mach_layout.specs.declared.commands.sizes.StructSize.{StructSize}
 use Rattle.mach_layout.specs.declared.commands.sizes.StructSize.TheVariants.{Exactly, AtLeast}
 use Rattle.mach_layout.specs.declared.fault.LayoutFault.{LayoutFault}
@@ -36,7 +36,7 @@ use Rattle.mach_layout.specs.declared.fault.Part.{Part}
 use Rattle.mach_layout.specs.declared.fault.Part.TheVariants as part
 use Rattle.mach_layout.specs.declared.fault.Rule.{Rule}
 use Rattle.mach_layout.specs.declared.fault.Rule.TheVariants as rule
-use Rattle.mach_layout.specs.declared.rules.Seen.{Seen}
+use Rattle.mach_layout.specs.declared.rules.RuleOutcome.{RuleOutcome}
 
 -- ---- the size of a command
 
@@ -96,7 +96,7 @@ struct_size kind.fileset_entry = AtLeast (size fileset_entry_command_fields)
 struct_size _ = AtLeast (size header_fields)
 
 -- the size is that of the struct, or more if other items may follow it
-abbrev pub size_sees : ℕ → StructSize → Seen
+abbrev pub size_sees : ℕ → StructSize → RuleOutcome
 size_sees size (Exactly n) = measured (size == n) size n
 size_sees size (AtLeast n) = measured (nat_le n size) size n
 
@@ -106,8 +106,8 @@ abbrev pub unit_of : Laid → Command → ℕ
 unit_of laid c = if laid.header.filetype == 4 && cmd_of c == 4 then 4 else pointer_size laid.ctx.container
 
 -- the bytes of a command after its cmd and cmdsize
-abbrev pub behind_header : List ℕ → Command → List ℕ
-behind_header bytes c = take (cmdsize_of c - 8) (drop (c.offset + 8) bytes)
+abbrev pub after_header : List ℕ → Command → List ℕ
+after_header bytes c = take (cmdsize_of c - 8) (drop (c.offset + 8) bytes)
 
 -- the number of bytes in the first thread state: its flavor, its count and as many words as the count states (struct thread_command)
 abbrev pub state_size : Endian → List ℕ → ℕ
@@ -121,7 +121,7 @@ states_size (suc n) le rest =
 
 -- the size of a thread command with its states
 abbrev pub thread_size : Laid → Command → ℕ
-thread_size laid c = let rest = behind_header laid.bytes c in 8 + states_size (length rest) laid.ctx.le rest
+thread_size laid c = let rest = after_header laid.bytes c in 8 + states_size (length rest) laid.ctx.le rest
 
 -- the size of a command with the sections, tools or states that it counts, if it counts any
 abbrev pub counted_size : Laid → Command → Kind → Option ℕ
@@ -216,7 +216,7 @@ abbrev pub owner_by : Rule → Command → Owner
 owner_by r c = owner_at (command_part r) c.offset 0
 
 -- what each rule of one command sees
-abbrev pub command_sees : Laid → Rule → Command → Seen
+abbrev pub command_sees : Laid → Rule → Command → RuleOutcome
 -- a command has the size of its struct
 command_sees laid rule.CommandSize c = size_sees (cmdsize_of c) (struct_size c.kind)
 -- and its size is a multiple of its unit
@@ -239,27 +239,27 @@ command_sees laid rule.IdUnexpected c = measured (not (says_id c) || is_library_
 command_sees laid _ c = sound
 
 -- the faults that some of these rules find in the commands
-abbrev pub commands_told : Laid → List Rule → List LayoutFault
-commands_told laid rules = told_over rules owner_by (command_sees laid) laid.commands
+abbrev pub commands_reported : Laid → List Rule → List LayoutFault
+commands_reported laid rules = reported_over rules owner_by (command_sees laid) laid.commands
 
 -- LC_DYSYMTAB is checked by its rule if there are no symbols
 abbrev pub dynamic_symbols_alone : Laid → List LayoutFault
-dynamic_symbols_alone laid = if list_any is_symbols laid.commands then [] else commands_told laid (rule.DynamicSymbolsAlone ∷ [])
+dynamic_symbols_alone laid = if list_any is_symbols laid.commands then [] else commands_reported laid (rule.DynamicSymbolsAlone ∷ [])
 
 -- ---- all of them
 
 -- the faults of the header and of the commands
 abbrev pub command_faults : Laid → List LayoutFault
 command_faults laid =
-    header_told laid (rule.FileKind ∷ rule.CommandsOutOfFile ∷ [])
-    ++ commands_told laid (rule.CommandSize ∷ rule.CommandUnaligned ∷ rule.CommandOutOfCommands ∷ rule.CommandCount ∷ rule.SegmentWidth ∷ [])
-    ++ header_told laid (rule.CommandsEndEarly ∷ [])
+    header_reported laid (rule.FileKind ∷ rule.CommandsOutOfFile ∷ [])
+    ++ commands_reported laid (rule.CommandSize ∷ rule.CommandUnaligned ∷ rule.CommandOutOfCommands ∷ rule.CommandCount ∷ rule.SegmentWidth ∷ [])
+    ++ header_reported laid (rule.CommandsEndEarly ∷ [])
     ++ commands_again [] laid.commands
     ++ dynamic_symbols_alone laid
 
 -- the faults of texts and names
 abbrev pub text_faults : Laid → List LayoutFault
 text_faults laid =
-    commands_told laid (rule.TextMisplaced ∷ rule.TextEmpty ∷ [])
-    ++ header_told laid (rule.IdMissing ∷ [])
-    ++ commands_told laid (rule.IdUnexpected ∷ [])
+    commands_reported laid (rule.TextMisplaced ∷ rule.TextEmpty ∷ [])
+    ++ header_reported laid (rule.IdMissing ∷ [])
+    ++ commands_reported laid (rule.IdUnexpected ∷ [])

@@ -10,7 +10,7 @@ use Rattle.mach_base.specs.declared.context.Endian.TheVariants.{Big}
 use Rattle.mach_parts.specs.ArchForms.{ArchForm, arch_place_in, arch_in}
 use Rattle.mach_parts.specs.Magic.{magic_at}
 use Rattle.mach_layout.specs.Header.{header_owner}
-use Rattle.mach_layout.specs.Rules.{measured, sound, sees_there, owner_at, told, told_over}
+use Rattle.mach_layout.specs.Rules.{measured, sound, sees_there, owner_at, reported, reported_over}
 use Rattle.mach_layout.specs.Sweep.{AreShared}
 use Rattle.mach_layout.specs.declared.claim.Claim.{Claim}
 use Rattle.mach_layout.specs.declared.containers.PlacedSlice.{PlacedSlice}
@@ -21,7 +21,7 @@ use Rattle.mach_layout.specs.declared.fault.Owner.{Owner}
 use Rattle.mach_layout.specs.declared.fault.Part.TheVariants as part
 use Rattle.mach_layout.specs.declared.fault.Rule.{Rule}
 use Rattle.mach_layout.specs.declared.fault.Rule.TheVariants as rule
-use Rattle.mach_layout.specs.declared.rules.Seen.{Seen}
+use Rattle.mach_layout.specs.declared.rules.RuleOutcome.{RuleOutcome}
 
 -- ---- the records
 
@@ -75,12 +75,12 @@ abbrev pub if_ok : Result ℕ Fault → Option ℕ
 if_ok (Ok n) = Some n
 if_ok (Err f) = None
 
-abbrev pub cpu_behind : List ℕ → ℕ → Option Ctx → Option ℕ
-cpu_behind bytes o None = None
-cpu_behind bytes o (Some ctx) = if_ok (number_at ctx.le 4 bytes (place_after o 4))
+abbrev pub cpu_after : List ℕ → ℕ → Option Ctx → Option ℕ
+cpu_after bytes o None = None
+cpu_after bytes o (Some ctx) = if_ok (number_at ctx.le 4 bytes (place_after o 4))
 
 abbrev pub cpu_by : List ℕ → ℕ → Result (ℕ × Option Ctx) Fault → Option ℕ
-cpu_by bytes o (Ok found) = cpu_behind bytes o found.1
+cpu_by bytes o (Ok found) = cpu_after bytes o found.1
 cpu_by bytes o (Err f) = None
 
 -- the cpu of the image at a place, if one begins there
@@ -88,7 +88,7 @@ abbrev pub image_cpu : List ℕ → ℕ → Option ℕ
 image_cpu bytes o = cpu_by bytes o (magic_at bytes o)
 
 -- what each rule of one slice sees, if the records end at a place
-abbrev pub slice_sees : List ℕ → ℕ → Rule → PlacedSlice → Seen
+abbrev pub slice_sees : List ℕ → ℕ → Rule → PlacedSlice → RuleOutcome
 -- it has bytes, and they lie in the file
 slice_sees bytes end rule.SliceOutOfFile s =
     measured (not (s.size == 0) && nat_le (s.offset + s.size) (length bytes)) (place_after s.offset s.size) (length bytes)
@@ -105,15 +105,15 @@ slice_sees bytes end rule.SliceOfOtherCpu s =
 slice_sees bytes end _ s = sound
 
 -- the faults that some of these rules find in the slices
-abbrev pub slices_told : {R : Type 0} → ArchForm R → List ℕ → List Rule → List LayoutFault
-slices_told form bytes rules = told_over rules (λ rule. slice_owner) (slice_sees bytes (records_end form bytes)) (slices_of form bytes)
+abbrev pub slices_reported : {R : Type 0} → ArchForm R → List ℕ → List Rule → List LayoutFault
+slices_reported form bytes rules = reported_over rules (λ rule. slice_owner) (slice_sees bytes (records_end form bytes)) (slices_of form bytes)
 
 -- ---- all of them
 
 -- the records lie in the file
 abbrev pub records_out_of_file : {R : Type 0} → ArchForm R → List ℕ → Option LayoutFault
 records_out_of_file form bytes =
-    let end = records_end form bytes in told rule.RecordsOutOfFile header_owner (measured (nat_le end (length bytes)) end (length bytes))
+    let end = records_end form bytes in reported rule.RecordsOutOfFile header_owner (measured (nat_le end (length bytes)) end (length bytes))
 
 -- The bytes of a slice, if it has any; or a different number for each cpu and subtype (the low 24 bits of cpusubtype), which
 -- two slices of one cpu and subtype share.
@@ -129,5 +129,5 @@ pub record AreContainerFaults {R : Type 0} (form : ArchForm R) (bytes : List ℕ
   pub slices_share : AreShared rule.SlicesShare (filter_map (slice_range Bytes) (slices_of form bytes)) sharing
   pub joined : list
       ≡ option_to_list (records_out_of_file form bytes)
-      ++ slices_told form bytes (rule.SliceOutOfFile ∷ rule.SliceInRecords ∷ rule.SliceAlignment ∷ rule.SliceUnaligned ∷ []) ++ again
-      ++ slices_told form bytes (rule.SliceOfOtherCpu ∷ []) ++ sharing
+      ++ slices_reported form bytes (rule.SliceOutOfFile ∷ rule.SliceInRecords ∷ rule.SliceAlignment ∷ rule.SliceUnaligned ∷ []) ++ again
+      ++ slices_reported form bytes (rule.SliceOfOtherCpu ∷ []) ++ sharing

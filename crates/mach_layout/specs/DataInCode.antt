@@ -12,7 +12,7 @@ use Rattle.mach_load.specs.DataInCode.{data_in_code_at}
 use Rattle.mach_layout.specs.Entry.{is_code}
 use Rattle.mach_layout.specs.Fixups.{Data, data_of, text_address}
 use Rattle.mach_layout.specs.Laid.{Laid, segments_of}
-use Rattle.mach_layout.specs.Rules.{against, measured, owner_at, sees_there, sound, told_over}
+use Rattle.mach_layout.specs.Rules.{against, measured, owner_at, sees_there, sound, reported_over}
 use Rattle.mach_layout.specs.Symbols.{all_there, readable}
 use Rattle.mach_layout.specs.declared.data.CodeSpan.{CodeSpan}
 use Rattle.mach_layout.specs.declared.data.PlacedData.{PlacedData}
@@ -22,7 +22,7 @@ use Rattle.mach_layout.specs.declared.fault.Part.TheVariants as part
 use Rattle.mach_layout.specs.declared.fault.Rule.{Rule}
 use Rattle.mach_layout.specs.declared.fault.Rule.TheVariants as rule
 use Rattle.mach_layout.specs.declared.placed_sections.PlacedSegment.{PlacedSegment}
-use Rattle.mach_layout.specs.declared.rules.Seen.{Seen}
+use Rattle.mach_layout.specs.declared.rules.RuleOutcome.{RuleOutcome}
 
 -- ---- the executable range
 
@@ -37,13 +37,13 @@ spanning (Some before) s =
     record { start = min before.start s.command.vmaddr; end = max before.end (s.command.vmaddr + s.command.vmsize) }
 
 -- the span of some segments after others: that of the executable ones
-abbrev pub span_behind : Option CodeSpan → List PlacedSegment → Option CodeSpan
-span_behind found [] = found
-span_behind found (s ∷ ss) = span_behind (if has_code s then Some (spanning found s) else found) ss
+abbrev pub span_after : Option CodeSpan → List PlacedSegment → Option CodeSpan
+span_after found [] = found
+span_after found (s ∷ ss) = span_after (if has_code s then Some (spanning found s) else found) ss
 
 -- the range from the first to the last executable address, if there is one
 abbrev pub code_span : Laid → Option CodeSpan
-code_span laid = span_behind None (segments_of laid)
+code_span laid = span_after None (segments_of laid)
 
 -- the end of a span; 0 if there is none
 abbrev pub span_end : Option CodeSpan → ℕ
@@ -86,16 +86,16 @@ abbrev pub share_bytes : DataInCodeEntry → DataInCodeEntry → Bool
 share_bytes a b = nat_lt (max a.offset b.offset) (min (a.offset + a.length) (b.offset + b.length))
 
 -- an entry that has bytes lies between the first and the last executable address; its offset counts from the base
-abbrev pub place_of_data_sees : (base : ℕ) → Option CodeSpan → DataInCodeEntry → Seen
+abbrev pub place_of_data_sees : (base : ℕ) → Option CodeSpan → DataInCodeEntry → RuleOutcome
 place_of_data_sees base span e = measured (e.length == 0 || is_within base span e) (place_after base e.offset) (span_end span)
 
 -- it shares no byte with the one before
-abbrev pub shared_data_sees : Data → ℕ → DataInCodeEntry → DataInCodeEntry → Seen
+abbrev pub shared_data_sees : Data → ℕ → DataInCodeEntry → DataInCodeEntry → RuleOutcome
 shared_data_sees x k before e =
     against (data_entry_owner x (k - 1)) (measured (not (share_bytes before e)) e.offset (before.offset + before.length))
 
 -- what each rule sees of entry k
-abbrev pub data_sees : Data → (base : ℕ) → Option CodeSpan → Rule → ℕ → DataInCodeEntry → Seen
+abbrev pub data_sees : Data → (base : ℕ) → Option CodeSpan → Rule → ℕ → DataInCodeEntry → RuleOutcome
 data_sees x base span rule.DataOutOfCode k e = place_of_data_sees base span e
 data_sees x base span rule.DataShared k e = sees_there (entry_before x k) (λ before. shared_data_sees x k before e)
 data_sees x base span _ k e = sound
@@ -105,7 +105,7 @@ data_sees x base span _ k e = sound
 -- those of a table with this number of entries
 abbrev pub data_table_faults : Laid → ℕ → Data → List LayoutFault
 data_table_faults laid count x =
-    told_over (rule.DataOutOfCode ∷ rule.DataShared ∷ []) (λ rule. data_entry_owner x)
+    reported_over (rule.DataOutOfCode ∷ rule.DataShared ∷ []) (λ rule. data_entry_owner x)
     (λ rule k. sees_there (entry_in x k) (data_sees x (text_address laid) (code_span laid) rule k)) (range_with_len 0 count)
 
 -- those of the table of an image

@@ -6,11 +6,11 @@ use Rattle.mach_layout.specs.Rules.{sees_there}
 use Rattle.mach_layout.specs.declared.data.DataJudge.{DataJudge}
 use Rattle.mach_layout.specs.declared.fault.Owner.{Owner}
 use Rattle.mach_layout.specs.declared.fault.Rule.{Rule}
-use Rattle.mach_layout.specs.declared.rules.Seen.{Seen}
+use Rattle.mach_layout.specs.declared.rules.RuleOutcome.{RuleOutcome}
 
 -- entry k
 abbrev pub data_judge_owner : DataJudge → Rule → ℕ → Owner
 data_judge_owner j rule = data_entry_owner (data_view j.table)
 
-abbrev pub data_judged : DataJudge → Rule → ℕ → Seen
+abbrev pub data_judged : DataJudge → Rule → ℕ → RuleOutcome
 data_judged j rule k = sees_there (entry_in (data_view j.table) k) (data_sees (data_view j.table) j.base j.span rule k)

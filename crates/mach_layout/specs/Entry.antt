@@ -12,14 +12,14 @@ use Rattle.mach_load.specs.ThreadState.{pointer_in, state_words}
 use Rattle.mach_layout.specs.Commands.{is_of_set}
 use Rattle.mach_layout.specs.Header.{header_owner}
 use Rattle.mach_layout.specs.Laid.{Laid, used_end, segments_of}
-use Rattle.mach_layout.specs.Rules.{measured, sees_there, owner_at, told}
+use Rattle.mach_layout.specs.Rules.{measured, sees_there, owner_at, reported}
 use Rattle.mach_layout.specs.declared.entry.EntryPlace.{EntryPlace}
 use Rattle.mach_layout.specs.declared.entry.EntryPlace.TheVariants.{InFile, InMemory}
 use Rattle.mach_layout.specs.declared.fault.LayoutFault.{LayoutFault}
 use Rattle.mach_layout.specs.declared.fault.Part.TheVariants as part
 use Rattle.mach_layout.specs.declared.fault.Rule.TheVariants as rule
 use Rattle.mach_layout.specs.declared.placed_sections.PlacedSegment.{PlacedSegment}
-use Rattle.mach_layout.specs.declared.rules.Seen.{Seen}
+use Rattle.mach_layout.specs.declared.rules.RuleOutcome.{RuleOutcome}
 
 -- whether a command states where the image begins (LC_MAIN, LC_UNIXTHREAD)
 abbrev pub is_entry : Command → Bool
@@ -50,24 +50,24 @@ is_code_at (InFile place) s = is_code s && is_among s.command.fileoff s.command.
 is_code_at (InMemory address) s = is_code s && is_among s.command.vmaddr s.command.vmsize address
 
 -- a place in the file is after the commands
-abbrev pub is_behind_commands : Laid → EntryPlace → Bool
-is_behind_commands laid (InFile place) = nat_le (used_end laid) place
-is_behind_commands laid (InMemory address) = true
+abbrev pub is_after_commands : Laid → EntryPlace → Bool
+is_after_commands laid (InFile place) = nat_le (used_end laid) place
+is_after_commands laid (InMemory address) = true
 
 abbrev pub number_of_place : EntryPlace → ℕ
 number_of_place (InFile place) = place
 number_of_place (InMemory address) = address
 
 -- the place is in an executable segment, after the commands
-abbrev pub entry_sees : Laid → EntryPlace → Seen
+abbrev pub entry_sees : Laid → EntryPlace → RuleOutcome
 entry_sees laid place =
-    measured (is_behind_commands laid place && list_any (is_code_at place) (segments_of laid)) (number_of_place place) (used_end laid)
+    measured (is_after_commands laid place && list_any (is_code_at place) (segments_of laid)) (number_of_place place) (used_end laid)
 
 -- The first command that states where an executable begins is checked, and there must be one. A second one has a fault of its own.
 abbrev pub entry_fault : Laid → Option Command → Option LayoutFault
-entry_fault laid None = told rule.NoEntry header_owner (measured false 0 0)
+entry_fault laid None = reported rule.NoEntry header_owner (measured false 0 0)
 entry_fault laid (Some c) =
-    told rule.EntryOutOfCode (owner_at part.Entry c.offset 0) (sees_there (entry_place laid.header.cputype c.kind c.values) (entry_sees laid))
+    reported rule.EntryOutOfCode (owner_at part.Entry c.offset 0) (sees_there (entry_place laid.header.cputype c.kind c.values) (entry_sees laid))
 
 -- the faults of the entry of an executable (MH_EXECUTE)
 abbrev pub entry_faults : Laid → List LayoutFault

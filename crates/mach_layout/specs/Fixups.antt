@@ -14,7 +14,7 @@ use Rattle.mach_chained.specs.StartsRecord.{starts_fields, starts_of_values}
 use Rattle.mach_chained.specs.declared.header.ChainedFixupsHeader.{ChainedFixupsHeader}
 use Rattle.mach_chained.specs.declared.starts.ChainedStartsInSegment.{ChainedStartsInSegment}
 use Rattle.mach_layout.specs.Laid.{Laid, file_size, segments_of, ends_past}
-use Rattle.mach_layout.specs.Rules.{measured, sound, sees_there, then_seen, owner_at, told, told_over}
+use Rattle.mach_layout.specs.Rules.{measured, sound, sees_there, then_outcome, owner_at, reported, reported_over}
 use Rattle.mach_layout.specs.Symbols.{if_there, all_there, readable, texts_end, library_count}
 use Rattle.mach_layout.specs.declared.fault.LayoutFault.{LayoutFault}
 use Rattle.mach_layout.specs.declared.fault.Owner.{Owner}
@@ -25,7 +25,7 @@ use Rattle.mach_layout.specs.declared.fixups.Front.{Front}
 use Rattle.mach_layout.specs.declared.fixups.PlacedFixups.{PlacedFixups}
 use Rattle.mach_layout.specs.declared.fixups.imports.ImportRow.{ImportRow}
 use Rattle.mach_layout.specs.declared.placed_sections.PlacedSegment.{PlacedSegment}
-use Rattle.mach_layout.specs.declared.rules.Seen.{Seen}
+use Rattle.mach_layout.specs.declared.rules.RuleOutcome.{RuleOutcome}
 
 -- ---- the data
 
@@ -68,39 +68,39 @@ abbrev pub imports_end : ChainedFixupsHeader → ℕ
 imports_end h = h.imports_offset + h.imports_count * import_bytes h.imports_format
 
 -- the version is 0, the imports have one of three formats, and the names are plain or compressed
-abbrev pub format_sees : ChainedFixupsHeader → Seen
+abbrev pub format_sees : ChainedFixupsHeader → RuleOutcome
 format_sees h =
-    then_seen (then_seen (measured (h.fixups_version == 0) h.fixups_version 0)
+    then_outcome (then_outcome (measured (h.fixups_version == 0) h.fixups_version 0)
     (measured (not (h.imports_format == 0) && nat_le h.imports_format 3) h.imports_format 3)) (measured (nat_le h.symbols_format 1) h.symbols_format 1)
 
 -- the imports end in the data; the names begin in the data, at or after the imports' end
-abbrev pub places_sees : Data → ChainedFixupsHeader → Seen
+abbrev pub places_sees : Data → ChainedFixupsHeader → RuleOutcome
 places_sees x h =
     let size = length x.payload in
-    then_seen (then_seen (measured (nat_le (imports_end h) size) (imports_end h) size) (measured (nat_le h.symbols_offset size) h.symbols_offset size))
+    then_outcome (then_outcome (measured (nat_le (imports_end h) size) (imports_end h) size) (measured (nat_le h.symbols_offset size) h.symbols_offset size))
     (measured (nat_le (imports_end h) h.symbols_offset) h.symbols_offset (imports_end h))
 
 -- the header, or what is seen if its 28 bytes don't exist
-abbrev pub header_or_seen : Data → Result (List Value) Fault → Result ChainedFixupsHeader Seen
-header_or_seen x (Ok values) = Ok (header_of_values values)
-header_or_seen x (Err f) = Err (measured false (length x.payload) 28)
+abbrev pub header_or_outcome : Data → Result (List Value) Fault → Result ChainedFixupsHeader RuleOutcome
+header_or_outcome x (Ok values) = Ok (header_of_values values)
+header_or_outcome x (Err f) = Err (measured false (length x.payload) 28)
 
 -- the header with the count of starts, if that many starts follow it, or what is seen if they don't
-abbrev pub front_or_seen : Data → ChainedFixupsHeader → Result ℕ Fault → Result Front Seen
-front_or_seen x h (Err f) = Err (measured false (h.starts_offset + 4) (length x.payload))
-front_or_seen x h (Ok count) =
+abbrev pub front_or_outcome : Data → ChainedFixupsHeader → Result ℕ Fault → Result Front RuleOutcome
+front_or_outcome x h (Err f) = Err (measured false (h.starts_offset + 4) (length x.payload))
+front_or_outcome x h (Ok count) =
     if nat_lt (length x.payload) (h.starts_offset + 4 + 4 * count) then Err (measured false (h.starts_offset + 4 + 4 * count) (length x.payload))
     else Ok (record { header = h; count = count })
 
-abbrev pub front_by : Data → Result ChainedFixupsHeader Seen → Result Front Seen
-front_by x (Err seen) = Err seen
+abbrev pub front_by : Data → Result ChainedFixupsHeader RuleOutcome → Result Front RuleOutcome
+front_by x (Err outcome) = Err outcome
 front_by x (Ok h) =
-    let seen = then_seen (format_sees h) (places_sees x h) in
-    if seen.holds then front_or_seen x h (number_at x.le 4 x.payload h.starts_offset) else Err seen
+    let outcome = then_outcome (format_sees h) (places_sees x h) in
+    if outcome.holds then front_or_outcome x h (number_at x.le 4 x.payload h.starts_offset) else Err outcome
 
 -- the header of the data, or what is seen at its first field that doesn't hold
-abbrev pub front_of : Data → Result Front Seen
-front_of x = front_by x (header_or_seen x (record_at x.le fixups_header_fields x.payload 0))
+abbrev pub front_of : Data → Result Front RuleOutcome
+front_of x = front_by x (header_or_outcome x (record_at x.le fixups_header_fields x.payload 0))
 
 -- ---- the starts of a segment's chains
 
@@ -109,39 +109,39 @@ abbrev pub last_page : ChainedStartsInSegment → ℕ
 last_page s = (s.page_count - 1) * s.page_size
 
 -- a page has 0x1000 or 0x4000 bytes, the pointers have one of 13 formats, and the starts of the pages end in the data
-abbrev pub page_sees : Data → ℕ → ChainedStartsInSegment → Seen
+abbrev pub page_sees : Data → ℕ → ChainedStartsInSegment → RuleOutcome
 page_sees x place s =
     let end = place + 22 + 2 * s.page_count in
-    then_seen (then_seen (measured (s.page_size == 0x1000 || s.page_size == 0x4000) s.page_size 0x4000)
+    then_outcome (then_outcome (measured (s.page_size == 0x1000 || s.page_size == 0x4000) s.page_size 0x4000)
     (measured (not (s.pointer_format == 0) && nat_le s.pointer_format 13) s.pointer_format 13))
     (measured (nat_le end (length x.payload)) end (length x.payload))
 
 -- the segment begins at its offset from __TEXT, and the last page begins in it
-abbrev pub extent_sees : ℕ → PlacedSegment → ChainedStartsInSegment → Seen
+abbrev pub extent_sees : ℕ → PlacedSegment → ChainedStartsInSegment → RuleOutcome
 extent_sees text segment s =
-    then_seen (measured (s.segment_offset + text == segment.command.vmaddr) s.segment_offset (segment.command.vmaddr - text))
+    then_outcome (measured (s.segment_offset + text == segment.command.vmaddr) s.segment_offset (segment.command.vmaddr - text))
     (measured (s.page_count == 0 || nat_lt (last_page s) segment.command.vmsize) (last_page s) segment.command.vmsize)
 
 -- the starts have their 22 bytes in the data, and the rest holds
-abbrev pub record_sees : Data → ℕ → ℕ → PlacedSegment → Result (List Value) Fault → Seen
+abbrev pub record_sees : Data → ℕ → ℕ → PlacedSegment → Result (List Value) Fault → RuleOutcome
 record_sees x text place segment (Err f) = measured false (place + 22) (length x.payload)
 record_sees x text place segment (Ok values) =
-    then_seen (page_sees x place (starts_of_values values)) (extent_sees text segment (starts_of_values values))
+    then_outcome (page_sees x place (starts_of_values values)) (extent_sees text segment (starts_of_values values))
 
 -- the image has the segment
-abbrev pub segment_starts_sees : Data → ℕ → ℕ → ℕ → Option PlacedSegment → Seen
+abbrev pub segment_starts_sees : Data → ℕ → ℕ → ℕ → Option PlacedSegment → RuleOutcome
 segment_starts_sees x text starts info None = measured false info 0
 segment_starts_sees x text starts info (Some segment) =
     record_sees x text (starts + info) segment (record_at x.le starts_fields x.payload (starts + info))
 
 -- there are no starts of segment k (0), or all this holds of them
-abbrev pub starts_sees : Data → Front → ℕ → ℕ → Option PlacedSegment → Seen
+abbrev pub starts_sees : Data → Front → ℕ → ℕ → Option PlacedSegment → RuleOutcome
 starts_sees x front text k segment =
     sees_there (readable (number_at x.le 4 x.payload (front.header.starts_offset + 4 + k * 4))) (λ info.
     if info == 0 then sound else segment_starts_sees x text front.header.starts_offset info segment)
 
 abbrev pub starts_fault : Data → Front → ℕ → ℕ → Option PlacedSegment → Option LayoutFault
-starts_fault x front text k segment = told rule.ChainedFixups (data_owner x k) (starts_sees x front text k segment)
+starts_fault x front text k segment = reported rule.ChainedFixups (data_owner x k) (starts_sees x front text k segment)
 
 -- ---- the imports
 
@@ -176,7 +176,7 @@ abbrev pub import_names_end : Data → ChainedFixupsHeader → ℕ
 import_names_end x h = if h.symbols_format == 0 then texts_end x.payload else length x.payload
 
 -- what each rule of one import sees, if the image has `libraries` and the names end at `upto`
-abbrev pub import_sees : Data → ChainedFixupsHeader → (libraries upto : ℕ) → Rule → ImportRow → Seen
+abbrev pub import_sees : Data → ChainedFixupsHeader → (libraries upto : ℕ) → Rule → ImportRow → RuleOutcome
 -- an import names a library of the image, the image itself (0), or a special ordinal
 import_sees x h libraries upto rule.ImportLibrary row =
     measured (not (is_ordinal_wrong libraries (ordinals_end h.imports_format) row.library)) row.library libraries
@@ -211,14 +211,14 @@ starts_faults laid x front =
 abbrev pub import_faults : Laid → Data → Front → List LayoutFault
 import_faults laid x front =
     let h = front.header in
-    told_over (rule.ImportLibrary ∷ rule.ImportName ∷ []) (λ rule. import_owner x)
+    reported_over (rule.ImportLibrary ∷ rule.ImportName ∷ []) (λ rule. import_owner x)
     (λ rule k. sees_there (row_in x h k) (import_sees x h (library_count laid) (import_names_end x h) rule)) (range_with_len 0 h.imports_count)
 
 -- the faults after the header, or only that of the header
-abbrev pub faults_behind : Laid → Data → Result Front Seen → List LayoutFault
-faults_behind laid x (Err seen) = option_to_list (told rule.ChainedFixups (data_owner x 0) seen)
-faults_behind laid x (Ok front) = starts_faults laid x front ++ import_faults laid x front
+abbrev pub faults_after : Laid → Data → Result Front RuleOutcome → List LayoutFault
+faults_after laid x (Err outcome) = option_to_list (reported rule.ChainedFixups (data_owner x 0) outcome)
+faults_after laid x (Ok front) = starts_faults laid x front ++ import_faults laid x front
 
 -- the faults of chained fixups
 abbrev pub fixup_faults : Laid → List LayoutFault
-fixup_faults laid = all_there (fixup_data laid) (λ x. faults_behind laid x (front_of x))
+fixup_faults laid = all_there (fixup_data laid) (λ x. faults_after laid x (front_of x))

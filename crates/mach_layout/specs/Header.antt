@@ -4,21 +4,21 @@ use Rattle.std.specs.List.{list_any}
 use Rattle.mach_parts.specs.declared.header.Header.{Header}
 use Rattle.mach_layout.specs.Laid.{Laid, file_size, declared_end, commands_end, used_end, is_final, is_judged}
 use Rattle.mach_layout.specs.Libraries.{is_library_file, says_id}
-use Rattle.mach_layout.specs.Rules.{measured, sound, owner_at, told_over}
+use Rattle.mach_layout.specs.Rules.{measured, sound, owner_at, reported_over}
 use Rattle.mach_layout.specs.Segments.{has_segment_of_header}
 use Rattle.mach_layout.specs.declared.fault.LayoutFault.{LayoutFault}
 use Rattle.mach_layout.specs.declared.fault.Owner.{Owner}
 use Rattle.mach_layout.specs.declared.fault.Part.TheVariants as part
 use Rattle.mach_layout.specs.declared.fault.Rule.{Rule}
 use Rattle.mach_layout.specs.declared.fault.Rule.TheVariants as rule
-use Rattle.mach_layout.specs.declared.rules.Seen.{Seen}
+use Rattle.mach_layout.specs.declared.rules.RuleOutcome.{RuleOutcome}
 
 -- the header as the owner of a fault
 abbrev pub header_owner : Owner
 header_owner = owner_at part.Header 0 0
 
 -- what each of these rules sees
-abbrev pub header_sees : Laid → Rule → Header → Seen
+abbrev pub header_sees : Laid → Rule → Header → RuleOutcome
 -- rules are defined for the kind of the file
 header_sees laid rule.FileKind h = measured (is_judged laid) laid.header.filetype 0
 -- the commands lie in the file, by the header
@@ -33,9 +33,9 @@ header_sees laid rule.IdMissing h = measured (not (is_library_file laid) || list
 header_sees laid _ h = sound
 
 -- the faults that some of these rules find
-abbrev pub header_told : Laid → List Rule → List LayoutFault
-header_told laid rules = told_over rules (λ rule h. header_owner) (header_sees laid) (laid.header ∷ [])
+abbrev pub header_reported : Laid → List Rule → List LayoutFault
+header_reported laid rules = reported_over rules (λ rule h. header_owner) (header_sees laid) (laid.header ∷ [])
 
 -- the fault of all segments together
 abbrev pub segment_order_faults : Laid → List LayoutFault
-segment_order_faults laid = header_told laid (rule.NoSegmentOfHeader ∷ [])
+segment_order_faults laid = header_reported laid (rule.NoSegmentOfHeader ∷ [])

@@ -15,34 +15,34 @@ use Rattle.mach_records.specs.Umbrellas.{sub_client_command_fields, sub_framewor
 use Rattle.mach_layout.specs.Laid.{Laid}
 use Rattle.mach_layout.specs.Rules.{measured}
 use Rattle.mach_layout.specs.declared.libraries.CommandText.{CommandText}
-use Rattle.mach_layout.specs.declared.rules.Seen.{Seen}
+use Rattle.mach_layout.specs.declared.rules.RuleOutcome.{RuleOutcome}
 
 -- ---- the texts of commands
 
 -- A text whose offset, counted from its command, is number k of the values, after a struct of `struct` bytes (union lc_str).
-abbrev pub text_behind : ℕ → ℕ → List Value → Option CommandText
-text_behind k struct values = Some (record { offset = number_among values k; struct_size = struct; is_read = true })
+abbrev pub text_after : ℕ → ℕ → List Value → Option CommandText
+text_after k struct values = Some (record { offset = number_among values k; struct_size = struct; is_read = true })
 
 -- The text of a command, if it has one. That of LC_PREBOUND_DYLIB isn't read.
 abbrev pub text_of : Kind → List Value → Option CommandText
-text_of kind.load_fvmlib values = text_behind 2 (size fvmlib_command_fields) values
-text_of kind.id_fvmlib values = text_behind 2 (size fvmlib_command_fields) values
-text_of kind.fvmfile values = text_behind 2 (size fvmfile_command_fields) values
-text_of kind.load_dylib values = text_behind 2 (size dylib_command_fields) values
-text_of kind.id_dylib values = text_behind 2 (size dylib_command_fields) values
-text_of kind.lazy_load_dylib values = text_behind 2 (size dylib_command_fields) values
-text_of kind.load_weak_dylib values = text_behind 2 (size dylib_command_fields) values
-text_of kind.reexport_dylib values = text_behind 2 (size dylib_command_fields) values
-text_of kind.load_upward_dylib values = text_behind 2 (size dylib_command_fields) values
-text_of kind.load_dylinker values = text_behind 2 (size dylinker_command_fields) values
-text_of kind.id_dylinker values = text_behind 2 (size dylinker_command_fields) values
-text_of kind.dyld_environment values = text_behind 2 (size dylinker_command_fields) values
-text_of kind.sub_framework values = text_behind 2 (size sub_framework_command_fields) values
-text_of kind.sub_umbrella values = text_behind 2 (size sub_umbrella_command_fields) values
-text_of kind.sub_client values = text_behind 2 (size sub_client_command_fields) values
-text_of kind.sub_library values = text_behind 2 (size sub_library_command_fields) values
-text_of kind.rpath values = text_behind 2 (size rpath_command_fields) values
-text_of kind.fileset_entry values = text_behind 4 (size fileset_entry_command_fields) values
+text_of kind.load_fvmlib values = text_after 2 (size fvmlib_command_fields) values
+text_of kind.id_fvmlib values = text_after 2 (size fvmlib_command_fields) values
+text_of kind.fvmfile values = text_after 2 (size fvmfile_command_fields) values
+text_of kind.load_dylib values = text_after 2 (size dylib_command_fields) values
+text_of kind.id_dylib values = text_after 2 (size dylib_command_fields) values
+text_of kind.lazy_load_dylib values = text_after 2 (size dylib_command_fields) values
+text_of kind.load_weak_dylib values = text_after 2 (size dylib_command_fields) values
+text_of kind.reexport_dylib values = text_after 2 (size dylib_command_fields) values
+text_of kind.load_upward_dylib values = text_after 2 (size dylib_command_fields) values
+text_of kind.load_dylinker values = text_after 2 (size dylinker_command_fields) values
+text_of kind.id_dylinker values = text_after 2 (size dylinker_command_fields) values
+text_of kind.dyld_environment values = text_after 2 (size dylinker_command_fields) values
+text_of kind.sub_framework values = text_after 2 (size sub_framework_command_fields) values
+text_of kind.sub_umbrella values = text_after 2 (size sub_umbrella_command_fields) values
+text_of kind.sub_client values = text_after 2 (size sub_client_command_fields) values
+text_of kind.sub_library values = text_after 2 (size sub_library_command_fields) values
+text_of kind.rpath values = text_after 2 (size rpath_command_fields) values
+text_of kind.fileset_entry values = text_after 4 (size fileset_entry_command_fields) values
 text_of kind.prebound_dylib values =
     Some (record { offset = number_among values 2; struct_size = size prebound_dylib_command_fields; is_read = false })
 text_of _ values = None
@@ -71,10 +71,10 @@ abbrev pub is_empty_text : List ℕ → Command → CommandText → Bool
 is_empty_text bytes c t = lies_inside bytes c t && (t.is_read && begins_with_zero (bytes_from_text bytes c t))
 
 -- the checks of a text: it lies in its command, and it isn't empty
-abbrev pub place_sees : List ℕ → Command → CommandText → Seen
+abbrev pub place_sees : List ℕ → Command → CommandText → RuleOutcome
 place_sees bytes c t = measured (lies_inside bytes c t) t.offset (cmdsize_of c)
 
-abbrev pub text_sees : List ℕ → Command → CommandText → Seen
+abbrev pub text_sees : List ℕ → Command → CommandText → RuleOutcome
 text_sees bytes c t = measured (not (is_empty_text bytes c t)) t.offset (cmdsize_of c)
 
 -- ---- the names of libraries

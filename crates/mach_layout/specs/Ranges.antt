@@ -7,7 +7,7 @@ use Rattle.std.specs.List.{starts_with}
 use Rattle.mach_base.specs.Number.{place_after}
 use Rattle.mach_layout.specs.Claims.{claims_of, segment_claim}
 use Rattle.mach_layout.specs.Laid.{Laid, is_final, is_judged, used_end, file_size, has_addresses, segments_of, placed_sections_of, ends_past}
-use Rattle.mach_layout.specs.Rules.{measured, sound, owner_at, told_over}
+use Rattle.mach_layout.specs.Rules.{measured, sound, owner_at, reported_over}
 use Rattle.mach_layout.specs.declared.claim.Claim.{Claim}
 use Rattle.mach_layout.specs.declared.fault.LayoutFault.{LayoutFault}
 use Rattle.mach_layout.specs.declared.fault.Part.{Part}
@@ -16,7 +16,7 @@ use Rattle.mach_layout.specs.declared.fault.Rule.{Rule}
 use Rattle.mach_layout.specs.declared.fault.Rule.TheVariants as rule
 use Rattle.mach_layout.specs.declared.placed_sections.PlacedSection.{PlacedSection}
 use Rattle.mach_layout.specs.declared.placed_sections.PlacedSegment.{PlacedSegment}
-use Rattle.mach_layout.specs.declared.rules.Seen.{Seen}
+use Rattle.mach_layout.specs.declared.rules.RuleOutcome.{RuleOutcome}
 
 -- the claim's bytes lie in the file
 abbrev pub lies_in_file : Laid → Claim → Bool
@@ -111,7 +111,7 @@ end_of_segment (Some s) = place_after s.command.fileoff s.command.filesize
 -- ---- each claim by itself
 
 -- what each rule of one claim sees, if this is the segment __LINKEDIT
-abbrev pub claim_sees : Laid → Option PlacedSegment → Rule → Claim → Seen
+abbrev pub claim_sees : Laid → Option PlacedSegment → Rule → Claim → RuleOutcome
 -- A claimed range lies in the file, wherever an empty range begins. That the commands do is a rule of their own.
 claim_sees laid s rule.OutOfFile c = measured (is_header c.owner.part || c.len == 0 || lies_in_file laid c) (place_after c.start c.len) (file_size laid)
 -- it doesn't begin within the header or the commands although it may not
@@ -123,12 +123,12 @@ claim_sees laid s rule.OutOfLinkedit c =
 claim_sees laid s _ c = sound
 
 -- the faults that some of these rules find in the claims
-abbrev pub claims_told : Laid → List Rule → List LayoutFault
-claims_told laid rules = told_over rules (λ rule c. c.owner) (claim_sees laid (linkedit_of laid)) (claims_of laid)
+abbrev pub claims_reported : Laid → List Rule → List LayoutFault
+claims_reported laid rules = reported_over rules (λ rule c. c.owner) (claim_sees laid (linkedit_of laid)) (claims_of laid)
 
 abbrev pub out_of_file_faults : Laid → List LayoutFault
-out_of_file_faults laid = claims_told laid (rule.OutOfFile ∷ [])
+out_of_file_faults laid = claims_reported laid (rule.OutOfFile ∷ [])
 
 -- those of ranges that begin within the header, and of tables outside __LINKEDIT
 abbrev pub claim_faults : Laid → List LayoutFault
-claim_faults laid = claims_told laid (rule.HeaderShared ∷ rule.OutOfLinkedit ∷ [])
+claim_faults laid = claims_reported laid (rule.HeaderShared ∷ rule.OutOfLinkedit ∷ [])

@@ -7,7 +7,7 @@ use Rattle.mach_base.specs.Number.{place_after}
 use Rattle.mach_base.specs.Text.{is_zero}
 use Rattle.mach_layout.specs.Claims.{has_bytes}
 use Rattle.mach_layout.specs.Laid.{Laid, file_size, ends_past, has_addresses, is_final, is_object, placed_sections_of}
-use Rattle.mach_layout.specs.Rules.{measured, sound, against, owner_at, told_over}
+use Rattle.mach_layout.specs.Rules.{measured, sound, against, owner_at, reported_over}
 use Rattle.mach_layout.specs.Segments.{range_holds, segment_name, segment_owner}
 use Rattle.mach_layout.specs.declared.fault.LayoutFault.{LayoutFault}
 use Rattle.mach_layout.specs.declared.fault.Owner.{Owner}
@@ -15,7 +15,7 @@ use Rattle.mach_layout.specs.declared.fault.Part.TheVariants as part
 use Rattle.mach_layout.specs.declared.fault.Rule.{Rule}
 use Rattle.mach_layout.specs.declared.fault.Rule.TheVariants as rule
 use Rattle.mach_layout.specs.declared.placed_sections.PlacedSection.{PlacedSection}
-use Rattle.mach_layout.specs.declared.rules.Seen.{Seen}
+use Rattle.mach_layout.specs.declared.rules.RuleOutcome.{RuleOutcome}
 
 -- the section as the owner of a fault
 abbrev pub section_owner : PlacedSection → Owner
@@ -34,7 +34,7 @@ abbrev pub has_bytes_there : Laid → PlacedSection → Bool
 has_bytes_there laid s = has_bytes laid s && not (ends_past (file_size laid) s.section.offset s.section.size)
 
 -- what each rule of one section sees
-abbrev pub section_sees : Laid → Rule → PlacedSection → Seen
+abbrev pub section_sees : Laid → Rule → PlacedSection → RuleOutcome
 -- The addresses of a section lie in those of its segment, also if it is zero-filled.
 section_sees laid rule.SectionOutOfMemory s =
     against (segment_owner s.segment) (measured (not (has_addresses s) || in_memory_of_segment s)
@@ -45,10 +45,10 @@ section_sees laid rule.SectionOutOfBytes s =
     (place_after s.section.offset s.section.size) (place_after s.segment.command.fileoff s.segment.command.filesize))
 -- In a mapped file, the distance of a section's bytes from those of its segment is that of its address from its segment's.
 section_sees laid rule.SectionElsewhere s =
-    let bytes_behind = s.section.offset - s.segment.command.fileoff in
-    let memory_behind = s.section.addr - s.segment.command.vmaddr in
+    let bytes_after = s.section.offset - s.segment.command.fileoff in
+    let memory_after = s.section.addr - s.segment.command.vmaddr in
     let judged = is_final laid && has_bytes_there laid s && in_memory_of_segment s && in_bytes_of_segment s in
-    against (segment_owner s.segment) (measured (not judged || bytes_behind == memory_behind) bytes_behind memory_behind)
+    against (segment_owner s.segment) (measured (not judged || bytes_after == memory_after) bytes_after memory_after)
 -- The alignment of a section is at most 2 to the power of 15.
 section_sees laid rule.SectionAlignment s = measured (nat_le s.section.align 15) s.section.align 15
 -- The address of a section that has a size, and lies in its segment, is a multiple of its alignment.
@@ -63,5 +63,5 @@ section_sees laid _ s = sound
 -- the faults of the sections
 abbrev pub section_faults : Laid → List LayoutFault
 section_faults laid =
-    told_over (rule.SectionOutOfMemory ∷ rule.SectionOutOfBytes ∷ rule.SectionElsewhere ∷ rule.SectionAlignment ∷ rule.SectionUnaligned
+    reported_over (rule.SectionOutOfMemory ∷ rule.SectionOutOfBytes ∷ rule.SectionElsewhere ∷ rule.SectionAlignment ∷ rule.SectionUnaligned
     ∷ rule.SectionOfOther ∷ []) (λ rule. section_owner) (section_sees laid) (placed_sections_of laid)

@@ -13,14 +13,14 @@ use Rattle.mach_base.specs.Record.{number_among}
 use Rattle.mach_load.specs.Command.{Command}
 use Rattle.mach_load.specs.Commands.{Kind, encryption_info32, encryption_info64}
 use Rattle.mach_layout.specs.Laid.{Laid, used_end, is_final, page_of, segments_of}
-use Rattle.mach_layout.specs.Rules.{measured, sound, owner_at, told, told_over}
+use Rattle.mach_layout.specs.Rules.{measured, sound, owner_at, reported, reported_over}
 use Rattle.mach_layout.specs.declared.fault.LayoutFault.{LayoutFault}
 use Rattle.mach_layout.specs.declared.fault.Owner.{Owner}
 use Rattle.mach_layout.specs.declared.fault.Part.TheVariants as part
 use Rattle.mach_layout.specs.declared.fault.Rule.{Rule}
 use Rattle.mach_layout.specs.declared.fault.Rule.TheVariants as rule
 use Rattle.mach_layout.specs.declared.placed_sections.PlacedSegment.{PlacedSegment}
-use Rattle.mach_layout.specs.declared.rules.Seen.{Seen}
+use Rattle.mach_layout.specs.declared.rules.RuleOutcome.{RuleOutcome}
 use Rattle.mach_layout.specs.declared.segments.EncryptedRange.{EncryptedRange}
 
 -- the segment as the owner of a fault
@@ -39,7 +39,7 @@ address_count Little = 2 ^ 32
 address_count Big = 2 ^ 64
 
 -- what each rule of one segment sees
-abbrev pub segment_sees : Laid → Rule → PlacedSegment → Seen
+abbrev pub segment_sees : Laid → Rule → PlacedSegment → RuleOutcome
 -- A segment ends at the last address or before it (dyld, the kernel).
 segment_sees laid rule.SegmentBeyondAddresses s =
     let count = address_count laid.ctx.container in
@@ -61,8 +61,8 @@ segment_sees laid rule.SegmentRights s =
 segment_sees laid _ s = sound
 
 -- the faults that some of these rules find in the segments
-abbrev pub segments_told : Laid → List Rule → List LayoutFault
-segments_told laid rules = told_over rules (λ rule. segment_owner) (segment_sees laid) (segments_of laid)
+abbrev pub segments_reported : Laid → List Rule → List LayoutFault
+segments_reported laid rules = reported_over rules (λ rule. segment_owner) (segment_sees laid) (segments_of laid)
 
 -- ---- names
 
@@ -127,12 +127,12 @@ abbrev pub holds_code : EncryptedRange → PlacedSegment → Bool
 holds_code range s = not (bit_and s.command.initprot 4 == 0) && range_holds s.command.fileoff s.command.filesize range.start range.len
 
 -- The encrypted range lies in one executable segment (the kernel).
-abbrev pub encrypted_sees : Laid → EncryptedRange → Seen
+abbrev pub encrypted_sees : Laid → EncryptedRange → RuleOutcome
 encrypted_sees laid range =
     measured (not (is_final laid) || (range.len == 0 || list_any (holds_code range) (segments_of laid))) (place_after range.start range.len) 0
 
 abbrev pub encrypted_not_executable : Laid → EncryptedRange → Option LayoutFault
-encrypted_not_executable laid range = told rule.EncryptedNotExecutable (owner_at part.Encrypted range.place 0) (encrypted_sees laid range)
+encrypted_not_executable laid range = reported rule.EncryptedNotExecutable (owner_at part.Encrypted range.place 0) (encrypted_sees laid range)
 
 -- the range of the first command that states one (a second one is a fault of its own)
 abbrev pub first_encrypted : Laid → Option EncryptedRange
@@ -146,6 +146,6 @@ encrypted_faults laid = filter_map (encrypted_not_executable laid) (option_to_li
 -- those of each segment by itself, of their names and of their protections
 abbrev pub segment_faults : Laid → List LayoutFault
 segment_faults laid =
-    segments_told laid (rule.SegmentBeyondAddresses ∷ rule.SegmentFileLarger ∷ rule.SegmentAddressUnaligned ∷ rule.SegmentPlaceUnaligned ∷ [])
+    segments_reported laid (rule.SegmentBeyondAddresses ∷ rule.SegmentFileLarger ∷ rule.SegmentAddressUnaligned ∷ rule.SegmentPlaceUnaligned ∷ [])
     ++ segment_names_again laid
-    ++ segments_told laid (rule.SegmentRights ∷ [])
+    ++ segments_reported laid (rule.SegmentRights ∷ [])

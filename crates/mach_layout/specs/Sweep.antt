@@ -37,15 +37,15 @@ shared rule (Some f) r =
     then Some (record { rule = rule; owner = r.owner; other = Some f.owner; found = r.start; limit = place_after f.start f.len }) else None
 
 -- the faults of some ranges after others, by their starts
-abbrev pub shared_behind : Rule → List Claim → List Claim → List LayoutFault
-shared_behind rule before [] = []
-shared_behind rule before (r ∷ rs) = cons_option (shared rule (furthest before) r) (shared_behind rule (before ++ r ∷ []) rs)
+abbrev pub shared_after : Rule → List Claim → List Claim → List LayoutFault
+shared_after rule before [] = []
+shared_after rule before (r ∷ rs) = cons_option (shared rule (furthest before) r) (shared_after rule (before ++ r ∷ []) rs)
 
 -- the faults of some ranges, each compared with those before it, by their starts
-pub record AreShared (rule : Rule) (ranges : List Claim) (told : List LayoutFault) : Type 0 where
+pub record AreShared (rule : Rule) (ranges : List Claim) (reported : List LayoutFault) : Type 0 where
   pub sorted : List Claim
   pub by_start : IsByStart ranges sorted
-  pub each : told ≡ shared_behind rule [] sorted
+  pub each : reported ≡ shared_after rule [] sorted
 
 -- the fault is one of two of these ranges, of which the second begins before the first ends
 pub record IsOfTwo (rule : Rule) (ranges : List Claim) (fault : LayoutFault) : Type 0 where

@@ -20,7 +20,7 @@ use Rattle.mach_parts.specs.declared.symbols.nlist.Nlist.{Nlist}
 use Rattle.mach_records.specs.SymbolTables.{symtab_command_of_values}
 use Rattle.mach_records.specs.declared.symbol_tables.DysymtabCommand.{DysymtabCommand}
 use Rattle.mach_layout.specs.Laid.{Laid, file_size, is_final, placed_segment_of, placed_sections_of, ends_past}
-use Rattle.mach_layout.specs.Rules.{measured, sound, sees_there, then_seen, owner_at, told, told_over}
+use Rattle.mach_layout.specs.Rules.{measured, sound, sees_there, then_outcome, owner_at, reported, reported_over}
 use Rattle.mach_layout.specs.Sections.{section_owner}
 use Rattle.mach_layout.specs.declared.fault.LayoutFault.{LayoutFault}
 use Rattle.mach_layout.specs.declared.fault.Owner.{Owner}
@@ -30,7 +30,7 @@ use Rattle.mach_layout.specs.declared.fault.Rule.{Rule}
 use Rattle.mach_layout.specs.declared.fault.Rule.TheVariants as rule
 use Rattle.mach_layout.specs.declared.placed_sections.PlacedSection.{PlacedSection}
 use Rattle.mach_layout.specs.declared.placed_sections.PlacedSegment.{PlacedSegment}
-use Rattle.mach_layout.specs.declared.rules.Seen.{Seen}
+use Rattle.mach_layout.specs.declared.rules.RuleOutcome.{RuleOutcome}
 use Rattle.mach_layout.specs.declared.symbols.PlacedDysymtab.{PlacedDysymtab}
 use Rattle.mach_layout.specs.declared.symbols.PlacedSymtab.{PlacedSymtab}
 use Rattle.mach_layout.specs.declared.symbols.SymbolBounds.{SymbolBounds}
@@ -44,8 +44,8 @@ fault_at r p command index found limit = record { rule = r; owner = owner_at p c
 
 -- the result for an item, if there is one
 abbrev pub if_there : {A B : Type 0} → Option A → (A → Option B) → Option B
-if_there None tell = None
-if_there (Some x) tell = tell x
+if_there None report = None
+if_there (Some x) report = report x
 
 -- the first fault of two
 abbrev pub first_of_two : Option LayoutFault → Option LayoutFault → Option LayoutFault
@@ -54,8 +54,8 @@ first_of_two (Some f) second = Some f
 
 -- the results for an item, if there is one
 abbrev pub all_there : {A B : Type 0} → Option A → (A → List B) → List B
-all_there None tell = []
-all_there (Some x) tell = tell x
+all_there None report = []
+all_there (Some x) report = report x
 
 -- a record, if it can be read
 abbrev pub readable : {A : Type 0} → Result A Fault → Option A
@@ -195,13 +195,13 @@ abbrev pub bounds_of : Laid → PlacedSymtab → SymbolBounds
 bounds_of laid t = record { sections = section_count laid; names_end = names_end laid t; libraries = library_count laid }
 
 -- what each rule of one symbol sees
-abbrev pub symbol_sees : PlacedSymtab → SymbolBounds → Rule → Nlist → Seen
+abbrev pub symbol_sees : PlacedSymtab → SymbolBounds → Rule → Nlist → RuleOutcome
 -- its section is one of the image, or none
 symbol_sees t b rule.SymbolSection s = measured (not (is_section_wrong b.sections s)) s.n_sect b.sections
 -- A symbol's name begins before the end of a text of the strings; 0 is no name. The value of an indirect symbol (N_INDR) is
 -- the place of another name.
 symbol_sees t b rule.SymbolName s =
-    then_seen (measured (s.n_strx == 0 || nat_lt s.n_strx b.names_end) s.n_strx t.command.strsize)
+    then_outcome (measured (s.n_strx == 0 || nat_lt s.n_strx b.names_end) s.n_strx t.command.strsize)
     (measured (not (bit_and s.n_type 0xee == 0xa) || nat_lt s.n_value t.command.strsize) s.n_value t.command.strsize)
 -- In a file that dyld maps, with the flag MH_TWOLEVEL, a symbol that another image defines names its library by a number in
 -- the high 8 bits of n_desc (GET_LIBRARY_ORDINAL); 0xfe and 0xff are special.
@@ -214,13 +214,13 @@ symbol_sees t b _ s = sound
 abbrev pub symbol_owner : PlacedSymtab → ℕ → Owner
 symbol_owner t k = owner_at part.Symbols t.place k
 
-abbrev pub symbol_sees_at : Ctx → List ℕ → PlacedSymtab → SymbolBounds → Rule → ℕ → Seen
+abbrev pub symbol_sees_at : Ctx → List ℕ → PlacedSymtab → SymbolBounds → Rule → ℕ → RuleOutcome
 symbol_sees_at ctx bytes t b rule k = sees_there (symbol_in ctx bytes t k) (symbol_sees t b rule)
 
 -- the faults that some of these rules find in the symbols of a table, if there is one
-abbrev pub symbols_told : Laid → Option PlacedSymtab → List Rule → List LayoutFault
-symbols_told laid table rules =
-    all_there table (λ t. told_over rules (λ rule. symbol_owner t) (symbol_sees_at laid.ctx laid.bytes t (bounds_of laid t)) (symbol_numbers laid t))
+abbrev pub symbols_reported : Laid → Option PlacedSymtab → List Rule → List LayoutFault
+symbols_reported laid table rules =
+    all_there table (λ t. reported_over rules (λ rule. symbol_owner t) (symbol_sees_at laid.ctx laid.bytes t (bounds_of laid t)) (symbol_numbers laid t))
 
 -- ---- the ranges of symbols
 
@@ -236,7 +236,7 @@ abbrev pub is_range_out : ℕ → SymbolRange → Bool
 is_range_out nsyms r = nat_lt 0 r.count && nat_lt nsyms (r.first + r.count)
 
 -- what the rule of ranges sees in one, in a table of `nsyms` symbols
-abbrev pub range_sees : ℕ → SymbolRange → Seen
+abbrev pub range_sees : ℕ → SymbolRange → RuleOutcome
 range_sees nsyms r = measured (not (is_range_out nsyms r)) (r.first + r.count) nsyms
 
 -- ---- the symbols of a range
@@ -258,12 +258,12 @@ is_of_range number s =
     else is_external s && (not (is_stab s) && is_of_other s))
 
 abbrev pub symbol_kind_fault : PlacedSymtab → ℕ → ℕ → Nlist → Option LayoutFault
-symbol_kind_fault t number k s = told rule.SymbolRangeKind (symbol_owner t k) (measured (is_of_range number s) s.n_type 0)
+symbol_kind_fault t number k s = reported rule.SymbolRangeKind (symbol_owner t k) (measured (is_of_range number s) s.n_type 0)
 
 -- the fault of the first of these items, from number k on, that has one
-abbrev pub first_told : (ℕ → Option LayoutFault) → ℕ → ℕ → Option LayoutFault
-first_told tell k zero = None
-first_told tell k (suc n) = first_of_two (tell k) (first_told tell (k + 1) n)
+abbrev pub first_reported : (ℕ → Option LayoutFault) → ℕ → ℕ → Option LayoutFault
+first_reported report k zero = None
+first_reported report k (suc n) = first_of_two (report k) (first_reported report (k + 1) n)
 
 -- the number of symbols of a range that lie in the bytes, which hold `there` symbols of the table
 abbrev pub range_len : ℕ → SymbolRange → ℕ
@@ -272,7 +272,7 @@ range_len there r = min r.count (there - r.first)
 -- the fault of the first symbol of a range that isn't of its kind
 abbrev pub range_kind : Laid → PlacedSymtab → SymbolRange → Option LayoutFault
 range_kind laid t r =
-    first_told (λ k. if_there (symbol_in laid.ctx laid.bytes t k) (symbol_kind_fault t r.number k)) r.first (range_len (symbols_there laid t) r)
+    first_reported (λ k. if_there (symbol_in laid.ctx laid.bytes t k) (symbol_kind_fault t r.number k)) r.first (range_len (symbols_there laid t) r)
 
 -- ---- the order of the ranges
 
@@ -312,7 +312,7 @@ abbrev pub entry_size : Container → PlacedSection → ℕ
 entry_size width s = if bit_and s.section.flags 0xff == 0x8 then s.section.reserved2 else pointer_size width
 
 -- An indirect symbol is the number of a symbol, unless it is marked as local or absolute (INDIRECT_SYMBOL_LOCAL, INDIRECT_SYMBOL_ABS).
-abbrev pub indirect_sees : Endian → List ℕ → PlacedDysymtab → (nsyms k : ℕ) → Seen
+abbrev pub indirect_sees : Endian → List ℕ → PlacedDysymtab → (nsyms k : ℕ) → RuleOutcome
 indirect_sees le bytes d nsyms k =
     sees_there (indirect_in le bytes d k) (λ n. measured (not (bit_and n 0xc000_0000 == 0) || nat_lt n nsyms) n nsyms)
 
@@ -321,7 +321,7 @@ indirect_owner d k = owner_at part.IndirectSymbols d.place k
 
 -- Such a section, if it isn't empty, is a whole number of entries, and that many indirect symbols are in the table from
 -- number reserved1 on.
-abbrev pub indirect_section_sees : Container → PlacedDysymtab → PlacedSection → Seen
+abbrev pub indirect_section_sees : Container → PlacedDysymtab → PlacedSection → RuleOutcome
 indirect_section_sees width d s =
     let size = s.section.size in
     let unit = entry_size width s in
@@ -336,7 +336,7 @@ indirect_section_sees width d s =
 abbrev pub symbol_range_faults : Option PlacedSymtab → Option PlacedDysymtab → List LayoutFault
 symbol_range_faults table dynamic =
     all_there table (λ t. all_there dynamic (λ d.
-    told_over (rule.SymbolRange ∷ []) (λ rule r. owner_at part.SymbolRanges d.place r.number) (λ rule. range_sees t.command.nsyms) (ranges_of d.command)))
+    reported_over (rule.SymbolRange ∷ []) (λ rule r. owner_at part.SymbolRanges d.place r.number) (λ rule. range_sees t.command.nsyms) (ranges_of d.command)))
 
 -- for each range, the first symbol that isn't of its kind
 abbrev pub symbol_kind_faults : Laid → Option PlacedSymtab → Option PlacedDysymtab → List LayoutFault
@@ -346,20 +346,20 @@ abbrev pub symbol_order_faults : Option PlacedSymtab → Option PlacedDysymtab �
 symbol_order_faults table dynamic = all_there table (λ t. all_there dynamic (λ d. option_to_list (range_order t.command.nsyms d)))
 
 abbrev pub symbol_library_faults : Laid → Option PlacedSymtab → List LayoutFault
-symbol_library_faults laid table = if has_libraries laid then symbols_told laid table (rule.SymbolLibrary ∷ []) else []
+symbol_library_faults laid table = if has_libraries laid then symbols_reported laid table (rule.SymbolLibrary ∷ []) else []
 
 -- those of indirect symbols, and of the sections that have some
 abbrev pub indirect_faults : Laid → Option PlacedSymtab → Option PlacedDysymtab → List LayoutFault
 indirect_faults laid table dynamic =
     all_there dynamic (λ d.
-    told_over (rule.IndirectSymbol ∷ []) (λ rule. indirect_owner d) (λ rule. indirect_sees laid.ctx.le laid.bytes d (symbol_count table))
+    reported_over (rule.IndirectSymbol ∷ []) (λ rule. indirect_owner d) (λ rule. indirect_sees laid.ctx.le laid.bytes d (symbol_count table))
     (range_with_len 0 (indirect_count laid d))
-    ++ told_over (rule.IndirectSection ∷ []) (λ rule. section_owner) (λ rule. indirect_section_sees laid.ctx.container d) (placed_sections_of laid))
+    ++ reported_over (rule.IndirectSection ∷ []) (λ rule. section_owner) (λ rule. indirect_section_sees laid.ctx.container d) (placed_sections_of laid))
 
 -- those of a table of symbols, and of what LC_DYSYMTAB says of it
 abbrev pub table_faults : Laid → Option PlacedSymtab → Option PlacedDysymtab → List LayoutFault
 table_faults laid table dynamic =
-    symbols_told laid table (rule.SymbolSection ∷ rule.SymbolName ∷ []) ++ symbol_range_faults table dynamic ++ symbol_kind_faults laid table dynamic
+    symbols_reported laid table (rule.SymbolSection ∷ rule.SymbolName ∷ []) ++ symbol_range_faults table dynamic ++ symbol_kind_faults laid table dynamic
     ++ symbol_library_faults laid table ++ indirect_faults laid table dynamic ++ symbol_order_faults table dynamic
 
 -- the faults of symbols

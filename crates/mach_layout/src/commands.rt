@@ -12,13 +12,13 @@ ghost use Rattle.mach_layout.specs.declared.fault.Rule.TheVariants as rules_name
 mod firsts;
 mod sizes;
 
-use crate::commands::firsts::tell_again;
+use crate::commands::firsts::report_again;
 use crate::commands::sizes::{StructSize, struct_size};
 use crate::fault::{LayoutFault, Owner, Part, Rule};
-use crate::header::tell_header;
+use crate::header::report_header;
 use crate::layout::{Layout, ends_past, range_end};
-use crate::libraries::{is_id, is_library_file, place_seen, text_seen};
-use crate::rules::{Judges, Seen, measured, owner_at, sound, tell_each};
+use crate::libraries::{is_id, is_library_file, place_view_of, text_outcome};
+use crate::rules::{Judges, RuleOutcome, measured, owner_at, report_each, sound};
 use mach_base::{Container, Endian, Record, Result};
 use mach_load::{CommandVariant, LoadCommand};
 use mach_records::{
@@ -51,7 +51,7 @@ pub fn number_of(command: &LoadCommand) -> u64
 }
 
 // Compares the size of a command with that of its struct.
-fn size_seen(size: u64, expected: StructSize) -> Seen
+fn size_outcome(size: u64, expected: StructSize) -> RuleOutcome
     ensures { result ≡ defined.size_sees size expected }
 {
     match expected {
@@ -182,7 +182,7 @@ fn has_symbols(commands: &[LoadCommand]) -> bool
 }
 
 // Checks the place where a command ends.
-fn end_seen(layout: &Layout<'_, '_>, command: &LoadCommand) -> Seen
+fn end_outcome(layout: &Layout<'_, '_>, command: &LoadCommand) -> RuleOutcome
     ensures { result ≡ defined.command_sees (laid_of layout.now) rules_named.CommandOutOfCommands (command_of command.now) }
 {
     let (start, size) = (command.offset as u64, size_of(command));
@@ -191,7 +191,7 @@ fn end_seen(layout: &Layout<'_, '_>, command: &LoadCommand) -> Seen
 }
 
 // Checks the size of a command with the items that it counts.
-fn count_seen(layout: &Layout<'_, '_>, command: &LoadCommand) -> Seen
+fn count_outcome(layout: &Layout<'_, '_>, command: &LoadCommand) -> RuleOutcome
     ensures { result ≡ defined.command_sees (laid_of layout.now) rules_named.CommandCount (command_of command.now) }
 {
     let size = size_of(command);
@@ -202,7 +202,7 @@ fn count_seen(layout: &Layout<'_, '_>, command: &LoadCommand) -> Seen
 }
 
 // Checks the width of a segment's command.
-fn width_seen(layout: &Layout<'_, '_>, command: &LoadCommand) -> Seen
+fn width_outcome(layout: &Layout<'_, '_>, command: &LoadCommand) -> RuleOutcome
     ensures { result ≡ defined.command_sees (laid_of layout.now) rules_named.SegmentWidth (command_of command.now) }
 {
     match other_width(layout.ctx.container, &command.command) {
@@ -226,23 +226,23 @@ impl Judges<LoadCommand> for Layout<'_, '_> {
         owner_at(part, command.offset, 0)
     }
 
-    fn see(&self, rule: Rule, command: &LoadCommand) -> Seen {
+    fn see(&self, rule: Rule, command: &LoadCommand) -> RuleOutcome {
         let size = size_of(command);
         match rule {
-            Rule::CommandSize => size_seen(size, struct_size(&command.command)),
+            Rule::CommandSize => size_outcome(size, struct_size(&command.command)),
             Rule::CommandUnaligned => {
                 let unit = unit_of(self, command);
                 measured(size % unit == 0, size, unit)
             }
-            Rule::CommandOutOfCommands => end_seen(self, command),
-            Rule::CommandCount => count_seen(self, command),
-            Rule::SegmentWidth => width_seen(self, command),
+            Rule::CommandOutOfCommands => end_outcome(self, command),
+            Rule::CommandCount => count_outcome(self, command),
+            Rule::SegmentWidth => width_outcome(self, command),
             Rule::DynamicSymbolsAlone => {
                 let number = number_of(command);
                 measured(!is_dynamic(command), number, u64::from(LC_SYMTAB))
             }
-            Rule::TextMisplaced => place_seen(self.bytes, command),
-            Rule::TextEmpty => text_seen(self.bytes, command),
+            Rule::TextMisplaced => place_view_of(self.bytes, command),
+            Rule::TextEmpty => text_outcome(self.bytes, command),
             Rule::IdUnexpected => {
                 let kind = u64::from(self.header.filetype);
                 measured(!is_id(command) || is_library_file(self), kind, 0)
@@ -253,30 +253,30 @@ impl Judges<LoadCommand> for Layout<'_, '_> {
 }
 
 /// Adds the faults that some of these rules find in the commands.
-pub fn tell_commands<A: Allocator>(
+pub fn report_commands<A: Allocator>(
     faults: &mut Vec<LayoutFault, A>,
     layout: &Layout<'_, '_>,
     rules: &[Rule],
 ) -> Result<()>
-    ensures told { OnOk result (faults.new.items ≡ faults.old.items ++ defined.commands_told (laid_of layout.now) rules.now) }
+    ensures reported { OnOk result (faults.new.items ≡ faults.old.items ++ defined.commands_reported (laid_of layout.now) rules.now) }
     ensures only { IsOkUnlessMemory result }
 {
-    tell_each(faults, layout, rules, layout.commands)?;
+    report_each(faults, layout, rules, layout.commands)?;
     Ok(())
 }
 
 // Adds a fault for each `LC_DYSYMTAB` of an image without symbols.
-fn tell_dynamic_symbols<A: Allocator>(
+fn report_dynamic_symbols<A: Allocator>(
     faults: &mut Vec<LayoutFault, A>,
     layout: &Layout<'_, '_>,
 ) -> Result<()>
-    ensures told { OnOk result (faults.new.items ≡ faults.old.items ++ defined.dynamic_symbols_alone (laid_of layout.now)) }
+    ensures reported { OnOk result (faults.new.items ≡ faults.old.items ++ defined.dynamic_symbols_alone (laid_of layout.now)) }
     ensures only { IsOkUnlessMemory result }
 {
     if has_symbols(layout.commands) {
         return Ok(());
     }
-    tell_commands(faults, layout, &[Rule::DynamicSymbolsAlone])
+    report_commands(faults, layout, &[Rule::DynamicSymbolsAlone])
 }
 
 /// Adds the faults of the header and of the commands.
@@ -284,7 +284,7 @@ pub fn command_faults<A: Allocator>(
     faults: &mut Vec<LayoutFault, A>,
     layout: &Layout<'_, '_>,
 ) -> Result<()>
-    ensures told { OnOk result (faults.new.items ≡ faults.old.items ++ defined.command_faults (laid_of layout.now)) }
+    ensures reported { OnOk result (faults.new.items ≡ faults.old.items ++ defined.command_faults (laid_of layout.now)) }
     ensures only { IsOkUnlessMemory result }
 {
     let rules = [
@@ -294,11 +294,11 @@ pub fn command_faults<A: Allocator>(
         Rule::CommandCount,
         Rule::SegmentWidth,
     ];
-    tell_header(faults, layout, &[Rule::FileKind, Rule::CommandsOutOfFile])?;
-    tell_commands(faults, layout, &rules)?;
-    tell_header(faults, layout, &[Rule::CommandsEndEarly])?;
-    tell_again(faults, layout.commands)?;
-    tell_dynamic_symbols(faults, layout)
+    report_header(faults, layout, &[Rule::FileKind, Rule::CommandsOutOfFile])?;
+    report_commands(faults, layout, &rules)?;
+    report_header(faults, layout, &[Rule::CommandsEndEarly])?;
+    report_again(faults, layout.commands)?;
+    report_dynamic_symbols(faults, layout)
 }
 
 /// Adds the faults of texts and names.
@@ -306,10 +306,10 @@ pub fn text_faults<A: Allocator>(
     faults: &mut Vec<LayoutFault, A>,
     layout: &Layout<'_, '_>,
 ) -> Result<()>
-    ensures told { OnOk result (faults.new.items ≡ faults.old.items ++ defined.text_faults (laid_of layout.now)) }
+    ensures reported { OnOk result (faults.new.items ≡ faults.old.items ++ defined.text_faults (laid_of layout.now)) }
     ensures only { IsOkUnlessMemory result }
 {
-    tell_commands(faults, layout, &[Rule::TextMisplaced, Rule::TextEmpty])?;
-    tell_header(faults, layout, &[Rule::IdMissing])?;
-    tell_commands(faults, layout, &[Rule::IdUnexpected])
+    report_commands(faults, layout, &[Rule::TextMisplaced, Rule::TextEmpty])?;
+    report_header(faults, layout, &[Rule::IdMissing])?;
+    report_commands(faults, layout, &[Rule::IdUnexpected])
 }

@@ -10,8 +10,8 @@ ghost use Rattle.mach_layout.specs.declared.fault.LayoutFault as declared;
 use crate::claim::Claim;
 use crate::fault::{LayoutFault, Owner, Part, Rule};
 use crate::header::header_owner;
-use crate::rules::{Judges, Seen, measured, owner_at, sound, tell, tell_each};
-use crate::sweep::tell_ranges;
+use crate::rules::{Judges, RuleOutcome, measured, owner_at, report, report_each, sound};
+use crate::sweep::report_ranges;
 use mach_base::{Endian, Result, read_u32};
 use mach_parts::magic::parse_magic_and_ctx;
 use mach_parts::{ArchRecord, place_of, read_arch};
@@ -133,7 +133,7 @@ impl Judges<PlacedSlice> for Slices<'_> {
         slice_owner(slice)
     }
 
-    fn see(&self, rule: Rule, slice: &PlacedSlice) -> Seen {
+    fn see(&self, rule: Rule, slice: &PlacedSlice) -> RuleOutcome {
         match rule {
             Rule::SliceOutOfFile => {
                 let limit = self.bytes.len() as u64;
@@ -218,33 +218,33 @@ fn slice_ranges<A: Allocator>(
 }
 
 // Adds the faults of slices that share such a range.
-fn tell_slices_sharing<A: Allocator>(
+fn report_slices_sharing<A: Allocator>(
     faults: &mut Vec<LayoutFault, A>,
     alloc: A,
     slices: &[PlacedSlice],
     which: RangeOf,
     rule: Rule,
 ) -> Result<()>
-    ensures told { OnOk result ((told : List declared.LayoutFault) × AreShared rule (filter_map (defined.slice_range which) slices.now) told
-        × (faults.new.items ≡ faults.old.items ++ told)) }
+    ensures reported { OnOk result ((reported : List declared.LayoutFault) × AreShared rule (filter_map (defined.slice_range which) slices.now) reported
+        × (faults.new.items ≡ faults.old.items ++ reported)) }
     ensures only { IsOkUnlessMemory result }
 {
     let mut ranges = slice_ranges(alloc, which, slices)?;
-    tell_ranges(faults, rule, &mut ranges)
+    report_ranges(faults, rule, &mut ranges)
 }
 
 // Adds the fault of records that end past the end of the file.
-fn tell_records<R: ArchRecord, A: Allocator>(
+fn report_records<R: ArchRecord, A: Allocator>(
     faults: &mut Vec<LayoutFault, A>,
     bytes: &[u8],
 ) -> Result<()>
-    ensures told { OnOk result (faults.new.items ≡ faults.old.items ++ option_to_list (defined.records_out_of_file R.arch_form bytes.now)) }
+    ensures reported { OnOk result (faults.new.items ≡ faults.old.items ++ option_to_list (defined.records_out_of_file R.arch_form bytes.now)) }
     ensures only { IsOkUnlessMemory result }
 {
     let end = records_end::<R>(bytes) as u64;
     let limit = bytes.len() as u64;
-    let seen = measured(end <= limit, end, limit);
-    tell(faults, Rule::RecordsOutOfFile, header_owner(), seen)?;
+    let outcome = measured(end <= limit, end, limit);
+    report(faults, Rule::RecordsOutOfFile, header_owner(), outcome)?;
     Ok(())
 }
 
@@ -271,17 +271,17 @@ pub fn container_faults<R: ArchRecord, A: Allocator + Clone>(
         Rule::SliceUnaligned,
     ];
     let mut faults = Vec::new(alloc.clone()?);
-    tell_records::<R, A>(&mut faults, bytes)?;
-    tell_each(&mut faults, &judge, &rules, slices)?;
-    tell_slices_sharing(
+    report_records::<R, A>(&mut faults, bytes)?;
+    report_each(&mut faults, &judge, &rules, slices)?;
+    report_slices_sharing(
         &mut faults,
         alloc.clone()?,
         slices,
         RangeOf::Cpu,
         Rule::SliceAgain,
     )?;
-    tell_each(&mut faults, &judge, &[Rule::SliceOfOtherCpu], slices)?;
-    tell_slices_sharing(
+    report_each(&mut faults, &judge, &[Rule::SliceOfOtherCpu], slices)?;
+    report_slices_sharing(
         &mut faults,
         alloc,
         slices,

@@ -13,7 +13,7 @@ use crate::fixups::{FixupData, PlacedFixups, data_of};
 use crate::last_command::{Wanted, last_wanted};
 use crate::layout::Layout;
 use crate::placed_sections::PlacedSegment;
-use crate::rules::{Judges, Numbers, Seen, measured, owner_at, sound, tell_over};
+use crate::rules::{Judges, Numbers, RuleOutcome, measured, owner_at, report_over, sound};
 use mach_base::{Record, Result};
 use mach_load::{CommandVariant, LoadCommand};
 use mach_records::DataInCodeEntry;
@@ -156,7 +156,7 @@ fn share_bytes(first: &DataInCodeEntry, second: &DataInCodeEntry) -> bool
 
 impl DataJudge<'_> {
     // Checks where an entry lies.
-    fn place_seen(&self, entry: &DataInCodeEntry) -> Seen
+    fn place_view_of(&self, entry: &DataInCodeEntry) -> RuleOutcome
         ensures { result ≡ defined.place_of_data_sees self.now.base self.now.span entry.now }
     {
         let holds = entry.length == 0 || is_within(self.base, self.span, entry);
@@ -165,7 +165,12 @@ impl DataJudge<'_> {
     }
 
     // Compares an entry with the one before it, which is entry k - 1.
-    fn share_seen(&self, k: u32, before: &DataInCodeEntry, entry: &DataInCodeEntry) -> Seen
+    fn share_outcome(
+        &self,
+        k: u32,
+        before: &DataInCodeEntry,
+        entry: &DataInCodeEntry,
+    ) -> RuleOutcome
         requires { 0 < k }
         ensures { result ≡ defined.shared_data_sees (data_view self.now.table) k before.now entry.now }
     {
@@ -193,14 +198,14 @@ impl Judges<u32> for DataJudge<'_> {
         self.data_owner(*k)
     }
 
-    fn see(&self, rule: Rule, k: &u32) -> Seen {
+    fn see(&self, rule: Rule, k: &u32) -> RuleOutcome {
         let Some(entry) = entry_in(&self.table, *k) else {
             return sound();
         };
         match rule {
-            Rule::DataOutOfCode => self.place_seen(&entry),
+            Rule::DataOutOfCode => self.place_view_of(&entry),
             Rule::DataShared => match entry_before(&self.table, *k) {
-                Some(before) => self.share_seen(*k, &before, &entry),
+                Some(before) => self.share_outcome(*k, &before, &entry),
                 None => sound(),
             },
             _ => sound(),
@@ -224,13 +229,13 @@ fn data_table<'a>(layout: &Layout<'a, '_>, placed: &PlacedData) -> Option<FixupD
 }
 
 // Adds the faults of a table with `count` entries.
-fn tell_data<A: Allocator>(
+fn report_data<A: Allocator>(
     faults: &mut Vec<LayoutFault, A>,
     layout: &Layout<'_, '_>,
     table: FixupData<'_>,
     count: u32,
 ) -> Result<()>
-    ensures told { OnOk result (faults.new.items ≡ faults.old.items ++ defined.data_table_faults (laid_of layout.now) count (data_view table.entry)) }
+    ensures reported { OnOk result (faults.new.items ≡ faults.old.items ++ defined.data_table_faults (laid_of layout.now) count (data_view table.entry)) }
     ensures only { IsOkUnlessMemory result }
 {
     let judge = DataJudge {
@@ -239,7 +244,7 @@ fn tell_data<A: Allocator>(
         span: code_span(layout),
     };
     let rules = [Rule::DataOutOfCode, Rule::DataShared];
-    tell_over(faults, &judge, &rules, &Numbers::of(count))?;
+    report_over(faults, &judge, &rules, &Numbers::of(count))?;
     Ok(())
 }
 
@@ -248,7 +253,7 @@ pub fn data_faults<A: Allocator>(
     faults: &mut Vec<LayoutFault, A>,
     layout: &Layout<'_, '_>,
 ) -> Result<()>
-    ensures told { OnOk result (faults.new.items ≡ faults.old.items ++ defined.data_faults (laid_of layout.now)) }
+    ensures reported { OnOk result (faults.new.items ≡ faults.old.items ++ defined.data_faults (laid_of layout.now)) }
     ensures only { IsOkUnlessMemory result }
 {
     let Some(placed) = last_wanted::<PlacedData>(layout.commands) else {
@@ -257,5 +262,5 @@ pub fn data_faults<A: Allocator>(
     let Some(table) = data_table(layout, &placed) else {
         return Ok(());
     };
-    tell_data(faults, layout, table, placed.datasize / 8)
+    report_data(faults, layout, table, placed.datasize / 8)
 }

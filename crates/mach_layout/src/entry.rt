@@ -11,7 +11,7 @@ use crate::fault::{LayoutFault, Part, Rule};
 use crate::header::header_owner;
 use crate::layout::Layout;
 use crate::placed_sections::PlacedSegment;
-use crate::rules::{Seen, measured, owner_at, sound, tell};
+use crate::rules::{RuleOutcome, measured, owner_at, report, sound};
 use mach_base::Result;
 use mach_load::{CommandVariant, LoadCommand};
 use mach_parts::header::MH_EXECUTE;
@@ -104,8 +104,8 @@ fn is_in_code(layout: &Layout<'_, '_>, place: EntryPlace) -> bool
 }
 
 // Whether a place in the file lies after the commands.
-fn is_behind_commands(layout: &Layout<'_, '_>, place: EntryPlace) -> bool
-    ensures { result ≡ defined.is_behind_commands (laid_of layout.now) place }
+fn is_after_commands(layout: &Layout<'_, '_>, place: EntryPlace) -> bool
+    ensures { result ≡ defined.is_after_commands (laid_of layout.now) place }
 {
     match place {
         EntryPlace::InFile(place) => layout.used_end() <= place,
@@ -114,30 +114,33 @@ fn is_behind_commands(layout: &Layout<'_, '_>, place: EntryPlace) -> bool
 }
 
 // Checks the entry.
-fn entry_seen(layout: &Layout<'_, '_>, place: EntryPlace) -> Seen
+fn entry_view_of(layout: &Layout<'_, '_>, place: EntryPlace) -> RuleOutcome
     ensures { result ≡ defined.entry_sees (laid_of layout.now) place }
 {
     let (EntryPlace::InFile(found) | EntryPlace::InMemory(found)) = place;
-    let holds = is_behind_commands(layout, place) && is_in_code(layout, place);
+    let holds = is_after_commands(layout, place) && is_in_code(layout, place);
     measured(holds, found, layout.used_end())
 }
 
 // Adds the fault of the first command that states where the image begins, or the fault that there is none.
-fn tell_entry<A: Allocator>(faults: &mut Vec<LayoutFault, A>, layout: &Layout<'_, '_>) -> Result<()>
-    ensures told { let laid = laid_of layout.now in OnOk result (faults.new.items
+fn report_entry<A: Allocator>(
+    faults: &mut Vec<LayoutFault, A>,
+    layout: &Layout<'_, '_>,
+) -> Result<()>
+    ensures reported { let laid = laid_of layout.now in OnOk result (faults.new.items
         ≡ faults.old.items ++ option_to_list (defined.entry_fault laid (find defined.is_entry laid.commands))) }
     ensures only { IsOkUnlessMemory result }
 {
     let Some(command) = first_entry(layout.commands) else {
-        tell(faults, Rule::NoEntry, header_owner(), measured(false, 0, 0))?;
+        report(faults, Rule::NoEntry, header_owner(), measured(false, 0, 0))?;
         return Ok(());
     };
-    let seen = match entry_place(layout.header.cputype, &command.command) {
-        Some(place) => entry_seen(layout, place),
+    let outcome = match entry_place(layout.header.cputype, &command.command) {
+        Some(place) => entry_view_of(layout, place),
         None => sound(),
     };
     let owner = owner_at(Part::Entry, command.offset, 0);
-    tell(faults, Rule::EntryOutOfCode, owner, seen)?;
+    report(faults, Rule::EntryOutOfCode, owner, outcome)?;
     Ok(())
 }
 
@@ -146,11 +149,11 @@ pub fn entry_faults<A: Allocator>(
     faults: &mut Vec<LayoutFault, A>,
     layout: &Layout<'_, '_>,
 ) -> Result<()>
-    ensures told { OnOk result (faults.new.items ≡ faults.old.items ++ defined.entry_faults (laid_of layout.now)) }
+    ensures reported { OnOk result (faults.new.items ≡ faults.old.items ++ defined.entry_faults (laid_of layout.now)) }
     ensures only { IsOkUnlessMemory result }
 {
     if layout.header.filetype != MH_EXECUTE {
         return Ok(());
     }
-    tell_entry(faults, layout)
+    report_entry(faults, layout)
 }

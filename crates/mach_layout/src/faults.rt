@@ -11,9 +11,9 @@ ghost use Rattle.mach_layout.specs.Symbols as symbols;
 use crate::commands::{command_faults, text_faults};
 use crate::entry::entry_faults;
 use crate::fault::{LayoutFault, Rule};
-use crate::header::tell_header;
+use crate::header::report_header;
 use crate::layout::Layout;
-use crate::ranges::{claims_shared, files_shared, memory_shared, sections_shared, tell_claims};
+use crate::ranges::{claims_shared, files_shared, memory_shared, report_claims, sections_shared};
 use crate::sections::section_faults;
 use crate::segments::{encrypted_faults, segment_faults};
 use crate::symbols::symbol_faults;
@@ -26,15 +26,15 @@ pub fn add_segments<B: Allocator + Clone>(
     alloc: &B,
     layout: &Layout<'_, '_>,
 ) -> Result<()>
-    ensures told { OnOk result (AddsSegments (laid_of layout.now) faults.old.items faults.new.items) }
+    ensures reported { OnOk result (AddsSegments (laid_of layout.now) faults.old.items faults.new.items) }
     ensures only { IsOkUnlessMemory result }
 {
     command_faults(faults, layout)?;
-    tell_claims(faults, layout, &[Rule::OutOfFile])?;
+    report_claims(faults, layout, &[Rule::OutOfFile])?;
     segment_faults(alloc.clone()?, faults, layout)?;
     memory_shared(faults, alloc.clone()?, layout)?;
     files_shared(faults, alloc.clone()?, layout)?;
-    tell_header(faults, layout, &[Rule::NoSegmentOfHeader])?;
+    report_header(faults, layout, &[Rule::NoSegmentOfHeader])?;
     Ok(())
 }
 
@@ -44,13 +44,13 @@ pub fn add_sections<B: Allocator + Clone>(
     alloc: &B,
     layout: &Layout<'_, '_>,
 ) -> Result<()>
-    ensures told { OnOk result (AddsSections (laid_of layout.now) faults.old.items faults.new.items) }
+    ensures reported { OnOk result (AddsSections (laid_of layout.now) faults.old.items faults.new.items) }
     ensures only { IsOkUnlessMemory result }
 {
     section_faults(faults, layout)?;
     sections_shared(faults, alloc.clone()?, layout)?;
     claims_shared(faults, alloc.clone()?, layout)?;
-    tell_claims(faults, layout, &[Rule::HeaderShared, Rule::OutOfLinkedit])?;
+    report_claims(faults, layout, &[Rule::HeaderShared, Rule::OutOfLinkedit])?;
     encrypted_faults(faults, layout)?;
     Ok(())
 }
@@ -60,7 +60,7 @@ pub fn add_symbols<B: Allocator>(
     faults: &mut Vec<LayoutFault, B>,
     layout: &Layout<'_, '_>,
 ) -> Result<()>
-    ensures told { let laid = laid_of layout.now in OnOk result (faults.new.items
+    ensures reported { let laid = laid_of layout.now in OnOk result (faults.new.items
         ≡ faults.old.items ++ symbols.symbol_faults laid ++ entry.entry_faults laid ++ texts.text_faults laid) }
     ensures only { IsOkUnlessMemory result }
 {

@@ -15,7 +15,7 @@ use crate::fixups::imports::import_faults;
 use crate::fixups::starts::starts_faults;
 use crate::last_command::{Wanted, last_wanted};
 use crate::layout::{Layout, ends_past};
-use crate::rules::{Seen, measured, owner_at, tell};
+use crate::rules::{RuleOutcome, measured, owner_at, report};
 use mach_base::{Endian, Record, Result, read_u32};
 use mach_chained::ChainedFixupsHeader;
 use mach_load::{CommandVariant, LoadCommand};
@@ -116,7 +116,7 @@ pub fn import_bytes(format: u32) -> u64
 }
 
 // Checks the version and the formats of a header.
-fn format_seen(header: &ChainedFixupsHeader) -> Seen
+fn format_outcome(header: &ChainedFixupsHeader) -> RuleOutcome
     ensures { result ≡ defined.format_sees header.now }
 {
     let (version, imports, symbols) = (
@@ -138,7 +138,7 @@ fn imports_end(header: &ChainedFixupsHeader) -> u64
 }
 
 // Checks the places of imports and names.
-fn places_seen(chained: &FixupData<'_>, header: &ChainedFixupsHeader) -> Seen
+fn places_outcome(chained: &FixupData<'_>, header: &ChainedFixupsHeader) -> RuleOutcome
     ensures { result ≡ defined.places_sees (data_view chained.now) header.now }
 {
     let (size, end) = (chained.size(), imports_end(header));
@@ -149,11 +149,11 @@ fn places_seen(chained: &FixupData<'_>, header: &ChainedFixupsHeader) -> Seen
 }
 
 // Returns the header with its count of starts, if all of these follow it.
-fn front_or_seen(
+fn front_or_outcome(
     chained: &FixupData<'_>,
     header: ChainedFixupsHeader,
-) -> std::result::Result<Front, Seen>
-    ensures { result ≡ defined.front_or_seen (data_view chained.now) header (number_at chained.now.le 4 chained.now.payload.now header.starts_offset) }
+) -> std::result::Result<Front, RuleOutcome>
+    ensures { result ≡ defined.front_or_outcome (data_view chained.now) header (number_at chained.now.le 4 chained.now.payload.now header.starts_offset) }
 {
     let size = chained.size();
     let first = u64::from(header.starts_offset) + 4;
@@ -168,17 +168,17 @@ fn front_or_seen(
 }
 
 // Returns the header of the data, or what was seen at its first field that doesn't hold.
-fn front_of(chained: &FixupData<'_>) -> std::result::Result<Front, Seen>
+fn front_of(chained: &FixupData<'_>) -> std::result::Result<Front, RuleOutcome>
     ensures { result ≡ defined.front_of (data_view chained.now) }
 {
     let Ok(header) = ChainedFixupsHeader::read(chained.payload, 0, chained.le) else {
         return Err(measured(false, chained.size(), 28));
     };
-    let seen = format_seen(&header).then(places_seen(chained, &header));
-    if !seen.holds {
-        return Err(seen);
+    let outcome = format_outcome(&header).then(places_outcome(chained, &header));
+    if !outcome.holds {
+        return Err(outcome);
     }
-    front_or_seen(chained, header)
+    front_or_outcome(chained, header)
 }
 
 /// Adds the faults of chained fixups.
@@ -186,7 +186,7 @@ pub fn fixup_faults<A: Allocator>(
     faults: &mut Vec<LayoutFault, A>,
     layout: &Layout<'_, '_>,
 ) -> Result<()>
-    ensures told { OnOk result (faults.new.items ≡ faults.old.items ++ defined.fixup_faults (laid_of layout.now)) }
+    ensures reported { OnOk result (faults.new.items ≡ faults.old.items ++ defined.fixup_faults (laid_of layout.now)) }
     ensures only { IsOkUnlessMemory result }
 {
     let Some(chained) = fixup_data(layout) else {
@@ -197,8 +197,8 @@ pub fn fixup_faults<A: Allocator>(
             starts_faults(faults, layout, &chained, &front)?;
             import_faults(faults, layout, &chained, &front)
         }
-        Err(seen) => {
-            tell(faults, Rule::ChainedFixups, chained.owner(0), seen)?;
+        Err(outcome) => {
+            report(faults, Rule::ChainedFixups, chained.owner(0), outcome)?;
             Ok(())
         }
     }

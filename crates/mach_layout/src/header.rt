@@ -8,7 +8,7 @@ ghost use Rattle.mach_layout.specs.Laid.{laid_of};
 use crate::fault::{LayoutFault, Owner, Part, Rule};
 use crate::layout::Layout;
 use crate::libraries::{has_id, is_library_file};
-use crate::rules::{Judges, Seen, measured, owner_at, sound, tell_each};
+use crate::rules::{Judges, RuleOutcome, measured, owner_at, report_each, sound};
 use crate::segments::has_segment_of_header;
 use mach_base::Result;
 use mach_parts::header::Header;
@@ -32,7 +32,7 @@ impl Judges<Header> for Layout<'_, '_> {
         header_owner()
     }
 
-    fn see(&self, rule: Rule, _header: &Header) -> Seen {
+    fn see(&self, rule: Rule, _header: &Header) -> RuleOutcome {
         let kind = u64::from(self.header.filetype);
         let declared = self.declared_end();
         match rule {
@@ -55,14 +55,14 @@ impl Judges<Header> for Layout<'_, '_> {
 }
 
 /// Adds the faults that some of these rules find.
-pub fn tell_header<A: Allocator>(
+pub fn report_header<A: Allocator>(
     faults: &mut Vec<LayoutFault, A>,
     layout: &Layout<'_, '_>,
     rules: &[Rule],
 ) -> Result<()>
-    ensures told { OnOk result (faults.new.items ≡ faults.old.items ++ defined.header_told (laid_of layout.now) rules.now) }
+    ensures reported { OnOk result (faults.new.items ≡ faults.old.items ++ defined.header_reported (laid_of layout.now) rules.now) }
     ensures only { IsOkUnlessMemory result }
 {
-    tell_each(faults, layout, rules, &[layout.header])?;
+    report_each(faults, layout, rules, &[layout.header])?;
     Ok(())
 }

@@ -9,9 +9,9 @@
 mod fault;
 mod faults;
 mod layout;
+mod messages;
 pub mod rules;
 mod text;
-mod words;
 
 // Which part claims which range, and ranges that two parts claim.
 mod claim;
@@ -50,5 +50,5 @@ pub use crate::header::header_owner;
 pub use crate::layout::Layout;
 pub use crate::lists::{function_starts_fault, opcodes_fault};
 pub use crate::placed_sections::{PlacedSection, PlacedSegment, SectionIterator, SegmentIterator};
-pub use crate::sweep::tell_ranges;
+pub use crate::sweep::report_ranges;
 pub use crate::text::Evidence;

@@ -9,7 +9,7 @@ ghost use Rattle.mach_layout.specs.Rules.{sees_there};
 
 use crate::commands::bytes_from;
 use crate::layout::Layout;
-use crate::rules::{Seen, measured, sound};
+use crate::rules::{RuleOutcome, measured, sound};
 use mach_base::Record;
 use mach_load::{CommandVariant, LoadCommand};
 use mach_parts::header::{MH_DYLIB, MH_DYLIB_STUB};
@@ -31,7 +31,7 @@ pub struct CommandText {
 }
 
 // Returns the text at an offset, after a struct of `struct_size` bytes.
-fn text_behind(offset: LcStr, struct_size: usize) -> Option<CommandText>
+fn text_after(offset: LcStr, struct_size: usize) -> Option<CommandText>
     ensures { result ≡ Some (record { offset = offset; struct_size = struct_size; is_read = true }) }
 {
     Some(CommandText {
@@ -47,24 +47,24 @@ fn text_of(command: &CommandVariant) -> Option<CommandText>
 {
     match command {
         CommandVariant::LoadFvmlib(c) | CommandVariant::IdFvmlib(c) => {
-            text_behind(c.fvmlib.name, FvmlibCommand::SIZE)
+            text_after(c.fvmlib.name, FvmlibCommand::SIZE)
         }
-        CommandVariant::Fvmfile(c) => text_behind(c.name, FvmfileCommand::SIZE),
+        CommandVariant::Fvmfile(c) => text_after(c.name, FvmfileCommand::SIZE),
         CommandVariant::LoadDylib(c)
         | CommandVariant::IdDylib(c)
         | CommandVariant::LazyLoadDylib(c)
         | CommandVariant::LoadWeakDylib(c)
         | CommandVariant::ReexportDylib(c)
-        | CommandVariant::LoadUpwardDylib(c) => text_behind(c.dylib.name, DylibCommand::SIZE),
+        | CommandVariant::LoadUpwardDylib(c) => text_after(c.dylib.name, DylibCommand::SIZE),
         CommandVariant::LoadDylinker(c)
         | CommandVariant::IdDylinker(c)
-        | CommandVariant::DyldEnvironment(c) => text_behind(c.name, DylinkerCommand::SIZE),
-        CommandVariant::SubFramework(c) => text_behind(c.umbrella, SubFrameworkCommand::SIZE),
-        CommandVariant::SubUmbrella(c) => text_behind(c.sub_umbrella, SubUmbrellaCommand::SIZE),
-        CommandVariant::SubClient(c) => text_behind(c.client, SubClientCommand::SIZE),
-        CommandVariant::SubLibrary(c) => text_behind(c.sub_library, SubLibraryCommand::SIZE),
-        CommandVariant::Rpath(c) => text_behind(c.path, RpathCommand::SIZE),
-        CommandVariant::FilesetEntry(c) => text_behind(c.entry_id, FilesetEntryCommand::SIZE),
+        | CommandVariant::DyldEnvironment(c) => text_after(c.name, DylinkerCommand::SIZE),
+        CommandVariant::SubFramework(c) => text_after(c.umbrella, SubFrameworkCommand::SIZE),
+        CommandVariant::SubUmbrella(c) => text_after(c.sub_umbrella, SubUmbrellaCommand::SIZE),
+        CommandVariant::SubClient(c) => text_after(c.client, SubClientCommand::SIZE),
+        CommandVariant::SubLibrary(c) => text_after(c.sub_library, SubLibraryCommand::SIZE),
+        CommandVariant::Rpath(c) => text_after(c.path, RpathCommand::SIZE),
+        CommandVariant::FilesetEntry(c) => text_after(c.entry_id, FilesetEntryCommand::SIZE),
         CommandVariant::PreboundDylib(c) => Some(CommandText {
             offset: c.name as usize,
             struct_size: PreboundDylibCommand::SIZE,
@@ -107,7 +107,7 @@ fn is_empty_text(bytes: &[u8], command: &LoadCommand, text: CommandText) -> bool
 }
 
 /// Checks the place of a command's text.
-pub fn place_seen(bytes: &[u8], command: &LoadCommand) -> Seen
+pub fn place_view_of(bytes: &[u8], command: &LoadCommand) -> RuleOutcome
     ensures { let c = command_of command.now in
         result ≡ sees_there (defined.text_of c.kind c.values) (λ t. defined.place_sees bytes.now c t) }
 {
@@ -121,7 +121,7 @@ pub fn place_seen(bytes: &[u8], command: &LoadCommand) -> Seen
 }
 
 /// Checks that a command's text isn't empty.
-pub fn text_seen(bytes: &[u8], command: &LoadCommand) -> Seen
+pub fn text_outcome(bytes: &[u8], command: &LoadCommand) -> RuleOutcome
     ensures { let c = command_of command.now in
         result ≡ sees_there (defined.text_of c.kind c.values) (λ t. defined.text_sees bytes.now c t) }
 {

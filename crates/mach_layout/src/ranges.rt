@@ -13,10 +13,10 @@ use crate::claiming::segment_claim;
 use crate::fault::{LayoutFault, Owner, Part, Rule};
 use crate::layout::{Layout, ends_past, range_end};
 use crate::placed_sections::{PlacedSection, PlacedSegment};
-use crate::rules::{Judges, Seen, measured, sound, tell_over};
+use crate::rules::{Judges, RuleOutcome, measured, report_over, sound};
 use crate::sections::section_owner;
 use crate::segments::segment_owner;
-use crate::sweep::tell_ranges;
+use crate::sweep::report_ranges;
 use mach_base::Result;
 use std::alloc::Allocator;
 
@@ -128,12 +128,13 @@ pub fn memory_shared<A: Allocator>(
     alloc: A,
     layout: &Layout<'_, '_>,
 ) -> Result<()>
-    ensures told { OnOk result ((told : List declared.LayoutFault) × AreShared rules_named.SegmentsShareMemory (defined.memory_ranges (laid_of layout.now)) told
-        × (faults.new.items ≡ faults.old.items ++ told)) }
+    ensures reported { OnOk result ((reported : List declared.LayoutFault)
+        × AreShared rules_named.SegmentsShareMemory (defined.memory_ranges (laid_of layout.now)) reported
+        × (faults.new.items ≡ faults.old.items ++ reported)) }
     ensures only { IsOkUnlessMemory result }
 {
     let mut ranges = memory_ranges(alloc, layout)?;
-    tell_ranges(faults, Rule::SegmentsShareMemory, &mut ranges)
+    report_ranges(faults, Rule::SegmentsShareMemory, &mut ranges)
 }
 
 /// Adds the faults of segments that share a byte of the file.
@@ -142,12 +143,13 @@ pub fn files_shared<A: Allocator>(
     alloc: A,
     layout: &Layout<'_, '_>,
 ) -> Result<()>
-    ensures told { OnOk result ((told : List declared.LayoutFault) × AreShared rules_named.SegmentsShareFile (defined.file_ranges (laid_of layout.now)) told
-        × (faults.new.items ≡ faults.old.items ++ told)) }
+    ensures reported { OnOk result ((reported : List declared.LayoutFault)
+        × AreShared rules_named.SegmentsShareFile (defined.file_ranges (laid_of layout.now)) reported
+        × (faults.new.items ≡ faults.old.items ++ reported)) }
     ensures only { IsOkUnlessMemory result }
 {
     let mut ranges = file_ranges(alloc, layout)?;
-    tell_ranges(faults, Rule::SegmentsShareFile, &mut ranges)
+    report_ranges(faults, Rule::SegmentsShareFile, &mut ranges)
 }
 
 /// Adds the faults of sections that share an address.
@@ -156,13 +158,13 @@ pub fn sections_shared<A: Allocator>(
     alloc: A,
     layout: &Layout<'_, '_>,
 ) -> Result<()>
-    ensures told { OnOk result ((told : List declared.LayoutFault)
-        × AreShared rules_named.SectionsShareMemory (defined.section_ranges (laid_of layout.now)) told
-        × (faults.new.items ≡ faults.old.items ++ told)) }
+    ensures reported { OnOk result ((reported : List declared.LayoutFault)
+        × AreShared rules_named.SectionsShareMemory (defined.section_ranges (laid_of layout.now)) reported
+        × (faults.new.items ≡ faults.old.items ++ reported)) }
     ensures only { IsOkUnlessMemory result }
 {
     let mut ranges = section_ranges(alloc, layout)?;
-    tell_ranges(faults, Rule::SectionsShareMemory, &mut ranges)
+    report_ranges(faults, Rule::SectionsShareMemory, &mut ranges)
 }
 
 /// Adds the faults of claims that share a byte.
@@ -171,12 +173,13 @@ pub fn claims_shared<A: Allocator>(
     alloc: A,
     layout: &Layout<'_, '_>,
 ) -> Result<()>
-    ensures told { OnOk result ((told : List declared.LayoutFault) × AreShared rules_named.ClaimsShare (defined.lone_claims (laid_of layout.now)) told
-        × (faults.new.items ≡ faults.old.items ++ told)) }
+    ensures reported { OnOk result ((reported : List declared.LayoutFault)
+        × AreShared rules_named.ClaimsShare (defined.lone_claims (laid_of layout.now)) reported
+        × (faults.new.items ≡ faults.old.items ++ reported)) }
     ensures only { IsOkUnlessMemory result }
 {
     let mut ranges = lone_claims(alloc, layout)?;
-    tell_ranges(faults, Rule::ClaimsShare, &mut ranges)
+    report_ranges(faults, Rule::ClaimsShare, &mut ranges)
 }
 
 // Whether a part begins within the header and the commands although it may not.
@@ -262,7 +265,7 @@ impl Judges<Claim> for Claimed<'_, '_, '_> {
         claim.owner
     }
 
-    fn see(&self, rule: Rule, claim: &Claim) -> Seen {
+    fn see(&self, rule: Rule, claim: &Claim) -> RuleOutcome {
         let layout = self.layout;
         let (part, start, len) = (claim.owner.part, claim.start, claim.len);
         match rule {
@@ -289,18 +292,18 @@ impl Judges<Claim> for Claimed<'_, '_, '_> {
 }
 
 /// Adds the faults that some rules find in the claims.
-pub fn tell_claims<A: Allocator>(
+pub fn report_claims<A: Allocator>(
     faults: &mut Vec<LayoutFault, A>,
     layout: &Layout<'_, '_>,
     rules: &[Rule],
 ) -> Result<()>
-    ensures told { OnOk result (faults.new.items ≡ faults.old.items ++ defined.claims_told (laid_of layout.now) rules.now) }
+    ensures reported { OnOk result (faults.new.items ≡ faults.old.items ++ defined.claims_reported (laid_of layout.now) rules.now) }
     ensures only { IsOkUnlessMemory result }
 {
     let judge = Claimed {
         layout,
         linkedit: linkedit_of(layout),
     };
-    tell_over(faults, &judge, rules, &layout.claims())?;
+    report_over(faults, &judge, rules, &layout.claims())?;
     Ok(())
 }

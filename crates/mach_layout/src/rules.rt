@@ -10,7 +10,7 @@ use std::alloc::{AllocError, Allocator};
 
 /// What a rule sees in an item.
 #[derive(Clone, Copy)]
-pub struct Seen {
+pub struct RuleOutcome {
     /// Whether the rule holds.
     pub holds: bool,
     /// The other owner, if two conflict.
@@ -22,10 +22,10 @@ pub struct Seen {
 }
 
 /// Returns what a rule sees that compares two numbers.
-pub fn measured(holds: bool, found: u64, limit: u64) -> Seen
+pub fn measured(holds: bool, found: u64, limit: u64) -> RuleOutcome
     ensures { result ≡ defined.measured holds found limit }
 {
-    Seen {
+    RuleOutcome {
         holds,
         other: None,
         found,
@@ -34,26 +34,26 @@ pub fn measured(holds: bool, found: u64, limit: u64) -> Seen
 }
 
 /// Returns what a rule sees that has nothing to check.
-pub fn sound() -> Seen
+pub fn sound() -> RuleOutcome
     ensures { result ≡ defined.sound }
 {
     measured(true, 0, 0)
 }
 
-impl Seen {
+impl RuleOutcome {
     /// Adds the other owner with which the item conflicts.
-    pub fn against(self, other: Owner) -> Seen
+    pub fn against(self, other: Owner) -> RuleOutcome
         ensures { result ≡ defined.against other self }
     {
-        Seen {
+        RuleOutcome {
             other: Some(other),
             ..self
         }
     }
 
     /// Returns this if it doesn't hold, else the next.
-    pub fn then(self, next: Seen) -> Seen
-        ensures { result ≡ defined.then_seen self next }
+    pub fn then(self, next: RuleOutcome) -> RuleOutcome
+        ensures { result ≡ defined.then_outcome self next }
     {
         if self.holds { next } else { self }
     }
@@ -74,76 +74,76 @@ pub fn owner_at(part: Part, command: usize, index: u64) -> Owner
 pub trait Judges<T> {
     ghost use Rattle.mach_layout.specs.declared.fault.Owner.{Owner};
     ghost use Rattle.mach_layout.specs.declared.fault.Rule.{Rule};
-    ghost use Rattle.mach_layout.specs.declared.rules.Seen.{Seen};
+    ghost use Rattle.mach_layout.specs.declared.rules.RuleOutcome.{RuleOutcome};
 
     // The owner of a fault, and what each rule sees.
     ghost owner: { Self → Rule → T → Owner };
 
-    ghost sees: { Self → Rule → T → Seen };
+    ghost sees: { Self → Rule → T → RuleOutcome };
 
     /// Returns the owner of a fault of a rule.
     fn owner(&self, rule: Rule, item: &T) -> Owner
         ensures { result ≡ owner self.now rule item.now };
 
     /// Returns what a rule sees in an item.
-    fn see(&self, rule: Rule, item: &T) -> Seen
+    fn see(&self, rule: Rule, item: &T) -> RuleOutcome
         ensures { result ≡ sees self.now rule item.now };
 }
 
 /// Adds a fault, if there is one.
 pub fn add<A: Allocator>(
     faults: &mut Vec<LayoutFault, A>,
-    told: Option<LayoutFault>,
+    reported: Option<LayoutFault>,
 ) -> Result<(), AllocError>
-    ensures told { OnOk result (faults.new.items ≡ faults.old.items ++ option_to_list told) }
+    ensures reported { OnOk result (faults.new.items ≡ faults.old.items ++ option_to_list reported) }
 {
-    if let Some(fault) = told {
+    if let Some(fault) = reported {
         faults.push(fault)?;
     }
     Ok(())
 }
 
 /// Returns the fault that a rule reports for what it sees, if it doesn't hold.
-pub fn told(rule: Rule, owner: Owner, seen: Seen) -> Option<LayoutFault>
-    ensures { result ≡ defined.told rule owner seen }
+pub fn reported(rule: Rule, owner: Owner, outcome: RuleOutcome) -> Option<LayoutFault>
+    ensures { result ≡ defined.reported rule owner outcome }
 {
-    if seen.holds {
+    if outcome.holds {
         return None;
     }
     Some(LayoutFault {
         rule,
         owner,
-        other: seen.other,
-        found: seen.found,
-        limit: seen.limit,
+        other: outcome.other,
+        found: outcome.found,
+        limit: outcome.limit,
     })
 }
 
 /// Adds the fault that a rule reports for what it sees.
-pub fn tell<A: Allocator>(
+pub fn report<A: Allocator>(
     faults: &mut Vec<LayoutFault, A>,
     rule: Rule,
     owner: Owner,
-    seen: Seen,
+    outcome: RuleOutcome,
 ) -> Result<(), AllocError>
-    ensures told { OnOk result (faults.new.items ≡ faults.old.items ++ option_to_list (defined.told rule owner seen)) }
+    ensures reported { OnOk result (faults.new.items ≡ faults.old.items ++ option_to_list (defined.reported rule owner outcome)) }
 {
-    add(faults, told(rule, owner, seen))
+    add(faults, reported(rule, owner, outcome))
 }
 
 /// Adds the faults that the rules report for each of the items, rule by rule.
-pub fn tell_each<T, J: Judges<T>, A: Allocator>(
+pub fn report_each<T, J: Judges<T>, A: Allocator>(
     faults: &mut Vec<LayoutFault, A>,
     judge: &J,
     rules: &[Rule],
     items: &[T],
 ) -> Result<(), AllocError>
-    ensures told { OnOk result (faults.new.items
-        ≡ faults.old.items ++ defined.told_over rules.now (J.owner judge.now) (J.sees judge.now) items.now) }
+    ensures reported { OnOk result (faults.new.items
+        ≡ faults.old.items ++ defined.reported_over rules.now (J.owner judge.now) (J.sees judge.now) items.now) }
 {
     for rule in rules {
         for item in items {
-            tell(
+            report(
                 faults,
                 *rule,
                 judge.owner(*rule, item),
@@ -171,19 +171,19 @@ pub trait Items: Drop {
 }
 
 /// Adds the faults that the rules report for each of those items, rule by rule.
-pub fn tell_over<I: Items, J: Judges<I::Item>, A: Allocator>(
+pub fn report_over<I: Items, J: Judges<I::Item>, A: Allocator>(
     faults: &mut Vec<LayoutFault, A>,
     judge: &J,
     rules: &[Rule],
     items: &I,
 ) -> Result<(), AllocError>
-    ensures told { OnOk result (faults.new.items
-        ≡ faults.old.items ++ defined.told_over rules.now (J.owner judge.now) (J.sees judge.now) (I.left items.now)) }
+    ensures reported { OnOk result (faults.new.items
+        ≡ faults.old.items ++ defined.reported_over rules.now (J.owner judge.now) (J.sees judge.now) (I.left items.now)) }
 {
     for rule in rules {
         let mut left = items.again();
         'items: while let Some(item) = left.take_next() {
-            tell(
+            report(
                 faults,
                 *rule,
                 judge.owner(*rule, &item),

@@ -14,7 +14,7 @@ use crate::claiming::has_bytes;
 use crate::fault::{LayoutFault, Owner, Part, Rule};
 use crate::layout::{Layout, ends_past, range_end};
 use crate::placed_sections::PlacedSection;
-use crate::rules::{Judges, Seen, measured, owner_at, sound, tell_over};
+use crate::rules::{Judges, RuleOutcome, measured, owner_at, report_over, sound};
 use crate::segments::{before_zero, range_holds, segment_owner};
 use mach_base::Result;
 use std::alloc::Allocator;
@@ -68,26 +68,26 @@ fn names_its_segment(placed: &PlacedSection) -> bool
 }
 
 // Checks the place of a section's bytes.
-fn place_seen(layout: &Layout<'_, '_>, placed: &PlacedSection) -> Seen
+fn place_view_of(layout: &Layout<'_, '_>, placed: &PlacedSection) -> RuleOutcome
     ensures { result ≡ defined.section_sees (laid_of layout.now) rules_named.SectionElsewhere placed.now }
 {
     let (command, section) = (&placed.segment.command, &placed.section);
-    let bytes_behind = u64::from(section.offset).saturating_sub(command.fileoff);
-    let memory_behind = section.addr.saturating_sub(command.vmaddr);
+    let bytes_after = u64::from(section.offset).saturating_sub(command.fileoff);
+    let memory_after = section.addr.saturating_sub(command.vmaddr);
     let judged = layout.is_final()
         && has_bytes_there(layout, placed)
         && in_memory_of_segment(placed)
         && in_bytes_of_segment(placed);
     measured(
-        !judged || bytes_behind == memory_behind,
-        bytes_behind,
-        memory_behind,
+        !judged || bytes_after == memory_after,
+        bytes_after,
+        memory_after,
     )
     .against(segment_owner(&placed.segment))
 }
 
 // Checks the address of a section.
-fn address_seen(layout: &Layout<'_, '_>, placed: &PlacedSection) -> Seen
+fn address_outcome(layout: &Layout<'_, '_>, placed: &PlacedSection) -> RuleOutcome
     ensures { result ≡ defined.section_sees (laid_of layout.now) rules_named.SectionUnaligned placed.now }
 {
     let section = &placed.section;
@@ -109,7 +109,7 @@ impl Judges<PlacedSection> for Layout<'_, '_> {
         section_owner(placed)
     }
 
-    fn see(&self, rule: Rule, placed: &PlacedSection) -> Seen {
+    fn see(&self, rule: Rule, placed: &PlacedSection) -> RuleOutcome {
         let (command, section) = (&placed.segment.command, &placed.section);
         let segment = segment_owner(&placed.segment);
         match rule {
@@ -124,12 +124,12 @@ impl Judges<PlacedSection> for Layout<'_, '_> {
                 let limit = range_end(command.fileoff, command.filesize);
                 measured(holds, end, limit).against(segment)
             }
-            Rule::SectionElsewhere => place_seen(self, placed),
+            Rule::SectionElsewhere => place_view_of(self, placed),
             Rule::SectionAlignment => {
                 let align = section.align;
                 measured(align <= MAX_ALIGN, u64::from(align), u64::from(MAX_ALIGN))
             }
-            Rule::SectionUnaligned => address_seen(self, placed),
+            Rule::SectionUnaligned => address_outcome(self, placed),
             Rule::SectionOfOther => {
                 measured(self.is_object() || names_its_segment(placed), 0, 0).against(segment)
             }
@@ -143,7 +143,7 @@ pub fn section_faults<A: Allocator>(
     faults: &mut Vec<LayoutFault, A>,
     layout: &Layout<'_, '_>,
 ) -> Result<()>
-    ensures told { OnOk result (faults.new.items ≡ faults.old.items ++ defined.section_faults (laid_of layout.now)) }
+    ensures reported { OnOk result (faults.new.items ≡ faults.old.items ++ defined.section_faults (laid_of layout.now)) }
     ensures only { IsOkUnlessMemory result }
 {
     let rules = [
@@ -154,6 +154,6 @@ pub fn section_faults<A: Allocator>(
         Rule::SectionUnaligned,
         Rule::SectionOfOther,
     ];
-    tell_over(faults, layout, &rules, &layout.sections())?;
+    report_over(faults, layout, &rules, &layout.sections())?;
     Ok(())
 }

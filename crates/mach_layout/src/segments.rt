@@ -13,7 +13,7 @@ ghost use Rattle.mach_layout.specs.declared.fault.Rule.TheVariants as rules_name
 use crate::fault::{LayoutFault, Owner, Part, Rule};
 use crate::layout::{Layout, range_end};
 use crate::placed_sections::PlacedSegment;
-use crate::rules::{Judges, Seen, measured, owner_at, sound, tell, tell_over};
+use crate::rules::{Judges, RuleOutcome, measured, owner_at, report, report_over, sound};
 use mach_base::{Container, Result};
 use mach_load::{CommandVariant, LoadCommand};
 use std::alloc::Allocator;
@@ -60,7 +60,7 @@ fn is_allowed(segment: &PlacedSegment) -> bool
 }
 
 // Checks that a segment ends at the last address or before it.
-fn ends_in_memory(layout: &Layout<'_, '_>, segment: &PlacedSegment) -> Seen
+fn ends_in_memory(layout: &Layout<'_, '_>, segment: &PlacedSegment) -> RuleOutcome
     ensures { result ≡ defined.segment_sees (laid_of layout.now) rules_named.SegmentBeyondAddresses segment.now }
 {
     let command = &segment.command;
@@ -85,7 +85,7 @@ impl Judges<PlacedSegment> for Layout<'_, '_> {
         segment_owner(segment)
     }
 
-    fn see(&self, rule: Rule, segment: &PlacedSegment) -> Seen {
+    fn see(&self, rule: Rule, segment: &PlacedSegment) -> RuleOutcome {
         let c = &segment.command;
         let page = self.page();
         match rule {
@@ -185,7 +185,7 @@ fn is_in_code(layout: &Layout<'_, '_>, range: &EncryptedRange) -> bool
 }
 
 // Checks an encrypted range.
-fn encrypted_seen(layout: &Layout<'_, '_>, range: &EncryptedRange) -> Seen
+fn encrypted_outcome(layout: &Layout<'_, '_>, range: &EncryptedRange) -> RuleOutcome
     ensures { result ≡ defined.encrypted_sees (laid_of layout.now) range.now }
 {
     let holds = !layout.is_final() || range.len == 0 || is_in_code(layout, range);
@@ -201,15 +201,15 @@ pub fn encrypted_faults<A: Allocator>(
     faults: &mut Vec<LayoutFault, A>,
     layout: &Layout<'_, '_>,
 ) -> Result<()>
-    ensures told { OnOk result (faults.new.items ≡ faults.old.items ++ defined.encrypted_faults (laid_of layout.now)) }
+    ensures reported { OnOk result (faults.new.items ≡ faults.old.items ++ defined.encrypted_faults (laid_of layout.now)) }
     ensures only { IsOkUnlessMemory result }
 {
     let Some(range) = first_encrypted(layout) else {
         return Ok(());
     };
     let owner = owner_at(Part::Encrypted, range.place, 0);
-    let seen = encrypted_seen(layout, &range);
-    tell(faults, Rule::EncryptedNotExecutable, owner, seen)?;
+    let outcome = encrypted_outcome(layout, &range);
+    report(faults, Rule::EncryptedNotExecutable, owner, outcome)?;
     Ok(())
 }
 
@@ -252,7 +252,7 @@ fn add_name<'b, A: Allocator, B: Allocator + Clone>(
     name: &'b [u8],
     place: usize,
 ) -> Result<()>
-    ensures told { OnOk result (faults.new.items ≡ faults.old.items ++ name_again (place_met met.old name.now) place) }
+    ensures reported { OnOk result (faults.new.items ≡ faults.old.items ++ name_again (place_met met.old name.now) place) }
     ensures met { OnOk result ((q : List ℕ) → place_met met.new q ≡ first_place_kept (place_met met.old q) name.now place q) }
     ensures only { IsOkUnlessMemory result }
 {
@@ -270,7 +270,7 @@ fn name_faults<A: Allocator, B: Allocator + Clone>(
     faults: &mut Vec<LayoutFault, A>,
     layout: &Layout<'_, '_>,
 ) -> Result<()>
-    ensures told { OnOk result (faults.new.items ≡ faults.old.items ++ defined.segment_names_again (laid_of layout.now)) }
+    ensures reported { OnOk result (faults.new.items ≡ faults.old.items ++ defined.segment_names_again (laid_of layout.now)) }
     ensures only { IsOkUnlessMemory result }
 {
     if !layout.is_final() {
@@ -293,7 +293,7 @@ pub fn segment_faults<A: Allocator, B: Allocator + Clone>(
     faults: &mut Vec<LayoutFault, A>,
     layout: &Layout<'_, '_>,
 ) -> Result<()>
-    ensures told { OnOk result (faults.new.items ≡ faults.old.items ++ defined.segment_faults (laid_of layout.now)) }
+    ensures reported { OnOk result (faults.new.items ≡ faults.old.items ++ defined.segment_faults (laid_of layout.now)) }
     ensures only { IsOkUnlessMemory result }
 {
     let rules = [
@@ -302,8 +302,8 @@ pub fn segment_faults<A: Allocator, B: Allocator + Clone>(
         Rule::SegmentAddressUnaligned,
         Rule::SegmentPlaceUnaligned,
     ];
-    tell_over(faults, layout, &rules, &layout.segments())?;
+    report_over(faults, layout, &rules, &layout.segments())?;
     name_faults(alloc, faults, layout)?;
-    tell_over(faults, layout, &[Rule::SegmentRights], &layout.segments())?;
+    report_over(faults, layout, &[Rule::SegmentRights], &layout.segments())?;
     Ok(())
 }

@@ -40,12 +40,12 @@ fn shared(rule: Rule, furthest: Option<Claim>, range: &Claim) -> Option<LayoutFa
 }
 
 // Adds the faults of ranges that are sorted by their starts.
-fn tell_shared<A: Allocator>(
+fn report_shared<A: Allocator>(
     faults: &mut Vec<LayoutFault, A>,
     rule: Rule,
     sorted: &[Claim],
 ) -> Result<()>
-    ensures told { OnOk result (faults.new.items ≡ faults.old.items ++ defined.shared_behind rule [] sorted.now) }
+    ensures reported { OnOk result (faults.new.items ≡ faults.old.items ++ defined.shared_after rule [] sorted.now) }
     ensures only { IsOkUnlessMemory result }
 {
     let mut furthest = None;
@@ -57,15 +57,16 @@ fn tell_shared<A: Allocator>(
 }
 
 /// Adds the faults of some ranges, each compared with those before it in the order of their starts. It sorts them.
-pub fn tell_ranges<A: Allocator>(
+pub fn report_ranges<A: Allocator>(
     faults: &mut Vec<LayoutFault, A>,
     rule: Rule,
     ranges: &mut Vec<Claim, A>,
 ) -> Result<()>
-    ensures told { OnOk result ((told : List declared.LayoutFault) × AreShared rule ranges.old.items told × (faults.new.items ≡ faults.old.items ++ told)) }
+    ensures reported { OnOk result ((reported : List declared.LayoutFault) × AreShared rule ranges.old.items reported
+        × (faults.new.items ≡ faults.old.items ++ reported)) }
     ensures only { IsOkUnlessMemory result }
 {
     ranges.sort_by_key(|range| range.start)?;
-    tell_shared(faults, rule, ranges.as_slice())?;
+    report_shared(faults, rule, ranges.as_slice())?;
     Ok(())
 }

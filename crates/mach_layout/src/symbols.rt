@@ -15,7 +15,7 @@ mod ranges;
 use crate::fault::{LayoutFault, Owner, Part, Rule};
 use crate::last_command::{Wanted, last_wanted};
 use crate::layout::{Layout, ends_past};
-use crate::rules::{Judges, Numbers, Seen, measured, owner_at, sound, tell_over};
+use crate::rules::{Judges, Numbers, RuleOutcome, measured, owner_at, report_over, sound};
 use crate::symbols::counts::{section_count, whole_records};
 pub use crate::symbols::counts::{library_count, texts_end};
 use crate::symbols::indirect::{indirect_faults, symbol_range_faults};
@@ -201,7 +201,7 @@ pub struct SymbolBounds {
 }
 
 // Checks a symbol's name.
-fn name_seen(table: &PlacedSymtab, bounds: &SymbolBounds, symbol: &Nlist) -> Seen
+fn name_outcome(table: &PlacedSymtab, bounds: &SymbolBounds, symbol: &Nlist) -> RuleOutcome
     ensures { result ≡ defined.symbol_sees table.now bounds.now rules_named.SymbolName symbol.now }
 {
     let size = u64::from(table.command.strsize);
@@ -212,7 +212,12 @@ fn name_seen(table: &PlacedSymtab, bounds: &SymbolBounds, symbol: &Nlist) -> See
 }
 
 // Returns what a rule sees in a symbol.
-fn symbol_seen(rule: Rule, table: &PlacedSymtab, bounds: &SymbolBounds, symbol: &Nlist) -> Seen
+fn symbol_view_of(
+    rule: Rule,
+    table: &PlacedSymtab,
+    bounds: &SymbolBounds,
+    symbol: &Nlist,
+) -> RuleOutcome
     ensures { result ≡ defined.symbol_sees table.now bounds.now rule symbol.now }
 {
     match rule {
@@ -220,7 +225,7 @@ fn symbol_seen(rule: Rule, table: &PlacedSymtab, bounds: &SymbolBounds, symbol: 
             let holds = !is_section_wrong(bounds.sections, symbol);
             measured(holds, symbol.n_sect as u64, bounds.sections)
         }
-        Rule::SymbolName => name_seen(table, bounds, symbol),
+        Rule::SymbolName => name_outcome(table, bounds, symbol),
         Rule::SymbolLibrary => {
             let library = u64::from(symbol.n_desc / 256);
             let holds = is_stab(symbol)
@@ -254,9 +259,9 @@ impl Judges<u32> for SymbolsJudged<'_> {
         owner_at(Part::Symbols, self.table.place, u64::from(*k))
     }
 
-    fn see(&self, rule: Rule, k: &u32) -> Seen {
+    fn see(&self, rule: Rule, k: &u32) -> RuleOutcome {
         match symbol_in(self.bytes, self.ctx, &self.table, *k) {
-            Some(symbol) => symbol_seen(rule, &self.table, &self.bounds, &symbol),
+            Some(symbol) => symbol_view_of(rule, &self.table, &self.bounds, &symbol),
             None => sound(),
         }
     }
@@ -274,13 +279,13 @@ fn bounds_of(layout: &Layout<'_, '_>, table: &PlacedSymtab) -> SymbolBounds
 }
 
 // Adds the faults that some rules find in the symbols of a table, if there is one.
-fn tell_symbols<A: Allocator>(
+fn report_symbols<A: Allocator>(
     faults: &mut Vec<LayoutFault, A>,
     layout: &Layout<'_, '_>,
     table: Option<PlacedSymtab>,
     rules: &[Rule],
 ) -> Result<()>
-    ensures told { OnOk result (faults.new.items ≡ faults.old.items ++ defined.symbols_told (laid_of layout.now) table rules.now) }
+    ensures reported { OnOk result (faults.new.items ≡ faults.old.items ++ defined.symbols_reported (laid_of layout.now) table rules.now) }
     ensures only { IsOkUnlessMemory result }
 {
     let Some(table) = table else {
@@ -293,7 +298,7 @@ fn tell_symbols<A: Allocator>(
         bounds: bounds_of(layout, &table),
     };
     let numbers = Numbers::of(symbols_there(layout, &table));
-    tell_over(faults, &judge, rules, &numbers)?;
+    report_over(faults, &judge, rules, &numbers)?;
     Ok(())
 }
 
@@ -310,13 +315,13 @@ fn symbol_library_faults<A: Allocator>(
     layout: &Layout<'_, '_>,
     table: Option<PlacedSymtab>,
 ) -> Result<()>
-    ensures told { OnOk result (faults.new.items ≡ faults.old.items ++ defined.symbol_library_faults (laid_of layout.now) table) }
+    ensures reported { OnOk result (faults.new.items ≡ faults.old.items ++ defined.symbol_library_faults (laid_of layout.now) table) }
     ensures only { IsOkUnlessMemory result }
 {
     if !has_libraries(layout) {
         return Ok(());
     }
-    tell_symbols(faults, layout, table, &[Rule::SymbolLibrary])
+    report_symbols(faults, layout, table, &[Rule::SymbolLibrary])
 }
 
 // Adds the faults of a table of symbols, and of what `LC_DYSYMTAB` says of it.
@@ -326,11 +331,11 @@ fn table_faults<A: Allocator>(
     table: Option<PlacedSymtab>,
     dynamic: Option<PlacedDysymtab>,
 ) -> Result<()>
-    ensures told { OnOk result (faults.new.items ≡ faults.old.items ++ defined.table_faults (laid_of layout.now) table dynamic) }
+    ensures reported { OnOk result (faults.new.items ≡ faults.old.items ++ defined.table_faults (laid_of layout.now) table dynamic) }
     ensures only { IsOkUnlessMemory result }
 {
     let rules = [Rule::SymbolSection, Rule::SymbolName];
-    tell_symbols(faults, layout, table, &rules)?;
+    report_symbols(faults, layout, table, &rules)?;
     symbol_range_faults(faults, table, dynamic)?;
     symbol_kind_faults(faults, layout, table, dynamic)?;
     symbol_library_faults(faults, layout, table)?;
@@ -343,7 +348,7 @@ pub fn symbol_faults<A: Allocator>(
     faults: &mut Vec<LayoutFault, A>,
     layout: &Layout<'_, '_>,
 ) -> Result<()>
-    ensures told { OnOk result (faults.new.items ≡ faults.old.items ++ defined.symbol_faults (laid_of layout.now)) }
+    ensures reported { OnOk result (faults.new.items ≡ faults.old.items ++ defined.symbol_faults (laid_of layout.now)) }
     ensures only { IsOkUnlessMemory result }
 {
     let table = last_wanted::<PlacedSymtab>(layout.commands);

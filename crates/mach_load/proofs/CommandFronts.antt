@@ -14,7 +14,7 @@ use Rattle.mach_records.specs.declared.load_command_header.LoadCommandHeader.{Lo
 use Rattle.mach_records.specs.LoadCommandHeader.{header_fields, header_values}
 use Rattle.mach_load.specs.declared.variant.CommandVariant.{CommandVariant}
 use Rattle.mach_load.specs.Commands.{Kind, Body, by_fields, by_thread, CommandRow, row_of}
-use Rattle.mach_load.specs.ThreadState.{thread_fields, words_at, state_behind, thread_at}
+use Rattle.mach_load.specs.ThreadState.{thread_fields, words_at, state_after, thread_at}
 use Rattle.mach_load.specs.Command.{Command, body_at, command_by, command_at}
 use Rattle.mach_load.specs.Variants.{command_of}
 
@@ -65,7 +65,7 @@ module _ (le : Endian) (bytes : List ℕ) (s : ℕ) (inside : s < length bytes) 
   unfolding thread_at
   body_there (by_fields fields) = record_there fields
   body_there by_thread =
-      rw (record_there thread_fields) (same_after (record_at le thread_fields bytes s) (state_behind le (drop s bytes) 0) (state_behind le bytes s)
+      rw (record_there thread_fields) (same_after (record_at le thread_fields bytes s) (state_after le (drop s bytes) 0) (state_after le bytes s)
       (λ (head : List Value). rw (room_there (4 * number_among head 3), words_there 16 (number_among head 3)) refl))
 
   -- if the record is at the start of the bytes from s on, the command is the one at s; if it is refused there, so is the one at s

@@ -9,7 +9,7 @@ use Rattle.mach_base.specs.Record.{Field, num, Value, number_is, number_among, s
 use Rattle.mach_base.proofs.Binds.{bind_ok, chosen, same_ok}
 use Rattle.mach_records.specs.LoadCommandHeader.{header_fields}
 use Rattle.mach_load.specs.Commands.{Body, by_fields, by_thread, CommandRow, command_rows, row_among, row_of}
-use Rattle.mach_load.specs.ThreadState.{thread_fields, state_at, state_behind, thread_at}
+use Rattle.mach_load.specs.ThreadState.{thread_fields, state_at, state_after, thread_at}
 use Rattle.mach_load.specs.Command.{Command, cmdsize_of, body_at, command_by}
 
 -- what a bounded read returns is what was to be read
@@ -60,7 +60,7 @@ second_of_thread : (le : Endian) (bytes : List ℕ) (s : ℕ) (values : List Val
     → number_among values 1 ≡ number le 4 (drop (s + 4) bytes)
 unfolding thread_at
 second_of_thread le bytes s values e =
-    let head = bind_ok (record_at le thread_fields bytes s) (state_behind le bytes s) values e in
+    let head = bind_ok (record_at le thread_fields bytes s) (state_after le bytes s) values e in
     let is : values_in le thread_fields s bytes ≡ head.0 = bounded_ok (size thread_fields) bytes s (values_in le thread_fields s bytes) head.0 head.1 in
     let count = number_among head.0 3 in
     let whole = head.0 ++ map number_is (state_at le bytes (s + 16) count) in

@@ -26,22 +26,22 @@ text_is_run bytes s text e =
     ]
 
 -- items by the numbers after the first
-pub items_behind : {A : Type 0} (item : ℕ → A) (first count : ℕ) → items_from item (first + 1) count ≡ items_from (λ k. item (suc k)) first count
-items_behind item first zero = refl
-items_behind item first (suc count) =
+pub items_after : {A : Type 0} (item : ℕ → A) (first count : ℕ) → items_from item (first + 1) count ≡ items_from (λ k. item (suc k)) first count
+items_after item first zero = refl
+items_after item first (suc count) =
     ap (λ (n : ℕ). item n ∷ items_from item (first + 1 + 1) count) (add-one first)
-    ∙ ap (λ items. item (suc first) ∷ items) (items_behind item (first + 1) count)
+    ∙ ap (λ items. item (suc first) ∷ items) (items_after item (first + 1) count)
 
 -- the remaining texts after one was read
-abbrev pub texts_behind : OptionTexts → List ℕ → OptionTexts
-texts_behind t text = record { bytes = t.bytes; place = t.place + (length text + 1); count = t.count - 1 }
+abbrev pub texts_after : OptionTexts → List ℕ → OptionTexts
+texts_after t text = record { bytes = t.bytes; place = t.place + (length text + 1); count = t.count - 1 }
 
 texts_first : (bytes : List ℕ) (place count : ℕ)
     → texts_of_options (record { bytes = bytes; place = place; count = suc count })
     ≡ option_at bytes place ∷ texts_of_options (record { bytes = bytes; place = place + (length (run_at bytes place) + 1); count = count })
 texts_first bytes place count =
     ap (λ (items : List (Result (List ℕ) Fault)). option_at bytes place ∷ items)
-    (items_behind (λ k. option_at bytes (option_place bytes place k)) 0 count)
+    (items_after (λ k. option_at bytes (option_place bytes place k)) 0 count)
 
 module _ (bytes : List ℕ) (cs : List LoadCommand) where
   -- what is left, if these texts of command `number` remain, and then the commands from `next` on
@@ -51,7 +51,7 @@ module _ (bytes : List ℕ) (cs : List LoadCommand) where
   one_text : (number next : ℕ) (t : OptionTexts) → 0 < t.count
       → options_from number next t
       ≡ followed_by (with_number number (option_at t.bytes t.place)
-      ∷ numbered_options number (texts_behind t (run_at t.bytes t.place))) (lists_from (options_of bytes) cs next)
+      ∷ numbered_options number (texts_after t (run_at t.bytes t.place))) (lists_from (options_of bytes) cs next)
   one_text number next t some =
       let more : t.count ≡ suc (t.count - 1) = omega (arith, some) in
       ap (λ (n : ℕ). options_from number next (record { bytes = t.bytes; place = t.place; count = n })) more
@@ -59,16 +59,16 @@ module _ (bytes : List ℕ) (cs : List LoadCommand) where
       (texts_first t.bytes t.place (t.count - 1))
 
   pub option_first : (number next : ℕ) (t : OptionTexts) (text : List ℕ) → 0 < t.count → option_at t.bytes t.place ≡ Ok text
-      → text ≡ run_at t.bytes t.place → options_from number next t ≡ Ok (number, text) ∷ options_from number next (texts_behind t text)
+      → text ≡ run_at t.bytes t.place → options_from number next t ≡ Ok (number, text) ∷ options_from number next (texts_after t text)
   option_first number next t text some is run =
       one_text number next t some
-      ∙ (ap (λ (r : Result (List ℕ) Fault). followed_by (with_number number r ∷ numbered_options number (texts_behind t (run_at t.bytes t.place)))
+      ∙ (ap (λ (r : Result (List ℕ) Fault). followed_by (with_number number r ∷ numbered_options number (texts_after t (run_at t.bytes t.place)))
       (lists_from (options_of bytes) cs next)) is
-      ∙ ap (λ (r : List ℕ). Ok (number, text) ∷ options_from number next (texts_behind t r)) (sym run))
+      ∙ ap (λ (r : List ℕ). Ok (number, text) ∷ options_from number next (texts_after t r)) (sym run))
 
   pub option_fault : (number next : ℕ) (t : OptionTexts) (f : Fault) → 0 < t.count → option_at t.bytes t.place ≡ Err f
       → options_from number next t ≡ Err f ∷ []
   option_fault number next t f some is =
       one_text number next t some
-      ∙ ap (λ (r : Result (List ℕ) Fault). followed_by (with_number number r ∷ numbered_options number (texts_behind t (run_at t.bytes t.place)))
+      ∙ ap (λ (r : Result (List ℕ) Fault). followed_by (with_number number r ∷ numbered_options number (texts_after t (run_at t.bytes t.place)))
       (lists_from (options_of bytes) cs next)) is

@@ -3,7 +3,7 @@ use Rattle.std.proofs.Common.{◌≡◌, ℕ, zero, suc, ◌+◌, ◌-◌, ◌<�
 use Rattle.std.proofs.Common.{inl, inr, refl, ap, ◌∙◌, subst, arith}
 use Rattle.std.specs.List.{sum, fold}
 use Rattle.mach_base.specs.Fault.{Fault}
-use Rattle.mach_load.specs.FunctionStarts.{StartRange, AreStartsBehind, AreFunctionStarts}
+use Rattle.mach_load.specs.FunctionStarts.{StartRange, AreStartsAfter, AreFunctionStarts}
 use Rattle.mach_load.specs.StartNumbers.{AreDistances, AreSums}
 use Rattle.mach_load.proofs.StartsRead.{number_of, goes_on}
 
@@ -23,7 +23,7 @@ sum_more n ns = fold_from (0 + n) ns ∙ ap (λ (m : ℕ). m + sum ns) (let same
 
 module _ (bytes : List ℕ) (upto : ℕ) where
   abbrev Are : (place address : ℕ) → List (Result ℕ Fault) → Type 0
-  Are place address items = AreStartsBehind bytes upto place address items
+  Are place address items = AreStartsAfter bytes upto place address items
 
   one : (place address : ℕ) (xs ys : List (Result ℕ Fault)) → Are place address xs → Are place address ys → xs ≡ ys
   one place address [] [] p q = refl
@@ -92,9 +92,9 @@ module _ (bytes : List ℕ) (upto : ℕ) where
       → AreSums address (n ∷ ns) (Ok s ∷ items)
   one_more address n ns items s is sums zero start e = let same : s ≡ start = cc in (omega arith, omega (arith, is, same))
   one_more address n ns items s is sums (suc k) start e =
-      let behind = sums k start e in
-      let inside = behind.0 in
-      let sum_is = behind.1 in
+      let following = sums k start e in
+      let inside = following.0 in
+      let sum_is = following.1 in
       let same : take (suc k + 1) (n ∷ ns) ≡ n ∷ take (k + 1) ns =
       ap (λ (j : ℕ). take j (n ∷ ns)) (let next : suc k + 1 ≡ suc (k + 1) = omega arith in next)
       in
@@ -111,10 +111,10 @@ module _ (bytes : List ℕ) (upto : ℕ) where
       no_sum (suc k) start e = absurd (nothing_in items k (Ok start) p.2 e)
   summed place address (Ok s ∷ items) p =
       let number = number_of bytes place address s p.1.0 p.1.1 in
-      let behind = summed p.1.0 s items p.1.2 in (
-        number.0 ∷ behind.0,
-        (p.0, number.2, (p.1.0, number.1, behind.1)),
-        one_more address number.0 behind.0 items s number.3 behind.2,
+      let following = summed p.1.0 s items p.1.2 in (
+        number.0 ∷ following.0,
+        (p.0, number.2, (p.1.0, number.1, following.1)),
+        one_more address number.0 following.0 items s number.3 following.2,
       )
 
 pub one_start_list : (r : StartRange) (base : ℕ) (xs ys : List (Result ℕ Fault)) → AreFunctionStarts r base xs → AreFunctionStarts r base ys → xs ≡ ys

@@ -9,7 +9,7 @@ use Rattle.mach_base.specs.Leb128.{uleb_at}
 use Rattle.mach_base.specs.Sums.{sum_of}
 use Rattle.mach_base.proofs.Binds.{bind_ok, chosen, same_ok}
 use Rattle.mach_base.proofs.Unsigned.{uleb_at-moves}
-use Rattle.mach_load.specs.FunctionStarts.{start_behind, function_start_at, start_then, starts_from, starts_behind, AreStartsBehind}
+use Rattle.mach_load.specs.FunctionStarts.{start_after, function_start_at, start_then, starts_from, starts_after, AreStartsAfter}
 
 same_pair : (a b c d : ℕ) → ◌≡◌ {A = Option (ℕ × ℕ)} (Some (a, c)) (Some (b, d)) → (a ≡ b) × (c ≡ d)
 same_pair a b c d e = (ap (λ (o : Option (ℕ × ℕ)). (unwrap_or o (0, 0)).0) e, ap (λ (o : Option (ℕ × ℕ)). (unwrap_or o (0, 0)).1) e)
@@ -19,7 +19,7 @@ pub number_of : (bytes : List ℕ) (place address start next : ℕ) → function
     → (n : ℕ) × (uleb_at bytes place ≡ Ok (n, next)) × (n ≢ 0) × (start ≡ address + n)
 unfolding function_start_at
 number_of bytes place address start next e =
-    let read = bind_ok (uleb_at bytes place) (start_behind address) (Some (start, next)) e in
+    let read = bind_ok (uleb_at bytes place) (start_after address) (Some (start, next)) e in
     let found = read.0 in
     let is : uleb_at bytes place ≡ Ok found = read.1 in
     elim (chosen (found.0 == 0) (Ok None) (sum_of address found.0 >>= (λ (s : ℕ). Ok (Some (s, found.1)))) (Ok (Some (start, next))) read.2) [
@@ -72,13 +72,13 @@ module _ (bytes : List ℕ) (upto : ℕ) where
   starts_from-first most place address inside = let test : nat_le upto place ≡ false = lt-leb upto place inside in rw test refl
 
   -- a start, followed by equal lists
-  same_behind : (place address m n : ℕ)
+  same_following : (place address m n : ℕ)
       → ((k a : ℕ) → place < k → starts_from bytes upto m k a ≡ starts_from bytes upto n k a)
       → (r : Result (Option (ℕ × ℕ)) Fault) → function_start_at bytes place address ≡ r
       → start_then r (λ start. starts_from bytes upto m start.1 start.0) ≡ start_then r (λ start. starts_from bytes upto n start.1 start.0)
-  same_behind place address m n same (Err f) e = refl
-  same_behind place address m n same (Ok None) e = refl
-  same_behind place address m n same (Ok (Some start)) e =
+  same_following place address m n same (Err f) e = refl
+  same_following place address m n same (Ok None) e = refl
+  same_following place address m n same (Ok (Some start)) e =
       ap (λ (items : List (Result ℕ Fault)). Ok start.0 ∷ items) (same start.1 start.0 (goes_on bytes place address start.0 start.1 e).0)
 
   -- the bound does not matter if it is large enough
@@ -96,49 +96,49 @@ module _ (bytes : List ℕ) (upto : ℕ) where
         | inr past ↦ starts_from-past (suc m) place address past ∙ sym (starts_from-past (suc n) place address past)
         | inl inside ↦
             starts_from-first m place address inside
-            ∙ (same_behind place address m n same (function_start_at bytes place address) refl ∙ sym (starts_from-first n place address inside))
+            ∙ (same_following place address m n same (function_start_at bytes place address) refl ∙ sym (starts_from-first n place address inside))
       ]
 
   -- a start, followed by the others
-  are_behind : (place address most : ℕ) → place < upto
-      → ((k a : ℕ) → place < k → AreStartsBehind bytes upto k a (starts_from bytes upto most k a))
+  are_after : (place address most : ℕ) → place < upto
+      → ((k a : ℕ) → place < k → AreStartsAfter bytes upto k a (starts_from bytes upto most k a))
       → (r : Result (Option (ℕ × ℕ)) Fault) → function_start_at bytes place address ≡ r
-      → AreStartsBehind bytes upto place address (start_then r (λ start. starts_from bytes upto most start.1 start.0))
-  are_behind place address most inside are (Err f) e = (inside, e, refl)
-  are_behind place address most inside are (Ok None) e = inr e
-  are_behind place address most inside are (Ok (Some start)) e =
+      → AreStartsAfter bytes upto place address (start_then r (λ start. starts_from bytes upto most start.1 start.0))
+  are_after place address most inside are (Err f) e = (inside, e, refl)
+  are_after place address most inside are (Ok None) e = inr e
+  are_after place address most inside are (Ok (Some start)) e =
       (inside, (start.1, e, are start.1 start.0 (goes_on bytes place address start.0 start.1 e).0))
 
   -- these are the functions
-  are_from : (most place address : ℕ) → upto - place ≤ most → AreStartsBehind bytes upto place address (starts_from bytes upto most place address)
+  are_from : (most place address : ℕ) → upto - place ≤ most → AreStartsAfter bytes upto place address (starts_from bytes upto most place address)
   are_from zero place address a =
       let past : upto ≤ place = omega arith in rw (starts_from-past zero place address past) (inl past)
   are_from (suc most) place address a =
-      let are : (k c : ℕ) → place < k → AreStartsBehind bytes upto k c (starts_from bytes upto most k c) =
+      let are : (k c : ℕ) → place < k → AreStartsAfter bytes upto k c (starts_from bytes upto most k c) =
       λ k c on. are_from most k c (omega arith)
       in
       elim (cases_lt place upto) [
         | inr past ↦ rw (starts_from-past (suc most) place address past) (inl past)
         | inl inside ↦
-            rw (starts_from-first most place address inside) (are_behind place address most inside are (function_start_at bytes place address) refl)
+            rw (starts_from-first most place address inside) (are_after place address most inside are (function_start_at bytes place address) refl)
       ]
 
-  pub starts_are : (place address : ℕ) → AreStartsBehind bytes upto place address (starts_behind bytes upto place address)
+  pub starts_are : (place address : ℕ) → AreStartsAfter bytes upto place address (starts_after bytes upto place address)
   starts_are place address = are_from (upto - place) place address (omega arith)
 
   -- what is left at a place
-  pub none_left : (place address : ℕ) → upto ≤ place → starts_behind bytes upto place address ≡ []
+  pub none_left : (place address : ℕ) → upto ≤ place → starts_after bytes upto place address ≡ []
   none_left place address past = starts_from-past (upto - place) place address past
 
   one_left : (place address : ℕ) → place < upto
-      → starts_behind bytes upto place address
+      → starts_after bytes upto place address
       ≡ start_then (function_start_at bytes place address) (λ start. starts_from bytes upto (upto - place - 1) start.1 start.0)
   one_left place address inside =
       let more : upto - place ≡ suc (upto - place - 1) = omega arith in
       ap (λ (n : ℕ). starts_from bytes upto n place address) more ∙ starts_from-first (upto - place - 1) place address inside
 
   pub first_left : (place address start next : ℕ) → place < upto → function_start_at bytes place address ≡ Ok (Some (start, next))
-      → starts_behind bytes upto place address ≡ Ok start ∷ starts_behind bytes upto next start
+      → starts_after bytes upto place address ≡ Ok start ∷ starts_after bytes upto next start
   first_left place address start next inside e =
       let on = (goes_on bytes place address start next e).0 in
       one_left place address inside
@@ -146,18 +146,18 @@ module _ (bytes : List ℕ) (upto : ℕ) where
       ∙ ap (λ (items : List (Result ℕ Fault)). Ok start ∷ items)
       (starts_from-enough (upto - place - 1) (upto - next) next start (omega arith) (omega arith)))
 
-  pub end_left : (place address : ℕ) → place < upto → function_start_at bytes place address ≡ Ok None → starts_behind bytes upto place address ≡ []
+  pub end_left : (place address : ℕ) → place < upto → function_start_at bytes place address ≡ Ok None → starts_after bytes upto place address ≡ []
   end_left place address inside e =
       one_left place address inside
       ∙ ap (λ (r : Result (Option (ℕ × ℕ)) Fault). start_then r (λ s. starts_from bytes upto (upto - place - 1) s.1 s.0)) e
 
   pub fault_left : (place address : ℕ) (f : Fault) → place < upto → function_start_at bytes place address ≡ Err f
-      → starts_behind bytes upto place address ≡ Err f ∷ starts_behind bytes upto upto address
+      → starts_after bytes upto place address ≡ Err f ∷ starts_after bytes upto upto address
   fault_left place address f inside e =
       one_left place address inside
       ∙ (ap (λ (r : Result (Option (ℕ × ℕ)) Fault). start_then r (λ s. starts_from bytes upto (upto - place - 1) s.1 s.0)) e
       ∙ ap (λ (items : List (Result ℕ Fault)). Err f ∷ items) (sym (none_left upto address (omega arith))))
 
 -- after the first there are fewer
-pub fewer_behind : {A : Type 0} (x : A) (xs ys : List A) → xs ≡ x ∷ ys → length ys < length xs
-fewer_behind x xs ys e = omega (arith, ap length e)
+pub fewer_after : {A : Type 0} (x : A) (xs ys : List A) → xs ≡ x ∷ ys → length ys < length xs
+fewer_after x xs ys e = omega (arith, ap length e)

@@ -8,7 +8,7 @@ use Rattle.mach_base.specs.Items.{items_from, read_as}
 use Rattle.mach_load.specs.Variants.{command_of}
 use Rattle.mach_records.specs.declared.linkedit.DataInCodeEntry.{DataInCodeEntry}
 use Rattle.mach_records.specs.declared.versions.BuildToolVersion.{BuildToolVersion}
-use Rattle.mach_load.specs.FunctionStarts.{StartRange, starts_behind}
+use Rattle.mach_load.specs.FunctionStarts.{StartRange, starts_after}
 use Rattle.mach_load.specs.DataInCode.{data_in_code_item}
 use Rattle.mach_load.specs.CommandLists.{followed_by, listed_by}
 use Rattle.mach_load.specs.LinkerOptions.{OptionTexts, numbered_options, options_of}
@@ -34,7 +34,7 @@ abbrev pub start_read : Result ℕ Error → Result ℕ Fault
 start_read item = read_as (λ address. address) item
 
 abbrev pub starts_left : FunctionStartIterator → List (Result ℕ Fault)
-starts_left it = starts_behind it.bytes.now it.upto it.place it.address
+starts_left it = starts_after it.bytes.now it.upto it.place it.address
 
 -- ---- data in code
 

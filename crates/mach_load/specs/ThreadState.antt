@@ -34,15 +34,15 @@ abbrev pub state_words : List Value → List ℕ
 state_words values = map number_of (drop 4 values)
 
 -- the state that follows its head; the head says how many words there are
-abbrev pub state_behind : Endian → List ℕ → ℕ → List Value → Result (List Value) Fault
-state_behind le bytes s head =
+abbrev pub state_after : Endian → List ℕ → ℕ → List Value → Result (List Value) Fault
+state_after le bytes s head =
     if nat_lt 70 (number_among head 3) then Err malformed
     else (if nat_le (s + 16 + 4 * number_among head 3) (length bytes)
     then Ok (head ++ map number_is (state_at le bytes (s + 16) (number_among head 3))) else Err malformed)
 
 -- the thread command at s, or the reason why there is none
 unfoldable pub thread_at : Endian → List ℕ → ℕ → Result (List Value) Fault
-thread_at le bytes s = record_at le thread_fields bytes s >>= state_behind le bytes s
+thread_at le bytes s = record_at le thread_fields bytes s >>= state_after le bytes s
 
 -- the thread command at the start of some bytes, and its width, which is its cmdsize
 abbrev pub thread_front : Endian → List ℕ → Result (List Value × ℕ) Fault

@@ -54,11 +54,11 @@ impl Tools {
     fn read(self, bytes: &[u8], le: Endian) -> Result<BuildToolVersion>
         ensures { Reads (λ tool. tool) result (defined.tool_at le bytes.now (tools_view self) self.index) }
     {
-        let behind = BuildVersionCommand::SIZE + self.index as usize * BuildToolVersion::SIZE;
-        if behind + BuildToolVersion::SIZE > self.size {
+        let following = BuildVersionCommand::SIZE + self.index as usize * BuildToolVersion::SIZE;
+        if following + BuildToolVersion::SIZE > self.size {
             return Err(Error::Malformed("a build tool lies inside its command"));
         }
-        BuildToolVersion::read(bytes, self.place.saturating_add(behind), le)
+        BuildToolVersion::read(bytes, self.place.saturating_add(following), le)
     }
 }
 

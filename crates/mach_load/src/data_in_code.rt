@@ -1,12 +1,12 @@
 //! Data in code (`LC_DATA_IN_CODE`).
 
 ghost use Rattle.std.specs.Prelude.{◌≡◌, []};
-ghost use Rattle.mach_base.specs.Items.{begun_items};
+ghost use Rattle.mach_base.specs.Items.{items_in_bounds};
 ghost use Rattle.mach_base.specs.Answer.{Reads};
 ghost use Rattle.mach_load.specs.DataInCode.{data_in_code_at, data_in_code_in};
 ghost use Rattle.mach_load.specs.TablesLeft.{data_in_code_read, data_in_code_left};
 
-use mach_base::{ByteCount, Endian, LE, Record, Result, records_begun};
+use mach_base::{ByteCount, Endian, LE, Record, Result, records_in_bounds};
 use mach_records::{DataInCodeEntry, LinkeditDataCommand};
 use std::fmt;
 
@@ -44,12 +44,12 @@ impl<'a> DataInCodeIterator<'a> {
     }
 
     /// Returns the same iterator restricted to the entries that begin within the bytes. No byte of any later entry can be read.
-    pub fn begun(&self) -> Self
-        ensures { data_in_code_left result ≡ begun_items (data_in_code_left self.now) }
+    pub fn in_bounds(&self) -> Self
+        ensures { data_in_code_left result ≡ items_in_bounds (data_in_code_left self.now) }
     {
-        let begun = records_begun(self.bytes, self.start as usize, DataInCodeEntry::SIZE);
+        let in_bounds = records_in_bounds(self.bytes, self.start as usize, DataInCodeEntry::SIZE);
         DataInCodeIterator {
-            count: (self.count as usize).min(begun) as u32,
+            count: (self.count as usize).min(in_bounds) as u32,
             ..*self
         }
     }

@@ -9,7 +9,7 @@ use Rattle.mach_base.specs.Fault.{Fault}
 use Rattle.mach_base.specs.declared.error.Error.{Error}
 use Rattle.mach_base.specs.Items.{items_from}
 use Rattle.mach_base.proofs.ItemLists.{items_from-first, length-items_from, slice_get-items}
-use Rattle.mach_parts.specs.NumberedLeft.{numbered_behind, readable_behind}
+use Rattle.mach_parts.specs.NumberedLeft.{numbered_after, readable_after}
 use Rattle.mach_parts.specs.SectionRecord.{in_front, numbered_section, numbered_from, numbered_in, readable_in}
 use Rattle.mach_parts.specs.Segment.{SegmentView, segment_view}
 use Rattle.mach_parts.specs.declared.segment.Segment.{Segment}
@@ -21,10 +21,10 @@ get_in_front [] ys k inside = absurd (omega (arith, inside))
 get_in_front (x ∷ xs) ys zero inside = refl
 get_in_front (x ∷ xs) ys (suc k) inside = get_in_front xs ys k (omega (arith, inside))
 
-get_behind : {A : Type 0} (xs ys : List A) (k : ℕ) → length xs ≤ k → slice_get (xs ++ ys) k ≡ slice_get ys (k - length xs)
-get_behind [] ys k past = ap (λ (n : ℕ). slice_get ys n) (omega arith)
-get_behind (x ∷ xs) ys zero past = absurd (omega (arith, past))
-get_behind (x ∷ xs) ys (suc k) past = get_behind xs ys k (omega (arith, past)) ∙ ap (λ (n : ℕ). slice_get ys n) (omega arith)
+get_after : {A : Type 0} (xs ys : List A) (k : ℕ) → length xs ≤ k → slice_get (xs ++ ys) k ≡ slice_get ys (k - length xs)
+get_after [] ys k past = ap (λ (n : ℕ). slice_get ys n) (omega arith)
+get_after (x ∷ xs) ys zero past = absurd (omega (arith, past))
+get_after (x ∷ xs) ys (suc k) past = get_after xs ys k (omega (arith, past)) ∙ ap (λ (n : ℕ). slice_get ys n) (omega arith)
 
 -- after the last section of a segment there is none
 none_from : (n : ℕ) (s : SegmentView) (k : ℕ) → s.command.nsects ≤ k → numbered_from n s k ≡ []
@@ -33,13 +33,13 @@ none_from n s k past =
     ap (λ (count : ℕ). items_from (numbered_section n s) k count) none
 
 -- the sections of some segments are those of the first, followed by those of the others
-in_as_behind : (n : ℕ) (ss : List SegmentView) → numbered_in n ss ≡ numbered_behind n 0 ss
-in_as_behind n [] = refl
-in_as_behind n (s ∷ ss) = refl
+in_as_after : (n : ℕ) (ss : List SegmentView) → numbered_in n ss ≡ numbered_after n 0 ss
+in_as_after n [] = refl
+in_as_after n (s ∷ ss) = refl
 
-readable_as_behind : (n : ℕ) (ss : List SegmentView) → readable_in n ss ≡ readable_behind n 0 ss
-readable_as_behind n [] = refl
-readable_as_behind n (s ∷ ss) = refl
+readable_as_after : (n : ℕ) (ss : List SegmentView) → readable_in n ss ≡ readable_after n 0 ss
+readable_as_after n [] = refl
+readable_as_after n (s ∷ ss) = refl
 
 module _ (segments : List Segment) (i : ℕ) (d : Segment) (inside : i < length segments) where
   abbrev here : SegmentView
@@ -51,36 +51,36 @@ module _ (segments : List Segment) (i : ℕ) (d : Segment) (inside : i < length 
   abbrev others : List SegmentView
   others = map segment_view (drop (i + 1) segments)
 
-  opened : (k : ℕ) → numbered_behind i k rest ≡ numbered_from i here k ++ numbered_in (i + 1) others
-  opened k = ap (λ (xs : List Segment). numbered_behind i k (map segment_view xs)) (drop_more segments i d inside)
+  opened : (k : ℕ) → numbered_after i k rest ≡ numbered_from i here k ++ numbered_in (i + 1) others
+  opened k = ap (λ (xs : List Segment). numbered_after i k (map segment_view xs)) (drop_more segments i d inside)
 
-  readable_opened : (k : ℕ) → readable_behind i k rest ≡ in_front (numbered_from i here k) ++ readable_in (i + 1) others
-  readable_opened k = ap (λ (xs : List Segment). readable_behind i k (map segment_view xs)) (drop_more segments i d inside)
+  readable_opened : (k : ℕ) → readable_after i k rest ≡ in_front (numbered_from i here k) ++ readable_in (i + 1) others
+  readable_opened k = ap (λ (xs : List Segment). readable_after i k (map segment_view xs)) (drop_more segments i d inside)
 
-  pub next_section : (k : ℕ) → k < here.command.nsects → numbered_behind i k rest ≡ numbered_section i here k ∷ numbered_behind i (k + 1) rest
+  pub next_section : (k : ℕ) → k < here.command.nsects → numbered_after i k rest ≡ numbered_section i here k ∷ numbered_after i (k + 1) rest
   next_section k few =
       opened k
       ∙ (ap (λ (items : List (Result NumberedSection Fault)). items ++ numbered_in (i + 1) others)
       (items_from-first (numbered_section i here) k here.command.nsects few)
       ∙ ap (λ (items : List (Result NumberedSection Fault)). numbered_section i here k ∷ items) (sym (opened (k + 1))))
 
-  pub next_segment : (k : ℕ) → here.command.nsects ≤ k → numbered_behind i k rest ≡ numbered_behind (i + 1) 0 others
+  pub next_segment : (k : ℕ) → here.command.nsects ≤ k → numbered_after i k rest ≡ numbered_after (i + 1) 0 others
   next_segment k past =
       opened k
       ∙ (ap (λ (items : List (Result NumberedSection Fault)). items ++ numbered_in (i + 1) others) (none_from i here k past)
-      ∙ in_as_behind (i + 1) others)
+      ∙ in_as_after (i + 1) others)
 
   pub next_readable : (k : ℕ) (found : NumberedSection) → in_front (numbered_from i here k) ≡ found ∷ in_front (numbered_from i here (k + 1))
-      → readable_behind i k rest ≡ found ∷ readable_behind i (k + 1) rest
+      → readable_after i k rest ≡ found ∷ readable_after i (k + 1) rest
   next_readable k found first =
       readable_opened k
       ∙ (ap (λ (items : List NumberedSection). items ++ readable_in (i + 1) others) first
       ∙ ap (λ (items : List NumberedSection). found ∷ items) (sym (readable_opened (k + 1))))
 
-  pub next_readable_segment : (k : ℕ) → in_front (numbered_from i here k) ≡ [] → readable_behind i k rest ≡ readable_behind (i + 1) 0 others
+  pub next_readable_segment : (k : ℕ) → in_front (numbered_from i here k) ≡ [] → readable_after i k rest ≡ readable_after (i + 1) 0 others
   next_readable_segment k none =
       readable_opened k
-      ∙ (ap (λ (items : List NumberedSection). items ++ readable_in (i + 1) others) none ∙ readable_as_behind (i + 1) others)
+      ∙ (ap (λ (items : List NumberedSection). items ++ readable_in (i + 1) others) none ∙ readable_as_after (i + 1) others)
 
   of_all : numbered_in i rest ≡ numbered_from i here 0 ++ numbered_in (i + 1) others
   of_all = ap (λ (xs : List Segment). numbered_in i (map segment_view xs)) (drop_more segments i d inside)
@@ -101,18 +101,18 @@ module _ (segments : List Segment) (i : ℕ) (d : Segment) (inside : i < length 
       let count : length (numbered_from i here 0) ≡ here.command.nsects =
       omega (arith, length-items_from (numbered_section i here) 0 (here.command.nsects - 0)) in
       ap (λ (items : List (Result NumberedSection Fault)). slice_get items k) of_all
-      ∙ (get_behind (numbered_from i here 0) (numbered_in (i + 1) others) k (omega (arith, past, count))
+      ∙ (get_after (numbered_from i here 0) (numbered_in (i + 1) others) k (omega (arith, past, count))
       ∙ ap (λ (n : ℕ). slice_get (numbered_in (i + 1) others) (k - n)) count)
 
 pub found_none : (segments : List Segment) (i k : ℕ) → length segments ≤ i → slice_get (numbered_in i (map segment_view (drop i segments))) k ≡ None
 found_none segments i k past = ap (λ (xs : List Segment). slice_get (numbered_in i (map segment_view xs)) k) (drop_all i segments past)
 
 -- after the last segment nothing is left
-pub nothing_behind : (segments : List Segment) (i k : ℕ) → length segments ≤ i → numbered_behind i k (map segment_view (drop i segments)) ≡ []
-nothing_behind segments i k past = ap (λ (xs : List Segment). numbered_behind i k (map segment_view xs)) (drop_all i segments past)
+pub nothing_after : (segments : List Segment) (i k : ℕ) → length segments ≤ i → numbered_after i k (map segment_view (drop i segments)) ≡ []
+nothing_after segments i k past = ap (λ (xs : List Segment). numbered_after i k (map segment_view xs)) (drop_all i segments past)
 
-pub nothing_readable : (segments : List Segment) (i k : ℕ) → length segments ≤ i → readable_behind i k (map segment_view (drop i segments)) ≡ []
-nothing_readable segments i k past = ap (λ (xs : List Segment). readable_behind i k (map segment_view xs)) (drop_all i segments past)
+pub nothing_readable : (segments : List Segment) (i k : ℕ) → length segments ≤ i → readable_after i k (map segment_view (drop i segments)) ≡ []
+nothing_readable segments i k past = ap (λ (xs : List Segment). readable_after i k (map segment_view xs)) (drop_all i segments past)
 
 -- the result of reading the next section says whether it is there
 module _ (n : ℕ) (s : SegmentView) (k : ℕ) where

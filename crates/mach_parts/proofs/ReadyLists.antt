@@ -88,7 +88,7 @@ module _ (t : SlotTables) (r : SlotRun) where
       let address : (r.address + j * r.len + r.len) % 2 ^ 64 ≡ r.address + (j + 1) * r.len =
       mod-eq_of_lt (omega (arith, upto, one, further)) ∙ omega (arith, one) in
       let index : (r.first + j + 1) % 2 ^ 32 ≡ r.first + (j + 1) = mod-eq_of_lt (omega (arith, counted, narrow)) ∙ omega arith in
-      let behind : place j + 4 ≡ place (j + 1) = omega arith in
+      let following : place j + 4 ≡ place (j + 1) = omega arith in
       let long : 4 ≤ length rest_here = let is = length-drop (place j) bytes in omega (arith, is, there) in
       let four_more : 4 * suc n ≡ suc (suc (suc (suc (4 * n)))) = omega arith in
       let four_and : 4 * suc n ≡ 4 + 4 * n = omega arith in
@@ -97,7 +97,7 @@ module _ (t : SlotTables) (r : SlotRun) where
       let entries : drop 4 (take (4 * suc n) rest_here) ≡ take (4 * n) (drop (place (j + 1)) bytes) =
       ap (λ (k : ℕ). drop 4 (take k rest_here)) four_and
       ∙ (drop-take 4 (4 * n) rest_here
-      ∙ ap (λ (es : List ℕ). take (4 * n) es) (drop-drop 4 (place j) bytes ∙ ap (λ (k : ℕ). drop k bytes) behind)) in
+      ∙ ap (λ (es : List ℕ). take (4 * n) es) (drop-drop 4 (place j) bytes ∙ ap (λ (k : ℕ). drop k bytes) following)) in
       let rest = ready_made n most (j + 1) (omega (arith, within)) upto (omega (arith, counted)) narrow (omega (arith, there)) in
       let slot_by = λ (x : ℕ). slot_of_entry t r (record { address = r.address + j * r.len; index = r.first + j; says = indirect_symbol x }) in
       let first = slot_by (number_of_entry t.indirect rest_here) in

@@ -207,19 +207,19 @@ in_their_section t n k s there =
       of_kind = of_run.0 ∙ ap (λ (x : SlotKind). Some x) (sym kind);
       of_len = len ∙ (of_run.4 ∙ ap (λ (x : SlotKind). slot_len t.container x n.section) (sym kind));
       sized = subst (λ (x : ℕ). 0 < x) (sym len) of_run.7;
-      behind = address ∙ ap (λ (x : ℕ). n.section.addr + k * x) (sym len);
+      following = address ∙ ap (λ (x : ℕ). n.section.addr + k * x) (sym len);
       inside = omega (arith, address, len, whole);
       entry = of_slot.5 ∙ (of_entry.1 ∙ ap (λ (x : ℕ). x + k) of_run.5);
     }
 
 -- ---- the slot at an address
 
-found_behind : {A : Type 0} (p : A → Bool) (before : List A) (x : A) (behind : List A) → All (λ y. p y ≡ false) before → p x ≡ true
-    → find p (before ++ x ∷ behind) ≡ Some x
-found_behind p [] x behind none holds = ap (λ (b : Bool). cond b (Some x) (find p behind)) holds
-found_behind p (y ∷ before) x behind none holds =
-    ap (λ (b : Bool). cond b (Some y) (find p (before ++ x ∷ behind))) (All-head (λ y. p y ≡ false) y before none)
-    ∙ found_behind p before x behind (All-tail (λ y. p y ≡ false) y before none) holds
+found_after : {A : Type 0} (p : A → Bool) (before : List A) (x : A) (following : List A) → All (λ y. p y ≡ false) before → p x ≡ true
+    → find p (before ++ x ∷ following) ≡ Some x
+found_after p [] x following none holds = ap (λ (b : Bool). cond b (Some x) (find p following)) holds
+found_after p (y ∷ before) x following none holds =
+    ap (λ (b : Bool). cond b (Some y) (find p (before ++ x ∷ following))) (All-head (λ y. p y ≡ false) y before none)
+    ∙ found_after p before x following (All-tail (λ y. p y ≡ false) y before none) holds
 
 both_true : (a b : Bool) → a ≡ true → b ≡ true → (a && b) ≡ true
 both_true a b left right = ap (λ (x : Bool). x && b) left ∙ right
@@ -227,7 +227,7 @@ both_true a b left right = ap (λ (x : Bool). x && b) left ∙ right
 holds_it : (container : Container) (n : NumberedSection) (k : ℕ) (s : Slot) (a : ℕ) → IsSlotOfSection container n k s → s.address ≤ a
     → a < s.address + s.len → holds_slots_at a n ≡ true
 holds_it container n k s a is from upto =
-    let behind = is.behind in
+    let following = is.following in
     let inside = is.inside in
     ap (λ (kind : Option SlotKind). is_some kind && holds_address a n) is.of_kind
     ∙ both_true (nat_le n.section.addr a) (nat_lt a (n.section.addr + n.section.size)) (le-leb n.section.addr a (omega arith))
@@ -241,23 +241,23 @@ in_its_run t r k e s a is counted there slot =
     ∙ (ap (λ (b : Bool). cond b (answer (slot_entry t r k)) (Ok None)) (lt-ltb k r.count counted)
     ∙ (ap answer there ∙ ap (λ (found : Result Slot Fault). found >>= (λ y. Ok (Some y))) slot))
 
-pub found_at_its_address : (t : SlotTables) (ss : List SegmentView) (before : List NumberedSection) (n : NumberedSection) (behind : List NumberedSection)
-    (k : ℕ) (s : Slot) (a : ℕ) → readable_sections ss ≡ before ++ n ∷ behind → All (λ m. holds_slots_at a m ≡ false) before
+pub found_at_its_address : (t : SlotTables) (ss : List SegmentView) (before : List NumberedSection) (n : NumberedSection) (following : List NumberedSection)
+    (k : ℕ) (s : Slot) (a : ℕ) → readable_sections ss ≡ before ++ n ∷ following → All (λ m. holds_slots_at a m ≡ false) before
     → slice_get (read_slots t n) k ≡ Some (Ok s) → s.address ≤ a → a < s.address + s.len → slot_of_address t ss a ≡ Ok (Some s)
-found_at_its_address t ss before n behind k s a are none there from upto =
+found_at_its_address t ss before n following k s a are none there from upto =
     let lies = in_their_section t n k s there in
     let read = is_read t n k s there in
     let r = read.run in
     let of_run = run_is t.container n (slot_kind n.section.flags) r read.run_of_it in
     let address : r.address ≡ n.section.addr = of_run.3 in
     let len : s.len ≡ r.len = (slot_is t r read.entry s read.slot_of_it).3 in
-    let at_slot : s.address ≡ n.section.addr + k * r.len = lies.behind ∙ ap (λ (x : ℕ). n.section.addr + k * x) len in
+    let at_slot : s.address ≡ n.section.addr + k * r.len = lies.following ∙ ap (λ (x : ℕ). n.section.addr + k * x) len in
     let one = one_time_more k r.len in
     let number : (a - r.address) / r.len ≡ k =
     div-eq_of_lt-le {k = k} r.len {m = a - r.address} (omega (arith, address, at_slot, from)) (omega (arith, address, len, at_slot, one, upto)) in
     ap (λ (sections : List NumberedSection). slot_in_section t a (find (holds_slots_at a) sections)) are
     ∙ (ap (λ (found : Option NumberedSection). slot_in_section t a found)
-    (found_behind (holds_slots_at a) before n behind none (holds_it t.container n k s a lies from upto))
+    (found_after (holds_slots_at a) before n following none (holds_it t.container n k s a lies from upto))
     ∙ (ap (λ (found : Result (Option SlotRun) Fault). found >>= slot_in_run_if_any t a) read.run_of_it
     ∙ in_its_run t r k read.entry s a number read.counted read.entry_of_it read.slot_of_it))
 

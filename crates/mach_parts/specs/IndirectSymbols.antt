@@ -4,7 +4,7 @@ use Rattle.std.specs.Prelude.{◌==◌, ℕ, ◌+◌, ◌*◌, List, length, min
 use Rattle.mach_base.specs.declared.context.Endian.{Endian}
 use Rattle.mach_base.specs.Answer.{◌>>=◌}
 use Rattle.mach_base.specs.Fault.{Fault}
-use Rattle.mach_base.specs.Items.{items_from, records_begun}
+use Rattle.mach_base.specs.Items.{items_from, records_in_bounds}
 use Rattle.mach_base.specs.Number.{number_at}
 use Rattle.mach_parts.specs.declared.indirect.IndirectSymbol.{IndirectSymbol}
 use Rattle.mach_parts.specs.declared.indirect.IndirectSymbol.TheVariants.{Symbol, Local, Absolute, LocalAbsolute}
@@ -33,6 +33,6 @@ abbrev pub indirect_symbols_of : IndirectTable → List (Result IndirectSymbol F
 indirect_symbols_of t = items_from (indirect_symbol_at t) 0 t.count
 
 -- The table of the entries that begin within the bytes. No byte of any later entry can be read.
-abbrev pub begun_table : IndirectTable → IndirectTable
-begun_table t =
-    record { bytes = t.bytes; start = t.start; count = min t.count (records_begun (length t.bytes) t.start 4); le = t.le }
+abbrev pub indirect_in_bounds : IndirectTable → IndirectTable
+indirect_in_bounds t =
+    record { bytes = t.bytes; start = t.start; count = min t.count (records_in_bounds (length t.bytes) t.start 4); le = t.le }

@@ -14,17 +14,17 @@ abbrev pub numbered_read : Result NumberedSection Error → Result NumberedSecti
 numbered_read item = read_as (λ n. n) item
 
 -- for some segments, the first of which has number n: the sections of the first from number k on, and those of the others
-abbrev pub numbered_behind : ℕ → ℕ → List SegmentView → List (Result NumberedSection Fault)
-numbered_behind n k [] = []
-numbered_behind n k (s ∷ ss) = numbered_from n s k ++ numbered_in (n + 1) ss
+abbrev pub numbered_after : ℕ → ℕ → List SegmentView → List (Result NumberedSection Fault)
+numbered_after n k [] = []
+numbered_after n k (s ∷ ss) = numbered_from n s k ++ numbered_in (n + 1) ss
 
-abbrev pub readable_behind : ℕ → ℕ → List SegmentView → List NumberedSection
-readable_behind n k [] = []
-readable_behind n k (s ∷ ss) = in_front (numbered_from n s k) ++ readable_in (n + 1) ss
+abbrev pub readable_after : ℕ → ℕ → List SegmentView → List NumberedSection
+readable_after n k [] = []
+readable_after n k (s ∷ ss) = in_front (numbered_from n s k) ++ readable_in (n + 1) ss
 
 -- the remaining sections of an iterator
 abbrev pub numbered_left : NumberedSections → List (Result NumberedSection Fault)
-numbered_left it = numbered_behind it.segment it.number (map segment_view (drop it.segment it.segments.now))
+numbered_left it = numbered_after it.segment it.number (map segment_view (drop it.segment it.segments.now))
 
 abbrev pub readable_left : ReadableSections → List NumberedSection
-readable_left it = readable_behind it.segment it.number (map segment_view (drop it.segment it.segments.now))
+readable_left it = readable_after it.segment it.number (map segment_view (drop it.segment it.segments.now))

@@ -11,6 +11,6 @@ pub record Auth : Type 0 where
 abbrev pub auth_view : PointerAuth → Auth
 auth_view a = record { key = a.key; diversity = a.diversity; is_address_diverse = a.is_address_diverse }
 
-abbrev pub auth_seen : Option PointerAuth → Option Auth
-auth_seen None = None
-auth_seen (Some a) = Some (auth_view a)
+abbrev pub auth_option_view : Option PointerAuth → Option Auth
+auth_option_view None = None
+auth_option_view (Some a) = Some (auth_view a)

@@ -13,6 +13,6 @@ pub record IsSlotOfSection (container : Container) (n : NumberedSection) (k : �
   pub of_kind : slot_kind n.section.flags ≡ Some s.kind
   pub of_len : s.len ≡ slot_len container s.kind n.section
   pub sized : 0 < s.len
-  pub behind : s.address ≡ n.section.addr + k * s.len
+  pub following : s.address ≡ n.section.addr + k * s.len
   pub inside : s.address + s.len ≤ n.section.addr + n.section.size
   pub entry : s.index ≡ n.section.reserved1 + k

@@ -13,7 +13,7 @@ use Rattle.mach_base.specs.Number.{bounded, place_after}
 use Rattle.mach_base.specs.Record.{Field, num, Value, number_is, number_among, values_in, spelling}
 use Rattle.mach_base.specs.Text.{text_at}
 use Rattle.mach_records.specs.declared.symbol_tables.SymtabCommand.{SymtabCommand}
-use Rattle.mach_base.specs.Items.{items_from, records_begun}
+use Rattle.mach_base.specs.Items.{items_from, records_in_bounds}
 use Rattle.mach_parts.specs.declared.symbols.nlist.Nlist32.{Nlist32}
 use Rattle.mach_parts.specs.declared.symbols.nlist.Nlist64.{Nlist64}
 use Rattle.mach_parts.specs.declared.symbols.nlist.Nlist.{Nlist}
@@ -170,13 +170,13 @@ abbrev pub symbols_of : SymbolTable → List (Result (List ℕ × Nlist) Fault)
 symbols_of t = items_from (symbol_at t) 0 t.nsyms
 
 -- The table of the symbols whose records begin within the bytes. No byte of any later symbol can be read.
-abbrev pub begun_of : SymbolTable → SymbolTable
-begun_of t =
+abbrev pub table_in_bounds : SymbolTable → SymbolTable
+table_in_bounds t =
     let size = nlist_size t.ctx.container in
     record {
       bytes = t.bytes;
       start = t.start;
-      nsyms = min t.nsyms (records_begun (length t.bytes) t.start size);
+      nsyms = min t.nsyms (records_in_bounds (length t.bytes) t.start size);
       strtab = t.strtab;
       ctx = t.ctx;
     }

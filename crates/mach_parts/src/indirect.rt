@@ -1,14 +1,14 @@
 //! Indirect symbols (`mach-o/loader.h`, struct dysymtab_command).
 
 ghost use Rattle.std.specs.Prelude.{◌≡◌, ◌+◌, ◌*◌, ◌<◌, ◌≤◌, ◌^◌, [], Err, IfSome, drop, length};
-ghost use Rattle.mach_base.specs.Items.{begun_items};
+ghost use Rattle.mach_base.specs.Items.{items_in_bounds};
 ghost use Rattle.mach_base.specs.Answer.{Reads};
 ghost use Rattle.mach_base.specs.Fault.{fault_of};
 ghost use Rattle.mach_base.specs.Number.{number, number_at};
-ghost use Rattle.mach_parts.specs.IndirectSymbols.{begun_table, indirect_symbol, indirect_symbol_at, indirect_symbols_of};
+ghost use Rattle.mach_parts.specs.IndirectSymbols.{indirect_in_bounds, indirect_symbol, indirect_symbol_at, indirect_symbols_of};
 ghost use Rattle.mach_parts.specs.SlotViews.{indirect_table_of, indirect_read, indirect_left};
 
-use mach_base::{ByteCount, Endian, Error, Result, read_u32, records_begun, rest_at};
+use mach_base::{ByteCount, Endian, Error, Result, read_u32, records_in_bounds, rest_at};
 use std::fmt;
 
 const INDIRECT_SYMBOL_LOCAL: u32 = 0x8000_0000;
@@ -88,12 +88,12 @@ impl<'a> IndirectSymbols<'a> {
     }
 
     /// Returns the same table restricted to the entries that begin within the bytes. No byte of any later entry can be read.
-    pub fn begun(&self) -> IndirectSymbols<'a>
-        ensures { indirect_table_of result ≡ begun_table (indirect_table_of self.now) }
+    pub fn in_bounds(&self) -> IndirectSymbols<'a>
+        ensures { indirect_table_of result ≡ indirect_in_bounds (indirect_table_of self.now) }
     {
-        let begun = records_begun(self.bytes, self.start as usize, 4);
+        let in_bounds = records_in_bounds(self.bytes, self.start as usize, 4);
         IndirectSymbols {
-            count: (self.count as usize).min(begun) as u32,
+            count: (self.count as usize).min(in_bounds) as u32,
             ..*self
         }
     }
@@ -164,11 +164,11 @@ pub struct IndirectSymbolIterator<'a> {
 
 impl IndirectSymbolIterator<'_> {
     /// Returns the same iterator restricted to the entries that begin within the bytes. No byte of any later entry can be read.
-    pub fn begun(&self) -> Self
-        ensures { indirect_left result ≡ begun_items (indirect_left self.now) }
+    pub fn in_bounds(&self) -> Self
+        ensures { indirect_left result ≡ items_in_bounds (indirect_left self.now) }
     {
         IndirectSymbolIterator {
-            table: self.table.begun(),
+            table: self.table.in_bounds(),
             next_item: self.next_item,
         }
     }

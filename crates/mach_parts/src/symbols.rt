@@ -5,7 +5,7 @@ ghost use Rattle.mach_base.specs.declared.context.Endian.TheVariants.{Little};
 ghost use Rattle.mach_base.specs.declared.context.Container.TheVariants.{Big};
 ghost use Rattle.mach_base.specs.Answer.{Reads};
 ghost use Rattle.mach_base.specs.Number.{place_after};
-ghost use Rattle.mach_parts.specs.Symbols.{begun_of, symbol_place, symbol_at, symbol_name_at, symbols_of, table_at};
+ghost use Rattle.mach_parts.specs.Symbols.{table_in_bounds, symbol_place, symbol_at, symbol_name_at, symbols_of, table_at};
 ghost use Rattle.mach_parts.specs.SymbolViews.{copied_table, table_of, table_view, symbol_read, symbols_left};
 
 mod iterator;
@@ -28,7 +28,7 @@ pub use crate::symbols::names::{
 pub use crate::symbols::nlist::{Nlist, Nlist32, Nlist64, SIZEOF_NLIST_32, SIZEOF_NLIST_64};
 use mach_base::{
     ByteCount, Ctx, Error, Result, ScrollError, SizeWith, TryFromCtx, quick_text, read_text,
-    records_begun,
+    records_in_bounds,
 };
 use mach_records::SymtabCommand;
 use std::fmt;
@@ -212,14 +212,14 @@ impl<'a> Symbols<'a> {
     }
 
     /// Returns the same table restricted to the symbols whose records begin within the bytes. No byte of any later symbol can be read.
-    pub fn begun(&self) -> Symbols<'a>
-        ensures { table_of result ≡ begun_of (table_of self.now) }
+    pub fn in_bounds(&self) -> Symbols<'a>
+        ensures { table_of result ≡ table_in_bounds (table_of self.now) }
     {
         let size = Nlist::size_with(&self.table.ctx);
-        let begun = records_begun(self.table.bytes, self.table.start, size);
+        let in_bounds = records_in_bounds(self.table.bytes, self.table.start, size);
         Symbols {
             table: Table {
-                nsyms: self.table.nsyms.min(begun),
+                nsyms: self.table.nsyms.min(in_bounds),
                 ..self.table
             },
         }

@@ -6,7 +6,7 @@ use Rattle.mach_base.specs.Fault.{Fault}
 use Rattle.mach_base.proofs.Binds.{bind_ok, same_ok}
 use Rattle.mach_load.specs.Command.{Command}
 use Rattle.mach_parts.specs.Segment.{SegmentView}
-use Rattle.mach_signature.specs.AsSigned.{SignedImage, SignatureFaultSeen, signature_in, signature_faults_of, faults_in}
+use Rattle.mach_signature.specs.AsSigned.{SignedImage, SignatureFaultView, signature_in, signature_faults_of, faults_in}
 use Rattle.mach_signature.specs.SuperBlob.{SuperBlob}
 use Rattle.mach_signature.proofs.Promise.{all_as_signed, as_signed_all}
 use Rattle.mach_signature.specs.SignedImages.{signature_place_in, plist_of, faults_there, image_faults, is_as_signed, IsImageAsSigned}
@@ -43,32 +43,32 @@ module _ (bytes : List ℕ) (cs : List Command) (segments : List SegmentView) wh
         holds = all_as_signed (image_of there.0 found.0) found.2;
       }
 
-  untold : IsImageAsSigned bytes cs segments → image_faults bytes cs segments ≡ Ok (Some [])
-  untold h =
+  unreported : IsImageAsSigned bytes cs segments → image_faults bytes cs segments ≡ Ok (Some [])
+  unreported h =
       ap (λ place. faults_there bytes place segments) h.placed
       ∙ ap (λ (found : Result SuperBlob Fault). (found >>= (λ s. Ok (signature_faults_of (image_of h.place s)))) >>= (λ faults. Ok (Some faults))) h.reads
-      ∙ ap (λ (faults : List SignatureFaultSeen). Ok (Some faults)) (as_signed_all (image_of h.place h.signature) h.holds)
+      ∙ ap (λ (faults : List SignatureFaultView). Ok (Some faults)) (as_signed_all (image_of h.place h.signature) h.holds)
 
 pub as_signed : (bytes : List ℕ) (cs : List Command) (segments : List SegmentView)
     → (image_faults bytes cs segments ≡ Ok (Some [])) ↔ IsImageAsSigned bytes cs segments
-as_signed bytes cs segments = (signed bytes cs segments, untold bytes cs segments)
+as_signed bytes cs segments = (signed bytes cs segments, unreported bytes cs segments)
 
 -- ---- whether it is as signed, from the reports
 
 -- the reports on a signature
 abbrev Found : Type 0
-Found = Result (Option (List SignatureFaultSeen)) Fault
+Found = Result (Option (List SignatureFaultView)) Fault
 
-true_untold : (found : Found) (is : Bool) → is_as_signed found ≡ Ok is → IsTrue is → found ≡ Ok (Some [])
-true_untold (Ok None) is e said = absurd (cc)
-true_untold (Ok (Some [])) is e said = refl
-true_untold (Ok (Some (f ∷ fs))) is e said = absurd (cc)
-true_untold (Err f) is e said = absurd (cc)
+true_unreported : (found : Found) (is : Bool) → is_as_signed found ≡ Ok is → IsTrue is → found ≡ Ok (Some [])
+true_unreported (Ok None) is e said = absurd (cc)
+true_unreported (Ok (Some [])) is e said = refl
+true_unreported (Ok (Some (f ∷ fs))) is e said = absurd (cc)
+true_unreported (Err f) is e said = absurd (cc)
 
 pub as_signed_said : (bytes : List ℕ) (cs : List Command) (segments : List SegmentView) (is : Bool) → is_as_signed (image_faults bytes cs segments) ≡ Ok is
     → IsTrue is ↔ IsImageAsSigned bytes cs segments
 as_signed_said bytes cs segments is e = (
-  (λ said. (as_signed bytes cs segments).0 (true_untold (image_faults bytes cs segments) is e said)),
+  (λ said. (as_signed bytes cs segments).0 (true_unreported (image_faults bytes cs segments) is e said)),
   (λ holds. sym (same_ok (sym (ap is_as_signed ((as_signed bytes cs segments).1 holds)) ∙ e))),
 )
 

@@ -9,7 +9,7 @@ use Rattle.mach_signature.specs.Directories.{Directory, code_limit_of, page_coun
 use Rattle.mach_signature.specs.Hashes.{hash_of}
 use Rattle.mach_signature.specs.declared.fault.CodeFault.{CodeFault}
 use Rattle.mach_signature.specs.declared.fault.CodeFault.TheVariants.{Scattered, Limit, Slots, Page}
-use Rattle.mach_signature.proofs.ToldNone.{if_none, none_if, some_if, told_of-none, none-told_of}
+use Rattle.mach_signature.proofs.ReportedNone.{if_none, none_if, some_if, reported_of-none, none-reported_of}
 
 -- what follows if the form has no fault
 pub record IsWholeForm (d : Directory) (image : List ℕ) : Type 0 where
@@ -58,9 +58,9 @@ page_signed d image k below e =
     let by : page_fault_by d image k (Some (code_slot_bytes d k)) ≡ None = ap (page_fault_by d image k) (sym there) ∙ e in
     there ∙ ap Some (sym (page_by d image k (code_slot_bytes d k) by))
 
-page_untold : (d : Directory) (image : List ℕ) (k : ℕ) → code_slot_of d k ≡ Some (hash_of d.hash (page_bytes d image k)) → page_fault d image k ≡ None
+page_unreported : (d : Directory) (image : List ℕ) (k : ℕ) → code_slot_of d k ≡ Some (hash_of d.hash (page_bytes d image k)) → page_fault d image k ≡ None
 unfolding page_fault
-page_untold d image k e =
+page_unreported d image k e =
     let h = hash_of d.hash (page_bytes d image k) in
     let same : bytes_eq h h ≡ true = (bytes_eq-Decides h h).1 refl in
     ap (page_fault_by d image k) e ∙ ap (λ (b : Bool). cond b None (Some (Page k (page_start d k) (page_end d k)))) same
@@ -80,12 +80,12 @@ code_as_signed d image e =
       slot_each = w.slot_each;
       pages = λ k below.
           let inside : k < d.head.n_code_slots = omega (arith, below, w.slot_each) in
-          page_signed d image k inside (told_of-none (page_fault d image) d.head.n_code_slots pages k inside);
+          page_signed d image k inside (reported_of-none (page_fault d image) d.head.n_code_slots pages k inside);
     }
 
 pub as_signed_code : (d : Directory) (image : List ℕ) → IsCodeAsSigned d image → code_faults_of d image ≡ []
 as_signed_code d image s =
     let none = form_of_whole d image (record { not_scattered = s.not_scattered; in_image = s.in_image; slot_each = s.slot_each }) in
     ap (pages_judged d image) none
-    ∙ none-told_of (page_fault d image) d.head.n_code_slots
-    (λ k below. page_untold d image k (s.pages k (omega (arith, below, s.slot_each))))
+    ∙ none-reported_of (page_fault d image) d.head.n_code_slots
+    (λ k below. page_unreported d image k (s.pages k (omega (arith, below, s.slot_each))))

@@ -4,6 +4,6 @@ pub mod NumberedLists
 pub mod Promise
 pub mod Searched
 pub mod SpecialPromise
-pub mod ToldNone
+pub mod ReportedNone
 pub mod AsSigned
 pub mod SignedFacts

@@ -16,12 +16,12 @@ range_none next count outside =
     ap (λ (n : ℕ). range_with_len next n) none
 
 -- the reports from a number on
-pub told_first : {V : Type 0} (tells : ℕ → Option V) (next count : ℕ) → next < count
-    → filter_map tells (range_with_len next (count - next)) ≡ cons_option (tells next) (filter_map tells (range_with_len (next + 1) (count - (next + 1))))
-told_first tells next count inside = ap (filter_map tells) (range_first next count inside)
+pub reported_first : {V : Type 0} (reports : ℕ → Option V) (next count : ℕ) → next < count
+    → filter_map reports (range_with_len next (count - next)) ≡ cons_option (reports next) (filter_map reports (range_with_len (next + 1) (count - (next + 1))))
+reported_first reports next count inside = ap (filter_map reports) (range_first next count inside)
 
-pub told_none : {V : Type 0} (tells : ℕ → Option V) (next count : ℕ) → count ≤ next → filter_map tells (range_with_len next (count - next)) ≡ []
-told_none tells next count outside = ap (filter_map tells) (range_none next count outside)
+pub reported_none : {V : Type 0} (reports : ℕ → Option V) (next count : ℕ) → count ≤ next → filter_map reports (range_with_len next (count - next)) ≡ []
+reported_none reports next count outside = ap (filter_map reports) (range_none next count outside)
 
 -- the number found from a number on
 pub found_first : (test : ℕ → Bool) (next count : ℕ) → next < count

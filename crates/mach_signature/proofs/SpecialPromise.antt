@@ -14,7 +14,7 @@ use Rattle.mach_signature.specs.SpecialFaults.{IsSealed, IsSpecialAsSigned}
 use Rattle.mach_signature.specs.SuperBlob.{SuperBlob, slot_at}
 use Rattle.mach_signature.specs.declared.fault.SpecialFault.{SpecialFault}
 use Rattle.mach_signature.specs.declared.fault.SpecialFault.TheVariants.{Unknown, Unsealed, Changed, Absent}
-use Rattle.mach_signature.proofs.ToldNone.{none_if, some_if, told_of-none, none-told_of, both_empty, empty_both}
+use Rattle.mach_signature.proofs.ReportedNone.{none_if, some_if, reported_of-none, none-reported_of, both_empty, empty_both}
 
 pub true_from : (b : Bool) → b ≡ true → IsTrue b
 true_from b e = e
@@ -56,14 +56,14 @@ unsealed_none true out a h = refl
 unsealed_none false true a h = refl
 unsealed_none false false a h = elim h [ inl e ↦ absurd (cc) | inr e ↦ absurd (cc) ]
 
-untold : (d : Directory) (k : ℕ) (slot : List ℕ) (there : Result (Option (List ℕ)) Fault) → IsSealed d k slot there → sealed_fault d k slot there ≡ None
-untold d k slot (Err f) s = refl
-untold d k slot (Ok (Some bytes)) s =
+unreported : (d : Directory) (k : ℕ) (slot : List ℕ) (there : Result (Option (List ℕ)) Fault) → IsSealed d k slot there → sealed_fault d k slot there ≡ None
+unreported d k slot (Err f) s = refl
+unreported d k slot (Ok (Some bytes)) s =
     let z : is_unsealing slot ≡ false = from_not_true (is_unsealing slot) s.0 in
     let same : bytes_eq (hash_of d.hash bytes) slot ≡ true = (bytes_eq-Decides (hash_of d.hash bytes) slot).1 (sym s.1) in
     ap (λ (b : Bool). cond b (Some (Unsealed k)) (cond (bytes_eq (hash_of d.hash bytes) slot) None (Some (Changed k)))) z
     ∙ ap (λ (b : Bool). cond b None (Some (Changed k))) same
-untold d k slot (Ok None) s = unsealed_none (is_unsealing slot) (is_outside k) (Absent k) (elim s [
+unreported d k slot (Ok None) s = unsealed_none (is_unsealing slot) (is_outside k) (Absent k) (elim s [
   | inl z ↦ inl (from_true (is_unsealing slot) z)
   | inr o ↦ inr (from_true (is_outside k) o)
 ])
@@ -93,10 +93,10 @@ unknown_slot d s plist k slot e high = let test : nat_lt 11 k ≡ true = lt-ltb 
     none_if (is_unsealing slot) (Unknown k)
     (sym (ap (λ (b : Bool). cond b (cond (is_unsealing slot) None (Some (Unknown k))) (sealed_fault d k slot (component_of s plist k))) test) ∙ e)
 
-slot_untold : (d : Directory) (s : SuperBlob) (plist : Option (List ℕ)) (k : ℕ) → IsSpecialAsSigned d s plist
+slot_unreported : (d : Directory) (s : SuperBlob) (plist : Option (List ℕ)) (k : ℕ) → IsSpecialAsSigned d s plist
     → (slot : Option (List ℕ)) → special_slot_of d k ≡ slot → special_fault_by d s plist k slot ≡ None
-slot_untold d s plist k whole None e = refl
-slot_untold d s plist k whole (Some slot) e = elim (cases_lt 11 k) [
+slot_unreported d s plist k whole None e = refl
+slot_unreported d s plist k whole (Some slot) e = elim (cases_lt 11 k) [
   | inl high ↦
       let test : nat_lt 11 k ≡ true = lt-ltb 11 k high in
       let z : is_unsealing slot ≡ true = from_true (is_unsealing slot) (whole.unknown k slot e high) in
@@ -105,12 +105,12 @@ slot_untold d s plist k whole (Some slot) e = elim (cases_lt 11 k) [
   | inr low ↦
       let test : nat_lt 11 k ≡ false = le-ltb 11 k low in
       ap (λ (b : Bool). cond b (cond (is_unsealing slot) None (Some (Unknown k))) (sealed_fault d k slot (component_of s plist k))) test
-      ∙ untold d k slot (component_of s plist k) (whole.known k slot e low)
+      ∙ unreported d k slot (component_of s plist k) (whole.known k slot e low)
 ]
 
-special_untold : (d : Directory) (s : SuperBlob) (plist : Option (List ℕ)) (k : ℕ) → IsSpecialAsSigned d s plist → special_fault d s plist k ≡ None
+special_unreported : (d : Directory) (s : SuperBlob) (plist : Option (List ℕ)) (k : ℕ) → IsSpecialAsSigned d s plist → special_fault d s plist k ≡ None
 unfolding special_fault
-special_untold d s plist k whole = slot_untold d s plist k whole (special_slot_of d k) refl
+special_unreported d s plist k whole = slot_unreported d s plist k whole (special_slot_of d k) refl
 
 -- ---- blobs
 
@@ -167,9 +167,9 @@ no_unsealed d slot has = elim (cases_Bool (unsealed_test d slot)) [
       omega (arith, within, above))
 ]
 
-entry_untold : (d : Directory) (slot : ℕ) → (12 ≤ slot → slot ≤ 0xfff → ⊥) → (1 ≤ slot → slot ≤ 11 → slot ≤ d.head.n_special_slots)
+entry_unreported : (d : Directory) (slot : ℕ) → (12 ≤ slot → slot ≤ 0xfff → ⊥) → (1 ≤ slot → slot ≤ 11 → slot ≤ d.head.n_special_slots)
     → unsealed_entry d slot ≡ None
-entry_untold d slot not has =
+entry_unreported d slot not has =
     tests_entry (unknown_test slot) (unsealed_test d slot) (Unknown slot) (Unsealed slot) (no_unknown slot not) (no_unsealed d slot has)
 
 -- ---- both directions
@@ -180,8 +180,8 @@ before k low = omega (arith, low)
 pub special_as_signed : (d : Directory) (s : SuperBlob) (plist : Option (List ℕ)) → special_faults_of d s plist ≡ [] → IsSpecialAsSigned d s plist
 special_as_signed d s plist e =
     let parts = both_empty _ _ e in
-    let slots = told_of-none (λ k. special_fault d s plist (k + 1)) d.head.n_special_slots parts.0 in
-    let entries = told_of-none (λ k. unsealed_entry d (slot_at s k)) s.count parts.1 in
+    let slots = reported_of-none (λ k. special_fault d s plist (k + 1)) d.head.n_special_slots parts.0 in
+    let entries = reported_of-none (λ k. unsealed_entry d (slot_at s k)) s.count parts.1 in
     let none : (k : ℕ) (slot : List ℕ) → special_slot_of d k ≡ Some slot → special_fault_by d s plist k (Some slot) ≡ None =
     (λ k slot there.
     let number = slot_number d k slot there in
@@ -197,6 +197,6 @@ special_as_signed d s plist e =
 
 pub as_signed_special : (d : Directory) (s : SuperBlob) (plist : Option (List ℕ)) → IsSpecialAsSigned d s plist → special_faults_of d s plist ≡ []
 as_signed_special d s plist whole = empty_both _ _
-    (none-told_of (λ k. special_fault d s plist (k + 1)) d.head.n_special_slots (λ k below. special_untold d s plist (k + 1) whole))
-    (none-told_of (λ k. unsealed_entry d (slot_at s k)) s.count
-    (λ k below. entry_untold d (slot_at s k) (whole.blobs_known k below) (whole.blobs_sealed k below)))
+    (none-reported_of (λ k. special_fault d s plist (k + 1)) d.head.n_special_slots (λ k below. special_unreported d s plist (k + 1) whole))
+    (none-reported_of (λ k. unsealed_entry d (slot_at s k)) s.count
+    (λ k below. entry_unreported d (slot_at s k) (whole.blobs_known k below) (whole.blobs_sealed k below)))

@@ -6,7 +6,7 @@ use Rattle.mach_base.specs.Items.{read_as}
 use Rattle.mach_signature.specs.Chosen.{SlotDirectory, directory_entry}
 use Rattle.mach_signature.specs.Directories.{Directory}
 use Rattle.mach_signature.specs.DirectoryViews.{directory_view}
-use Rattle.mach_signature.specs.Numbered.{told_left}
+use Rattle.mach_signature.specs.Numbered.{reported_left}
 use Rattle.mach_signature.specs.SignViews.{signature_view}
 use Rattle.mach_signature.specs.declared.directories.Directories.{Directories}
 use Rattle.mach_signature.specs.declared.directories.DirectoryBlobs.{DirectoryBlobs}
@@ -19,9 +19,9 @@ slot_directory_read found = (found.0, read_as directory_view found.1)
 abbrev pub blob_count : DirectoryBlobs → ℕ
 blob_count b = b.signature.count
 
-abbrev pub directory_told : DirectoryBlobs → ℕ → Option SlotDirectory
-directory_told b k = directory_entry (signature_view b.signature) k
+abbrev pub directory_reported : DirectoryBlobs → ℕ → Option SlotDirectory
+directory_reported b k = directory_entry (signature_view b.signature) k
 
 -- the items that an iterator has left
 abbrev pub directories_left : Directories → List SlotDirectory
-directories_left it = told_left blob_count directory_told it.told
+directories_left it = reported_left blob_count directory_reported it.reported

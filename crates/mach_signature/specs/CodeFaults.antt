@@ -3,7 +3,7 @@ use Rattle.std.specs.Prelude.{◌≡◌, ◌≤◌, ◌<◌, ◌⊎◌, ℕ, Lis
 use Rattle.std.specs.Str.{bytes_eq}
 use Rattle.mach_signature.specs.Directories.{Directory, code_limit_of, page_count_of, page_start, page_end, page_bytes, code_slot_of}
 use Rattle.mach_signature.specs.Hashes.{hash_of}
-use Rattle.mach_signature.specs.Numbered.{told_of}
+use Rattle.mach_signature.specs.Numbered.{reported_of}
 use Rattle.mach_signature.specs.declared.fault.CodeFault.{CodeFault}
 use Rattle.mach_signature.specs.declared.fault.CodeFault.TheVariants.{Scattered, Limit, Slots, Page}
 
@@ -33,7 +33,7 @@ unfoldable pub page_fault : Directory → List ℕ → ℕ → Option CodeFault
 page_fault d image k = page_fault_by d image k (code_slot_of d k)
 
 abbrev pub pages_judged : Directory → List ℕ → Option CodeFault → List CodeFault
-pages_judged d image None = told_of (page_fault d image) d.head.n_code_slots
+pages_judged d image None = reported_of (page_fault d image) d.head.n_code_slots
 pages_judged d image (Some fault) = fault ∷ []
 
 -- the reason why the pages can't be judged, or the pages that aren't as signed, in order

@@ -3,7 +3,7 @@ use Rattle.std.specs.Prelude.{◌≡◌, ℕ, List, Option, Result}
 use Rattle.mach_base.specs.Fault.{Fault}
 use Rattle.goblin_mach.specs.Facts.{OfImage}
 use Rattle.goblin_mach.specs.Subjects.{lossy_segments_in}
-use Rattle.mach_signature.specs.AsSigned.{SignatureFaultSeen}
+use Rattle.mach_signature.specs.AsSigned.{SignatureFaultView}
 use Rattle.mach_signature.specs.Directories.{Directory}
 use Rattle.mach_signature.specs.SuperBlob.{SuperBlob}
 use Rattle.mach_signature.specs.SignedImages.{image_signature, image_directory, image_faults, IsImageAsSigned}
@@ -17,7 +17,7 @@ abbrev pub HasCodeDirectory : List ℕ → ℕ → Result (Option Directory) Fau
 HasCodeDirectory bytes o found = OfImage bytes o (λ ctx cs. found ≡ image_directory bytes cs)
 
 -- the faults of its signature
-abbrev pub HasSignatureFaults : List ℕ → ℕ → Result (Option (List SignatureFaultSeen)) Fault → Type 0
+abbrev pub HasSignatureFaults : List ℕ → ℕ → Result (Option (List SignatureFaultView)) Fault → Type 0
 HasSignatureFaults bytes o found = OfImage bytes o (λ ctx cs. found ≡ image_faults bytes cs (lossy_segments_in ctx bytes cs))
 
 -- the image is as it was signed

@@ -16,7 +16,7 @@ use Rattle.mach_parts.specs.Segment.{SegmentView}
 use Rattle.mach_parts.specs.declared.segment.numbered.NumberedSection.{NumberedSection}
 use Rattle.goblin_mach.specs.EntryPoint.{is_text_name}
 use Rattle.goblin_mach.specs.Readings.{Reading, read_of, first_of}
-use Rattle.mach_signature.specs.AsSigned.{SignedImage, SignatureFaultSeen, signature_in, faults_in, IsAsSigned}
+use Rattle.mach_signature.specs.AsSigned.{SignedImage, SignatureFaultView, signature_in, faults_in, IsAsSigned}
 use Rattle.mach_signature.specs.Chosen.{directory_of}
 use Rattle.mach_signature.specs.Directories.{Directory}
 use Rattle.mach_signature.specs.SuperBlob.{SuperBlob}
@@ -74,11 +74,11 @@ plist_of bytes segments = plist_bytes bytes (find is_info_plist (take (length by
 
 -- ---- the faults of an image
 
-abbrev pub faults_there : List ℕ → Option (ℕ × ℕ) → List SegmentView → Result (Option (List SignatureFaultSeen)) Fault
+abbrev pub faults_there : List ℕ → Option (ℕ × ℕ) → List SegmentView → Result (Option (List SignatureFaultView)) Fault
 faults_there bytes None segments = Ok None
 faults_there bytes (Some place) segments = faults_in bytes place.0 place.1 (plist_of bytes segments) >>= (λ faults. Ok (Some faults))
 
-abbrev pub image_faults : List ℕ → List Command → List SegmentView → Result (Option (List SignatureFaultSeen)) Fault
+abbrev pub image_faults : List ℕ → List Command → List SegmentView → Result (Option (List SignatureFaultView)) Fault
 image_faults bytes cs segments = faults_there bytes (signature_place_in cs) segments
 
 -- An image is as it was signed: a command places a signature, it can be read, and everything is as it says.
@@ -90,10 +90,10 @@ pub record IsImageAsSigned (bytes : List ℕ) (cs : List Command) (segments : Li
   pub holds : IsAsSigned (record { bytes = bytes; dataoff = place.0; signature = signature; plist = plist_of bytes segments })
 
 -- whether there is a signature, and it has no fault
-abbrev pub are_untold : Option (List SignatureFaultSeen) → Bool
-are_untold None = false
-are_untold (Some []) = true
-are_untold (Some (f ∷ fs)) = false
+abbrev pub are_unreported : Option (List SignatureFaultView) → Bool
+are_unreported None = false
+are_unreported (Some []) = true
+are_unreported (Some (f ∷ fs)) = false
 
-abbrev pub is_as_signed : Result (Option (List SignatureFaultSeen)) Fault → Result Bool Fault
-is_as_signed faults = faults >>= (λ faults. Ok (are_untold faults))
+abbrev pub is_as_signed : Result (Option (List SignatureFaultView)) Fault → Result Bool Fault
+is_as_signed faults = faults >>= (λ faults. Ok (are_unreported faults))

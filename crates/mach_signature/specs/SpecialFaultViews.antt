@@ -3,7 +3,7 @@ use Rattle.std.specs.Prelude.{ℕ, ◌+◌, List, ◌++◌, Option}
 use Rattle.std.specs.Borrow.{Bor}
 use Rattle.std.specs.Option.{option_map}
 use Rattle.mach_signature.specs.DirectoryViews.{directory_view, slot_read}
-use Rattle.mach_signature.specs.Numbered.{told_left}
+use Rattle.mach_signature.specs.Numbered.{reported_left}
 use Rattle.mach_signature.specs.SignViews.{signature_view}
 use Rattle.mach_signature.specs.SpecialFaults.{special_fault, unsealed_entry}
 use Rattle.mach_signature.specs.SuperBlob.{slot_at}
@@ -12,17 +12,17 @@ use Rattle.mach_signature.specs.declared.special_faults.Entries.{Entries}
 use Rattle.mach_signature.specs.declared.special_faults.SpecialFaults.{SpecialFaults}
 use Rattle.mach_signature.specs.declared.special_faults.SpecialSlots.{SpecialSlots}
 
-abbrev pub special_slots_told : SpecialSlots → ℕ
-special_slots_told x = x.directory.head.n_special_slots
+abbrev pub special_slots_reported : SpecialSlots → ℕ
+special_slots_reported x = x.directory.head.n_special_slots
 
-abbrev pub special_slot_told : SpecialSlots → ℕ → Option SpecialFault
-special_slot_told x k = special_fault (directory_view x.directory) (signature_view x.signature) (slot_read x.plist) (k + 1)
+abbrev pub special_slot_reported : SpecialSlots → ℕ → Option SpecialFault
+special_slot_reported x k = special_fault (directory_view x.directory) (signature_view x.signature) (slot_read x.plist) (k + 1)
 
-abbrev pub entries_told : Entries → ℕ
-entries_told x = x.signature.count
+abbrev pub entries_reported : Entries → ℕ
+entries_reported x = x.signature.count
 
-abbrev pub entry_told : Entries → ℕ → Option SpecialFault
-entry_told x k = unsealed_entry (directory_view x.directory) (slot_at (signature_view x.signature) k)
+abbrev pub entry_reported : Entries → ℕ → Option SpecialFault
+entry_reported x k = unsealed_entry (directory_view x.directory) (slot_at (signature_view x.signature) k)
 
 abbrev pub special_faults_left : SpecialFaults → List SpecialFault
-special_faults_left it = told_left special_slots_told special_slot_told it.slots ++ told_left entries_told entry_told it.entries
+special_faults_left it = reported_left special_slots_reported special_slot_reported it.slots ++ reported_left entries_reported entry_reported it.entries

@@ -8,7 +8,7 @@ use Rattle.mach_base.specs.Fault.{Fault}
 use Rattle.mach_base.specs.Text.{is_zero}
 use Rattle.mach_signature.specs.Directories.{Directory, special_slot_of}
 use Rattle.mach_signature.specs.Hashes.{hash_of}
-use Rattle.mach_signature.specs.Numbered.{told_of}
+use Rattle.mach_signature.specs.Numbered.{reported_of}
 use Rattle.mach_signature.specs.Slots.{is_outside}
 use Rattle.mach_signature.specs.SuperBlob.{SuperBlob, BlobThere, slot_at, blob_of}
 use Rattle.mach_signature.specs.declared.fault.SpecialFault.{SpecialFault}
@@ -57,7 +57,7 @@ unsealed_entry d slot =
 -- the faults of the slots, from 1 on, then those of the blobs, in the order of the index
 abbrev pub special_faults_of : Directory → SuperBlob → Option (List ℕ) → List SpecialFault
 special_faults_of d s plist =
-    told_of (λ k. special_fault d s plist (k + 1)) d.head.n_special_slots ++ told_of (λ k. unsealed_entry d (slot_at s k)) s.count
+    reported_of (λ k. special_fault d s plist (k + 1)) d.head.n_special_slots ++ reported_of (λ k. unsealed_entry d (slot_at s k)) s.count
 
 -- ---- the promise
 

@@ -27,8 +27,8 @@ abbrev pub super_blob_head_at : List ℕ → Result SuperBlobHead Fault
 super_blob_head_at bytes = record_at Big super_blob_fields bytes 0 >>= (λ vs. Ok (super_blob_of_values vs))
 
 -- the signature after a head: cut at its length, with the index in it
-abbrev pub signature_behind : List ℕ → SuperBlobHead → Result SuperBlob Fault
-signature_behind bytes h =
+abbrev pub signature_after : List ℕ → SuperBlobHead → Result SuperBlob Fault
+signature_after bytes h =
     if h.magic == 0xfade0cc0 then
     (if nat_lt h.length 12 then Err malformed
     else if nat_lt (length bytes) h.length then Err (too_big h.length (length bytes))
@@ -38,7 +38,7 @@ signature_behind bytes h =
 
 -- the signature at the start of the bytes
 unfoldable pub signature_at : List ℕ → Result SuperBlob Fault
-signature_at bytes = super_blob_head_at bytes >>= signature_behind bytes
+signature_at bytes = super_blob_head_at bytes >>= signature_after bytes
 
 -- what the index says about a blob: its slot, and its offset
 abbrev pub slot_at : SuperBlob → ℕ → ℕ

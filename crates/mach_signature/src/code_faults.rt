@@ -8,7 +8,7 @@ ghost use Rattle.mach_signature.specs.DirectoryViews.{directory_view};
 
 use crate::directory::CodeDirectory;
 use crate::fault::CodeFault;
-use crate::numbered::{Numbered, Told};
+use crate::numbered::{Numbered, NumberedFaults};
 
 // Returns the bytes of an image between two places, as far as they are there.
 fn bytes_between(image: &[u8], start: u64, end: u64) -> &[u8]
@@ -33,22 +33,22 @@ impl<'a> Numbered for Pages<'a> {
     type Item = CodeFault;
 
     ghost use Rattle.mach_signature.specs.declared.fault.CodeFault.{CodeFault};
-    ghost use Rattle.mach_signature.specs.CodeFaultViews.{pages_told, page_told};
+    ghost use Rattle.mach_signature.specs.CodeFaultViews.{pages_reported, page_reported};
 
     ghost View = { CodeFault };
 
     ghost view = { λ fault. fault };
 
-    ghost count = { pages_told };
+    ghost count = { pages_reported };
 
-    ghost tells = { page_told };
+    ghost reports = { page_reported };
 
     fn count(&self) -> u32 {
         self.count
     }
 
     #[tactic(auto, unfolding(crate::specs::CodeFaults::page_fault))]
-    fn tell(&self, number: u32) -> Option<CodeFault> {
+    fn report(&self, number: u32) -> Option<CodeFault> {
         let slot = self.directory.code_slot(number)?;
         let page = self.directory.page(number);
         if self
@@ -70,7 +70,7 @@ impl<'a> Numbered for Pages<'a> {
 #[derive(Clone, Drop)]
 pub struct CodeFaults<'a> {
     pub(crate) first: Option<CodeFault>,
-    pub(crate) pages: Told<Pages<'a>>,
+    pub(crate) pages: NumberedFaults<Pages<'a>>,
 }
 
 impl<'a> Iterator for CodeFaults<'a> {
@@ -125,7 +125,7 @@ impl<'a> CodeDirectory<'a> {
         };
         CodeFaults {
             first,
-            pages: Told::of(Pages {
+            pages: NumberedFaults::of(Pages {
                 directory: *self,
                 image,
                 count,

@@ -9,7 +9,7 @@ ghost use Rattle.mach_signature.specs.Chosen as defined;
 ghost use Rattle.mach_signature.specs.ChosenViews.{directories_left};
 
 use crate::directory::CodeDirectory;
-use crate::numbered::{Numbered, Told};
+use crate::numbered::{Numbered, NumberedFaults};
 use crate::signature::CodeSignature;
 use crate::slots::is_directory_slot;
 use mach_base::{Error, Result};
@@ -24,7 +24,7 @@ impl<'a> Numbered for DirectoryBlobs<'a> {
     type Item = (u32, Result<CodeDirectory<'a>>);
 
     ghost use Rattle.mach_signature.specs.Chosen.{SlotDirectory};
-    ghost use Rattle.mach_signature.specs.ChosenViews.{slot_directory_read, blob_count, directory_told};
+    ghost use Rattle.mach_signature.specs.ChosenViews.{slot_directory_read, blob_count, directory_reported};
 
     ghost View = { SlotDirectory };
 
@@ -32,13 +32,13 @@ impl<'a> Numbered for DirectoryBlobs<'a> {
 
     ghost count = { blob_count };
 
-    ghost tells = { directory_told };
+    ghost reports = { directory_reported };
 
     fn count(&self) -> u32 {
         self.signature.count
     }
 
-    fn tell(&self, number: u32) -> Option<(u32, Result<CodeDirectory<'a>>)> {
+    fn report(&self, number: u32) -> Option<(u32, Result<CodeDirectory<'a>>)> {
         let slot = self.signature.slot(number);
         if !is_directory_slot(slot) {
             return None;
@@ -50,17 +50,17 @@ impl<'a> Numbered for DirectoryBlobs<'a> {
 /// An iterator over the code directories of a signature with their slots, in the order of its index.
 #[derive(Clone, Drop)]
 pub struct Directories<'a> {
-    pub(crate) told: Told<DirectoryBlobs<'a>>,
+    pub(crate) reported: NumberedFaults<DirectoryBlobs<'a>>,
 }
 
 impl<'a> Directories<'a> {
     // An iterator over none of a signature's directories.
-    #[tactic(auto, using(crate::proofs::NumberedLists::told_none))]
+    #[tactic(auto, using(crate::proofs::NumberedLists::reported_none))]
     pub(crate) fn none(signature: CodeSignature<'a>) -> Directories<'a>
         ensures { directories_left result ≡ [] }
     {
         Directories {
-            told: Told {
+            reported: NumberedFaults {
                 things: DirectoryBlobs { signature },
                 next: signature.count,
             },
@@ -79,7 +79,7 @@ impl<'a> Iterator for Directories<'a> {
     ghost remaining = { item_count directories_left };
 
     fn next(&mut self) -> Option<(u32, Result<CodeDirectory<'a>>)> {
-        self.told.take_next()
+        self.reported.take_next()
     }
 }
 
@@ -112,7 +112,7 @@ impl<'a> CodeSignature<'a> {
         ensures { directories_left result ≡ directories_of (signature_view self.now) }
     {
         Directories {
-            told: Told::of(DirectoryBlobs { signature: *self }),
+            reported: NumberedFaults::of(DirectoryBlobs { signature: *self }),
         }
     }
 

@@ -328,8 +328,8 @@ impl<'a> CodeDirectory<'a> {
         if number == 0 || number > self.head.n_special_slots {
             return None;
         }
-        let behind = number as usize * usize::from(self.head.hash_size);
-        Some(self.slot_at(self.head.hash_offset as usize - behind))
+        let following = number as usize * usize::from(self.head.hash_size);
+        Some(self.slot_at(self.head.hash_offset as usize - following))
     }
 
     /// Returns the first 20 bytes of the directory's own hash. Callers compare them to identify the directory.

@@ -16,7 +16,7 @@ use crate::code_faults::CodeFaults;
 use crate::directories::Directories;
 use crate::directory::CodeDirectory;
 use crate::fault::{DirectoryFault, SignatureFault};
-use crate::numbered::{Numbered, Told};
+use crate::numbered::{Numbered, NumberedFaults};
 use crate::signature::CodeSignature;
 use crate::slots::has_magic;
 use crate::special_faults::SpecialFaults;
@@ -56,23 +56,23 @@ pub struct BlobTests<'a> {
 impl<'a> Numbered for BlobTests<'a> {
     type Item = SignatureFault;
 
-    ghost use Rattle.mach_signature.specs.AsSigned.{SignatureFaultSeen};
+    ghost use Rattle.mach_signature.specs.AsSigned.{SignatureFaultView};
     ghost use Rattle.mach_signature.specs.FaultViews.{blobs_tested, blob_tested};
 
-    ghost View = { SignatureFaultSeen };
+    ghost View = { SignatureFaultView };
 
     ghost view = { signature_fault_view };
 
     ghost count = { blobs_tested };
 
-    ghost tells = { blob_tested };
+    ghost reports = { blob_tested };
 
     fn count(&self) -> u32 {
         self.signature.count
     }
 
     #[tactic(auto, unfolding(crate::specs::AsSigned::blob_fault))]
-    fn tell(&self, number: u32) -> Option<SignatureFault> {
+    fn report(&self, number: u32) -> Option<SignatureFault> {
         match self.signature.blob_at(number) {
             Err(error) => Some(SignatureFault::Blob {
                 index: number,
@@ -213,7 +213,7 @@ impl<'a> SignedBytes<'a> {
         };
         SignatureFaults {
             signed: *self,
-            blobs: Told::of(BlobTests {
+            blobs: NumberedFaults::of(BlobTests {
                 signature: self.signature,
             }),
             refused,
@@ -231,7 +231,7 @@ impl<'a> SignedBytes<'a> {
 #[derive(Drop)]
 pub struct SignatureFaults<'a> {
     pub(crate) signed: SignedBytes<'a>,
-    pub(crate) blobs: Told<BlobTests<'a>>,
+    pub(crate) blobs: NumberedFaults<BlobTests<'a>>,
     pub(crate) refused: Option<Error>,
     // The directory that is being judged; `directories` are those after it.
     pub(crate) current: Current<'a>,

@@ -2,11 +2,11 @@
 
 ghost use Rattle.std.specs.Prelude.{◌≡◌, option_map};
 ghost use Rattle.mach_base.specs.Answer.{Reads};
-ghost use Rattle.goblin_mach.specs.OpenImage.{bytes_held, commands_held, segments_held};
+ghost use Rattle.goblin_mach.specs.OpenImage.{bytes_view, commands_view, segments_view};
 ghost use Rattle.mach_signature.specs.DirectoryViews.{directory_view, slot_read};
 ghost use Rattle.mach_signature.specs.FaultViews.{signature_faults_left};
 ghost use Rattle.mach_signature.specs.SignViews.{signature_view};
-ghost use Rattle.mach_signature.specs.SignedImages.{image_signature, image_directory, image_faults, plist_of, are_untold};
+ghost use Rattle.mach_signature.specs.SignedImages.{image_signature, image_directory, image_faults, plist_of, are_unreported};
 ghost use Rattle.mach_signature.specs.SignedImages as defined;
 
 use crate::directory::CodeDirectory;
@@ -21,7 +21,7 @@ use std::alloc::Allocator;
 /// Returns the code signature of an image: the one that its first `LC_CODE_SIGNATURE` places, or none without such a command.
 /// Opening an image checks nothing of it. Errors are those of `crate::faults::code_signature`. It allocates nothing.
 pub fn code_signature<'a, A: Allocator>(image: &MachO<'a, A>) -> Result<Option<CodeSignature<'a>>>
-    ensures { Reads (option_map signature_view) result (image_signature (bytes_held image.now) (commands_held image.now)) }
+    ensures { Reads (option_map signature_view) result (image_signature (bytes_view image.now) (commands_view image.now)) }
 {
     let Some((dataoff, datasize)) = signature_place(image.load_commands.as_slice()) else {
         return Ok(None);
@@ -33,7 +33,7 @@ pub fn code_signature<'a, A: Allocator>(image: &MachO<'a, A>) -> Result<Option<C
 /// Returns the code directory that counts in the signature of an image: the system knows the code by it. It is none without a
 /// signature. Errors are those of `code_signature` and of `CodeSignature::directory`. It allocates nothing.
 pub fn code_directory<'a, A: Allocator>(image: &MachO<'a, A>) -> Result<Option<CodeDirectory<'a>>>
-    ensures { Reads (option_map directory_view) result (image_directory (bytes_held image.now) (commands_held image.now)) }
+    ensures { Reads (option_map directory_view) result (image_directory (bytes_view image.now) (commands_view image.now)) }
 {
     let Some(signature) = code_signature(image)? else {
         return Ok(None);
@@ -44,7 +44,7 @@ pub fn code_directory<'a, A: Allocator>(image: &MachO<'a, A>) -> Result<Option<C
 
 /// Returns the section that the signature of an image seals as its Info.plist, if there is one and its bytes are in the file.
 pub fn image_plist<'a, A: Allocator>(image: &MachO<'a, A>) -> Option<&'a [u8]>
-    ensures { slot_read result ≡ plist_of (bytes_held image.now) (segments_held image.now) }
+    ensures { slot_read result ≡ plist_of (bytes_view image.now) (segments_view image.now) }
 {
     info_plist(image.bytes(), image.segments.as_slice())
 }
@@ -55,7 +55,7 @@ pub fn image_plist<'a, A: Allocator>(image: &MachO<'a, A>) -> Option<&'a [u8]>
 pub fn signature_faults<'a, A: Allocator>(
     image: &MachO<'a, A>,
 ) -> Result<Option<SignatureFaults<'a>>>
-    ensures { Reads (option_map signature_faults_left) result (image_faults (bytes_held image.now) (commands_held image.now) (segments_held image.now)) }
+    ensures { Reads (option_map signature_faults_left) result (image_faults (bytes_view image.now) (commands_view image.now) (segments_view image.now)) }
 {
     let Some((dataoff, datasize)) = signature_place(image.load_commands.as_slice()) else {
         return Ok(None);
@@ -66,8 +66,8 @@ pub fn signature_faults<'a, A: Allocator>(
 }
 
 // Whether there is a signature, and it has no fault.
-fn are_untold(faults: Option<SignatureFaults<'_>>) -> bool
-    ensures { result ≡ are_untold (option_map signature_faults_left faults.entry) }
+fn are_unreported(faults: Option<SignatureFaults<'_>>) -> bool
+    ensures { result ≡ are_unreported (option_map signature_faults_left faults.entry) }
 {
     match faults {
         Some(mut faults) => match faults.next() {
@@ -81,8 +81,8 @@ fn are_untold(faults: Option<SignatureFaults<'_>>) -> bool
 /// Whether an image has a signature and is as it was signed. Errors are those of `code_signature`. It allocates nothing.
 pub fn is_as_signed<A: Allocator>(image: &MachO<'_, A>) -> Result<bool>
     ensures { Reads (λ is. is) result
-        (defined.is_as_signed (image_faults (bytes_held image.now) (commands_held image.now) (segments_held image.now))) }
+        (defined.is_as_signed (image_faults (bytes_view image.now) (commands_view image.now) (segments_view image.now))) }
 {
     let faults = signature_faults(image)?;
-    Ok(are_untold(faults))
+    Ok(are_unreported(faults))
 }

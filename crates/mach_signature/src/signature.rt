@@ -136,7 +136,7 @@ impl<'a> CodeSignature<'a> {
         ensures { Reads (option_map (λ content. content.now)) result (content_of (signature_view self.now) slot) }
     {
         match self.blob(slot)? {
-            Some(blob) => Ok(Some(behind_head(blob.bytes))),
+            Some(blob) => Ok(Some(after_head(blob.bytes))),
             None => Ok(None),
         }
     }
@@ -171,7 +171,7 @@ impl<'a> CodeSignature<'a> {
 }
 
 // Returns the bytes after a head of 8 bytes.
-fn behind_head(bytes: &[u8]) -> &[u8]
+fn after_head(bytes: &[u8]) -> &[u8]
     ensures { result.now ≡ drop 8 bytes.now }
 {
     bytes.get(8..).unwrap_or(&[])

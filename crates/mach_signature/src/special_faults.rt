@@ -10,7 +10,7 @@ ghost use Rattle.mach_signature.specs.SpecialFaultViews.{special_faults_left};
 
 use crate::directory::CodeDirectory;
 use crate::fault::SpecialFault;
-use crate::numbered::{Numbered, Told};
+use crate::numbered::{Numbered, NumberedFaults};
 use crate::signature::CodeSignature;
 use crate::slots::is_outside;
 use mach_base::Result;
@@ -94,21 +94,21 @@ impl<'a> Numbered for SpecialSlots<'a> {
     type Item = SpecialFault;
 
     ghost use Rattle.mach_signature.specs.declared.fault.SpecialFault.{SpecialFault};
-    ghost use Rattle.mach_signature.specs.SpecialFaultViews.{special_slots_told, special_slot_told};
+    ghost use Rattle.mach_signature.specs.SpecialFaultViews.{special_slots_reported, special_slot_reported};
 
     ghost View = { SpecialFault };
 
     ghost view = { λ fault. fault };
 
-    ghost count = { special_slots_told };
+    ghost count = { special_slots_reported };
 
-    ghost tells = { special_slot_told };
+    ghost reports = { special_slot_reported };
 
     fn count(&self) -> u32 {
         self.directory.head.n_special_slots
     }
 
-    fn tell(&self, number: u32) -> Option<SpecialFault> {
+    fn report(&self, number: u32) -> Option<SpecialFault> {
         // (the number is below the count, so that of the slot is one of 32 bits)
         let _count = self.directory.head.n_special_slots;
         self.slot_fault(number + 1)
@@ -126,21 +126,21 @@ impl<'a> Numbered for Entries<'a> {
     type Item = SpecialFault;
 
     ghost use Rattle.mach_signature.specs.declared.fault.SpecialFault.{SpecialFault};
-    ghost use Rattle.mach_signature.specs.SpecialFaultViews.{entries_told, entry_told};
+    ghost use Rattle.mach_signature.specs.SpecialFaultViews.{entries_reported, entry_reported};
 
     ghost View = { SpecialFault };
 
     ghost view = { λ fault. fault };
 
-    ghost count = { entries_told };
+    ghost count = { entries_reported };
 
-    ghost tells = { entry_told };
+    ghost reports = { entry_reported };
 
     fn count(&self) -> u32 {
         self.signature.count
     }
 
-    fn tell(&self, number: u32) -> Option<SpecialFault> {
+    fn report(&self, number: u32) -> Option<SpecialFault> {
         let slot = self.signature.slot(number);
         if 12 <= slot && slot <= 0xfff {
             return Some(SpecialFault::Unknown { slot });
@@ -155,8 +155,8 @@ impl<'a> Numbered for Entries<'a> {
 /// An iterator over the faults of the special slots, from 1 on, and then of the blobs that no slot seals, in the order of the index.
 #[derive(Clone, Drop)]
 pub struct SpecialFaults<'a> {
-    pub(crate) slots: Told<SpecialSlots<'a>>,
-    pub(crate) entries: Told<Entries<'a>>,
+    pub(crate) slots: NumberedFaults<SpecialSlots<'a>>,
+    pub(crate) entries: NumberedFaults<Entries<'a>>,
 }
 
 impl<'a> Iterator for SpecialFaults<'a> {
@@ -204,12 +204,12 @@ impl<'a> CodeDirectory<'a> {
         ensures { special_faults_left result ≡ defined.special_faults_of (directory_view self.now) (signature_view signature.now) (slot_read plist.entry) }
     {
         SpecialFaults {
-            slots: Told::of(SpecialSlots {
+            slots: NumberedFaults::of(SpecialSlots {
                 directory: *self,
                 signature: *signature,
                 plist,
             }),
-            entries: Told::of(Entries {
+            entries: NumberedFaults::of(Entries {
                 directory: *self,
                 signature: *signature,
             }),

@@ -6,7 +6,7 @@ use Rattle.std.proofs.lemmas.Bool.{ltb-true, ltb-false}
 use Rattle.std.specs.Borrow.{Bor}
 use Rattle.std.specs.Prelude.{◌⊎◌, ◌==◌, if◌then◌else◌, IsTrue, IsOk}
 use Rattle.mach_base.proofs.Binds.{same_ok}
-use Rattle.mach_base.specs.Answer.{Stands, FailsAs}
+use Rattle.mach_base.specs.Answer.{ErrorMeets, FailsAs}
 use Rattle.mach_base.specs.Fault.{Fault, fault_of}
 use Rattle.mach_base.specs.declared.error.Error.TheVariants as errors
 use Rattle.mach_base.specs.declared.error.Error.{Error}
@@ -24,9 +24,9 @@ use Rattle.mach_layout.specs.Containers.{AreContainerFaults}
 use Rattle.goblin_mach.specs.FatFile.{FatFile, fat_file_in, arches_in}
 use Rattle.goblin_mach.specs.Image.{Opens, LossyOpens, ImageFault}
 use Rattle.goblin_mach.specs.File.{HasFatMagic, MachFault}
-use Rattle.goblin_mach.specs.View.{HasEntries, fat_table, of_file, IsTold}
+use Rattle.goblin_mach.specs.View.{HasEntries, fat_table, of_file, IsReported}
 use Rattle.machaudit.proofs.EntryBytes.{arches_count}
-use Rattle.machaudit.proofs.Goes.{stands_of}
+use Rattle.machaudit.proofs.Goes.{error_meets}
 use Rattle.machaudit.proofs.GoneOver.{overlaid_by, not_overlaid}
 use Rattle.machaudit.proofs.Verdicts.{sound_judged, unended_judged, faulty_judged, both_judged, both_faulty, both_assoc, both_sound, judged_as}
 use Rattle.machaudit.specs.Overlaid.{AreGoneOver, AreOverlaid}
@@ -47,11 +47,11 @@ sound_entries bytes (sound.one_image s) = (Ok (image bytes) ∷ [], entries_of_i
 sound_entries bytes (sound.fat_file file fat is table s) = (entries_of file, fat_table file fat is s.table)
 
 -- a refused file isn't sound
-pub refused_judged : (limit : ℕ) (bytes : List ℕ) (e : Error) → Stands (MachFault ImageFault bytes) e → IsTold e
+pub refused_judged : (limit : ℕ) (bytes : List ℕ) (e : Error) → ErrorMeets (MachFault ImageFault bytes) e → IsReported e
     → Judges (IsSound bytes) (IsLong limit bytes) Faulty
-refused_judged limit bytes e stands told = faulty_judged (λ s.
+refused_judged limit bytes e occurs reported = faulty_judged (λ s.
     let has = sound_entries bytes s in
-    view_fault-excludes bytes _ has.0 (of_file _ (stands_of (MachFault ImageFault bytes) e told stands)) has.1)
+    view_fault-excludes bytes _ has.0 (of_file _ (error_meets (MachFault ImageFault bytes) e reported occurs)) has.1)
 
 -- the file of one image
 pub image_judged : (limit : ℕ) (bytes : List ℕ) (v : Verdict) → Opens bytes 0 → Judges (IsSoundImage bytes) (HasLongList (most_items limit bytes) bytes) v
@@ -115,9 +115,9 @@ entry_opens (Ok (archive slice)) s = tt
 entry_opens (Ok (image slice)) s = s.opens
 entry_opens (Err f) s = s
 
-pub no_entry_judged : {L : Type 0} (entry : Result FatEntry Fault) (e : Error) → (EntryOpens entry → Stands (λ _. ⊥) e) → IsTold e
+pub no_entry_judged : {L : Type 0} (entry : Result FatEntry Fault) (e : Error) → (EntryOpens entry → ErrorMeets (λ _. ⊥) e) → IsReported e
     → Judges (IsSoundEntry entry) L Faulty
-no_entry_judged entry e only told = faulty_judged (λ s. stands_of (λ _. ⊥) e told (only (entry_opens entry s)))
+no_entry_judged entry e only reported = faulty_judged (λ s. error_meets (λ _. ⊥) e reported (only (entry_opens entry s)))
 
 -- ---- all entries
 
@@ -192,14 +192,14 @@ fat_file_judged limit file archs n cut v table gone cut_is judged = by_count fil
         fewer long_of (shorter short) judged)
 
 -- a fat file whose table can't be read
-pub no_table_judged : {L : Type 0} (file : FatFile) (e : Error) → FailsAs e (arches_in file) → IsTold e → Judges (IsSoundFat file) L Faulty
-no_table_judged file e fails told = faulty_judged (λ s. not_both (arches_in file) (fault_of e) s.table (fault_by e fails told))
+pub no_table_judged : {L : Type 0} (file : FatFile) (e : Error) → FailsAs e (arches_in file) → IsReported e → Judges (IsSoundFat file) L Faulty
+no_table_judged file e fails reported = faulty_judged (λ s. not_both (arches_in file) (fault_of e) s.table (fault_by e fails reported))
   where
     not_both : (r : Result (List FatArch) Fault) (f : Fault) → IsOk r → r ≡ Err f → ⊥
     not_both (Ok x) f ok is = cc
     not_both (Err g) f ok is = cc
 
-    fault_by : (d : Error) → FailsAs d (arches_in file) → IsTold d → arches_in file ≡ Err (fault_of d)
+    fault_by : (d : Error) → FailsAs d (arches_in file) → IsReported d → arches_in file ≡ Err (fault_of d)
     fault_by (errors.Malformed msg) h t = h
     fault_by (errors.BadMagic n) h t = h
     fault_by (errors.Scroll x) h t = h
@@ -207,8 +207,8 @@ no_table_judged file e fails told = faulty_judged (λ s. not_both (arches_in fil
     fault_by (errors.Memory a) h t = absurd t
 
 -- the same, with the faults of its table
-pub refused_table_judged : {S L : Type 0} (v : Verdict) (file : FatFile) (e : Error) → FailsAs e (arches_in file) → IsTold e
+pub refused_table_judged : {S L : Type 0} (v : Verdict) (file : FatFile) (e : Error) → FailsAs e (arches_in file) → IsReported e
     → Judges (S × IsSoundFat file) L (verdict_of_both v Faulty)
-refused_table_judged {S = S} {L = L} v file e fails told =
+refused_table_judged {S = S} {L = L} v file e fails reported =
     subst (λ (w : Verdict). Judges (S × IsSoundFat file) L w) (sym (both_faulty v))
-    (faulty_judged (λ s. (no_table_judged {L = L} file e fails told).faulty refl s.1))
+    (faulty_judged (λ s. (no_table_judged {L = L} file e fails reported).faulty refl s.1))

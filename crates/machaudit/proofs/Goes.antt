@@ -7,7 +7,7 @@ use Rattle.std.proofs.lemmas.Bool.{ltb-true}
 use Rattle.std.proofs.lemmas.List.{at_drop_more, append-nil, append_assoc, map-append, take_more, length-append, length-map, length-take-le}
 use Rattle.std.proofs.lemmas.List.Sums.{sum_by-cons}
 use Rattle.std.specs.List.{sum_by}
-use Rattle.mach_base.specs.Answer.{Stands}
+use Rattle.mach_base.specs.Answer.{ErrorMeets}
 use Rattle.mach_base.specs.declared.error.Error.TheVariants as errors
 use Rattle.mach_base.specs.Fault.{Fault, fault_of}
 use Rattle.mach_base.specs.declared.error.Error.{Error}
@@ -22,16 +22,16 @@ use Rattle.mach_dyld.specs.Views.{source_trie}
 use Rattle.mach_dyld.specs.Walks.{HasGiven}
 use Rattle.mach_dyld.specs.declared.export_walk.ExportWalk.{ExportWalk}
 use Rattle.mach_dyld.proofs.TrieBegins.{listed_there}
-use Rattle.goblin_mach.specs.View.{IsTold}
+use Rattle.goblin_mach.specs.View.{IsReported}
 use Rattle.machaudit.specs.Sound.{WalkMeets, AreExportItems, all_exports, past_limit}
-use Rattle.machaudit.specs.Told.{FaultAt, HasMet, fault_read_at, faults_from, faults_each}
-use Rattle.machaudit.specs.declared.report.Place.{Place}
-use Rattle.machaudit.specs.declared.report.Place.TheVariants as places
+use Rattle.machaudit.specs.Reported.{FaultAt, HasMet, fault_read_at, faults_from, faults_each}
+use Rattle.machaudit.specs.declared.report.FaultPlace.{FaultPlace}
+use Rattle.machaudit.specs.declared.report.FaultPlace.TheVariants as places
 use Rattle.machaudit.specs.declared.tally.Tally.{Tally}
-use Rattle.machaudit.proofs.Told.{met_rest}
+use Rattle.machaudit.proofs.Reported.{met_rest}
 
 -- of all items these are left; the n visited ones came after the items `before`
-pub record Goes {A X : Type 0} (limit : ℕ) (place : ℕ → Place) (before : List (Option FaultAt)) (all left : List (Result X Fault)) (n : ℕ)
+pub record Goes {A X : Type 0} (limit : ℕ) (place : ℕ → FaultPlace) (before : List (Option FaultAt)) (all left : List (Result X Fault)) (n : ℕ)
     (t : Tally A) : Type 0 where
   pub done : List (Option FaultAt)
   pub same : faults_from place 0 all ≡ done ++ faults_from place n left
@@ -43,23 +43,23 @@ abbrev pub Takes : {A : Type 0} → Option FaultAt → Tally A → Tally A → T
 Takes item old new = (limit : ℕ) (items : List (Option FaultAt)) → HasMet limit items old → HasMet limit (items ++ item ∷ []) new
 
 -- the error of an answer is the fault of its item
-pub err_told : {X Y : Type 0} (view : X → Y) (place : Place) (item : Result X Error)
+pub err_reported : {X Y : Type 0} (view : X → Y) (place : FaultPlace) (item : Result X Error)
     → option_map (λ e. (place, fault_of e)) (result_err item) ≡ fault_read_at place (read_as view item)
-err_told view place (Ok x) = refl
-err_told view place (Err e) = refl
+err_reported view place (Ok x) = refl
+err_reported view place (Err e) = refl
 
 -- the fault of an import, and that of a binding
-pub import_told : (place : Place) (item : Result Import Error)
+pub import_reported : (place : FaultPlace) (item : Result Import Error)
     → option_map (λ e. (place, fault_of e)) (result_err item) ≡ fault_read_at place (import_read item)
-import_told place (Ok x) = refl
-import_told place (Err e) = refl
+import_reported place (Ok x) = refl
+import_reported place (Err e) = refl
 
-pub binding_told : (place : Place) (item : Result Binding Error)
+pub binding_reported : (place : FaultPlace) (item : Result Binding Error)
     → option_map (λ e. (place, fault_of e)) (result_err item) ≡ fault_read_at place (binding_read item)
-binding_told place (Ok x) = refl
-binding_told place (Err e) = refl
+binding_reported place (Ok x) = refl
+binding_reported place (Err e) = refl
 
-module _ {A X : Type 0} (limit : ℕ) (place : ℕ → Place) (before : List (Option FaultAt)) (all : List (Result X Fault)) where
+module _ {A X : Type 0} (limit : ℕ) (place : ℕ → FaultPlace) (before : List (Option FaultAt)) (all : List (Result X Fault)) where
   pub goes_init : (left : List (Result X Fault)) (t : Tally A) → left ≡ all → HasMet limit before t → Goes limit place before all left 0 t
   goes_init left t is met = record {
     done = [];
@@ -68,15 +68,15 @@ module _ {A X : Type 0} (limit : ℕ) (place : ℕ → Place) (before : List (Op
     count = refl;
   }
 
-  pub goes_on : (left rest : List (Result X Fault)) (n m : ℕ) (item : Result X Fault) (told : Option FaultAt) (t u : Tally A)
+  pub goes_on : (left rest : List (Result X Fault)) (n m : ℕ) (item : Result X Fault) (reported : Option FaultAt) (t u : Tally A)
       → Goes limit place before all left n t
-      → left ≡ item ∷ rest → told ≡ fault_read_at (place n) item → Takes told t u → m ≡ n + 1 → Goes limit place before all rest m u
-  goes_on left rest n m item told t u goes steps is takes next =
-      let one = told ∷ [] in record {
+      → left ≡ item ∷ rest → reported ≡ fault_read_at (place n) item → Takes reported t u → m ≡ n + 1 → Goes limit place before all rest m u
+  goes_on left rest n m item reported t u goes steps is takes next =
+      let one = reported ∷ [] in record {
         done = goes.done ++ one;
         same = goes.same ∙ ap (λ (xs : List (Result X Fault)). goes.done ++ faults_from place n xs) steps
             ∙ ap (λ (o : Option FaultAt). goes.done ++ o ∷ faults_from place (n + 1) rest) (sym is)
-            ∙ ap (λ (k : ℕ). goes.done ++ told ∷ faults_from place k rest) (sym next) ∙ sym (append_assoc goes.done one (faults_from place m rest));
+            ∙ ap (λ (k : ℕ). goes.done ++ reported ∷ faults_from place k rest) (sym next) ∙ sym (append_assoc goes.done one (faults_from place m rest));
         met = subst (λ (xs : List (Option FaultAt)). HasMet limit xs u) (append_assoc before goes.done one) (takes limit (before ++ goes.done) goes.met);
         count = omega (arith, goes.count, next, length-append goes.done one);
       }
@@ -178,11 +178,11 @@ one_part_more view part xs i d less =
     ∙ ap (λ (n : ℕ). faults_each part 0 front ++ (part n (view x) ++ [])) count
     ∙ ap (λ ys. faults_each part 0 front ++ ys) (append-nil (part i (view x)))
 
-pub length_from : {X : Type 0} (place : ℕ → Place) (n : ℕ) (items : List (Result X Fault)) → length (faults_from place n items) ≡ length items
+pub length_from : {X : Type 0} (place : ℕ → FaultPlace) (n : ℕ) (items : List (Result X Fault)) → length (faults_from place n items) ≡ length items
 length_from place n [] = refl
 length_from place n (x ∷ items) = omega (arith, length_from place (n + 1) items)
 
-pub from_append : {X : Type 0} (place : ℕ → Place) (n : ℕ) (xs ys : List (Result X Fault))
+pub from_append : {X : Type 0} (place : ℕ → FaultPlace) (n : ℕ) (xs ys : List (Result X Fault))
     → faults_from place n (xs ++ ys) ≡ faults_from place n xs ++ faults_from place (n + length xs) ys
 from_append place n [] ys =
     let same : n ≡ n + 0 = omega arith in
@@ -193,7 +193,7 @@ from_append place n (x ∷ xs) ys =
     ∙ ap (λ (m : ℕ). faults_from place (n + 1) xs ++ faults_from place m ys) same)
 
 -- one more item at the end of a list
-pub from_more : {X : Type 0} (place : ℕ → Place) (n : ℕ) (xs : List (Result X Fault)) (x : Result X Fault) → length xs ≡ n
+pub from_more : {X : Type 0} (place : ℕ → FaultPlace) (n : ℕ) (xs : List (Result X Fault)) (x : Result X Fault) → length xs ≡ n
     → faults_from place 0 (xs ++ x ∷ []) ≡ faults_from place 0 xs ++ fault_read_at (place n) x ∷ []
 from_more place n xs x count =
     let same : 0 + length xs ≡ n = omega (arith, count) in
@@ -211,10 +211,10 @@ pub ok_more : (found : List Entry) (x : Entry) → entries_ok (found ++ x ∷ []
 ok_more found x = map-append as_item found (x ∷ [])
 
 -- a count of exports, and one more item
-pub export_more : {A : Type 0} (limit n : ℕ) (found : List Entry) (item : Result Entry Fault) (told : Option FaultAt) (t u : Tally A)
-    → HasMet limit (faults_from places.Export 0 (entries_ok found)) t → length found ≡ n → told ≡ fault_read_at (places.Export n) item → Takes told t u
+pub export_more : {A : Type 0} (limit n : ℕ) (found : List Entry) (item : Result Entry Fault) (reported : Option FaultAt) (t u : Tally A)
+    → HasMet limit (faults_from places.Export 0 (entries_ok found)) t → length found ≡ n → reported ≡ fault_read_at (places.Export n) item → Takes reported t u
     → HasMet limit (faults_from places.Export 0 (entries_ok found ++ item ∷ [])) u
-export_more limit n found item told t u met count is takes =
+export_more limit n found item reported t u met count is takes =
     let same : length (entries_ok found) ≡ n = length-map found as_item ∙ count in
     let more = from_more places.Export n (entries_ok found) item same in
     let items = faults_from places.Export 0 (entries_ok found) in
@@ -237,7 +237,7 @@ export_small limit n found t met count some =
 pub export_long : {A : Type 0} (limit : ℕ) (found : List Entry) (t : Tally A) → HasMet limit (faults_from places.Export 0 (entries_ok found)) t
     → IsTrue t.part.cut → limit < length found
 export_long limit found t met cut =
-    let long = ltb-true limit (length (faults_from places.Export 0 (entries_ok found))) (sym met.tells.cut ∙ cut) in
+    let long = ltb-true limit (length (faults_from places.Export 0 (entries_ok found))) (sym met.reports.cut ∙ cut) in
     omega (arith, long, length_from places.Export 0 (entries_ok found), length-map found as_item)
 
 -- what a walk has given, if that is more than the limit
@@ -253,9 +253,9 @@ given_more limit t libs found w h long = elim h.3 [
 ]
 
 -- the fault of an error that is no refused allocation
-pub stands_of : (P : Fault → Type 0) (e : Error) → IsTold e → Stands P e → P (fault_of e)
-stands_of P (errors.Malformed msg) is h = h
-stands_of P (errors.BadMagic n) is h = h
-stands_of P (errors.Scroll e) is h = h
-stands_of P (errors.BufferTooShort n what) is h = h
-stands_of P (errors.Memory a) is h = absurd is
+pub error_meets : (P : Fault → Type 0) (e : Error) → IsReported e → ErrorMeets P e → P (fault_of e)
+error_meets P (errors.Malformed msg) is h = h
+error_meets P (errors.BadMagic n) is h = h
+error_meets P (errors.Scroll e) is h = h
+error_meets P (errors.BufferTooShort n what) is h = h
+error_meets P (errors.Memory a) is h = absurd is

@@ -4,19 +4,19 @@ use Rattle.std.proofs.lemmas.List.{take_more}
 use Rattle.std.proofs.lemmas.List.Sums.{sum_by_push, sum_by-take-le}
 use Rattle.mach_parts.specs.declared.fat.FatArch.{FatArch}
 use Rattle.mach_cli.specs.declared.cpu.Cpu.{Cpu}
-use Rattle.machaudit.specs.Overlaid.{AreGoneOver, AreOverlaid, asked_bytes, asked_len}
+use Rattle.machaudit.specs.Overlaid.{AreGoneOver, AreOverlaid, selected_bytes, selected_len}
 
 module _ (cpu : Cpu) (bytes : List ℕ) (archs : List FatArch) where
   pub bytes_more : (i : ℕ) (d : FatArch) → i < length archs
-      → asked_bytes cpu bytes (take (i + 1) archs) ≡ asked_bytes cpu bytes (take i archs) + asked_len cpu bytes (get_or archs i d)
-  bytes_more i d less = ap (asked_bytes cpu bytes) (take_more archs i d less) ∙ sum_by_push (asked_len cpu bytes) (take i archs) (get_or archs i d)
+      → selected_bytes cpu bytes (take (i + 1) archs) ≡ selected_bytes cpu bytes (take i archs) + selected_len cpu bytes (get_or archs i d)
+  bytes_more i d less = ap (selected_bytes cpu bytes) (take_more archs i d less) ∙ sum_by_push (selected_len cpu bytes) (take i archs) (get_or archs i d)
 
   -- if not all of them are audited, though the limit is not reached, they are overlaid
   pub overlaid_by : (limit n : ℕ) → AreGoneOver cpu limit bytes archs n → n < length archs → n < limit → AreOverlaid cpu bytes archs
   overlaid_by limit n gone more under =
       let past = gone.met (omega (arith, more, under)) in
-      omega (arith, past, sum_by-take-le (asked_len cpu bytes) archs (n + 1))
+      omega (arith, past, sum_by-take-le (selected_len cpu bytes) archs (n + 1))
 
   -- if all are audited, they aren't overlaid
   pub not_overlaid : (limit n : ℕ) → AreGoneOver cpu limit bytes archs n → length archs ≤ n → AreOverlaid cpu bytes archs → ⊥
-  not_overlaid limit n gone all overlaid = omega (arith, gone.room, ap (asked_bytes cpu bytes) (take_all n archs all), overlaid)
+  not_overlaid limit n gone all overlaid = omega (arith, gone.room, ap (selected_bytes cpu bytes) (take_all n archs all), overlaid)

@@ -9,7 +9,7 @@ use Rattle.std.proofs.lemmas.List.{length-append, length-map}
 use Rattle.std.specs.List.{list_all, flat_map, sum_by}
 use Rattle.mach_base.specs.Context.{pointer_size}
 use Rattle.mach_base.specs.Fault.{Fault}
-use Rattle.mach_base.specs.Items.{begun_items}
+use Rattle.mach_base.specs.Items.{items_in_bounds}
 use Rattle.mach_dyld.proofs.BindLists.{list_from_items, items_from_list}
 use Rattle.mach_base.specs.Text.{texts}
 use Rattle.mach_dyld.specs.Imports.{Import, BindRanges, input_in}
@@ -20,7 +20,7 @@ use Rattle.mach_dyld.specs.TrieRange.{TrieRange, trie_there, ListsExports, Expor
 use Rattle.mach_chained.specs.Fixups.{Fixup}
 use Rattle.mach_parts.specs.Bindings.{Binding}
 use Rattle.mach_parts.specs.Segment.{SegmentView, sections_of}
-use Rattle.mach_parts.specs.Symbols.{begun_of}
+use Rattle.mach_parts.specs.Symbols.{table_in_bounds}
 use Rattle.mach_parts.specs.SymbolViews.{table_of}
 use Rattle.mach_parts.specs.declared.relocation.RelocationInfo.{RelocationInfo}
 use Rattle.mach_parts.specs.declared.segment.section.Section.{Section}
@@ -28,31 +28,32 @@ use Rattle.mach_parts.specs.declared.symbols.nlist.Nlist.{Nlist}
 use Rattle.goblin_mach.proofs.ImageFacts.{facts_are, strict-lossy, segments_are, symbols_are, imports_are, exports_are}
 use Rattle.goblin_mach.proofs.Walked.{walked_list, walked_fault}
 use Rattle.goblin_mach.specs.Facts.{HasSegments, HasSymbols, HasExports, HasImports, HasImportItems, HasFixups, HasBindings}
-use Rattle.goblin_mach.specs.OpenImage.{IsImage, commands_held, segments_held, trie_held, binds_held, ctx_held, bytes_held}
-use Rattle.goblin_mach.specs.Subjects.{ListsImageImports, ListsImageExports, AreImageBindItems, symbols_held, symbols_in, trie_or_empty}
+use Rattle.goblin_mach.specs.OpenImage.{IsImage, commands_view, segments_view, trie_view, binds_view, ctx_view, bytes_view}
+use Rattle.goblin_mach.specs.Subjects.{ListsImageImports, ListsImageExports, AreImageBindItems, symbols_view, symbols_in, trie_or_empty}
 use Rattle.goblin_mach.specs.declared.macho.MachO.{MachO}
 use Rattle.machaudit.proofs.Begins.{Begins, each_begins, items_begin, symbols_begin}
 use Rattle.machaudit.proofs.Goes.{as_item}
 use Rattle.machaudit.proofs.SoundlySigned.{signature_judged_by}
-use Rattle.machaudit.proofs.Told.{plain, faults_in, plain_from, plain_each, cut_is, told_sound, told_faulty, told_long, told_short}
+use Rattle.machaudit.proofs.Reported.{plain, faults_in, plain_from, plain_each, cut_is, reported_sound, reported_faulty, reported_long, reported_short}
 use Rattle.machaudit.proofs.Verdicts.{number, sound_judged, faulty_judged, part_judged, both_judged, judged_as}
 use Rattle.machaudit.specs.Sound.{IsSoundImage, HasLongList, of_sections, of_relocations, of_symbols, of_exports, of_imports}
 use Rattle.machaudit.specs.Sound.{HasAllRelocations, HasExportItems, AreExportItems, all_exports, up_to_fault, past_limit}
 use Rattle.machaudit.specs.Sound.{are_all_ok, all_sections, all_relocations, relocations_by, of_fixups, of_bindings, IsSoundlySigned, HasSoundSignature}
-use Rattle.machaudit.specs.Signed.{TellsSignature}
-use Rattle.machaudit.specs.Told.{FaultAt, TellsOf, TellsOfTrie, TellsRecords, TellsRelocations, faults_from, more_than, section_faults_told, sections_beyond}
-use Rattle.machaudit.specs.Told.{begun_relocations, relocation_faults, relocation_faults_by}
-use Rattle.machaudit.specs.Told.{relocations_past, relocations_past_of, symbols_unread, symbols_beyond}
+use Rattle.machaudit.specs.Signed.{ReportsSignature}
+use Rattle.machaudit.specs.Reported.{FaultAt, ReportsOf, ReportsOfTrie, ReportsRecords}
+use Rattle.machaudit.specs.Reported.{ReportsRelocations, faults_from, more_than, section_faults_reported, sections_beyond}
+use Rattle.machaudit.specs.Reported.{relocations_in_bounds, relocation_faults, relocation_faults_by}
+use Rattle.machaudit.specs.Reported.{relocations_past, relocations_past_of, symbols_unread, symbols_beyond}
 use Rattle.machaudit.specs.Verdicts.{Judges, verdict_of, verdict_of_read, verdict_of_parts, verdict_of_layout, verdict_of_signature}
 use Rattle.machaudit.specs.Verdicts.{are_clean, verdict_of_records}
 use Rattle.goblin_mach.specs.LayoutFacts.{HasLayoutFaults}
 use Rattle.mach_signature.specs.SignedImages.{image_faults}
 use Rattle.mach_layout.specs.declared.fault.LayoutFault.{LayoutFault}
-use Rattle.machaudit.specs.declared.report.Part.{Part}
+use Rattle.machaudit.specs.declared.report.PartReport.{PartReport}
 use Rattle.machaudit.specs.declared.report.Parts.{Parts}
 use Rattle.machaudit.specs.declared.report.Records.{Records}
 use Rattle.machaudit.specs.declared.report.SignatureReport.{SignatureReport}
-use Rattle.machaudit.specs.declared.report.Place.TheVariants as places
+use Rattle.machaudit.specs.declared.report.FaultPlace.TheVariants as places
 use Rattle.machaudit.specs.declared.verdict.Verdict.TheVariants.{Sound, Unended, Faulty}
 use Rattle.machaudit.specs.declared.verdict.Verdict.{Verdict}
 
@@ -61,21 +62,22 @@ abbrev pub LongOf : {X : Type 0} → ℕ → (List (Result X Fault) → Type 0) 
 LongOf limit Has = (items : List (Result _ Fault)) × Has items × (limit < length items)
 
 -- a verdict on a list
-pub judged_list : {A X : Type 0} (limit : ℕ) (items : List (Result X Fault)) (faults : List (Option FaultAt)) (q : Part A)
-    → map plain faults ≡ faults_in items → TellsOf limit faults q → Judges (IsTrue (are_all_ok items)) (limit < length items) (verdict_of q)
-judged_list limit items faults q same tells =
-    part_judged q (told_sound limit items faults same q tells) (told_faulty limit items faults same q tells) (told_long limit items faults same q tells)
-    (λ none whole. told_short limit items faults same q tells whole)
+pub judged_list : {A X : Type 0} (limit : ℕ) (items : List (Result X Fault)) (faults : List (Option FaultAt)) (q : PartReport A)
+    → map plain faults ≡ faults_in items → ReportsOf limit faults q → Judges (IsTrue (are_all_ok items)) (limit < length items) (verdict_of q)
+judged_list limit items faults q same reports =
+    part_judged q (reported_sound limit items faults same q reports) (reported_faulty limit items faults same q reports)
+    (reported_long limit items faults same q reports)
+    (λ none whole. reported_short limit items faults same q reports whole)
 
 -- a verdict on records, some of which begin within the bytes
-pub judged_records : {A X : Type 0} (limit : ℕ) (all begun : List (Result X Fault)) (past : ℕ) (faults : List (Option FaultAt)) (r : Records A)
-    → Begins all begun past → map plain faults ≡ faults_in begun → TellsRecords limit faults past r
+pub judged_records : {A X : Type 0} (limit : ℕ) (all in_bounds : List (Result X Fault)) (past : ℕ) (faults : List (Option FaultAt)) (r : Records A)
+    → Begins all in_bounds past → map plain faults ≡ faults_in in_bounds → ReportsRecords limit faults past r
     → Judges (IsTrue (are_all_ok all)) (limit < length all) (verdict_of_records r)
-judged_records limit all begun past faults r begins same tells = by_count r.past tells.past
+judged_records limit all in_bounds past faults r begins same reports = by_count r.past reports.past
   where
     by_count : (n : ℕ) → n ≡ min past (2 ^ 64 - 1)
-        → Judges (IsTrue (are_all_ok all)) (limit < length all) (if n == 0 then verdict_of r.begun else Faulty)
-    by_count zero is = judged_list limit all faults r.begun (same ∙ ap faults_in (begins.whole (omega (arith, is)))) tells.begun
+        → Judges (IsTrue (are_all_ok all)) (limit < length all) (if n == 0 then verdict_of r.in_bounds else Faulty)
+    by_count zero is = judged_list limit all faults r.in_bounds (same ∙ ap faults_in (begins.whole (omega (arith, is)))) reports.in_bounds
     by_count (suc n) is = rw (eqb-suc-zero n) (faulty_judged (λ ok. begins.broken (omega (arith, is)) ok))
 
 -- a verdict on the one list of a kind that some bytes have
@@ -86,10 +88,11 @@ judged_only limit Has items v has one judged =
     judged_as v (λ ok. (items, has, ok)) (λ s. subst (λ (xs : List (Result _ Fault)). IsTrue (are_all_ok xs)) (one s.0 s.1) s.2)
     (λ long. (items, has, long)) (λ l. subst (λ (xs : List (Result _ Fault)). limit < length xs) (one l.0 l.1) l.2) judged
 
-pub judged_one : {A X : Type 0} (limit : ℕ) (Has : List (Result X Fault) → Type 0) (items : List (Result X Fault)) (faults : List (Option FaultAt)) (q : Part A)
-    → Has items → ((others : List (Result X Fault)) → Has others → others ≡ items) → map plain faults ≡ faults_in items → TellsOf limit faults q
+pub judged_one : {A X : Type 0} (limit : ℕ) (Has : List (Result X Fault)
+    → Type 0) (items : List (Result X Fault)) (faults : List (Option FaultAt)) (q : PartReport A)
+    → Has items → ((others : List (Result X Fault)) → Has others → others ≡ items) → map plain faults ≡ faults_in items → ReportsOf limit faults q
     → Judges ((found : List (Result X Fault)) × Has found × IsTrue (are_all_ok found)) (LongOf limit Has) (verdict_of q)
-judged_one limit Has items faults q has one same tells = judged_only limit Has items (verdict_of q) has one (judged_list limit items faults q same tells)
+judged_one limit Has items faults q has one same reports = judged_only limit Has items (verdict_of q) has one (judged_list limit items faults q same reports)
 
 -- imports that can all be read, and their list
 all_oks : {X : Type 0} (items : List (Result X Fault)) → list_all is_ok items ≡ true → (list : List X) × (items ≡ map Ok list)
@@ -149,8 +152,8 @@ layout_judged Has (f ∷ fs) has one = faulty_judged (λ none. let same = ap len
 
 -- the sections and the relocations together
 pub read_judged : {A S T L M : Type 0} (limit : ℕ) (items : List (Option FaultAt)) (past : ℕ) (sections : Records A) (relocations : Option (Records A))
-    → TellsRelocations limit items past (are_clean sections) relocations → Judges S L (verdict_of_records sections)
-    → ((q : Records A) → TellsRecords limit items past q → Judges T M (verdict_of_records q))
+    → ReportsRelocations limit items past (are_clean sections) relocations → Judges S L (verdict_of_records sections)
+    → ((q : Records A) → ReportsRecords limit items past q → Judges T M (verdict_of_records q))
     → Judges (S × T) (L ⊎ M) (verdict_of_read sections relocations)
 read_judged limit items past sections None unclean first second = record {
   sound = λ e. absurd (unclean_judged sections unclean e);
@@ -170,8 +173,8 @@ read_judged limit items past sections None unclean first second = record {
     by_past (suc past) n cut e = rw (eqb-suc-zero past) (λ same. omega (arith, ap number same))
 
     unclean_judged : {A : Type 0} (r : Records A) → are_clean r ≡ false → verdict_of_records r ≡ Sound → ⊥
-    unclean_judged r e = by_past r.past r.begun.faults r.begun.cut e
-read_judged limit items past sections (Some q) tells first second = both_judged _ _ first (second q tells.1)
+    unclean_judged r e = by_past r.past r.in_bounds.faults r.in_bounds.cut e
+read_judged limit items past sections (Some q) reports first second = both_judged _ _ first (second q reports.1)
 
 -- ---- the exports of a trie
 
@@ -197,173 +200,173 @@ module _ (limit : ℕ) (t : TrieRange) (libs : List (List ℕ)) where
       let front = prefix_of (trie_there t libs) t.from [] found list (met_begins walk.read) lists.1 in
       omega (arith, length-map found as_item, within_front found list front.0 front.1)
 
-  module _ {A : Type 0} (q : Part A) where
-    short : (items : List (Result trie.Entry Fault)) → TellsOf limit (faults_from places.Export 0 items) q → q.cut ≡ false → length items ≤ limit
-    short items tells whole =
-        ltb-false limit (length items) (sym (cut_is limit items (faults_from places.Export 0 items) (plain_from places.Export 0 items) q tells) ∙ whole)
+  module _ {A : Type 0} (q : PartReport A) where
+    short : (items : List (Result trie.Entry Fault)) → ReportsOf limit (faults_from places.Export 0 items) q → q.cut ≡ false → length items ≤ limit
+    short items reports whole =
+        ltb-false limit (length items) (sym (cut_is limit items (faults_from places.Export 0 items) (plain_from places.Export 0 items) q reports) ∙ whole)
 
     -- all were met, and each can be read
-    list_met : (items : List (Result trie.Entry Fault)) → AreExportItems limit t libs items → TellsOf limit (faults_from places.Export 0 items) q
+    list_met : (items : List (Result trie.Entry Fault)) → AreExportItems limit t libs items → ReportsOf limit (faults_from places.Export 0 items) q
         → q.faults ≡ 0 → q.cut ≡ false → (list : List trie.Entry) × ListsExports t libs list × (length list ≤ limit)
-    list_met _ (all_exports list lists) tells none whole =
+    list_met _ (all_exports list lists) reports none whole =
         let items = map as_item list in
-        (list, lists, omega (arith, length-map list as_item, short items tells whole))
-    list_met _ (up_to_fault found f ends fault) tells none whole =
+        (list, lists, omega (arith, length-map list as_item, short items reports whole))
+    list_met _ (up_to_fault found f ends fault) reports none whole =
         let items = map as_item found ++ Err f ∷ [] in
-        absurd (not_all_ok found f (told_sound limit items (faults_from places.Export 0 items) (plain_from places.Export 0 items) q tells none whole))
-    list_met _ (past_limit found walk long) tells none whole =
+        absurd (not_all_ok found f (reported_sound limit items (faults_from places.Export 0 items) (plain_from places.Export 0 items) q reports none whole))
+    list_met _ (past_limit found walk long) reports none whole =
         let items = map as_item found in
-        absurd (omega (arith, long, length-map found as_item, short items tells whole))
+        absurd (omega (arith, long, length-map found as_item, short items reports whole))
 
     -- a reported fault holds of the trie
-    fault_met : (items : List (Result trie.Entry Fault)) → AreExportItems limit t libs items → TellsOf limit (faults_from places.Export 0 items) q
+    fault_met : (items : List (Result trie.Entry Fault)) → AreExportItems limit t libs items → ReportsOf limit (faults_from places.Export 0 items) q
         → 0 < q.faults → (f : Fault) × ExportsFault t libs f
-    fault_met _ (all_exports list lists) tells some =
+    fault_met _ (all_exports list lists) reports some =
         let items = map as_item list in
-        absurd (told_faulty limit items (faults_from places.Export 0 items) (plain_from places.Export 0 items) q tells some (oks_all list))
-    fault_met _ (up_to_fault found f ends fault) tells some = (f, fault)
-    fault_met _ (past_limit found walk long) tells some =
+        absurd (reported_faulty limit items (faults_from places.Export 0 items) (plain_from places.Export 0 items) q reports some (oks_all list))
+    fault_met _ (up_to_fault found f ends fault) reports some = (f, fault)
+    fault_met _ (past_limit found walk long) reports some =
         let items = map as_item found in
-        absurd (told_faulty limit items (faults_from places.Export 0 items) (plain_from places.Export 0 items) q tells some (oks_all found))
+        absurd (reported_faulty limit items (faults_from places.Export 0 items) (plain_from places.Export 0 items) q reports some (oks_all found))
 
 module _ {A : Type 0} (bytes : List ℕ) (m : MachO A) (p : IsImage bytes 0 m) (limit : ℕ) where
   abbrev begun_of_segment : SegmentView → List (Result (Section × List ℕ) Fault)
-  begun_of_segment s = begun_items (sections_of s)
+  begun_of_segment s = items_in_bounds (sections_of s)
 
-  sections_plain : map plain (section_faults_told (segments_held m)) ≡ faults_in (flat_map begun_of_segment (segments_held m))
+  sections_plain : map plain (section_faults_reported (segments_view m)) ≡ faults_in (flat_map begun_of_segment (segments_view m))
   sections_plain =
       plain_each (λ n s. faults_from (places.Section n) 0 (begun_of_segment s)) begun_of_segment
-      (λ n s. plain_from (places.Section n) 0 (begun_of_segment s)) 0 (segments_held m)
+      (λ n s. plain_from (places.Section n) 0 (begun_of_segment s)) 0 (segments_view m)
 
-  sections_begin : Begins (all_sections (segments_held m)) (flat_map begun_of_segment (segments_held m)) (sections_beyond (segments_held m))
+  sections_begin : Begins (all_sections (segments_view m)) (flat_map begun_of_segment (segments_view m)) (sections_beyond (segments_view m))
   sections_begin =
-      each_begins sections_of begun_of_segment (λ s. more_than (begun_of_segment s) (sections_of s)) (λ s. items_begin (sections_of s)) (segments_held m)
+      each_begins sections_of begun_of_segment (λ s. more_than (begun_of_segment s) (sections_of s)) (λ s. items_begin (sections_of s)) (segments_view m)
 
-  pub sections_judged : {B : Type 0} (q : Records B) → TellsRecords limit (section_faults_told (segments_held m)) (sections_beyond (segments_held m)) q
+  pub sections_judged : {B : Type 0} (q : Records B) → ReportsRecords limit (section_faults_reported (segments_view m)) (sections_beyond (segments_view m)) q
       → Judges ((segments : List SegmentView) × HasSegments bytes 0 segments × IsTrue (are_all_ok (all_sections segments)))
       ((segments : List SegmentView) × HasSegments bytes 0 segments × (limit < length (all_sections segments))) (verdict_of_records q)
-  sections_judged q tells =
+  sections_judged q reports =
       let is = (segments_are m).strict bytes 0 p in
-      judged_as (verdict_of_records q) (λ ok. (segments_held m, (is (segments_held m)).1 refl, ok))
+      judged_as (verdict_of_records q) (λ ok. (segments_view m, (is (segments_view m)).1 refl, ok))
       (λ s. subst (λ (xs : List SegmentView). IsTrue (are_all_ok (all_sections xs))) ((is s.0).0 s.1) s.2)
-      (λ long. (segments_held m, (is (segments_held m)).1 refl, long))
+      (λ long. (segments_view m, (is (segments_view m)).1 refl, long))
       (λ l. subst (λ (xs : List SegmentView). limit < length (all_sections xs)) ((is l.0).0 l.1) l.2)
-      (judged_records limit (all_sections (segments_held m)) (flat_map begun_of_segment (segments_held m)) (sections_beyond (segments_held m))
-      (section_faults_told (segments_held m)) q sections_begin sections_plain tells)
+      (judged_records limit (all_sections (segments_view m)) (flat_map begun_of_segment (segments_view m)) (sections_beyond (segments_view m))
+      (section_faults_reported (segments_view m)) q sections_begin sections_plain reports)
 
   pub relocations_are : (items : List (Result RelocationInfo Fault)) → HasAllRelocations bytes 0 items
-      ↔ (items ≡ all_relocations (ctx_held m) (bytes_held m) (segments_held m))
+      ↔ (items ≡ all_relocations (ctx_view m) (bytes_view m) (segments_view m))
   relocations_are items =
       facts_are bytes 0 m (strict-lossy bytes 0 m p) (λ f. items ≡ all_relocations f.ctx f.bytes f.segments)
 
   abbrev begun_of_section : Result (Section × List ℕ) Fault → List (Result RelocationInfo Fault)
-  begun_of_section s = begun_relocations (ctx_held m) (bytes_held m) s
+  begun_of_section s = relocations_in_bounds (ctx_view m) (bytes_view m) s
 
   abbrev begun_within : SegmentView → List (Result RelocationInfo Fault)
   begun_within s = flat_map begun_of_section (sections_of s)
 
-  relocations_plain : map plain (relocation_faults (ctx_held m) (bytes_held m) (segments_held m)) ≡ faults_in (flat_map begun_within (segments_held m))
+  relocations_plain : map plain (relocation_faults (ctx_view m) (bytes_view m) (segments_view m)) ≡ faults_in (flat_map begun_within (segments_view m))
   relocations_plain =
       plain_each (λ n s. relocation_faults_by begun_of_section n (sections_of s)) begun_within
       (λ n s. plain_each (λ k x. faults_from (places.Relocation n k) 0 (begun_of_section x)) begun_of_section
-      (λ k x. plain_from (places.Relocation n k) 0 (begun_of_section x)) 0 (sections_of s)) 0 (segments_held m)
+      (λ k x. plain_from (places.Relocation n k) 0 (begun_of_section x)) 0 (sections_of s)) 0 (segments_view m)
 
-  relocations_begin : Begins (all_relocations (ctx_held m) (bytes_held m) (segments_held m)) (flat_map begun_within (segments_held m))
-      (relocations_past (ctx_held m) (bytes_held m) (segments_held m))
+  relocations_begin : Begins (all_relocations (ctx_view m) (bytes_view m) (segments_view m)) (flat_map begun_within (segments_view m))
+      (relocations_past (ctx_view m) (bytes_view m) (segments_view m))
   relocations_begin =
-      let by = relocations_by (ctx_held m) (bytes_held m) in
-      let past = relocations_past_of (ctx_held m) (bytes_held m) in
+      let by = relocations_by (ctx_view m) (bytes_view m) in
+      let past = relocations_past_of (ctx_view m) (bytes_view m) in
       each_begins (λ s. flat_map by (sections_of s)) begun_within (λ s. sum_by past (sections_of s))
-      (λ s. each_begins by begun_of_section past (λ x. items_begin (by x)) (sections_of s)) (segments_held m)
+      (λ s. each_begins by begun_of_section past (λ x. items_begin (by x)) (sections_of s)) (segments_view m)
 
   pub relocations_judged : {B : Type 0} (q : Records B)
-      → TellsRecords limit (relocation_faults (ctx_held m) (bytes_held m) (segments_held m))
-      (relocations_past (ctx_held m) (bytes_held m) (segments_held m)) q
+      → ReportsRecords limit (relocation_faults (ctx_view m) (bytes_view m) (segments_view m))
+      (relocations_past (ctx_view m) (bytes_view m) (segments_view m)) q
       → Judges ((items : List (Result RelocationInfo Fault)) × HasAllRelocations bytes 0 items × IsTrue (are_all_ok items))
       (LongOf limit (HasAllRelocations bytes 0)) (verdict_of_records q)
-  relocations_judged q tells =
-      let held = all_relocations (ctx_held m) (bytes_held m) (segments_held m) in
+  relocations_judged q reports =
+      let held = all_relocations (ctx_view m) (bytes_view m) (segments_view m) in
       judged_only limit (HasAllRelocations bytes 0) held (verdict_of_records q) ((relocations_are held).1 refl) (λ others h. (relocations_are others).0 h)
-      (judged_records limit held (flat_map begun_within (segments_held m)) (relocations_past (ctx_held m) (bytes_held m) (segments_held m))
-      (relocation_faults (ctx_held m) (bytes_held m) (segments_held m)) q relocations_begin relocations_plain tells)
+      (judged_records limit held (flat_map begun_within (segments_view m)) (relocations_past (ctx_view m) (bytes_view m) (segments_view m))
+      (relocation_faults (ctx_view m) (bytes_view m) (segments_view m)) q relocations_begin relocations_plain reports)
 
   pub symbols_judged : {B : Type 0} (q : Records B)
-      → TellsRecords limit (symbols_unread (option_map table_of m.symbols)) (symbols_beyond (option_map table_of m.symbols)) q
-      → (0 < q.past → IsTrue (are_all_ok (symbols_held m.symbols)) → ⊥)
+      → ReportsRecords limit (symbols_unread (option_map table_of m.symbols)) (symbols_beyond (option_map table_of m.symbols)) q
+      → (0 < q.past → IsTrue (are_all_ok (symbols_view m.symbols)) → ⊥)
       → Judges ((rows : List (Result (List ℕ × Nlist) Fault)) × HasSymbols bytes 0 rows × IsTrue (are_all_ok rows)) (LongOf limit (HasSymbols bytes 0))
       (verdict_of_records q)
-  symbols_judged q tells broken =
+  symbols_judged q reports broken =
       let is = (symbols_are m).strict bytes 0 p in
-      let rows = symbols_held m.symbols in
+      let rows = symbols_view m.symbols in
       let table = option_map table_of m.symbols in
-      let begun = symbols_in (option_map begun_of table) in
-      let begins = symbols_begin table (λ some ok. broken (omega (arith, tells.past, some)) ok) in
+      let in_bounds = symbols_in (option_map table_in_bounds table) in
+      let begins = symbols_begin table (λ some ok. broken (omega (arith, reports.past, some)) ok) in
       judged_only limit (HasSymbols bytes 0) rows (verdict_of_records q) ((is rows).1 refl) (λ others h. (is others).0 h)
-      (judged_records limit rows begun (symbols_beyond table) (symbols_unread table) q begins (plain_from places.Symbol 0 begun) tells)
+      (judged_records limit rows in_bounds (symbols_beyond table) (symbols_unread table) q begins (plain_from places.Symbol 0 in_bounds) reports)
 
   export_items_are : (items : List (Result trie.Entry Fault))
-      → HasExportItems limit bytes 0 items ↔ AreExportItems limit (trie_or_empty (trie_held m)) (texts m.libs.items) items
+      → HasExportItems limit bytes 0 items ↔ AreExportItems limit (trie_or_empty (trie_view m)) (texts m.libs.items) items
   export_items_are items =
       facts_are bytes 0 m (strict-lossy bytes 0 m p) (λ f. AreExportItems limit (trie_or_empty f.trie) f.libs items)
 
-  pub exports_judged : {B : Type 0} (q : Part B) → TellsOfTrie limit (trie_or_empty (trie_held m)) (texts m.libs.items) q → FaultyHasNoList
+  pub exports_judged : {B : Type 0} (q : PartReport B) → ReportsOfTrie limit (trie_or_empty (trie_view m)) (texts m.libs.items) q → FaultyHasNoList
       → Judges ((list : List trie.Entry) × HasExports bytes 0 list) (LongOf limit (HasExportItems limit bytes 0)) (verdict_of q)
-  exports_judged q tells law =
+  exports_judged q reports law =
       let is = (exports_are m).strict bytes 0 p in
-      let t = trie_or_empty (trie_held m) in
+      let t = trie_or_empty (trie_view m) in
       let libs = texts m.libs.items in
-      let faults = faults_from places.Export 0 tells.items in
+      let faults = faults_from places.Export 0 reports.items in
       part_judged q
-      (λ none whole. let found = list_met limit t libs q tells.items tells.met tells.tells none whole in
-      (found.0, (is found.0).1 (walked_list (trie_held m) libs found.0 found.1)))
-      (λ some s. let fault = fault_met limit t libs q tells.items tells.met tells.tells some in
-      no_list (trie_held m) libs fault.0 s.0 law fault.1 ((is s.0).0 s.1))
+      (λ none whole. let found = list_met limit t libs q reports.items reports.met reports.reports none whole in
+      (found.0, (is found.0).1 (walked_list (trie_view m) libs found.0 found.1)))
+      (λ some s. let fault = fault_met limit t libs q reports.items reports.met reports.reports some in
+      no_list (trie_view m) libs fault.0 s.0 law fault.1 ((is s.0).0 s.1))
       (λ cut. (
-        tells.items,
-        (export_items_are tells.items).1 tells.met,
-        told_long limit tells.items faults
-            (plain_from places.Export 0 tells.items) q tells.tells cut,
+        reports.items,
+        (export_items_are reports.items).1 reports.met,
+        reported_long limit reports.items faults
+            (plain_from places.Export 0 reports.items) q reports.reports cut,
       ))
-      (λ none whole l. let found = list_met limit t libs q tells.items tells.met tells.tells none whole in
+      (λ none whole l. let found = list_met limit t libs q reports.items reports.met reports.reports none whole in
       let few = items_within limit t libs found.0 l.0 law found.1 ((export_items_are l.0).0 l.1) in
       let long = l.2 in
       let short_list = found.2 in
       omega (arith, few, long, short_list))
 
-  pub imports_judged : {B : Type 0} (items : List (Result Import Fault)) (q : Part B)
-      → AreImageBindItems (binds_held m) (pointer_size (ctx_held m).container) (texts m.libs.items) (segments_held m) items
-      → TellsOf limit (faults_from places.Import 0 items) q → HasImportItems bytes 0 items
+  pub imports_judged : {B : Type 0} (items : List (Result Import Fault)) (q : PartReport B)
+      → AreImageBindItems (binds_view m) (pointer_size (ctx_view m).container) (texts m.libs.items) (segments_view m) items
+      → ReportsOf limit (faults_from places.Import 0 items) q → HasImportItems bytes 0 items
       → ((others : List (Result Import Fault)) → HasImportItems bytes 0 others
-      → AreImageBindItems (binds_held m) (pointer_size (ctx_held m).container) (texts m.libs.items) (segments_held m) others)
+      → AreImageBindItems (binds_view m) (pointer_size (ctx_view m).container) (texts m.libs.items) (segments_view m) others)
       → Judges ((list : List Import) × HasImports bytes 0 list) (LongOf limit (HasImportItems bytes 0)) (verdict_of q)
-  imports_judged items q are tells has held =
+  imports_judged items q are reports has held =
       let is = (imports_are m).strict bytes 0 p in
-      let b = binds_held m in
-      let pointer = pointer_size (ctx_held m).container in
+      let b = binds_view m in
+      let pointer = pointer_size (ctx_view m).container in
       let libs = texts m.libs.items in
-      let segments = segments_held m in
+      let segments = segments_view m in
       let faults = faults_from places.Import 0 items in
       let same = plain_from places.Import 0 items in
       let listed = found_list b pointer libs segments items are in
       part_judged q
-      (λ none whole. let list = listed (told_sound limit items faults same q tells none whole) in (list.0, (is list.0).1 list.2))
-      (λ some s. told_faulty limit items faults same q tells some
+      (λ none whole. let list = listed (reported_sound limit items faults same q reports none whole) in (list.0, (is list.0).1 list.2))
+      (λ some s. reported_faulty limit items faults same q reports some
       (subst (λ (xs : List (Result Import Fault)). IsTrue (are_all_ok xs)) (sym (items_of_list b pointer libs segments items s.0 are ((is s.0).0 s.1)))
       (oks_all s.0)))
-      (λ cut. (items, has, told_long limit items faults same q tells cut))
-      (λ none whole l. let list = listed (told_sound limit items faults same q tells none whole) in
+      (λ cut. (items, has, reported_long limit items faults same q reports cut))
+      (λ none whole l. let list = listed (reported_sound limit items faults same q reports none whole) in
       let one = items_of_list b pointer libs segments l.0 list.0 (held l.0 l.1) list.2 ∙ sym list.1 in
-      told_short limit items faults same q tells whole (subst (λ (xs : List (Result Import Fault)). limit < length xs) one l.2))
+      reported_short limit items faults same q reports whole (subst (λ (xs : List (Result Import Fault)). limit < length xs) one l.2))
 
-  soundly_signed : HasSoundSignature bytes 0 ↔ IsSoundlySigned (bytes_held m) (commands_held m) (segments_held m)
+  soundly_signed : HasSoundSignature bytes 0 ↔ IsSoundlySigned (bytes_view m) (commands_view m) (segments_view m)
   soundly_signed = facts_are bytes 0 m (strict-lossy bytes 0 m p) (λ f. IsSoundlySigned f.bytes f.commands f.segments)
 
   pub signature_judged : {B : Type 0} (q : SignatureReport B)
-      → TellsSignature (image_faults (bytes_held m) (commands_held m) (segments_held m)) q
+      → ReportsSignature (image_faults (bytes_view m) (commands_view m) (segments_view m)) q
       → Judges (HasSoundSignature bytes 0) ⊥ (verdict_of_signature q)
-  signature_judged q tells =
+  signature_judged q reports =
       judged_as (verdict_of_signature q) soundly_signed.1 soundly_signed.0 (λ l. l) (λ l. l)
-      (signature_judged_by (bytes_held m) (commands_held m) (segments_held m) q tells)
+      (signature_judged_by (bytes_view m) (commands_view m) (segments_view m) q reports)
 
   -- the list that is long, by its part
   abbrev pub LongByPart : Type 0
@@ -411,7 +414,7 @@ module _ {A : Type 0} (bytes : List ℕ) (m : MachO A) (p : IsImage bytes 0 m) (
   parts_judged parts read symbols exports imports fixups bindings layout signature =
       judged_as (verdict_of_parts parts)
       (λ s. record {
-        opens = (p.ctx, commands_held m, p.opens);
+        opens = (p.ctx, commands_view m, p.opens);
         layout = s.0.0;
         signature = s.0.1;
         sections = s.1.0.0;

@@ -4,16 +4,16 @@ use Rattle.mach_base.specs.declared.error.Error.{Error}
 use Rattle.goblin_mach.specs.FatFile.{FatFile, fat_file_in}
 use Rattle.goblin_mach.specs.File.{HasFatMagic}
 use Rattle.machaudit.specs.Foreign.{refusal_in, IsWholeRefusal, opens, opens_lossily, has_table, unopened, unread_table}
-use Rattle.machaudit.specs.Report.{IsFileReport, TellsTable}
+use Rattle.machaudit.specs.Report.{IsFileReport, ReportsTable}
 use Rattle.machaudit.specs.declared.report.FatReport.{FatReport}
 use Rattle.machaudit.specs.declared.report.ImageReport.TheVariants.{Opens, OpensLossily, Refused}
 use Rattle.machaudit.specs.declared.report.Report.{Report}
 use Rattle.machaudit.specs.declared.report.Report.TheVariants.{Image, Fat}
 
 refused_table : {A : Type 0} (limit : ℕ) (bytes : List ℕ) (file : FatFile) (r : FatReport A) (table : Option Error) → HasFatMagic bytes
-    → fat_file_in bytes ≡ Ok file → TellsTable limit bytes file r table → IsWholeRefusal bytes table
-refused_table limit bytes file r None magic is tells = has_table file magic is tells.readable
-refused_table limit bytes file r (Some e) magic is tells = unread_table file e magic is tells.told tells.fails
+    → fat_file_in bytes ≡ Ok file → ReportsTable limit bytes file r table → IsWholeRefusal bytes table
+refused_table limit bytes file r None magic is reports = has_table file magic is reports.readable
+refused_table limit bytes file r (Some e) magic is reports = unread_table file e magic is reports.reported reports.fails
 
 pub whole_refusal : {A : Type 0} (limit : ℕ) (bytes : List ℕ) (r : Report A) → IsFileReport limit bytes r → IsWholeRefusal bytes (refusal_in r)
 whole_refusal limit bytes (Image (Opens parts)) h = opens h.0

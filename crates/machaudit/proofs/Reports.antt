@@ -4,8 +4,8 @@ use Rattle.std.specs.List.{AllZip}
 use Rattle.std.specs.Prelude.{option_map}
 use Rattle.std.proofs.lemmas.Slice.Zip.{all_zipped_more}
 use Rattle.std.specs.Borrow.{Bor}
-use Rattle.mach_base.proofs.Faults.{Stands-in}
-use Rattle.mach_base.specs.Answer.{Stands}
+use Rattle.mach_base.proofs.Faults.{ErrorMeets-in}
+use Rattle.mach_base.specs.Answer.{ErrorMeets}
 use Rattle.mach_base.specs.Fault.{Fault, fault_of}
 use Rattle.mach_base.specs.Items.{items_from}
 use Rattle.mach_base.specs.Text.{texts}
@@ -19,7 +19,7 @@ use Rattle.mach_cli.specs.Bounds.{most_items}
 use Rattle.goblin_mach.proofs.ImageFacts.{facts_are, segments_are, symbol_table_is}
 use Rattle.goblin_mach.specs.Facts.{HasImportItems, HasFixups, HasBindings}
 use Rattle.goblin_mach.specs.Image.{ImageFault, LossyOpens}
-use Rattle.goblin_mach.specs.OpenImage.{IsImage, IsLossyImage, commands_held, segments_held, trie_held, ctx_held, bytes_held}
+use Rattle.goblin_mach.specs.OpenImage.{IsImage, IsLossyImage, commands_view, segments_view, trie_view, ctx_view, bytes_view}
 use Rattle.goblin_mach.specs.Subjects.{trie_or_empty}
 use Rattle.mach_signature.proofs.SignedFacts.{faults_are}
 use Rattle.mach_signature.specs.SignedImages.{image_faults}
@@ -28,45 +28,46 @@ use Rattle.goblin_mach.specs.FatEntry.{FatEntry, FatEntryFault, IsEntry, archive
 use Rattle.goblin_mach.specs.declared.fat_file.entry.SingleArch.TheVariants as arches
 use Rattle.goblin_mach.proofs.Files.{fat-excludes_image}
 use Rattle.goblin_mach.specs.File.{HasFatMagic, MachFault, MachOpens, of_image}
-use Rattle.goblin_mach.specs.View.{IsTold}
+use Rattle.goblin_mach.specs.View.{IsReported}
 use Rattle.machaudit.proofs.EntryBytes.{image_entry, image_no_fat, same_bytes}
-use Rattle.machaudit.proofs.Goes.{stands_of}
-use Rattle.machaudit.specs.Report.{TellsImage, TellsLossily, IsImageReport, IsEntryReport, IsRefusedFor, reason_of}
-use Rattle.machaudit.specs.Signed.{TellsSignature}
-use Rattle.machaudit.specs.Told.{TellsOf, TellsOfTrie, TellsRecords, TellsRelocations, faults_from, section_faults_told, sections_beyond}
-use Rattle.machaudit.specs.Told.{relocation_faults, relocations_past, symbols_unread, symbols_beyond}
+use Rattle.machaudit.proofs.Goes.{error_meets}
+use Rattle.machaudit.specs.Report.{ReportsImage, ReportsLossily, IsImageReport, IsEntryReport, IsRefusedFor, reason_of}
+use Rattle.machaudit.specs.Signed.{ReportsSignature}
+use Rattle.machaudit.specs.Reported.{ReportsOf, ReportsOfTrie, ReportsRecords, ReportsRelocations, faults_from, section_faults_reported, sections_beyond}
+use Rattle.machaudit.specs.Reported.{relocation_faults, relocations_past, symbols_unread, symbols_beyond}
 use Rattle.machaudit.specs.Verdicts.{are_clean, verdict_of_image}
 use Rattle.machaudit.specs.declared.report.EntryReport.TheVariants as entries
 use Rattle.machaudit.specs.declared.report.ImageReport.TheVariants as images
 use Rattle.machaudit.specs.declared.report.ImageReport.{ImageReport}
 use Rattle.machaudit.specs.declared.report.Parts.{Parts}
-use Rattle.machaudit.specs.declared.report.Place.TheVariants as places
+use Rattle.machaudit.specs.declared.report.FaultPlace.TheVariants as places
 use Rattle.machaudit.specs.declared.verdict.Verdict.TheVariants.{Faulty}
 
 -- the parts of an image
-pub image_told : {A B : Type 0} (limit : ℕ) (bytes : List ℕ) (m : MachO A) → IsLossyImage bytes 0 m → (q : Parts B)
-    → TellsRecords limit (section_faults_told (segments_held m)) (sections_beyond (segments_held m)) q.sections
-    → TellsRelocations limit (relocation_faults (ctx_held m) (bytes_held m) (segments_held m)) (relocations_past (ctx_held m) (bytes_held m) (segments_held m))
+pub image_reported : {A B : Type 0} (limit : ℕ) (bytes : List ℕ) (m : MachO A) → IsLossyImage bytes 0 m → (q : Parts B)
+    → ReportsRecords limit (section_faults_reported (segments_view m)) (sections_beyond (segments_view m)) q.sections
+    → ReportsRelocations limit (relocation_faults (ctx_view m) (bytes_view m) (segments_view m)) (relocations_past (ctx_view m) (bytes_view m)
+    (segments_view m))
     (are_clean q.sections) q.relocations
-    → TellsRecords limit (symbols_unread (option_map table_of m.symbols)) (symbols_beyond (option_map table_of m.symbols)) q.symbols
-    → TellsOfTrie limit (trie_or_empty (trie_held m)) (texts m.libs.items) q.exports
-    → (items : List (Result Import Fault)) × HasImportItems bytes 0 items × TellsOf limit (faults_from places.Import 0 items) q.imports
-    → (items : List (Result Fixup Fault)) × HasFixups bytes 0 items × TellsOf limit (faults_from places.Fixup 0 items) q.fixups
-    → (items : List (Result Binding Fault)) × HasBindings bytes 0 items × TellsOf limit (faults_from places.Binding 0 items) q.bindings
-    → TellsSignature (image_faults (bytes_held m) (commands_held m) (segments_held m)) q.signature
-    → HasLayoutFaults bytes q.layout.items → TellsImage limit bytes q
-image_told limit bytes m p q sections relocations symbols exports imports fixups bindings signature layout = record {
-  sections = (segments_held m, ((segments_are m).lossy bytes 0 p (segments_held m)).1 refl, sections);
+    → ReportsRecords limit (symbols_unread (option_map table_of m.symbols)) (symbols_beyond (option_map table_of m.symbols)) q.symbols
+    → ReportsOfTrie limit (trie_or_empty (trie_view m)) (texts m.libs.items) q.exports
+    → (items : List (Result Import Fault)) × HasImportItems bytes 0 items × ReportsOf limit (faults_from places.Import 0 items) q.imports
+    → (items : List (Result Fixup Fault)) × HasFixups bytes 0 items × ReportsOf limit (faults_from places.Fixup 0 items) q.fixups
+    → (items : List (Result Binding Fault)) × HasBindings bytes 0 items × ReportsOf limit (faults_from places.Binding 0 items) q.bindings
+    → ReportsSignature (image_faults (bytes_view m) (commands_view m) (segments_view m)) q.signature
+    → HasLayoutFaults bytes q.layout.items → ReportsImage limit bytes q
+image_reported limit bytes m p q sections relocations symbols exports imports fixups bindings signature layout = record {
+  sections = (segments_view m, ((segments_are m).lossy bytes 0 p (segments_view m)).1 refl, sections);
   relocations =
-      (facts_are bytes 0 m p (λ f. TellsRelocations limit (relocation_faults f.ctx f.bytes f.segments) (relocations_past f.ctx f.bytes f.segments)
+      (facts_are bytes 0 m p (λ f. ReportsRelocations limit (relocation_faults f.ctx f.bytes f.segments) (relocations_past f.ctx f.bytes f.segments)
       (are_clean q.sections) q.relocations)).1 relocations;
   symbols = (option_map table_of m.symbols, ((symbol_table_is m).lossy bytes 0 p (option_map table_of m.symbols)).1 refl, symbols);
-  exports = (facts_are bytes 0 m p (λ f. TellsOfTrie limit (trie_or_empty f.trie) f.libs q.exports)).1 exports;
+  exports = (facts_are bytes 0 m p (λ f. ReportsOfTrie limit (trie_or_empty f.trie) f.libs q.exports)).1 exports;
   imports = imports;
   fixups = fixups;
   bindings = bindings;
   signature =
-      let there = image_faults (bytes_held m) (commands_held m) (segments_held m) in
+      let there = image_faults (bytes_view m) (commands_view m) (segments_view m) in
       (there, ((faults_are m).lossy bytes 0 p there).1 refl, signature);
   layout = layout;
 }
@@ -87,15 +88,15 @@ not_lossy bytes only opens =
     fat-excludes_image bytes (only (record { magic = omega (arith, room); file = inr opens })) opens
 
 -- the report in lossy mode of bytes that don't open strictly
-pub refused_told : {A : Type 0} (limit : ℕ) (bytes : List ℕ) (e : Error) (r : ImageReport A) → reason_of r ≡ Some e → IsTold e
-    → Stands (MachFault ImageFault bytes) e → TellsLossily limit bytes r → IsImageReport limit bytes r
-refused_told limit bytes e (images.Opens parts) is told stands tells = absurd tells
-refused_told limit bytes e (images.OpensLossily x parts) is told stands tells = let same = same_some is in rw same (told, stands, tells)
-refused_told limit bytes e (images.Refused x) is told stands tells = let same = same_some is in rw same (told, stands, not_lossy bytes tells)
+pub refused_reported : {A : Type 0} (limit : ℕ) (bytes : List ℕ) (e : Error) (r : ImageReport A) → reason_of r ≡ Some e → IsReported e
+    → ErrorMeets (MachFault ImageFault bytes) e → ReportsLossily limit bytes r → IsImageReport limit bytes r
+refused_reported limit bytes e (images.Opens parts) is reported occurs reports = absurd reports
+refused_reported limit bytes e (images.OpensLossily x parts) is reported occurs reports = let same = same_some is in rw same (reported, occurs, reports)
+refused_reported limit bytes e (images.Refused x) is reported occurs reports = let same = same_some is in rw same (reported, occurs, not_lossy bytes reports)
 
 -- lossy mode opens the bytes whose parts it reports
-told_opens : {A : Type 0} (limit : ℕ) (bytes : List ℕ) (parts : Parts A) → TellsImage limit bytes parts → LossyOpens bytes 0
-told_opens limit bytes parts tells = let has = tells.sections.1 in (has.ctx, has.cs, has.opens)
+reported_opens : {A : Type 0} (limit : ℕ) (bytes : List ℕ) (parts : Parts A) → ReportsImage limit bytes parts → LossyOpens bytes 0
+reported_opens limit bytes parts reports = let has = reports.sections.1 in (has.ctx, has.cs, has.opens)
 
 -- ---- entries
 
@@ -109,37 +110,37 @@ archive_fault : (slice : List ℕ) (f : Fault) → FatEntryFault (Ok (archive sl
 archive_fault slice f fault = elim fault [ ]
 
 refused_for : {A : Type 0} (limit : ℕ) (bytes : List ℕ) (f : Fault) (e : Error) (r : ImageReport A) → fat_entry_of bytes ≡ Err f → reason_of r ≡ Some e
-    → IsTold e → fault_of e ≡ f → TellsLossily limit bytes r → IsRefusedFor f r
-refused_for limit bytes f e (images.Opens parts) none is told fault tells = absurd tells
-refused_for limit bytes f e (images.OpensLossily x parts) none is told fault tells =
-    let wrong : Ok (image bytes) ≡ Err f = sym (image_entry bytes (told_opens (most_items limit bytes) bytes parts tells)) ∙ none in
+    → IsReported e → fault_of e ≡ f → ReportsLossily limit bytes r → IsRefusedFor f r
+refused_for limit bytes f e (images.Opens parts) none is reported fault reports = absurd reports
+refused_for limit bytes f e (images.OpensLossily x parts) none is reported fault reports =
+    let wrong : Ok (image bytes) ≡ Err f = sym (image_entry bytes (reported_opens (most_items limit bytes) bytes parts reports)) ∙ none in
     absurd (cc)
-refused_for limit bytes f e (images.Refused x) none is told fault tells = let same = same_some is in rw same (told, fault)
+refused_for limit bytes f e (images.Refused x) none is reported fault reports = let same = same_some is in rw same (reported, fault)
 
 -- an entry that doesn't open strictly, and the report of its bytes in lossy mode
 pub entry_refused : {A : Type 0} (limit : ℕ) (bytes : List ℕ) (entry : Result FatEntry Fault) (e : Error) (r : ImageReport A) → fat_entry_of bytes ≡ entry
-    → reason_of r ≡ Some e → IsTold e → Stands (FatEntryFault entry) e → TellsLossily limit bytes r → IsEntryReport limit entry (entries.Image r)
-entry_refused limit bytes (Ok (archive slice)) e r here is told stands tells =
-    absurd (archive_fault slice (fault_of e) (stands_of (FatEntryFault (Ok (archive slice))) e told stands))
-entry_refused limit bytes (Ok (image slice)) e r here is told stands tells =
+    → reason_of r ≡ Some e → IsReported e → ErrorMeets (FatEntryFault entry) e → ReportsLossily limit bytes r → IsEntryReport limit entry (entries.Image r)
+entry_refused limit bytes (Ok (archive slice)) e r here is reported occurs reports =
+    absurd (archive_fault slice (fault_of e) (error_meets (FatEntryFault (Ok (archive slice))) e reported occurs))
+entry_refused limit bytes (Ok (image slice)) e r here is reported occurs reports =
     let same = same_bytes bytes slice here in
-    let fault = Stands-in (FatEntryFault (Ok (image slice))) (MachFault ImageFault slice) e
-    (λ f one. of_image f (subst (λ (x : List ℕ). ¬ (HasFatMagic x)) same (image_no_fat bytes slice here)) (image_fault slice f one)) stands in
-    refused_told limit slice e r is told fault (subst (λ (x : List ℕ). TellsLossily limit x r) same tells)
-entry_refused limit bytes (Err f) e r here is told stands tells =
-    refused_for limit bytes f e r here is told (no_entry_fault f (fault_of e) (stands_of (FatEntryFault (Err f)) e told stands)) tells
+    let fault = ErrorMeets-in (FatEntryFault (Ok (image slice))) (MachFault ImageFault slice) e
+    (λ f one. of_image f (subst (λ (x : List ℕ). ¬ (HasFatMagic x)) same (image_no_fat bytes slice here)) (image_fault slice f one)) occurs in
+    refused_reported limit slice e r is reported fault (subst (λ (x : List ℕ). ReportsLossily limit x r) same reports)
+entry_refused limit bytes (Err f) e r here is reported occurs reports =
+    refused_for limit bytes f e r here is reported (no_entry_fault f (fault_of e) (error_meets (FatEntryFault (Err f)) e reported occurs)) reports
 
 -- an entry that opens
-pub entry_told : {A B : Type 0} (limit : ℕ) (entry : Result FatEntry Fault) (e : FatEntry) (m : MachO A) (parts : Parts B) → entry ≡ Ok e
-    → IsEntry e (arches.MachO m) → ((bytes : List ℕ) → IsImage bytes 0 m → TellsImage (most_items limit bytes) bytes parts)
+pub entry_reported : {A B : Type 0} (limit : ℕ) (entry : Result FatEntry Fault) (e : FatEntry) (m : MachO A) (parts : Parts B) → entry ≡ Ok e
+    → IsEntry e (arches.MachO m) → ((bytes : List ℕ) → IsImage bytes 0 m → ReportsImage (most_items limit bytes) bytes parts)
     → IsEntryReport limit entry (entries.Image (images.Opens parts))
-entry_told limit entry (archive slice) m parts is opened told = absurd opened
-entry_told limit entry (image slice) m parts is opened told = rw is ((opened.ctx, commands_held m, opened.opens), told slice opened)
+entry_reported limit entry (archive slice) m parts is opened reported = absurd opened
+entry_reported limit entry (image slice) m parts is opened reported = rw is ((opened.ctx, commands_view m, opened.opens), reported slice opened)
 
-pub archive_told : (A B : Type 0) (limit : ℕ) (entry : Result FatEntry Fault) (e : FatEntry) (bytes : Bor (List ℕ)) → entry ≡ Ok e
+pub archive_reported : (A B : Type 0) (limit : ℕ) (entry : Result FatEntry Fault) (e : FatEntry) (bytes : Bor (List ℕ)) → entry ≡ Ok e
     → IsEntry {A = A} e (arches.Archive bytes) → IsEntryReport {A = B} limit entry entries.Archive
-archive_told A B limit entry (archive slice) bytes is opened = rw is tt
-archive_told A B limit entry (image slice) bytes is opened = absurd opened
+archive_reported A B limit entry (archive slice) bytes is opened = rw is tt
+archive_reported A B limit entry (image slice) bytes is opened = absurd opened
 
 -- one more entry
 items_from-last : {A : Type 0} (item : ℕ → A) (first count : ℕ) → items_from item first (count + 1) ≡ items_from item first count ++ item (first + count) ∷ []

@@ -3,7 +3,7 @@ use Rattle.std.proofs.Common.{◌≡◌, ◌<◌, ◌≤◌, ℕ, zero, suc, Boo
 use Rattle.std.proofs.Math.Dec.{eqb-suc-zero}
 use Rattle.std.specs.Prelude.{◌⊎◌, IsTrue, ◌==◌, if◌then◌else◌}
 use Rattle.machaudit.specs.Verdicts.{Judges, verdict_of_both, status_of, verdict_of}
-use Rattle.machaudit.specs.declared.report.Part.{Part}
+use Rattle.machaudit.specs.declared.report.PartReport.{PartReport}
 use Rattle.machaudit.specs.declared.verdict.Verdict.TheVariants.{Sound, Unended, Faulty}
 use Rattle.machaudit.specs.declared.verdict.Verdict.{Verdict}
 
@@ -38,7 +38,7 @@ unended_judged long = record {
 }
 
 -- a verdict on a part, by how many faults it reports and whether it was cut
-pub part_judged : {A S L : Type 0} (p : Part A) → (p.faults ≡ 0 → p.cut ≡ false → S) → (0 < p.faults → S → ⊥) → (IsTrue p.cut → L)
+pub part_judged : {A S L : Type 0} (p : PartReport A) → (p.faults ≡ 0 → p.cut ≡ false → S) → (0 < p.faults → S → ⊥) → (IsTrue p.cut → L)
     → (p.faults ≡ 0 → p.cut ≡ false → L → ⊥) → Judges S L (verdict_of p)
 part_judged p sound faulty long short = by_number p.faults p.cut sound faulty long short
   where

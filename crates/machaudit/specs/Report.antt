@@ -1,7 +1,7 @@
 -- The report of a file: which items of its lists can't be read, by their numbers.
 use Rattle.std.specs.Prelude.{◌≡◌, ℕ, List, [], false, Result, Ok, Err, IsOk, Option, Some, None, length, nat_lt}
 use Rattle.std.specs.List.{AllZip}
-use Rattle.mach_base.specs.Answer.{Stands, FailsAs}
+use Rattle.mach_base.specs.Answer.{ErrorMeets, FailsAs}
 use Rattle.mach_base.specs.Fault.{Fault, fault_of}
 use Rattle.mach_base.specs.Items.{items_from}
 use Rattle.mach_base.specs.declared.error.Error.{Error}
@@ -17,7 +17,7 @@ use Rattle.mach_parts.specs.Bindings.{Binding}
 use Rattle.mach_parts.specs.Segment.{SegmentView}
 use Rattle.mach_parts.specs.Symbols.{SymbolTable}
 use Rattle.goblin_mach.specs.LayoutFacts.{HasLayoutFaults}
-use Rattle.mach_signature.specs.AsSigned.{SignatureFaultSeen}
+use Rattle.mach_signature.specs.AsSigned.{SignatureFaultView}
 use Rattle.mach_signature.specs.SignedFacts.{HasSignatureFaults}
 use Rattle.goblin_mach.specs.Facts.{OfImage, HasSegments, HasSymbolTable, HasImportItems, HasFixups, HasBindings}
 use Rattle.goblin_mach.specs.Image.{Opens, ImageFault, LossyOpens}
@@ -25,11 +25,11 @@ use Rattle.goblin_mach.specs.Subjects.{lossy_segments_in, libs_in, trie_in, trie
 use Rattle.goblin_mach.specs.FatEntry.{FatEntry, archive, image, entry_at}
 use Rattle.goblin_mach.specs.FatFile.{FatFile, fat_file_in, arches_in}
 use Rattle.goblin_mach.specs.File.{HasFatMagic, MachFault, MachOpens}
-use Rattle.goblin_mach.specs.View.{IsTold}
+use Rattle.goblin_mach.specs.View.{IsReported}
 use Rattle.machaudit.specs.Overlaid.{AreGoneOver}
-use Rattle.machaudit.specs.Signed.{TellsSignature}
-use Rattle.machaudit.specs.Told.{TellsOf, TellsOfTrie, TellsRecords, TellsRelocations, faults_from, section_faults_told, sections_beyond}
-use Rattle.machaudit.specs.Told.{relocation_faults, relocations_past, symbols_unread, symbols_beyond}
+use Rattle.machaudit.specs.Signed.{ReportsSignature}
+use Rattle.machaudit.specs.Reported.{ReportsOf, ReportsOfTrie, ReportsRecords, ReportsRelocations, faults_from, section_faults_reported, sections_beyond}
+use Rattle.machaudit.specs.Reported.{relocation_faults, relocations_past, symbols_unread, symbols_beyond}
 use Rattle.machaudit.specs.Verdicts.{are_clean}
 use Rattle.machaudit.specs.declared.report.EntryReport.TheVariants as entries
 use Rattle.machaudit.specs.declared.report.EntryReport.{EntryReport}
@@ -37,34 +37,35 @@ use Rattle.machaudit.specs.declared.report.FatReport.{FatReport}
 use Rattle.machaudit.specs.declared.report.ImageReport.TheVariants as images
 use Rattle.machaudit.specs.declared.report.ImageReport.{ImageReport}
 use Rattle.machaudit.specs.declared.report.Parts.{Parts}
-use Rattle.machaudit.specs.declared.report.Place.TheVariants as places
+use Rattle.machaudit.specs.declared.report.FaultPlace.TheVariants as places
 use Rattle.machaudit.specs.declared.report.Report.TheVariants as reports
 use Rattle.machaudit.specs.declared.report.Report.{Report}
 
 -- Each part reports what can't be read of the first `limit` items of its list, and exactly whether the list has more. Of records
 -- only those that begin within the bytes are items, and the part reports how many more are claimed. The part of the signature
 -- reports all that differs from what was signed, and the layout reports its faults.
-pub record TellsImage {A : Type 0} (limit : ℕ) (bytes : List ℕ) (p : Parts A) : Type 0 where
+pub record ReportsImage {A : Type 0} (limit : ℕ) (bytes : List ℕ) (p : Parts A) : Type 0 where
   pub sections : (segments : List SegmentView) × HasSegments bytes 0 segments
-      × TellsRecords limit (section_faults_told segments) (sections_beyond segments) p.sections
+      × ReportsRecords limit (section_faults_reported segments) (sections_beyond segments) p.sections
   pub relocations : OfImage bytes 0 (λ ctx cs.
-      TellsRelocations limit (relocation_faults ctx bytes (lossy_segments_in ctx bytes cs)) (relocations_past ctx bytes (lossy_segments_in ctx bytes cs))
+      ReportsRelocations limit (relocation_faults ctx bytes (lossy_segments_in ctx bytes cs)) (relocations_past ctx bytes (lossy_segments_in ctx bytes cs))
       (are_clean p.sections) p.relocations)
-  pub symbols : (table : Option SymbolTable) × HasSymbolTable bytes 0 table × TellsRecords limit (symbols_unread table) (symbols_beyond table) p.symbols
-  pub exports : OfImage bytes 0 (λ ctx cs. TellsOfTrie limit (trie_or_empty (trie_in bytes cs)) (libs_in bytes cs) p.exports)
-  pub imports : (items : List (Result Import Fault)) × HasImportItems bytes 0 items × TellsOf limit (faults_from places.Import 0 items) p.imports
-  pub fixups : (items : List (Result Fixup Fault)) × HasFixups bytes 0 items × TellsOf limit (faults_from places.Fixup 0 items) p.fixups
-  pub bindings : (items : List (Result Binding Fault)) × HasBindings bytes 0 items × TellsOf limit (faults_from places.Binding 0 items) p.bindings
-  pub signature : (there : Result (Option (List SignatureFaultSeen)) Fault) × HasSignatureFaults bytes 0 there × TellsSignature there p.signature
+  pub symbols : (table : Option SymbolTable) × HasSymbolTable bytes 0 table × ReportsRecords limit (symbols_unread table) (symbols_beyond table) p.symbols
+  pub exports : OfImage bytes 0 (λ ctx cs. ReportsOfTrie limit (trie_or_empty (trie_in bytes cs)) (libs_in bytes cs) p.exports)
+  pub imports : (items : List (Result Import Fault)) × HasImportItems bytes 0 items × ReportsOf limit (faults_from places.Import 0 items) p.imports
+  pub fixups : (items : List (Result Fixup Fault)) × HasFixups bytes 0 items × ReportsOf limit (faults_from places.Fixup 0 items) p.fixups
+  pub bindings : (items : List (Result Binding Fault)) × HasBindings bytes 0 items × ReportsOf limit (faults_from places.Binding 0 items) p.bindings
+  pub signature : (there : Result (Option (List SignatureFaultView)) Fault) × HasSignatureFaults bytes 0 there × ReportsSignature there p.signature
   pub layout : HasLayoutFaults bytes p.layout.items
 
 -- The report of some bytes as an image. If they open strictly, it has the parts of the image. Otherwise it has a fault that holds
 -- of them, and the parts that lossy mode reads, exactly if lossy mode opens them. At most as many items of a
 -- list are visited as there are bytes.
 abbrev pub IsImageReport : {A : Type 0} → ℕ → List ℕ → ImageReport A → Type 0
-IsImageReport limit bytes (images.Opens parts) = Opens bytes 0 × TellsImage (most_items limit bytes) bytes parts
-IsImageReport limit bytes (images.OpensLossily e parts) = IsTold e × Stands (MachFault ImageFault bytes) e × TellsImage (most_items limit bytes) bytes parts
-IsImageReport limit bytes (images.Refused e) = IsTold e × Stands (MachFault ImageFault bytes) e × ¬ (LossyOpens bytes 0)
+IsImageReport limit bytes (images.Opens parts) = Opens bytes 0 × ReportsImage (most_items limit bytes) bytes parts
+IsImageReport limit bytes (images.OpensLossily e parts) = IsReported e × ErrorMeets (MachFault ImageFault bytes) e
+    × ReportsImage (most_items limit bytes) bytes parts
+IsImageReport limit bytes (images.Refused e) = IsReported e × ErrorMeets (MachFault ImageFault bytes) e × ¬ (LossyOpens bytes 0)
 
 -- the error for which some bytes don't open strictly as an image, if they don't
 abbrev pub reason_of : {A : Type 0} → ImageReport A → Option Error
@@ -73,16 +74,16 @@ reason_of (images.OpensLossily e parts) = Some e
 reason_of (images.Refused e) = Some e
 
 -- the report of some bytes in lossy mode: the parts, if they open as an image
-abbrev pub TellsLossily : {A : Type 0} → ℕ → List ℕ → ImageReport A → Type 0
-TellsLossily limit bytes (images.Opens parts) = ⊥
-TellsLossily limit bytes (images.OpensLossily e parts) = TellsImage (most_items limit bytes) bytes parts
-TellsLossily limit bytes (images.Refused e) = MachOpens LossyOpens bytes → HasFatMagic bytes
+abbrev pub ReportsLossily : {A : Type 0} → ℕ → List ℕ → ImageReport A → Type 0
+ReportsLossily limit bytes (images.Opens parts) = ⊥
+ReportsLossily limit bytes (images.OpensLossily e parts) = ReportsImage (most_items limit bytes) bytes parts
+ReportsLossily limit bytes (images.Refused e) = MachOpens LossyOpens bytes → HasFatMagic bytes
 
 -- it is reported as refused, for this fault
 abbrev pub IsRefusedFor : {A : Type 0} → Fault → ImageReport A → Type 0
 IsRefusedFor f (images.Opens parts) = ⊥
 IsRefusedFor f (images.OpensLossily e parts) = ⊥
-IsRefusedFor f (images.Refused e) = IsTold e × (fault_of e ≡ f)
+IsRefusedFor f (images.Refused e) = IsReported e × (fault_of e ≡ f)
 
 -- The report of an entry of a fat file. An archive is reported as one, an image has the report of its bytes as a file of their
 -- own, and any other entry is refused for its fault.
@@ -101,7 +102,7 @@ named_bytes bytes (Some arch) = part_of bytes arch.offset arch.size
 
 -- The report of a fat file whose table can be read: the faults of the table; each of the first `limit` entries, in order, as long
 -- as they have no more bytes together than the file; and exactly whether there are more.
-pub record TellsEntries {A : Type 0} (limit : ℕ) (bytes : List ℕ) (file : FatFile) (r : FatReport A) : Type 0 where
+pub record ReportsEntries {A : Type 0} (limit : ℕ) (bytes : List ℕ) (file : FatFile) (r : FatReport A) : Type 0 where
   pub readable : IsOk (arches_in file)
   pub container : AreContainerFaults arch_form_32 bytes r.container.items
   pub gone_over : (archs : List FatArch) × (arches_in file ≡ Ok archs) × AreGoneOver Any limit bytes archs (length r.entries.items)
@@ -109,22 +110,22 @@ pub record TellsEntries {A : Type 0} (limit : ℕ) (bytes : List ℕ) (file : Fa
   pub cut : r.cut ≡ nat_lt (length r.entries.items) file.narches
 
 -- the report of a fat file whose table can't be read: the error, and nothing else
-pub record TellsNoEntries {A : Type 0} (file : FatFile) (r : FatReport A) (e : Error) : Type 0 where
-  pub told : IsTold e
+pub record ReportsNoEntries {A : Type 0} (file : FatFile) (r : FatReport A) (e : Error) : Type 0 where
+  pub reported : IsReported e
   pub fails : FailsAs e (arches_in file)
   pub container : r.container.items ≡ []
   pub entries : r.entries.items ≡ []
   pub cut : r.cut ≡ false
 
 -- the report of a fat file, by the error of its table if the table can't be read
-abbrev pub TellsTable : {A : Type 0} → ℕ → List ℕ → FatFile → FatReport A → Option Error → Type 0
-TellsTable limit bytes file r None = TellsEntries limit bytes file r
-TellsTable limit bytes file r (Some e) = TellsNoEntries file r e
+abbrev pub ReportsTable : {A : Type 0} → ℕ → List ℕ → FatFile → FatReport A → Option Error → Type 0
+ReportsTable limit bytes file r None = ReportsEntries limit bytes file r
+ReportsTable limit bytes file r (Some e) = ReportsNoEntries file r e
 
 -- The report of a fat file, and the number of entries in its header.
 pub record IsFatReport {A : Type 0} (limit : ℕ) (bytes : List ℕ) (file : FatFile) (r : FatReport A) : Type 0 where
   pub count : r.count ≡ file.narches
-  pub table : TellsTable limit bytes file r r.table
+  pub table : ReportsTable limit bytes file r r.table
 
 -- The report of a file.
 abbrev pub IsFileReport : {A : Type 0} → ℕ → List ℕ → Report A → Type 0

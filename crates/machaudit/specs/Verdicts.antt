@@ -6,7 +6,7 @@ use Rattle.machaudit.specs.declared.report.EntryReport.{EntryReport}
 use Rattle.machaudit.specs.declared.report.FatReport.{FatReport}
 use Rattle.machaudit.specs.declared.report.ImageReport.TheVariants as images
 use Rattle.machaudit.specs.declared.report.ImageReport.{ImageReport}
-use Rattle.machaudit.specs.declared.report.Part.{Part}
+use Rattle.machaudit.specs.declared.report.PartReport.{PartReport}
 use Rattle.machaudit.specs.declared.report.Parts.{Parts}
 use Rattle.machaudit.specs.declared.report.Records.{Records}
 use Rattle.machaudit.specs.declared.report.Report.TheVariants as reports
@@ -25,20 +25,20 @@ verdict_of_both Unended Sound = Unended
 verdict_of_both Sound w = w
 
 -- all items of a part were visited, and each can be read
-abbrev pub is_clean : {A : Type 0} → Part A → Bool
+abbrev pub is_clean : {A : Type 0} → PartReport A → Bool
 is_clean p = (p.faults == 0) && not p.cut
 
 -- the verdict on a part: it has faults, it was not visited to its end, or neither
-abbrev pub verdict_of : {A : Type 0} → Part A → Verdict
+abbrev pub verdict_of : {A : Type 0} → PartReport A → Verdict
 verdict_of p = if p.faults == 0 then (if p.cut then Unended else Sound) else Faulty
 
 -- no record is past the end of the bytes, all items were visited, and each can be read
 abbrev pub are_clean : {A : Type 0} → Records A → Bool
-are_clean r = (r.past == 0) && is_clean r.begun
+are_clean r = (r.past == 0) && is_clean r.in_bounds
 
 -- the verdict on records: faulty if some are past the end of the bytes, else that on the others
 abbrev pub verdict_of_records : {A : Type 0} → Records A → Verdict
-verdict_of_records r = if r.past == 0 then verdict_of r.begun else Faulty
+verdict_of_records r = if r.past == 0 then verdict_of r.in_bounds else Faulty
 
 -- the verdict on the sections and the relocations; the relocations are not read if a section can't be
 abbrev pub verdict_of_read : {A : Type 0} → Records A → Option (Records A) → Verdict

@@ -1,25 +1,25 @@
 //! Finds what is wrong with a file, image by image and part by part.
 
 ghost use Rattle.std.specs.Prelude.{◌≡◌, ◌<◌, ℕ, List, [], map, Result, Option, Some, IfOk, IfErr, slice_get};
-ghost use Rattle.mach_base.specs.Answer.{Stands};
+ghost use Rattle.mach_base.specs.Answer.{ErrorMeets};
 ghost use Rattle.mach_base.specs.Fault.{Fault};
 ghost use Rattle.mach_parts.specs.Segment.{segment_view};
 ghost use Rattle.goblin_mach.specs.FatEntry.{entry_at, fat_entry_of};
-ghost use Rattle.goblin_mach.specs.FatFile.{file_held};
+ghost use Rattle.goblin_mach.specs.FatFile.{file_view};
 ghost use Rattle.goblin_mach.specs.OpenImage.{IsImage, IsLossyImage};
-ghost use Rattle.goblin_mach.specs.View.{IsTold};
-ghost use Rattle.goblin_mach.specs.ImageFacts.{facts_held};
+ghost use Rattle.goblin_mach.specs.View.{IsReported};
+ghost use Rattle.goblin_mach.specs.ImageFacts.{facts_view};
 ghost use Rattle.mach_parts.specs.ArchForms.{arch_form_32};
 ghost use Rattle.mach_layout.specs.Containers.{AreContainerFaults};
 ghost use Rattle.mach_layout.specs.Faults.{AreLayoutFaults};
-ghost use Rattle.goblin_mach.specs.Held.{laid_held};
+ghost use Rattle.goblin_mach.specs.Held.{laid_view};
 ghost use Rattle.goblin_mach.specs.ListFaults.{AreListFaults};
 ghost use Rattle.mach_cli.specs.Bounds.{most_items};
-ghost use Rattle.machaudit.specs.Report.{IsFileReport, IsEntryReport, IsFatReport, TellsImage, TellsLossily, named_bytes, reason_of};
+ghost use Rattle.machaudit.specs.Report.{IsFileReport, IsEntryReport, IsFatReport, ReportsImage, ReportsLossily, named_bytes, reason_of};
 ghost use Rattle.machaudit.specs.Sound.{IsSound, IsSoundEntry, IsSoundFat, IsSoundImage, IsLong, IsLongEntry, IsLongFat, HasLongList};
-ghost use Rattle.machaudit.specs.Told.{TellsRelocations, relocation_faults, relocations_past};
+ghost use Rattle.machaudit.specs.Reported.{ReportsRelocations, relocation_faults, relocations_past};
 ghost use Rattle.machaudit.specs.Verdicts.{Judges, are_clean, verdict_of_parts, verdict_of_image, verdict_of_entry, verdict_of_fat, verdict_of_report};
-ghost use Rattle.machaudit.specs.declared.report.Failure.TheVariants as failures;
+ghost use Rattle.machaudit.specs.declared.report.AuditFailure.TheVariants as failures;
 
 use crate::lists::{
     audit_bindings, audit_exports, audit_fixups, audit_imports, audit_relocations, audit_sections,
@@ -27,7 +27,7 @@ use crate::lists::{
 };
 use crate::overlaid::entries_within;
 use crate::report::{
-    EntryReport, Failure, FatReport, ImageReport, Parts, Records, Report, no_memory,
+    AuditFailure, EntryReport, FatReport, ImageReport, Parts, Records, Report, no_memory,
 };
 use crate::signed::audit_signature;
 use goblin_mach::fat::FatArch;
@@ -46,9 +46,9 @@ fn audit_relocated<A: Allocator + Clone>(
     segments: &[Segment<'_>],
     sections: &Records<A>,
     limit: usize,
-) -> Result<Option<Records<A>>, Failure>
-    ensures told { let views = map segment_view segments.now in
-        IfOk result (TellsRelocations limit (relocation_faults ctx bytes.now views) (relocations_past ctx bytes.now views) (are_clean sections.now)) }
+) -> Result<Option<Records<A>>, AuditFailure>
+    ensures reported { let views = map segment_view segments.now in
+        IfOk result (ReportsRelocations limit (relocation_faults ctx bytes.now views) (relocations_past ctx bytes.now views) (are_clean sections.now)) }
     ensures memory { IfErr result (λ failure. failure ≡ failures.Memory) }
 {
     if !sections.is_clean() {
@@ -62,13 +62,13 @@ fn audit_relocated<A: Allocator + Clone>(
 fn audit_layout<A: Allocator, B: Allocator + Clone>(
     alloc: B,
     image: &MachO<'_, A>,
-) -> Result<Vec<LayoutFault, B>, Failure>
-    ensures told { IfOk result (λ v. AreLayoutFaults (laid_held image.now) (AreListFaults (facts_held image.now)) v.items) }
+) -> Result<Vec<LayoutFault, B>, AuditFailure>
+    ensures reported { IfOk result (λ v. AreLayoutFaults (laid_view image.now) (AreListFaults (facts_view image.now)) v.items) }
     ensures memory { IfErr result (λ failure. failure ≡ failures.Memory) }
 {
     match layout_faults(alloc, image) {
         Ok(faults) => Ok(faults),
-        Err(_) => Err(Failure::Memory),
+        Err(_) => Err(AuditFailure::Memory),
     }
 }
 
@@ -76,13 +76,13 @@ fn audit_layout<A: Allocator, B: Allocator + Clone>(
 fn audit_container<A: Allocator + Clone>(
     alloc: A,
     bytes: &[u8],
-) -> Result<Vec<LayoutFault, A>, Failure>
-    ensures told { IfOk result (λ v. AreContainerFaults arch_form_32 bytes.now v.items) }
+) -> Result<Vec<LayoutFault, A>, AuditFailure>
+    ensures reported { IfOk result (λ v. AreContainerFaults arch_form_32 bytes.now v.items) }
     ensures memory { IfErr result (λ failure. failure ≡ failures.Memory) }
 {
     match container_faults::<FatArch, A>(alloc, bytes) {
         Ok(faults) => Ok(faults),
-        Err(_) => Err(Failure::Memory),
+        Err(_) => Err(AuditFailure::Memory),
     }
 }
 
@@ -91,8 +91,8 @@ fn audit_parts<A: Allocator, B: Allocator + Clone>(
     alloc: &B,
     image: &MachO<'_, A>,
     limit: usize,
-) -> Result<Parts<B>, Failure>
-    ensures told { (bytes : List ℕ) → IsLossyImage bytes 0 image.now → IfOk result (TellsImage (most_items limit bytes) bytes) }
+) -> Result<Parts<B>, AuditFailure>
+    ensures reported { (bytes : List ℕ) → IsLossyImage bytes 0 image.now → IfOk result (ReportsImage (most_items limit bytes) bytes) }
     ensures judged { (bytes : List ℕ) → IsImage bytes 0 image.now
         → IfOk result (λ p. Judges (IsSoundImage bytes) (HasLongList (most_items limit bytes) bytes) (verdict_of_parts p)) }
     ensures memory { IfErr result (λ failure. failure ≡ failures.Memory) }
@@ -137,9 +137,9 @@ fn audit_refused<A: Allocator + Clone>(
     bytes: &[u8],
     error: Error,
     limit: usize,
-) -> Result<ImageReport<A>, Failure>
-    ensures reason { IfOk result (λ r. (reason_of r ≡ Some error) × IsTold error) }
-    ensures told { IfOk result (TellsLossily limit bytes.now) }
+) -> Result<ImageReport<A>, AuditFailure>
+    ensures reason { IfOk result (λ r. (reason_of r ≡ Some error) × IsReported error) }
+    ensures reported { IfOk result (ReportsLossily limit bytes.now) }
     ensures memory { IfErr result (λ failure. failure ≡ failures.Memory) }
 {
     let error = no_memory(error)?;
@@ -148,7 +148,7 @@ fn audit_refused<A: Allocator + Clone>(
             let parts = audit_parts(alloc, &image, limit)?;
             Ok(ImageReport::OpensLossily(error, parts))
         }
-        Err(Error::Memory(_)) => Err(Failure::Memory),
+        Err(Error::Memory(_)) => Err(AuditFailure::Memory),
         Ok(Mach::Fat(_)) | Err(_) => Ok(ImageReport::Refused(error)),
     }
 }
@@ -160,11 +160,11 @@ fn audit_entry<A: Allocator + Clone>(
     index: usize,
     bytes: &[u8],
     limit: usize,
-) -> Result<EntryReport<A>, Failure>
-    ensures told { fat_entry_of bytes.now ≡ entry_at (file_held container.now) index
-        → IfOk result (IsEntryReport limit (entry_at (file_held container.now) index)) }
-    ensures judged { IfOk result (λ r. Judges (IsSoundEntry (entry_at (file_held container.now) index))
-        (IsLongEntry limit (entry_at (file_held container.now) index))
+) -> Result<EntryReport<A>, AuditFailure>
+    ensures reported { fat_entry_of bytes.now ≡ entry_at (file_view container.now) index
+        → IfOk result (IsEntryReport limit (entry_at (file_view container.now) index)) }
+    ensures judged { IfOk result (λ r. Judges (IsSoundEntry (entry_at (file_view container.now) index))
+        (IsLongEntry limit (entry_at (file_view container.now) index))
         (verdict_of_entry r)) }
     ensures memory { IfErr result (λ failure. failure ≡ failures.Memory) }
 {
@@ -198,10 +198,10 @@ fn audit_fat<A: Allocator + Clone>(
     container: &MultiArch<'_, A>,
     bytes: &[u8],
     limit: usize,
-) -> Result<FatReport<A>, Failure>
-    ensures told { (file_held container.now).bytes ≡ bytes.now → IfOk result (IsFatReport limit bytes.now (file_held container.now)) }
-    ensures judged { IfOk result (λ r. Judges (AreContainerFaults arch_form_32 bytes.now [] × IsSoundFat (file_held container.now))
-        (IsLongFat limit (file_held container.now)) (verdict_of_fat r)) }
+) -> Result<FatReport<A>, AuditFailure>
+    ensures reported { (file_view container.now).bytes ≡ bytes.now → IfOk result (IsFatReport limit bytes.now (file_view container.now)) }
+    ensures judged { IfOk result (λ r. Judges (AreContainerFaults arch_form_32 bytes.now [] × IsSoundFat (file_view container.now))
+        (IsLongFat limit (file_view container.now)) (verdict_of_fat r)) }
     ensures memory { IfErr result (λ failure. failure ≡ failures.Memory) }
 {
     let count = container.narches;
@@ -239,8 +239,8 @@ pub fn audit<A: Allocator + Clone>(
     alloc: &A,
     bytes: &[u8],
     limit: usize,
-) -> Result<Report<A>, Failure>
-    ensures told { IfOk result (IsFileReport limit bytes.now) }
+) -> Result<Report<A>, AuditFailure>
+    ensures reported { IfOk result (IsFileReport limit bytes.now) }
     ensures judged { IfOk result (λ r. Judges (IsSound bytes.now) (IsLong limit bytes.now) (verdict_of_report r)) }
     ensures memory { IfErr result (λ failure. failure ≡ failures.Memory) }
 {

@@ -4,13 +4,13 @@ ghost use Rattle.std.specs.Prelude.{◌≡◌};
 
 use crate::layout_text::Counts;
 use crate::report::{
-    EntryReport, FatReport, Finding, ImageReport, Part, Parts, Records, Report, SignaturePart,
-    SignatureReport,
+    EntryReport, FatReport, Finding, ImageReport, PartReport, Parts, Records, Report,
+    SignaturePart, SignatureReport,
 };
-use crate::signature_text::said_of;
+use crate::signature_text::message_of;
 use crate::verdict::Verdict;
 use goblin_mach::{Error, describe};
-use mach_cli::{Failure, JsonString};
+use mach_cli::{JsonString, ShowFailure};
 use mach_layout::{Evidence, LayoutFault};
 use mach_signature::{SignatureFault, SlotName};
 use serde_json::{Value, json};
@@ -41,7 +41,7 @@ fn error_value(
 
 // What of a part isn't among its reported faults.
 #[derive(Clone, Copy)]
-struct Untold {
+struct Unreported {
     // How many more faults there are.
     more: usize,
     // How many more records are claimed, past the end of the bytes.
@@ -50,10 +50,10 @@ struct Untold {
     cut: bool,
 }
 
-impl Untold {
+impl Unreported {
     // Returns so many more faults, and nothing else.
-    fn faults(more: usize) -> Untold {
-        Untold {
+    fn faults(more: usize) -> Unreported {
+        Unreported {
             more,
             past: 0,
             cut: false,
@@ -66,9 +66,9 @@ fn part_value(
     alloc: Global,
     name: &str,
     faults: Vec<Value>,
-    untold: Untold,
+    unreported: Unreported,
 ) -> Result<Value, AllocError> {
-    let Untold { more, past, cut } = untold;
+    let Unreported { more, past, cut } = unreported;
     let ok = faults.is_empty() && past == 0 && !cut;
     let faults = Value::Array(faults);
     let (more, past) = (more as u64, past as u64);
@@ -78,9 +78,9 @@ fn part_value(
 }
 
 // Builds the reported faults of a part.
-fn findings(alloc: Global, name: &str, told: &[Finding]) -> Result<Vec<Value>, AllocError> {
+fn findings(alloc: Global, name: &str, reported: &[Finding]) -> Result<Vec<Value>, AllocError> {
     let mut faults = Vec::new(alloc);
-    for finding in told {
+    for finding in reported {
         let place = finding.place;
         let place = format!(in alloc; "{place}")?;
         faults.push(error_value(alloc, name, place.as_str(), &finding.error)?)?;
@@ -93,17 +93,17 @@ fn add_part<A: Allocator>(
     alloc: Global,
     values: &mut Vec<Value>,
     name: &str,
-    part: &Part<A>,
+    part: &PartReport<A>,
     past: usize,
 ) -> Result<(), AllocError> {
-    let told = part.told.as_slice();
-    let faults = findings(alloc, name, told)?;
-    let untold = Untold {
-        more: part.faults.saturating_sub(told.len()),
+    let reported = part.reported.as_slice();
+    let faults = findings(alloc, name, reported)?;
+    let unreported = Unreported {
+        more: part.faults.saturating_sub(reported.len()),
         past,
         cut: part.cut,
     };
-    values.push(part_value(alloc, name, faults, untold)?)?;
+    values.push(part_value(alloc, name, faults, unreported)?)?;
     Ok(())
 }
 
@@ -114,7 +114,7 @@ fn add_records<A: Allocator>(
     name: &str,
     records: &Records<A>,
 ) -> Result<(), AllocError> {
-    add_part(alloc, values, name, &records.begun, records.past)
+    add_part(alloc, values, name, &records.in_bounds, records.past)
 }
 
 // Adds a part with an error alone, if there is one.
@@ -128,7 +128,7 @@ fn add_refusal(
     if let Some(error) = error {
         faults.push(error_value(alloc, name, "", error)?)?;
     }
-    values.push(part_value(alloc, name, faults, Untold::faults(0))?)?;
+    values.push(part_value(alloc, name, faults, Unreported::faults(0))?)?;
     Ok(())
 }
 
@@ -154,14 +154,14 @@ fn add_layout(
     faults: &[LayoutFault],
 ) -> Result<(), AllocError> {
     let mut counts = Counts::new();
-    let mut told = Vec::new(alloc);
+    let mut reported = Vec::new(alloc);
     for fault in faults {
-        if counts.is_told(fault.rule) {
-            told.push(layout_value(alloc, *fault)?)?;
+        if counts.is_reported(fault.rule) {
+            reported.push(layout_value(alloc, *fault)?)?;
         }
     }
-    let untold = Untold::faults(faults.len().saturating_sub(told.len()));
-    values.push(part_value(alloc, name, told, untold)?)?;
+    let unreported = Unreported::faults(faults.len().saturating_sub(reported.len()));
+    values.push(part_value(alloc, name, reported, unreported)?)?;
     Ok(())
 }
 
@@ -178,7 +178,7 @@ fn signature_owner(alloc: Global, slot: Option<u32>) -> Result<String, AllocErro
 
 // Builds a fault of a signature.
 fn signature_value(alloc: Global, fault: &SignatureFault) -> Result<Value, AllocError> {
-    let said = said_of(fault);
+    let said = message_of(fault);
     let place = said.place;
     let place = format!(in alloc; "{place}")?;
     let owner = signature_owner(alloc, said.slot)?;
@@ -198,12 +198,12 @@ fn add_signed<A: Allocator>(
     values: &mut Vec<Value>,
     part: &SignaturePart<A>,
 ) -> Result<(), AllocError> {
-    let mut told = Vec::new(alloc);
-    for fault in part.told.as_slice() {
-        told.push(signature_value(alloc, fault)?)?;
+    let mut reported = Vec::new(alloc);
+    for fault in part.reported.as_slice() {
+        reported.push(signature_value(alloc, fault)?)?;
     }
-    let untold = Untold::faults(part.faults.saturating_sub(told.len()));
-    values.push(part_value(alloc, "signature", told, untold)?)?;
+    let unreported = Unreported::faults(part.faults.saturating_sub(reported.len()));
+    values.push(part_value(alloc, "signature", reported, unreported)?)?;
     Ok(())
 }
 
@@ -297,12 +297,12 @@ fn container<A: Allocator>(alloc: Global, fat: &FatReport<A>) -> Result<Vec<Valu
     if fat.count == 0 {
         faults.push(fault_value(alloc, "empty", "", "entries", "no image")?)?;
     }
-    let untold = Untold {
+    let unreported = Unreported {
         more: 0,
         past: 0,
         cut: fat.cut,
     };
-    values.push(part_value(alloc, "entries", faults, untold)?)?;
+    values.push(part_value(alloc, "entries", faults, unreported)?)?;
     Ok(values)
 }
 
@@ -312,7 +312,7 @@ pub fn print_object<A: Allocator, O: Write>(
     name: &str,
     report: &Report<A>,
     out: &mut O,
-) -> Result<(), Failure> {
+) -> Result<(), ShowFailure> {
     let verdict = report.verdict();
     let sound = verdict == Verdict::Sound;
     let limit_met = verdict == Verdict::Unended;

@@ -1,6 +1,6 @@
 //! Faults of layout, the first ten of each rule.
 
-use crate::tally::MOST_TOLD;
+use crate::tally::MOST_REPORTED;
 use mach_layout::{LayoutFault, Rule};
 use std::io;
 use std::io::Write;
@@ -18,12 +18,12 @@ impl Counts {
     }
 
     /// Counts one more fault of a rule, and returns whether it is one of the first ten.
-    pub fn is_told(&mut self, rule: Rule) -> bool {
+    pub fn is_reported(&mut self, rule: Rule) -> bool {
         let Some(count) = self.counts.get_mut(rule as usize) else {
             return true;
         };
         *count = count.saturating_add(1);
-        *count <= MOST_TOLD
+        *count <= MOST_REPORTED
     }
 
     /// Returns how many faults of a rule were not printed; call it once for each rule.
@@ -31,7 +31,7 @@ impl Counts {
         let Some(count) = self.counts.get_mut(rule as usize) else {
             return 0;
         };
-        let more = count.saturating_sub(MOST_TOLD);
+        let more = count.saturating_sub(MOST_REPORTED);
         *count = 0;
         more
     }
@@ -41,7 +41,7 @@ impl Counts {
 pub fn print_layout<O: Write>(name: &str, faults: &[LayoutFault], out: &mut O) -> io::Result<()> {
     let mut counts = Counts::new();
     'faults: for fault in faults {
-        if counts.is_told(fault.rule) {
+        if counts.is_reported(fault.rule) {
             writeln!(out, "  {name}: {fault}")?;
         }
     }

@@ -10,16 +10,16 @@ ghost use Rattle.mach_parts.specs.Segment.{segment_view};
 ghost use Rattle.mach_parts.specs.SymbolViews.{symbols_left, table_of};
 ghost use Rattle.goblin_mach.specs.BindingsLeft.{bindings_left};
 ghost use Rattle.goblin_mach.specs.FixupsLeft.{image_fixups_left};
-ghost use Rattle.goblin_mach.specs.OpenImage.{trie_held};
-ghost use Rattle.goblin_mach.specs.Subjects.{symbols_held, trie_or_empty};
+ghost use Rattle.goblin_mach.specs.OpenImage.{trie_view};
+ghost use Rattle.goblin_mach.specs.Subjects.{symbols_view, trie_or_empty};
 ghost use Rattle.machaudit.specs.Sound.{are_all_ok};
-ghost use Rattle.machaudit.specs.Told.{FaultAt, HasMet, TellsOf, TellsOfTrie, TellsRecords, faults_from, section_faults_told, sections_beyond};
-ghost use Rattle.machaudit.specs.Told.{begun_relocations, relocation_faults, relocation_faults_by, relocations_past, relocations_past_of};
-ghost use Rattle.machaudit.specs.Told.{symbols_unread, symbols_beyond};
-ghost use Rattle.machaudit.specs.declared.report.Failure.TheVariants as failures;
-ghost use Rattle.machaudit.specs.declared.report.Place.TheVariants as places;
+ghost use Rattle.machaudit.specs.Reported.{FaultAt, HasMet, ReportsOf, ReportsOfTrie, ReportsRecords, faults_from, section_faults_reported, sections_beyond};
+ghost use Rattle.machaudit.specs.Reported.{relocations_in_bounds, relocation_faults, relocation_faults_by, relocations_past, relocations_past_of};
+ghost use Rattle.machaudit.specs.Reported.{symbols_unread, symbols_beyond};
+ghost use Rattle.machaudit.specs.declared.report.AuditFailure.TheVariants as failures;
+ghost use Rattle.machaudit.specs.declared.report.FaultPlace.TheVariants as places;
 
-use crate::report::{Failure, Part, Place, Records, no_memory};
+use crate::report::{AuditFailure, FaultPlace, PartReport, Records, no_memory};
 use crate::tally::Tally;
 use goblin_mach::imports::BindIterator;
 use goblin_mach::segment::{RelocationIterator, Section, SectionData, SectionIterator, Segment};
@@ -33,8 +33,8 @@ pub fn audit_sections<A: Allocator>(
     alloc: A,
     segments: &[Segment<'_>],
     limit: usize,
-) -> Result<Records<A>, Failure>
-    ensures told { let views = map segment_view segments.now in IfOk result (TellsRecords limit (section_faults_told views) (sections_beyond views)) }
+) -> Result<Records<A>, AuditFailure>
+    ensures reported { let views = map segment_view segments.now in IfOk result (ReportsRecords limit (section_faults_reported views) (sections_beyond views)) }
     ensures memory { IfErr result (λ failure. failure ≡ failures.Memory) }
 {
     let mut tally = Tally::new(alloc, limit);
@@ -42,13 +42,13 @@ pub fn audit_sections<A: Allocator>(
     let mut number = 0usize;
     for segment in segments {
         let sections = segment.into_iter();
-        let begun = sections.begun();
-        past = past.saturating_add(sections.len().saturating_sub(begun.len()));
-        add_sections(number, begun, &mut tally)?;
+        let in_bounds = sections.in_bounds();
+        past = past.saturating_add(sections.len().saturating_sub(in_bounds.len()));
+        add_sections(number, in_bounds, &mut tally)?;
         number = number.saturating_add(1);
     }
-    let begun = tally.part();
-    Ok(Records { begun, past })
+    let in_bounds = tally.part();
+    Ok(Records { in_bounds, past })
 }
 
 // Adds the sections of the segment with this number.
@@ -56,14 +56,14 @@ fn add_sections<A: Allocator>(
     segment: usize,
     sections: SectionIterator<'_>,
     tally: &mut Tally<A>,
-) -> Result<(), Failure>
-    ensures told { OnOk result ((limit : ℕ) (items : List (Option FaultAt)) → HasMet limit items tally.old
+) -> Result<(), AuditFailure>
+    ensures reported { OnOk result ((limit : ℕ) (items : List (Option FaultAt)) → HasMet limit items tally.old
         → HasMet limit (items ++ faults_from (places.Section segment) 0 (sections_left sections.entry)) tally.new) }
     ensures memory { IfErr result (λ failure. failure ≡ failures.Memory) }
 {
     let mut index = 0usize;
     'sections: for section in sections {
-        if !tally.take(Place::Section { segment, index }, section.err())? {
+        if !tally.take(FaultPlace::Section { segment, index }, section.err())? {
             return Ok(());
         }
         index = index.saturating_add(1);
@@ -78,9 +78,9 @@ pub fn audit_relocations<A: Allocator>(
     ctx: Ctx,
     segments: &[Segment<'_>],
     limit: usize,
-) -> Result<Records<A>, Failure>
-    ensures told { let views = map segment_view segments.now in
-        IfOk result (TellsRecords limit (relocation_faults ctx bytes.now views) (relocations_past ctx bytes.now views)) }
+) -> Result<Records<A>, AuditFailure>
+    ensures reported { let views = map segment_view segments.now in
+        IfOk result (ReportsRecords limit (relocation_faults ctx bytes.now views) (relocations_past ctx bytes.now views)) }
     ensures memory { IfErr result (λ failure. failure ≡ failures.Memory) }
 {
     let mut tally = Tally::new(alloc, limit);
@@ -91,8 +91,8 @@ pub fn audit_relocations<A: Allocator>(
         add_relocations(bytes, ctx, number, segment.into_iter(), &mut tally)?;
         number = number.saturating_add(1);
     }
-    let begun = tally.part();
-    Ok(Records { begun, past })
+    let in_bounds = tally.part();
+    Ok(Records { in_bounds, past })
 }
 
 // Returns how many relocations some sections claim that don't begin within the bytes, or the greatest number if there are more
@@ -119,7 +119,9 @@ fn relocations_past_of(
         return 0;
     };
     let relocations = section.iter_relocations(bytes, ctx);
-    relocations.len().saturating_sub(relocations.begun().len())
+    relocations
+        .len()
+        .saturating_sub(relocations.in_bounds().len())
 }
 
 // Adds the relocations of the sections of the segment with this number.
@@ -129,9 +131,9 @@ fn add_relocations<A: Allocator>(
     segment: usize,
     sections: SectionIterator<'_>,
     tally: &mut Tally<A>,
-) -> Result<(), Failure>
-    ensures told { OnOk result ((limit : ℕ) (items : List (Option FaultAt)) → HasMet limit items tally.old
-        → HasMet limit (items ++ relocation_faults_by (begun_relocations ctx bytes.now) segment (sections_left sections.entry)) tally.new) }
+) -> Result<(), AuditFailure>
+    ensures reported { OnOk result ((limit : ℕ) (items : List (Option FaultAt)) → HasMet limit items tally.old
+        → HasMet limit (items ++ relocation_faults_by (relocations_in_bounds ctx bytes.now) segment (sections_left sections.entry)) tally.new) }
     ensures memory { IfErr result (λ failure. failure ≡ failures.Memory) }
 {
     let mut section = 0usize;
@@ -149,16 +151,17 @@ fn add_relocations_by<A: Allocator>(
     numbers: (usize, usize),
     item: &goblin_mach::Result<(Section, SectionData<'_>)>,
     tally: &mut Tally<A>,
-) -> Result<(), Failure>
-    ensures told { OnOk result ((limit : ℕ) (items : List (Option FaultAt)) → HasMet limit items tally.old
-        → HasMet limit (items ++ faults_from (places.Relocation numbers.0 numbers.1) 0 (begun_relocations ctx bytes.now (section_read item.now))) tally.new) }
+) -> Result<(), AuditFailure>
+    ensures reported { OnOk result ((limit : ℕ) (items : List (Option FaultAt)) → HasMet limit items tally.old
+        → HasMet limit (items ++ faults_from (places.Relocation numbers.0 numbers.1) 0 (relocations_in_bounds ctx bytes.now
+        (section_read item.now))) tally.new) }
     ensures memory { IfErr result (λ failure. failure ≡ failures.Memory) }
 {
     let Ok((section, _)) = item else {
         return Ok(());
     };
     let relocations = section.iter_relocations(bytes, ctx);
-    add_relocations_of(numbers.0, numbers.1, relocations.begun(), tally)
+    add_relocations_of(numbers.0, numbers.1, relocations.in_bounds(), tally)
 }
 
 // Adds the relocations of one section.
@@ -167,14 +170,14 @@ fn add_relocations_of<A: Allocator>(
     section: usize,
     relocations: RelocationIterator<'_>,
     tally: &mut Tally<A>,
-) -> Result<(), Failure>
-    ensures told { OnOk result ((limit : ℕ) (items : List (Option FaultAt)) → HasMet limit items tally.old
+) -> Result<(), AuditFailure>
+    ensures reported { OnOk result ((limit : ℕ) (items : List (Option FaultAt)) → HasMet limit items tally.old
         → HasMet limit (items ++ faults_from (places.Relocation segment section) 0 (relocations_left relocations.entry)) tally.new) }
     ensures memory { IfErr result (λ failure. failure ≡ failures.Memory) }
 {
     let mut index = 0usize;
     'relocations: for relocation in relocations {
-        let place = Place::Relocation {
+        let place = FaultPlace::Relocation {
             segment,
             section,
             index,
@@ -192,17 +195,17 @@ pub fn audit_exports<A: Allocator, B: Allocator + Clone>(
     alloc: B,
     image: &MachO<'_, A>,
     limit: usize,
-) -> Result<Part<B>, Failure>
-    ensures told { IfOk result (TellsOfTrie limit (trie_or_empty (trie_held image.now)) (texts image.now.libs.items)) }
+) -> Result<PartReport<B>, AuditFailure>
+    ensures reported { IfOk result (ReportsOfTrie limit (trie_or_empty (trie_view image.now)) (texts image.now.libs.items)) }
     ensures memory { IfErr result (λ failure. failure ≡ failures.Memory) }
 {
     let mut tally = Tally::new(alloc.clone()?, limit);
     let Ok(mut walk) = image.walk_exports(alloc) else {
-        return Err(Failure::Memory);
+        return Err(AuditFailure::Memory);
     };
     let mut index = 0usize;
     'exports: while let Some(export) = walk.next() {
-        let place = Place::Export(index);
+        let place = FaultPlace::Export(index);
         match export {
             Err(error) => {
                 tally.take(place, Some(no_memory(error)?))?;
@@ -224,22 +227,22 @@ pub fn audit_symbols<A: Allocator, B: Allocator>(
     alloc: B,
     image: &MachO<'_, A>,
     limit: usize,
-) -> Result<Records<B>, Failure>
-    ensures told { let table = option_map table_of image.now.symbols in IfOk result (TellsRecords limit (symbols_unread table) (symbols_beyond table)) }
-    ensures broken { IfOk result (λ records. 0 < records.past → IsTrue (are_all_ok (symbols_held image.now.symbols)) → ⊥) }
+) -> Result<Records<B>, AuditFailure>
+    ensures reported { let table = option_map table_of image.now.symbols in IfOk result (ReportsRecords limit (symbols_unread table) (symbols_beyond table)) }
+    ensures broken { IfOk result (λ records. 0 < records.past → IsTrue (are_all_ok (symbols_view image.now.symbols)) → ⊥) }
     ensures memory { IfErr result (λ failure. failure ≡ failures.Memory) }
 {
     match &image.symbols {
         Some(table) => {
             symbols_past_the_end();
-            let begun = table.begun();
-            let past = table.len().saturating_sub(begun.len());
-            let begun = audit_table(alloc, begun.iter(), limit)?;
-            Ok(Records { begun, past })
+            let in_bounds = table.in_bounds();
+            let past = table.len().saturating_sub(in_bounds.len());
+            let in_bounds = audit_table(alloc, in_bounds.iter(), limit)?;
+            Ok(Records { in_bounds, past })
         }
         None => {
-            let begun = Tally::new(alloc, limit).part();
-            Ok(Records { begun, past: 0 })
+            let in_bounds = Tally::new(alloc, limit).part();
+            Ok(Records { in_bounds, past: 0 })
         }
     }
 }
@@ -249,14 +252,14 @@ fn audit_table<A: Allocator>(
     alloc: A,
     symbols: SymbolIterator<'_>,
     limit: usize,
-) -> Result<Part<A>, Failure>
-    ensures told { IfOk result (TellsOf limit (faults_from places.Symbol 0 (symbols_left symbols.entry))) }
+) -> Result<PartReport<A>, AuditFailure>
+    ensures reported { IfOk result (ReportsOf limit (faults_from places.Symbol 0 (symbols_left symbols.entry))) }
     ensures memory { IfErr result (λ failure. failure ≡ failures.Memory) }
 {
     let mut tally = Tally::new(alloc, limit);
     let mut index = 0usize;
     'symbols: for symbol in symbols {
-        if !tally.take(Place::Symbol(index), symbol.err())? {
+        if !tally.take(FaultPlace::Symbol(index), symbol.err())? {
             return Ok(tally.part());
         }
         index = index.saturating_add(1);
@@ -269,14 +272,14 @@ pub fn audit_imports<A: Allocator>(
     alloc: A,
     imports: BindIterator<'_, '_>,
     limit: usize,
-) -> Result<Part<A>, Failure>
-    ensures told { IfOk result (TellsOf limit (faults_from places.Import 0 (imports_left imports.entry))) }
+) -> Result<PartReport<A>, AuditFailure>
+    ensures reported { IfOk result (ReportsOf limit (faults_from places.Import 0 (imports_left imports.entry))) }
     ensures memory { IfErr result (λ failure. failure ≡ failures.Memory) }
 {
     let mut tally = Tally::new(alloc, limit);
     let mut index = 0usize;
     'imports: for import in imports {
-        if !tally.take(Place::Import(index), import.err())? {
+        if !tally.take(FaultPlace::Import(index), import.err())? {
             return Ok(tally.part());
         }
         index = index.saturating_add(1);
@@ -289,14 +292,14 @@ pub fn audit_fixups<A: Allocator>(
     alloc: A,
     fixups: FixupIterator<'_, '_>,
     limit: usize,
-) -> Result<Part<A>, Failure>
-    ensures told { IfOk result (TellsOf limit (faults_from places.Fixup 0 (image_fixups_left fixups.entry))) }
+) -> Result<PartReport<A>, AuditFailure>
+    ensures reported { IfOk result (ReportsOf limit (faults_from places.Fixup 0 (image_fixups_left fixups.entry))) }
     ensures memory { IfErr result (λ failure. failure ≡ failures.Memory) }
 {
     let mut tally = Tally::new(alloc, limit);
     let mut index = 0usize;
     'fixups: for fixup in fixups {
-        if !tally.take(Place::Fixup(index), fixup.err())? {
+        if !tally.take(FaultPlace::Fixup(index), fixup.err())? {
             return Ok(tally.part());
         }
         index = index.saturating_add(1);
@@ -309,14 +312,14 @@ pub fn audit_bindings<A: Allocator>(
     alloc: A,
     bindings: BindingIterator<'_, '_>,
     limit: usize,
-) -> Result<Part<A>, Failure>
-    ensures told { IfOk result (TellsOf limit (faults_from places.Binding 0 (bindings_left bindings.entry))) }
+) -> Result<PartReport<A>, AuditFailure>
+    ensures reported { IfOk result (ReportsOf limit (faults_from places.Binding 0 (bindings_left bindings.entry))) }
     ensures memory { IfErr result (λ failure. failure ≡ failures.Memory) }
 {
     let mut tally = Tally::new(alloc, limit);
     let mut index = 0usize;
     'bindings: for binding in bindings {
-        if !tally.take(Place::Binding(index), binding.err())? {
+        if !tally.take(FaultPlace::Binding(index), binding.err())? {
             return Ok(tally.part());
         }
         index = index.saturating_add(1);

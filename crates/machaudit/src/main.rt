@@ -15,15 +15,15 @@ mod verdict;
 mod json;
 mod layout_text;
 mod options;
-mod run;
+mod output;
 mod signature_text;
 mod text;
 
 use crate::options::{DEFAULT_LIMIT, Format, Options, take_format};
-use crate::run::{Call, NAME};
+use crate::output::{Call, NAME};
 use crate::selection::run_for;
 use mach_cli::output::failed;
-use mach_cli::{Cpu, Failure, Files, ForTerminal, Misuse, Program, ShowsFile, Titled};
+use mach_cli::{Cpu, FileView, Files, ForTerminal, Misuse, Program, ShowFailure, Titled};
 use std::alloc::{AllocError, Allocator, Global};
 use std::io;
 use std::io::{BufWriter, IsTerminal, Write};
@@ -120,7 +120,7 @@ struct Audits {
     only: String,
 }
 
-impl<W: Write + Drop, B: Allocator> ShowsFile<BufWriter<W, B>> for Audits {
+impl<W: Write + Drop, B: Allocator> FileView<BufWriter<W, B>> for Audits {
     fn show(&self, rt: &HostRuntime, name: &str, bytes: &[u8], out: &mut BufWriter<W, B>) -> u8 {
         let call = Call {
             options: self.options,
@@ -138,8 +138,8 @@ impl<W: Write + Drop, B: Allocator> ShowsFile<BufWriter<W, B>> for Audits {
             &mut err,
         ) {
             Ok(status) => status,
-            Err(Failure::Memory) => PROGRAM.no_memory_for(rt, name),
-            Err(Failure::Unwritten(error)) => failed(NAME, "", error, &mut err),
+            Err(ShowFailure::Memory) => PROGRAM.no_memory_for(rt, name),
+            Err(ShowFailure::Unwritten(error)) => failed(NAME, "", error, &mut err),
         }
     }
 }

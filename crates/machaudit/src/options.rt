@@ -53,7 +53,7 @@ pub fn take_format<A: Allocator>(
             continue;
         }
         match format_of(text) {
-            Some(asked) => format = asked,
+            Some(selected) => format = selected,
             None => {
                 is_taken = takes_word(text);
                 is_plain = text == "--";

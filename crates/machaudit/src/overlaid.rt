@@ -1,7 +1,7 @@
 //! Entries of a fat file that overlap.
 
 ghost use Rattle.std.specs.Prelude.{◌≡◌};
-ghost use Rattle.machaudit.specs.Overlaid.{AreGoneOver, asked_len};
+ghost use Rattle.machaudit.specs.Overlaid.{AreGoneOver, selected_len};
 
 use goblin_mach::fat::FatArch;
 use mach_cli::Cpu;
@@ -14,7 +14,7 @@ pub fn entries_within(cpu: Cpu, limit: usize, bytes: &[u8], archs: &[FatArch]) -
     let mut left = bytes.len();
     let end = limit.min(archs.len());
     for index in 0..end {
-        let Some(rest) = left.checked_sub(asked_len(cpu, bytes, &archs[index])) else {
+        let Some(rest) = left.checked_sub(selected_len(cpu, bytes, &archs[index])) else {
             return index;
         };
         left = rest;
@@ -23,8 +23,8 @@ pub fn entries_within(cpu: Cpu, limit: usize, bytes: &[u8], archs: &[FatArch]) -
 }
 
 // Returns how many bytes of the file a record names, if it is for the cpu.
-fn asked_len(cpu: Cpu, bytes: &[u8], arch: &FatArch) -> usize
-    ensures { result ≡ asked_len cpu bytes.now arch.now }
+fn selected_len(cpu: Cpu, bytes: &[u8], arch: &FatArch) -> usize
+    ensures { result ≡ selected_len cpu bytes.now arch.now }
 {
     if cpu.takes_entry(arch) {
         arch.slice(bytes).len()

@@ -2,8 +2,8 @@
 
 ghost use Rattle.std.specs.Prelude.{◌≡◌, option_copied, IfOk, IfErr, IsOk};
 ghost use Rattle.machaudit.specs.Foreign.{refusal_in};
-ghost use Rattle.machaudit.specs.declared.report.Failure.TheVariants as failures;
-ghost use Rattle.goblin_mach.specs.View.{IsTold};
+ghost use Rattle.machaudit.specs.declared.report.AuditFailure.TheVariants as failures;
+ghost use Rattle.goblin_mach.specs.View.{IsReported};
 
 use goblin_mach::Error;
 use mach_layout::LayoutFault;
@@ -13,61 +13,61 @@ use std::{fmt, io};
 
 /// Why an audit did not end.
 #[derive(Clone, Copy, Debug)]
-pub enum Failure {
+pub enum AuditFailure {
     /// An allocation was refused.
     Memory,
     /// A write failed.
     Unwritten,
 }
 
-impl fmt::Display for Failure {
+impl fmt::Display for AuditFailure {
     fn fmt<W: fmt::Write>(&self, f: &mut fmt::Formatter<W>) -> fmt::Result {
         match self {
-            Failure::Memory => write!(f, "out of memory"),
-            Failure::Unwritten => write!(f, "cannot write"),
+            AuditFailure::Memory => write!(f, "out of memory"),
+            AuditFailure::Unwritten => write!(f, "cannot write"),
         }
     }
 }
 
-impl From<AllocError> for Failure {
+impl From<AllocError> for AuditFailure {
     ghost from_gives = { λ _ failure. failure ≡ failures.Memory };
 
-    fn from(_error: AllocError) -> Failure {
-        Failure::Memory
+    fn from(_error: AllocError) -> AuditFailure {
+        AuditFailure::Memory
     }
 }
 
-impl<T: Drop> From<AllocFailed<T>> for Failure {
+impl<T: Drop> From<AllocFailed<T>> for AuditFailure {
     ghost from_gives = { λ _ failure. failure ≡ failures.Memory };
 
-    fn from(_error: AllocFailed<T>) -> Failure {
-        Failure::Memory
+    fn from(_error: AllocFailed<T>) -> AuditFailure {
+        AuditFailure::Memory
     }
 }
 
-impl From<io::Error> for Failure {
+impl From<io::Error> for AuditFailure {
     ghost from_gives = { λ _ failure. failure ≡ failures.Unwritten };
 
-    fn from(_error: io::Error) -> Failure {
-        Failure::Unwritten
+    fn from(_error: io::Error) -> AuditFailure {
+        AuditFailure::Unwritten
     }
 }
 
 /// Returns an error unchanged, unless it is a refused allocation.
-pub fn no_memory(error: Error) -> Result<Error, Failure>
-    ensures told { IfOk result (λ e. (e ≡ error) × IsTold e) }
+pub fn no_memory(error: Error) -> Result<Error, AuditFailure>
+    ensures reported { IfOk result (λ e. (e ≡ error) × IsReported e) }
     ensures memory { IfErr result (λ failure. failure ≡ failures.Memory) }
-    ensures only { IsTold error → IsOk result }
+    ensures only { IsReported error → IsOk result }
 {
     match error {
-        Error::Memory(_) => Err(Failure::Memory),
+        Error::Memory(_) => Err(AuditFailure::Memory),
         other => Ok(other),
     }
 }
 
 /// The place of an item that can't be read.
 #[derive(Clone, Copy, Debug)]
-pub enum Place {
+pub enum FaultPlace {
     /// A section of a segment, both by their numbers.
     Section {
         segment: usize,
@@ -95,16 +95,16 @@ pub enum Place {
 #[derive(Drop)]
 pub struct Finding {
     /// Where it is.
-    pub place: Place,
+    pub place: FaultPlace,
     /// The error.
     pub error: Error,
 }
 
 /// The report of the lists of one part of an image.
 #[derive(Drop)]
-pub struct Part<A: Allocator = Global> {
+pub struct PartReport<A: Allocator = Global> {
     /// The first items that can't be read, ten at most.
-    pub told: Vec<Finding, A>,
+    pub reported: Vec<Finding, A>,
     /// How many of the visited items can't be read.
     pub faults: usize,
     /// Whether there are more items than were visited.
@@ -115,7 +115,7 @@ pub struct Part<A: Allocator = Global> {
 #[derive(Drop)]
 pub struct Records<A: Allocator = Global> {
     /// The report of those that begin within the bytes.
-    pub begun: Part<A>,
+    pub in_bounds: PartReport<A>,
     /// How many more are claimed, past the end of the bytes; the greatest number if there are more than that.
     pub past: usize,
 }
@@ -124,7 +124,7 @@ pub struct Records<A: Allocator = Global> {
 #[derive(Drop)]
 pub struct SignaturePart<A: Allocator = Global> {
     /// The first things that differ from what was signed, ten at most.
-    pub told: Vec<SignatureFault, A>,
+    pub reported: Vec<SignatureFault, A>,
     /// How many there are; the greatest number if there are more than that.
     pub faults: usize,
 }
@@ -150,13 +150,13 @@ pub struct Parts<A: Allocator = Global> {
     /// The symbols.
     pub symbols: Records<A>,
     /// The exports of the trie.
-    pub exports: Part<A>,
+    pub exports: PartReport<A>,
     /// The imports of the opcodes, in the order in which a linker lists them.
-    pub imports: Part<A>,
+    pub imports: PartReport<A>,
     /// The fixups of the chains.
-    pub fixups: Part<A>,
+    pub fixups: PartReport<A>,
     /// The bindings of the opcodes and the chains.
-    pub bindings: Part<A>,
+    pub bindings: PartReport<A>,
     /// The signature.
     pub signature: SignatureReport<A>,
     /// The faults of its layout.

@@ -1,24 +1,24 @@
 //! What of a file is audited, given the selected cpu.
 
 ghost use Rattle.std.specs.Prelude.{◌≡◌, ◌≤◌, ◌⊎◌, List, ℕ, IfOk, Ok};
-ghost use Rattle.goblin_mach.specs.FatFile.{fat_file_in, file_held};
+ghost use Rattle.goblin_mach.specs.FatFile.{fat_file_in, file_view};
 ghost use Rattle.goblin_mach.specs.File.{HasFatMagic};
-ghost use Rattle.machaudit.specs.Asked.{EntriesFail, EntriesSound, IsFailing, FailsFor, IsAskedFor, IsSoundFor, MissesAll};
+ghost use Rattle.machaudit.specs.Selected.{EntriesFail, EntriesSound, IsFailing, FailsFor, IsSelectedFor, IsSoundFor, MissesAll};
 ghost use Rattle.machaudit.specs.Overlaid.{AreOverlaid};
 ghost use Rattle.machaudit.specs.Sound.{IsSound};
 ghost use Rattle.goblin_mach.specs.OpenImage.{IsImage};
 
+use crate::output::{Call, NAME, run};
 use crate::overlaid::entries_within;
-use crate::run::{Call, NAME, run};
 use goblin_mach::fat::FatArch;
 use goblin_mach::{Error, Mach, MachO, MultiArch};
-use mach_cli::{Cpu, Failure, Names};
+use mach_cli::{Cpu, Names, ShowFailure};
 use std::alloc::{AllocError, Allocator, Global};
 use std::io::{BufWriter, Write};
 
 // What of a file is selected.
 #[derive(Drop)]
-enum Asked<A: Allocator> {
+enum Selected<A: Allocator> {
     // All of it.
     Whole,
     // Nothing: it is an image for another cpu.
@@ -41,15 +41,15 @@ pub fn run_for<A: Allocator + Clone, W: Write + Drop, B: Allocator, E: Write>(
     bytes: &[u8],
     out: &mut BufWriter<W, B>,
     err: &mut E,
-) -> Result<u8, Failure>
+) -> Result<u8, ShowFailure>
     ensures bounds { IfOk result (λ status. status ≤ 1) }
     ensures sound { IfOk result (λ status. status ≡ 0 → IsSoundFor cpu bytes.now) }
     ensures faulty { IfOk result (λ status. status ≡ 1 → FailsFor cpu call.entry.options.limit bytes.now ⊎ MissesAll cpu bytes.now) }
 {
-    match asked_of(alloc, cpu, bytes)? {
-        Asked::Whole => run(alloc, json, call, bytes, out, err),
-        Asked::Other => Ok(missed(call.name, "no image of", cpu, err)),
-        Asked::Entries(archs) => {
+    match selected_of(alloc, cpu, bytes)? {
+        Selected::Whole => run(alloc, json, call, bytes, out, err),
+        Selected::Other => Ok(missed(call.name, "no image of", cpu, err)),
+        Selected::Entries(archs) => {
             if cpu.misses(&archs) {
                 return Ok(missed(call.name, "no entry of", cpu, err));
             }
@@ -59,42 +59,46 @@ pub fn run_for<A: Allocator + Clone, W: Write + Drop, B: Allocator, E: Write>(
 }
 
 // Returns what of a file is selected.
-fn asked_of<A: Allocator + Clone>(alloc: &A, cpu: Cpu, bytes: &[u8]) -> Result<Asked<A>, Failure>
-    ensures { IfOk result (IsAskedFor cpu bytes.now) }
+fn selected_of<A: Allocator + Clone>(
+    alloc: &A,
+    cpu: Cpu,
+    bytes: &[u8],
+) -> Result<Selected<A>, ShowFailure>
+    ensures { IfOk result (IsSelectedFor cpu bytes.now) }
 {
     if let Cpu::Any = cpu {
-        return Ok(Asked::Whole);
+        return Ok(Selected::Whole);
     }
     match Mach::parse(alloc.clone()?, bytes) {
-        Ok(Mach::Binary(image)) => Ok(asked_image(cpu, &image)),
-        Ok(Mach::Fat(container)) => asked_entries(cpu, &container),
-        Err(Error::Memory(_)) => Err(Failure::Memory),
-        Err(_) => Ok(Asked::Whole),
+        Ok(Mach::Binary(image)) => Ok(selected_image(cpu, &image)),
+        Ok(Mach::Fat(container)) => selected_entries(cpu, &container),
+        Err(Error::Memory(_)) => Err(ShowFailure::Memory),
+        Err(_) => Ok(Selected::Whole),
     }
 }
 
 // Returns what of an image is selected.
-fn asked_image<A: Allocator>(cpu: Cpu, image: &MachO<'_, A>) -> Asked<A>
-    ensures { (bytes : List ℕ) → IsImage bytes 0 image.now → IsAskedFor cpu bytes result }
+fn selected_image<A: Allocator>(cpu: Cpu, image: &MachO<'_, A>) -> Selected<A>
+    ensures { (bytes : List ℕ) → IsImage bytes 0 image.now → IsSelectedFor cpu bytes result }
 {
     if cpu.takes(image.header.cputype, image.header.cpusubtype) {
-        Asked::Whole
+        Selected::Whole
     } else {
-        Asked::Other
+        Selected::Other
     }
 }
 
 // Returns what of a fat file is selected: all of it, if its table can't be read.
-fn asked_entries<A: Allocator + Clone>(
+fn selected_entries<A: Allocator + Clone>(
     cpu: Cpu,
     container: &MultiArch<'_, A>,
-) -> Result<Asked<A>, Failure>
-    ensures { (bytes : List ℕ) → HasFatMagic bytes → fat_file_in bytes ≡ Ok (file_held container.now) → IfOk result (IsAskedFor cpu bytes) }
+) -> Result<Selected<A>, ShowFailure>
+    ensures { (bytes : List ℕ) → HasFatMagic bytes → fat_file_in bytes ≡ Ok (file_view container.now) → IfOk result (IsSelectedFor cpu bytes) }
 {
     match container.arches() {
-        Ok(archs) => Ok(Asked::Entries(archs)),
-        Err(Error::Memory(_)) => Err(Failure::Memory),
-        Err(_) => Ok(Asked::Whole),
+        Ok(archs) => Ok(Selected::Entries(archs)),
+        Err(Error::Memory(_)) => Err(ShowFailure::Memory),
+        Err(_) => Ok(Selected::Whole),
     }
 }
 
@@ -109,7 +113,7 @@ fn run_within<A: Allocator + Clone, W: Write + Drop, B: Allocator, E: Write>(
     archs: &[FatArch],
     out: &mut BufWriter<W, B>,
     err: &mut E,
-) -> Result<u8, Failure>
+) -> Result<u8, ShowFailure>
     ensures bounds { IfOk result (λ status. status ≤ 1) }
     ensures sound { IfOk result (λ status. status ≡ 0 → EntriesSound cpu bytes.now archs.now) }
     ensures faulty { IfOk result (λ status. status ≡ 1 → EntriesFail cpu call.entry.options.limit bytes.now archs.now ⊎ AreOverlaid cpu bytes.now archs.now) }
@@ -132,7 +136,7 @@ fn left_out<E: Write>(file: &str, count: usize, err: &mut E) -> u8
     };
     let _ = writeln!(
         err,
-        "{names}: entries lie over each other: the last {count} are left out"
+        "{names}: entries overlap: the last {count} are left out"
     );
     1
 }
@@ -147,7 +151,7 @@ fn run_entries<A: Allocator + Clone, W: Write + Drop, B: Allocator, E: Write>(
     archs: &[FatArch],
     out: &mut BufWriter<W, B>,
     err: &mut E,
-) -> Result<u8, Failure>
+) -> Result<u8, ShowFailure>
     ensures bounds { IfOk result (λ status. status ≤ 1) }
     ensures sound { IfOk result (λ status. status ≡ 0 → EntriesSound cpu bytes.now archs.now) }
     ensures faulty { IfOk result (λ status. status ≡ 1 → EntriesFail cpu call.entry.options.limit bytes.now archs.now) }
@@ -171,7 +175,7 @@ fn run_entry<A: Allocator + Clone, W: Write + Drop, B: Allocator, E: Write>(
     entry: &[u8],
     out: &mut BufWriter<W, B>,
     err: &mut E,
-) -> Result<u8, Failure>
+) -> Result<u8, ShowFailure>
     ensures bounds { IfOk result (λ status. status ≤ 1) }
     ensures sound { IfOk result (λ status. status ≡ 0 → IsSound entry.now) }
     ensures faulty { IfOk result (λ status. status ≡ 1 → IsFailing call.entry.options.limit entry.now) }

@@ -36,7 +36,7 @@ impl fmt::Display for SignaturePlace {
 
 /// A fault of a signature as JSON has it: its kind, its owner, and its place.
 #[derive(Clone, Copy)]
-pub struct SignatureSaid {
+pub struct SignatureMessage {
     pub kind: &'static str,
     /// The slot of the directory that has the fault, if a directory has it.
     pub slot: Option<u32>,
@@ -44,9 +44,9 @@ pub struct SignatureSaid {
 }
 
 /// Returns a fault as JSON has it.
-pub fn said_of(fault: &SignatureFault) -> SignatureSaid {
+pub fn message_of(fault: &SignatureFault) -> SignatureMessage {
     match fault {
-        SignatureFault::Blob { index, error: _ } => SignatureSaid {
+        SignatureFault::Blob { index, error: _ } => SignatureMessage {
             kind: "unreadable",
             slot: None,
             place: SignaturePlace::Blob(*index),
@@ -55,23 +55,23 @@ pub fn said_of(fault: &SignatureFault) -> SignatureSaid {
             index,
             slot: _,
             magic: _,
-        } => SignatureSaid {
+        } => SignatureMessage {
             kind: "magic",
             slot: None,
             place: SignaturePlace::Blob(*index),
         },
-        SignatureFault::Refused(_) => SignatureSaid {
+        SignatureFault::Refused(_) => SignatureMessage {
             kind: "unreadable",
             slot: Some(0),
             place: SignaturePlace::Whole,
         },
-        SignatureFault::First(fault) => said_of_directory(0, fault),
-        SignatureFault::Alternate { slot, fault } => said_of_directory(*slot, fault),
+        SignatureFault::First(fault) => message_of_directory(0, fault),
+        SignatureFault::Alternate { slot, fault } => message_of_directory(*slot, fault),
     }
 }
 
 // Returns a fault of the directory of a slot as JSON has it.
-fn said_of_directory(slot: u32, fault: &DirectoryFault) -> SignatureSaid {
+fn message_of_directory(slot: u32, fault: &DirectoryFault) -> SignatureMessage {
     let (kind, place) = match fault {
         DirectoryFault::Identifier(_) | DirectoryFault::Team(_) => {
             ("unreadable", SignaturePlace::Whole)
@@ -83,7 +83,7 @@ fn said_of_directory(slot: u32, fault: &DirectoryFault) -> SignatureSaid {
         DirectoryFault::Code(fault) => code_said(*fault),
         DirectoryFault::Special(fault) => special_said(*fault),
     };
-    SignatureSaid {
+    SignatureMessage {
         kind,
         slot: Some(slot),
         place,
@@ -131,10 +131,10 @@ pub fn print_signature<A: Allocator, O: Write>(
 
 // Prints the faults of a signature.
 fn print_signed<A: Allocator, O: Write>(part: &SignaturePart<A>, out: &mut O) -> io::Result<()> {
-    'told: for fault in part.told.as_slice() {
+    'reported: for fault in part.reported.as_slice() {
         writeln!(out, "  signature: {fault}")?;
     }
-    let more = part.faults.saturating_sub(part.told.len());
+    let more = part.faults.saturating_sub(part.reported.len());
     if more > 0 {
         writeln!(out, "  signature: and {more} more")?;
     }

@@ -1,15 +1,15 @@
 //! Audits the signature of an image: what differs from what was signed, one fault at a time. Ten are kept.
 
 ghost use Rattle.std.specs.Prelude.{◌≡◌, ◌++◌, ◌∷◌, [], List, IfOk, IfErr, OnOk};
-ghost use Rattle.goblin_mach.specs.OpenImage.{bytes_held, commands_held, segments_held};
-ghost use Rattle.mach_signature.specs.AsSigned.{SignatureFaultSeen};
+ghost use Rattle.goblin_mach.specs.OpenImage.{bytes_view, commands_view, segments_view};
+ghost use Rattle.mach_signature.specs.AsSigned.{SignatureFaultView};
 ghost use Rattle.mach_signature.specs.FaultViews.{signature_fault_view, signature_faults_left};
 ghost use Rattle.mach_signature.specs.SignedImages.{image_faults};
-ghost use Rattle.machaudit.specs.Signed.{TellsSignature, TellsSignatureFaults};
-ghost use Rattle.machaudit.specs.declared.report.Failure.TheVariants as failures;
+ghost use Rattle.machaudit.specs.Signed.{ReportsSignature, ReportsSignatureFaults};
+ghost use Rattle.machaudit.specs.declared.report.AuditFailure.TheVariants as failures;
 
-use crate::report::{Failure, SignaturePart, SignatureReport, no_memory};
-use crate::tally::MOST_TOLD;
+use crate::report::{AuditFailure, SignaturePart, SignatureReport, no_memory};
+use crate::tally::MOST_REPORTED;
 use goblin_mach::MachO;
 use mach_signature::image::signature_faults;
 use mach_signature::{SignatureFault, SignatureFaults};
@@ -19,8 +19,8 @@ use std::alloc::Allocator;
 pub fn audit_signature<A: Allocator, B: Allocator>(
     alloc: B,
     image: &MachO<'_, A>,
-) -> Result<SignatureReport<B>, Failure>
-    ensures told { IfOk result (TellsSignature (image_faults (bytes_held image.now) (commands_held image.now) (segments_held image.now))) }
+) -> Result<SignatureReport<B>, AuditFailure>
+    ensures reported { IfOk result (ReportsSignature (image_faults (bytes_view image.now) (commands_view image.now) (segments_view image.now))) }
     ensures memory { IfErr result (λ failure. failure ≡ failures.Memory) }
 {
     match signature_faults(image) {
@@ -40,12 +40,12 @@ pub fn audit_signature<A: Allocator, B: Allocator>(
 fn audit_signed<A: Allocator>(
     alloc: A,
     faults: SignatureFaults<'_>,
-) -> Result<SignaturePart<A>, Failure>
-    ensures told { IfOk result (TellsSignatureFaults (signature_faults_left faults.entry)) }
+) -> Result<SignaturePart<A>, AuditFailure>
+    ensures reported { IfOk result (ReportsSignatureFaults (signature_faults_left faults.entry)) }
     ensures memory { IfErr result (λ failure. failure ≡ failures.Memory) }
 {
     let mut part = SignaturePart {
-        told: Vec::new(alloc),
+        reported: Vec::new(alloc),
         faults: 0,
     };
     'faults: for fault in faults {
@@ -55,14 +55,17 @@ fn audit_signed<A: Allocator>(
 }
 
 // Counts a fault, and keeps it if it is one of the first ten.
-fn note<A: Allocator>(part: &mut SignaturePart<A>, fault: SignatureFault) -> Result<(), Failure>
-    ensures told { OnOk result ((faults : List SignatureFaultSeen) → TellsSignatureFaults faults part.old
-        → TellsSignatureFaults (faults ++ signature_fault_view fault ∷ []) part.new) }
+fn note<A: Allocator>(
+    part: &mut SignaturePart<A>,
+    fault: SignatureFault,
+) -> Result<(), AuditFailure>
+    ensures reported { OnOk result ((faults : List SignatureFaultView) → ReportsSignatureFaults faults part.old
+        → ReportsSignatureFaults (faults ++ signature_fault_view fault ∷ []) part.new) }
     ensures memory { IfErr result (λ failure. failure ≡ failures.Memory) }
 {
     part.faults = part.faults.saturating_add(1);
-    if part.told.len() < MOST_TOLD {
-        part.told.push(fault)?;
+    if part.reported.len() < MOST_REPORTED {
+        part.reported.push(fault)?;
     }
     Ok(())
 }

@@ -2,20 +2,20 @@
 
 ghost use Rattle.std.specs.Prelude.{◌≡◌, ◌<◌, ◌≤◌, ◌+◌, ◌^◌, ◌++◌, ◌∷◌, ℕ, List, [], length, IsTrue, false, true, IfOk, IfErr, OnOk, Option, option_map};
 ghost use Rattle.mach_base.specs.Fault.{fault_of};
-ghost use Rattle.machaudit.specs.declared.report.Failure.TheVariants as failures;
-ghost use Rattle.machaudit.specs.Told.{FaultAt, TellsFirstFaults, TellsOf, HasMet};
+ghost use Rattle.machaudit.specs.declared.report.AuditFailure.TheVariants as failures;
+ghost use Rattle.machaudit.specs.Reported.{FaultAt, ReportsFirstFaults, ReportsOf, HasMet};
 
-use crate::report::{Failure, Finding, Part, Place};
+use crate::report::{AuditFailure, FaultPlace, Finding, PartReport};
 use goblin_mach::Error;
 use std::alloc::Allocator;
 
 /// How many faults of one part, or of one rule, are reported; the others are only counted.
-pub const MOST_TOLD: usize = 10;
+pub const MOST_REPORTED: usize = 10;
 
 /// What was met so far in the lists of one part.
 #[derive(Drop)]
 pub struct Tally<A: Allocator> {
-    part: Part<A>,
+    part: PartReport<A>,
     left: usize,
 }
 
@@ -25,8 +25,8 @@ impl<A: Allocator> Tally<A> {
         ensures { HasMet limit [] result }
     {
         Tally {
-            part: Part {
-                told: Vec::new(alloc),
+            part: PartReport {
+                reported: Vec::new(alloc),
                 faults: 0,
                 cut: false,
             },
@@ -36,7 +36,7 @@ impl<A: Allocator> Tally<A> {
 
     /// Counts one more item, with its error if it can't be read. Returns whether to go on: false if this is one item more than
     /// the limit. A refused allocation is no fault of an item.
-    pub fn take(&mut self, place: Place, error: Option<Error>) -> Result<bool, Failure>
+    pub fn take(&mut self, place: FaultPlace, error: Option<Error>) -> Result<bool, AuditFailure>
         ensures met { OnOk result ((limit : ℕ) (items : List (Option FaultAt)) → HasMet limit items self.old
             → HasMet limit (items ++ option_map (λ e. (place, fault_of e)) error ∷ []) self.new) }
         ensures over { IfOk result (λ more. more ≡ false → IsTrue self.new.part.cut) }
@@ -55,7 +55,7 @@ impl<A: Allocator> Tally<A> {
     }
 
     /// Returns the report of the part.
-    pub fn part(self) -> Part<A>
+    pub fn part(self) -> PartReport<A>
         ensures { result ≡ self.part }
     {
         self.part
@@ -63,18 +63,22 @@ impl<A: Allocator> Tally<A> {
 }
 
 // Counts a fault, and keeps it if it is one of the first ten.
-fn note<A: Allocator>(part: &mut Part<A>, place: Place, error: Error) -> Result<(), Failure>
-    ensures told { OnOk result ((faults : List FaultAt) → length faults + 1 < 2 ^ 64 → TellsFirstFaults faults part.old
-        → TellsFirstFaults (faults ++ (place, fault_of error) ∷ []) part.new) }
+fn note<A: Allocator>(
+    part: &mut PartReport<A>,
+    place: FaultPlace,
+    error: Error,
+) -> Result<(), AuditFailure>
+    ensures reported { OnOk result ((faults : List FaultAt) → length faults + 1 < 2 ^ 64 → ReportsFirstFaults faults part.old
+        → ReportsFirstFaults (faults ++ (place, fault_of error) ∷ []) part.new) }
     ensures memory { IfErr result (λ failure. failure ≡ failures.Memory) }
     ensures kept { OnOk result (part.new.cut ≡ part.old.cut) }
 {
     if let Error::Memory(_) = error {
-        return Err(Failure::Memory);
+        return Err(AuditFailure::Memory);
     }
     part.faults = part.faults.saturating_add(1);
-    if part.told.len() < MOST_TOLD {
-        part.told.push(Finding { place, error })?;
+    if part.reported.len() < MOST_REPORTED {
+        part.reported.push(Finding { place, error })?;
     }
     Ok(())
 }

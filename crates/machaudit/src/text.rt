@@ -4,7 +4,7 @@ ghost use Rattle.std.specs.Prelude.{◌≡◌};
 
 use crate::layout_text::print_layout;
 use crate::report::{
-    EntryReport, FatReport, Finding, ImageReport, Part, Parts, Place, Records, Report,
+    EntryReport, FatReport, FaultPlace, Finding, ImageReport, PartReport, Parts, Records, Report,
 };
 use crate::signature_text::print_signature;
 use crate::verdict::Verdict;
@@ -13,11 +13,14 @@ use std::alloc::Allocator;
 use std::io::Write;
 use std::{fmt, io};
 
-impl fmt::Display for Place {
+impl fmt::Display for FaultPlace {
     fn fmt<W: fmt::Write>(&self, f: &mut fmt::Formatter<W>) -> fmt::Result {
         match self {
-            Place::Section { segment, index } => write!(f, "segment {segment}, section {index}"),
-            Place::Relocation {
+            FaultPlace::Section { segment, index } => write!(
+                f,
+                "segment {segment}, section {index}"
+            ),
+            FaultPlace::Relocation {
                 segment,
                 section,
                 index,
@@ -25,11 +28,11 @@ impl fmt::Display for Place {
                 f,
                 "segment {segment}, section {section}, relocation {index}"
             ),
-            Place::Symbol(index) => write!(f, "symbol {index}"),
-            Place::Export(index) => write!(f, "export {index}"),
-            Place::Import(index) => write!(f, "import {index}"),
-            Place::Fixup(index) => write!(f, "fixup {index}"),
-            Place::Binding(index) => write!(f, "binding {index}"),
+            FaultPlace::Symbol(index) => write!(f, "symbol {index}"),
+            FaultPlace::Export(index) => write!(f, "export {index}"),
+            FaultPlace::Import(index) => write!(f, "import {index}"),
+            FaultPlace::Fixup(index) => write!(f, "fixup {index}"),
+            FaultPlace::Binding(index) => write!(f, "binding {index}"),
         }
     }
 }
@@ -50,8 +53,8 @@ impl fmt::Display for Verdict {
 }
 
 // Prints the reported faults of a part.
-fn print_findings<O: Write>(name: &str, told: &[Finding], out: &mut O) -> io::Result<()> {
-    'told: for finding in told {
+fn print_findings<O: Write>(name: &str, reported: &[Finding], out: &mut O) -> io::Result<()> {
+    'reported: for finding in reported {
         let place = finding.place;
         writeln!(out, "  {name}: {place}: {}", describe(&finding.error))?;
     }
@@ -59,12 +62,16 @@ fn print_findings<O: Write>(name: &str, told: &[Finding], out: &mut O) -> io::Re
 }
 
 // Prints the report of a part.
-fn print_part<A: Allocator, O: Write>(name: &str, part: &Part<A>, out: &mut O) -> io::Result<()> {
+fn print_part<A: Allocator, O: Write>(
+    name: &str,
+    part: &PartReport<A>,
+    out: &mut O,
+) -> io::Result<()> {
     if part.is_clean() {
         return writeln!(out, "  {name}: ok");
     }
-    print_findings(name, part.told.as_slice(), out)?;
-    let more = part.faults.saturating_sub(part.told.len());
+    print_findings(name, part.reported.as_slice(), out)?;
+    let more = part.faults.saturating_sub(part.reported.len());
     if more > 0 {
         writeln!(out, "  {name}: and {more} more")?;
     }
@@ -81,8 +88,8 @@ fn print_records<A: Allocator, O: Write>(
     out: &mut O,
 ) -> io::Result<()> {
     let past = records.past;
-    if past == 0 || !records.begun.is_clean() {
-        print_part(name, &records.begun, out)?;
+    if past == 0 || !records.in_bounds.is_clean() {
+        print_part(name, &records.in_bounds, out)?;
     }
     if past > 0 {
         writeln!(out, "  {name}: {past} more {name} past the end")?;

@@ -6,7 +6,7 @@ ghost use Rattle.machaudit.specs.Verdicts.{verdict_of_entry, verdict_of_fat, ver
 ghost use Rattle.machaudit.specs.Verdicts.{are_clean, verdict_of_records, verdict_of_signature};
 
 use crate::report::{
-    EntryReport, FatReport, ImageReport, Part, Parts, Records, Report, SignatureReport,
+    EntryReport, FatReport, ImageReport, PartReport, Parts, Records, Report, SignatureReport,
 };
 use mach_layout::LayoutFault;
 use std::alloc::Allocator;
@@ -35,7 +35,7 @@ impl Verdict {
     }
 }
 
-impl<A: Allocator> Part<A> {
+impl<A: Allocator> PartReport<A> {
     /// Whether all items of the part were visited, and each can be read.
     pub fn is_clean(&self) -> bool
         ensures { result ≡ is_clean self.now }
@@ -62,7 +62,7 @@ impl<A: Allocator> Records<A> {
     pub fn is_clean(&self) -> bool
         ensures { result ≡ are_clean self.now }
     {
-        self.past == 0 && self.begun.is_clean()
+        self.past == 0 && self.in_bounds.is_clean()
     }
 
     // Returns the verdict on the records.
@@ -72,7 +72,7 @@ impl<A: Allocator> Records<A> {
         if self.past > 0 {
             Verdict::Faulty
         } else {
-            self.begun.verdict()
+            self.in_bounds.verdict()
         }
     }
 }

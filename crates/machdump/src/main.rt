@@ -1,9 +1,9 @@
 //! Prints the load commands, the exports or the imports of a Mach-O file, a line each; of a fat file those of each entry.
 #![tactic(auto)]
 
-mod run;
+mod output;
 
-use run::{Word, run};
+use output::{Word, run};
 use std::io::BufWriter;
 use std::process::ExitCode;
 use std::{env, fs, io};

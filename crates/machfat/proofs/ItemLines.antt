@@ -11,9 +11,9 @@ use Rattle.mach_cli.specs.Escapes.{IsOneLine, escaped_text, has_no_feed}
 use Rattle.mach_fat_writer.specs.declared.entry_record.EntryRecord.{EntryRecord}
 use Rattle.machfat.specs.Kinds.{entry_kind, hint_text}
 use Rattle.machfat.specs.Lines.{record_line, record_text}
-use Rattle.machfat.specs.MemberLines.{MemberTold, a_member, member_front, member_line, member_name_end, member_reason, name_reason, no_more_members}
+use Rattle.machfat.specs.MemberLines.{MemberReported, a_member, member_front, member_line, member_name_end, member_reason, name_reason, no_more_members}
 use Rattle.machfat.specs.MemberLines.{number_or_dash, octal_or_dash}
-use Rattle.machfat.specs.SymbolLines.{SymbolTold, a_symbol, no_more_symbols, of_no_member, of_no_name, symbol_at_text, symbol_line, symbol_reason}
+use Rattle.machfat.specs.SymbolLines.{SymbolReported, a_symbol, no_more_symbols, of_no_member, of_no_name, symbol_at_text, symbol_line, symbol_reason}
 
 no_feed-hint : (hint : Hint) → has_no_feed (hint_text hint) ≡ true
 no_feed-hint hints.Archive = refl
@@ -56,11 +56,11 @@ one_name_end : (name : Result (List ℕ) Error) → has_no_feed (name_reason nam
 one_name_end (Ok name) h = words_end (codes "name ") (escaped_text name) refl (search (no_feeds, rules))
 one_name_end (Err e) h = words_end (codes "name refused: ") (words_of e) refl h
 
-pub one_member_line : (told : MemberTold Error) → has_no_feed (member_reason told) ≡ true → IsOneLine (member_line told)
+pub one_member_line : (reported : MemberReported Error) → has_no_feed (member_reason reported) ≡ true → IsOneLine (member_line reported)
 one_member_line (a_member number m name) h = line-more (member_front number m) (member_name_end name) (no_feed-front number m) (one_name_end name h)
 one_member_line (no_more_members e) h = one_refused_line (codes "refused") (words_of e) refl h
 
-pub one_symbol_line : (told : SymbolTold Error) → has_no_feed (symbol_reason told) ≡ true → IsOneLine (symbol_line told)
+pub one_symbol_line : (reported : SymbolReported Error) → has_no_feed (symbol_reason reported) ≡ true → IsOneLine (symbol_line reported)
 one_symbol_line (a_symbol place name) h =
     words_end (symbol_at_text place ++ codes ": ") (escaped_text name) (search (no_feeds, rules)) (search (no_feeds, rules))
 one_symbol_line (of_no_member place name e) h =

@@ -10,7 +10,7 @@ use Rattle.std.specs.Io.KnownBytes.{Appends}
 use Rattle.std.specs.List.{list_all}
 use Rattle.mach_cli.proofs.Lines.{line_more, no_lines}
 use Rattle.mach_cli.specs.Lines.{AreLines, WritesLines}
-use Rattle.mach_cli.specs.declared.listing.Told.{Told}
+use Rattle.mach_cli.specs.declared.listing.ListProgress.{ListProgress}
 use Rattle.machfat.specs.Written.{AreItemLines, WritesAs}
 
 -- The lines of these items were written, and this says whether they are whole.
@@ -33,7 +33,7 @@ module _ {A X : Type 0} (read : A → X) (line : A → List ℕ) (is_whole : X �
   }
 
   -- these are the first items, no more than `left`
-  gone_of : (left : ℕ) (items front : List X) (whole : Bool) (old new : Option (List ℕ)) (t : Told) → Gone read line is_whole front whole old new
+  gone_of : (left : ℕ) (items front : List X) (whole : Bool) (old new : Option (List ℕ)) (t : ListProgress) → Gone read line is_whole front whole old new
       → take left items ≡ front → t.whole ≡ whole → t.left ≡ left - length items → t.more ≡ nat_lt left (length items)
       → WritesAs (AreItemLines read line is_whole left items) t old new
   gone_of left items front whole old new t gone first is rest more = record {
@@ -48,7 +48,7 @@ module _ {A X : Type 0} (read : A → X) (line : A → List ℕ) (is_whole : X �
   }
 
   -- the list was visited to its end
-  pub gone_over : (left : ℕ) (items front : List X) (whole : Bool) (old new : Option (List ℕ)) (t : Told) → Gone read line is_whole front whole old new
+  pub gone_over : (left : ℕ) (items front : List X) (whole : Bool) (old new : Option (List ℕ)) (t : ListProgress) → Gone read line is_whole front whole old new
       → items ≡ front → length front ≤ left → (t.left ≡ left - length front) × (t.whole ≡ whole) × (t.more ≡ false)
       → WritesAs (AreItemLines read line is_whole left items) t old new
   gone_over left items front whole old new t gone are few said =
@@ -57,7 +57,7 @@ module _ {A X : Type 0} (read : A → X) (line : A → List ℕ) (is_whole : X �
       (said.2 ∙ sym (le-ltb left (length items) (omega (arith, few, many))))
 
   -- the list was visited to the limit, and an item comes after it
-  pub gone_cut : (left : ℕ) (items front : List X) (item : X) (rest : List X) (whole : Bool) (old new : Option (List ℕ)) (t : Told)
+  pub gone_cut : (left : ℕ) (items front : List X) (item : X) (rest : List X) (whole : Bool) (old new : Option (List ℕ)) (t : ListProgress)
       → Gone read line is_whole front whole old new → items ≡ front ++ item ∷ rest → length front ≡ left
       → (t.left ≡ 0) × (t.whole ≡ whole) × (t.more ≡ true) → WritesAs (AreItemLines read line is_whole left items) t old new
   gone_cut left items front item rest whole old new t gone are full said =

@@ -1,4 +1,4 @@
 pub mod ItemLines
 pub mod Items
-pub mod Told
-pub mod MembersTold
+pub mod Reported
+pub mod MembersReported

@@ -2,8 +2,8 @@
 use Rattle.std.specs.Prelude.{◌≡◌, ◌&&◌, ◌||◌, ℕ, List, ◌++◌, not}
 use Rattle.mach_archive.specs.Archives.{ArchiveView}
 use Rattle.mach_cli.specs.Listings.{cut_line}
-use Rattle.mach_cli.specs.declared.listing.Told.{Told}
-use Rattle.mach_cli.specs.declared.shows.Outcome.{Outcome}
+use Rattle.mach_cli.specs.declared.listing.ListProgress.{ListProgress}
+use Rattle.mach_cli.specs.declared.image_view.Outcome.{Outcome}
 use Rattle.machfat.specs.MemberLines.{AreMemberLines}
 use Rattle.machfat.specs.SymbolLines.{AreIndexLines}
 
@@ -12,8 +12,8 @@ use Rattle.machfat.specs.SymbolLines.{AreIndexLines}
 pub record AreArchiveLines (limit left : ℕ) (a : ArchiveView) (text : List ℕ) (o : Outcome) : Type 0 where
   pub members : List ℕ
   pub symbols : List ℕ
-  pub first : Told
-  pub second : Told
+  pub first : ListProgress
+  pub second : ListProgress
   pub are_members : AreMemberLines a left members first
   pub are_symbols : AreIndexLines a first.left symbols second
   pub is_text : text ≡ members ++ (symbols ++ cut_line limit (first.more || second.more))

@@ -29,6 +29,6 @@ pub data HasFatFaults (bytes : List ℕ) (faults : List LayoutFault) : Type 0 wh
   of_64_bits : HasFat64Magic bytes → AreContainerFaults arch_form_64 bytes faults → HasFatFaults bytes faults
 
 -- Its layout has these faults, and the lines of the first ones were written, no more than a limit, and a line if there are more.
-pub record TellsFatFaults (limit : ℕ) (bytes : List ℕ) (faults : List LayoutFault) (old new : Option (List ℕ)) : Type 0 where
+pub record ReportsFatFaults (limit : ℕ) (bytes : List ℕ) (faults : List LayoutFault) (old new : Option (List ℕ)) : Type 0 where
   pub has : HasFatFaults bytes faults
-  pub told : Appends old new (fault_lines (take limit faults) ++ cut_line limit (nat_lt limit (length faults)))
+  pub reported : Appends old new (fault_lines (take limit faults) ++ cut_line limit (nat_lt limit (length faults)))

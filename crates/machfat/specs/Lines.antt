@@ -72,18 +72,18 @@ document_text limit file bytes records =
     codes "{\"entries\":[" ++ (records_from Objects bytes 0 (take limit records) ++ document_tail (nat_lt limit (length records)) file)
 
 -- A text of a fat file's records was written; it is whole if there are no more than a limit.
-pub record TellsFirstRecords (text : List EntryRecord → List ℕ) (limit : ℕ) (bytes : List ℕ) (whole : Bool) (old new : Option (List ℕ)) : Type 0 where
+pub record ReportsFirstRecords (text : List EntryRecord → List ℕ) (limit : ℕ) (bytes : List ℕ) (whole : Bool) (old new : Option (List ℕ)) : Type 0 where
   pub records : List EntryRecord
   pub are_records : fat_records_in bytes ≡ Ok records
   pub is_whole : whole ≡ not (nat_lt limit (length records))
   pub written : Appends old new (text records)
 
 -- These lines, or this object, were written.
-abbrev pub TellsList : (limit : ℕ) (bytes : List ℕ) (whole : Bool) (old new : Option (List ℕ)) → Type 0
-TellsList limit bytes whole old new = TellsFirstRecords (list_text limit bytes) limit bytes whole old new
+abbrev pub ReportsList : (limit : ℕ) (bytes : List ℕ) (whole : Bool) (old new : Option (List ℕ)) → Type 0
+ReportsList limit bytes whole old new = ReportsFirstRecords (list_text limit bytes) limit bytes whole old new
 
-abbrev pub TellsDocument : (limit : ℕ) (file bytes : List ℕ) (whole : Bool) (old new : Option (List ℕ)) → Type 0
-TellsDocument limit file bytes whole old new = TellsFirstRecords (document_text limit file bytes) limit bytes whole old new
+abbrev pub ReportsDocument : (limit : ℕ) (file bytes : List ℕ) (whole : Bool) (old new : Option (List ℕ)) → Type 0
+ReportsDocument limit file bytes whole old new = ReportsFirstRecords (document_text limit file bytes) limit bytes whole old new
 
 -- the object of a refused file; its words consist of fixed texts and numbers, so nothing is escaped
 abbrev pub refusal_document : (file words : List ℕ) → List ℕ

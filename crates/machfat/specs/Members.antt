@@ -11,7 +11,7 @@ use Rattle.mach_fat_writer.specs.Unfit.{entry_refusal_words}
 use Rattle.mach_fat_writer.specs.declared.entry_record.EntryRecord.{EntryRecord}
 use Rattle.mach_fat_writer.specs.declared.refusal.EntryRefusal.TheVariants.{OutOfFile}
 use Rattle.mach_parts.specs.Magic.{magic_at}
-use Rattle.mach_cli.specs.declared.shows.Outcome.{Outcome}
+use Rattle.mach_cli.specs.declared.image_view.Outcome.{Outcome}
 use Rattle.machfat.specs.ArchiveLines.{AreArchiveLines}
 use Rattle.machfat.specs.Kinds.{is_image_magic}
 use Rattle.machfat.specs.Names.{refused_line}

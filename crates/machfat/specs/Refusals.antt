@@ -1,7 +1,7 @@
 -- Why the program refuses a file or an entry, and the message about it.
 use Rattle.std.specs.Prelude.{◌≡◌, ℕ, List, [], codes, Option, Some, None, Result, Ok, Err}
 use Rattle.std.specs.Io.KnownBytes.{Appends}
-use Rattle.mach_base.specs.Answer.{Stands}
+use Rattle.mach_base.specs.Answer.{ErrorMeets}
 use Rattle.mach_base.specs.Fault.{Fault}
 use Rattle.mach_base.specs.Words.{words_of}
 use Rattle.mach_parts.specs.FatRecords.{HasFat64Magic}
@@ -18,8 +18,8 @@ use Rattle.mach_cli.specs.Shown.{complaint}
 use Rattle.mach_cli.specs.declared.foreign.Foreign as declared
 use Rattle.mach_cli.specs.declared.foreign.Foreign.TheVariants.{Archive}
 use Rattle.machfat.specs.Members.{MembersFault}
-use Rattle.machfat.specs.declared.refusal.Failure.TheVariants as failures
-use Rattle.machfat.specs.declared.refusal.Failure.{Failure}
+use Rattle.machfat.specs.declared.refusal.WriteFailure.TheVariants as failures
+use Rattle.machfat.specs.declared.refusal.WriteFailure.{WriteFailure}
 use Rattle.machfat.specs.declared.refusal.Refusal.TheVariants.{Refused, Foreign, NotFat, Entries}
 use Rattle.machfat.specs.declared.refusal.Refusal.{Refusal}
 
@@ -45,8 +45,8 @@ refused_by None e = Refused e
 
 -- Why a file can't be read: one of these faults holds, and the kind of the file is known or not; or an allocation was refused.
 abbrev pub RefusesRead : (Fault → Type 0) → (kind : Error → Option declared.Foreign) → Refusal → Type 0
-RefusesRead faults kind (Refused e) = Stands faults e × (kind e ≡ None)
-RefusesRead faults kind (Foreign known) = (e : Error) × Stands faults e × (kind e ≡ Some known)
+RefusesRead faults kind (Refused e) = ErrorMeets faults e × (kind e ≡ None)
+RefusesRead faults kind (Foreign known) = (e : Error) × ErrorMeets faults e × (kind e ≡ Some known)
 RefusesRead faults kind NotFat = ⊥
 RefusesRead faults kind (Entries why) = ⊥
 
@@ -84,38 +84,38 @@ said_in bytes (Err why) = Err (said_by (kind_by_front bytes why) why)
 -- Why what a fat file has, `there`, can't be printed or written: it can't be read, and the first bytes show the kind of the file,
 -- or don't; it isn't there; or an allocation was refused.
 abbrev pub Refuses : {Y : Type 0} → List ℕ → Result Y Unfit → Refusal → Type 0
-Refuses bytes there (Refused e) = Stands (λ f. ⊥) e
+Refuses bytes there (Refused e) = ErrorMeets (λ f. ⊥) e
 Refuses bytes there (Foreign kind) = (why : EntryRefusal) × RefusesAs why there × (kind_by_front bytes why ≡ Some kind)
 Refuses bytes there NotFat = ⊥
 Refuses bytes there (Entries why) = RefusesAs why there × (kind_by_front bytes why ≡ None)
 
 -- The same, without the kind of the file.
 abbrev pub RefusesPlainly : {Y : Type 0} → Result Y Unfit → Refusal → Type 0
-RefusesPlainly there (Refused e) = Stands (λ f. ⊥) e
+RefusesPlainly there (Refused e) = ErrorMeets (λ f. ⊥) e
 RefusesPlainly there (Foreign kind) = ⊥
 RefusesPlainly there NotFat = ⊥
 RefusesPlainly there (Entries why) = RefusesAs why there
 
 -- the refusal, if it is one, satisfies P
-abbrev pub IsRefusal : (Refusal → Type 0) → Failure → Type 0
+abbrev pub IsRefusal : (Refusal → Type 0) → WriteFailure → Type 0
 IsRefusal P (failures.Refused refusal) = P refusal
 IsRefusal P (failures.Unwritten e) = Unit {0}
 
 -- the refusal is a refused allocation
 abbrev pub IsWant : Refusal → Type 0
-IsWant (Refused e) = Stands (λ f. ⊥) e
+IsWant (Refused e) = ErrorMeets (λ f. ⊥) e
 IsWant (Foreign kind) = ⊥
 IsWant NotFat = ⊥
 IsWant (Entries why) = ⊥
 
 -- It is a refusal that satisfies P, and nothing was written.
-abbrev pub RefusesUnwritten : (Refusal → Type 0) → (old new : Option (List ℕ)) → Failure → Type 0
+abbrev pub RefusesUnwritten : (Refusal → Type 0) → (old new : Option (List ℕ)) → WriteFailure → Type 0
 RefusesUnwritten P old new failure = IsRefusal (λ refusal. P refusal × Appends old new []) failure
 
 -- A file is refused, and the refusal satisfies P: a line on the error output says why, and nothing was written on the other
 -- output.
 pub record RefusesFile (P : Refusal → Type 0) (file : List ℕ) (out_old out_new err_old err_new : Option (List ℕ)) : Type 0 where
   pub refusal : Refusal
-  pub stands : P refusal
+  pub occurs : P refusal
   pub nothing : Appends out_old out_new []
   pub said : Appends err_old err_new (refusal_line file refusal)

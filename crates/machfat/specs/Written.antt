@@ -3,12 +3,12 @@ use Rattle.std.specs.Prelude.{◌≡◌, ◌-◌, ℕ, List, take, length, nat_l
 use Rattle.std.specs.Io.KnownBytes.{Appends}
 use Rattle.std.specs.List.{list_all}
 use Rattle.mach_cli.specs.Lines.{AreLines}
-use Rattle.mach_cli.specs.declared.listing.Told.{Told}
+use Rattle.mach_cli.specs.declared.listing.ListProgress.{ListProgress}
 
 -- The text is a line for each of the first items, in order, no more than `left`. It is known whether these are whole, how many
 -- more lines there may be, and whether there are more items.
 pub record AreItemLines {A X : Type 0} (read : A → X) (line : A → List ℕ) (is_whole : X → Bool) (left : ℕ) (items : List X) (text : List ℕ)
-    (t : Told) : Type 0 where
+    (t : ListProgress) : Type 0 where
   pub lines : AreLines read line (take left items) text
   pub whole : t.whole ≡ list_all is_whole (take left items)
   pub rest : t.left ≡ left - length items

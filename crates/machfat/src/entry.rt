@@ -3,10 +3,10 @@
 ghost use Rattle.std.specs.Prelude.{◌≡◌, take, Ok, IfOk, IfErr, OnOk};
 ghost use Rattle.std.specs.Io.KnownBytes.{Appends};
 ghost use Rattle.mach_fat_writer.specs.Changes.{fat_records_in, indexed_entry_in};
-ghost use Rattle.machfat.specs.Lines.{next_object, record_as, record_line, records_from, TellsList};
+ghost use Rattle.machfat.specs.Lines.{next_object, record_as, record_line, records_from, ReportsList};
 ghost use Rattle.machfat.specs.Refusals.{Refuses, RefusesUnwritten, kind_by_front, said_in};
 
-use crate::refusal::{Failure, Refusal};
+use crate::refusal::{Refusal, WriteFailure};
 use crate::text::{RecordObject, RecordText};
 use mach_cli::{Foreign, print_cut, refused_kind};
 use mach_fat_writer::{EntryRecord, EntryRefusal, fat_records, indexed_entry};
@@ -47,7 +47,7 @@ pub enum ListForm {
 }
 
 /// Returns the records of a fat file of 32 or of 64 bits, in order.
-#[tactic(auto, using(crate::proofs::Told::tells_of))]
+#[tactic(auto, using(crate::proofs::Reported::reports_of))]
 pub fn records<A: Allocator>(alloc: A, bytes: &[u8]) -> Result<Vec<EntryRecord, A>, Refusal>
     ensures held { IfOk result (λ v. fat_records_in bytes.now ≡ Ok v.items) }
     ensures refused { IfErr result (Refuses bytes.now (fat_records_in bytes.now)) }
@@ -127,8 +127,8 @@ pub fn list<A: Allocator, O: Write>(
     limit: usize,
     bytes: &[u8],
     out: &mut O,
-) -> Result<bool, Failure>
-    ensures listed { IfOk result (λ whole. TellsList limit bytes.now whole (O.contents out.old) (O.contents out.new)) }
+) -> Result<bool, WriteFailure>
+    ensures listed { IfOk result (λ whole. ReportsList limit bytes.now whole (O.contents out.old) (O.contents out.new)) }
     ensures refused { IfErr result (RefusesUnwritten (Refuses bytes.now (fat_records_in bytes.now)) (O.contents out.old) (O.contents out.new)) }
 {
     let records = records(alloc, bytes)?;
@@ -139,7 +139,7 @@ pub fn list<A: Allocator, O: Write>(
 }
 
 /// Returns the bytes of an entry of a fat file of 32 or of 64 bits.
-#[tactic(auto, using(crate::proofs::Told::tells_of))]
+#[tactic(auto, using(crate::proofs::Reported::reports_of))]
 pub fn entry_bytes(alloc: Global, bytes: &[u8], index: usize) -> Result<&[u8], Refusal>
     ensures found { IfOk result (λ entry. indexed_entry_in bytes.now index ≡ Ok entry.now) }
     ensures refused { IfErr result (Refuses bytes.now (indexed_entry_in bytes.now index)) }

@@ -6,13 +6,13 @@ ghost use Rattle.std.specs.Io.KnownBytes.{Appends};
 ghost use Rattle.mach_fat_writer.specs.Changes.{fat_records_in};
 ghost use Rattle.mach_cli.specs.Bounds.{most_items};
 ghost use Rattle.mach_cli.specs.Statuses.{IsStatus};
-ghost use Rattle.machfat.specs.Lines.{document_text, refusal_document, document_tail, TellsDocument};
+ghost use Rattle.machfat.specs.Lines.{document_text, refusal_document, document_tail, ReportsDocument};
 ghost use Rattle.machfat.specs.Refusals.{Refuses, refusal_line, refusal_words};
 ghost use Rattle.machfat.specs.declared.refusal.Refusal.{Refusal};
 
+use crate::commands::{NAME, refused};
 use crate::entry::{ListForm, first_of, print_records, records};
 use crate::refusal::Refusal;
-use crate::run::{NAME, refused};
 use mach_cli::output::failed;
 use mach_cli::{JsonString, most_items};
 use mach_fat_writer::EntryRecord;
@@ -36,9 +36,9 @@ pub fn run_list_json<A: Allocator, W: Write + Drop, B: Allocator, E: Write>(
 ) -> u8
     ensures status { IsStatus result }
     ensures listed { result ≡ 0
-        → TellsDocument (most_items limit bytes.now) file.now bytes.now true (writer_contents W.contents out.old) (writer_contents W.contents out.new) }
+        → ReportsDocument (most_items limit bytes.now) file.now bytes.now true (writer_contents W.contents out.old) (writer_contents W.contents out.new) }
     ensures refused { result ≡ 1
-        → TellsDocument (most_items limit bytes.now) file.now bytes.now false (writer_contents W.contents out.old) (writer_contents W.contents out.new)
+        → ReportsDocument (most_items limit bytes.now) file.now bytes.now false (writer_contents W.contents out.old) (writer_contents W.contents out.new)
         ⊎ ((refusal : Refusal) × Refuses bytes.now (fat_records_in bytes.now) refusal
         × Appends (writer_contents W.contents out.old) (writer_contents W.contents out.new) (refusal_document file.now (refusal_words refusal))
         × Appends (E.contents err.old) (E.contents err.new) (refusal_line file.now refusal)) }
@@ -84,7 +84,7 @@ fn refuse<W: Write + Drop, B: Allocator, E: Write>(
     ensures not_zero { 1 ≤ result }
     ensures written { result ≡ 1 → Appends (writer_contents W.contents out.old) (writer_contents W.contents out.new)
         (refusal_document file.now (refusal_words refusal.now)) }
-    ensures told { result ≡ 1 → Appends (E.contents err.old) (E.contents err.new) (refusal_line file.now refusal.now) }
+    ensures reported { result ≡ 1 → Appends (E.contents err.old) (E.contents err.new) (refusal_line file.now refusal.now) }
     ensures flushed { result ≡ 1 → writer_buffer out.new ≡ [] }
 {
     match write_refusal(file, refusal, out) {

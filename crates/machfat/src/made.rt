@@ -2,7 +2,7 @@
 
 ghost use Rattle.std.specs.Prelude.{◌≡◌, ◌≤◌, List, ℕ};
 ghost use Rattle.std.specs.Io.KnownBytes.{Appends};
-ghost use Rattle.mach_base.specs.Answer.{Stands};
+ghost use Rattle.mach_base.specs.Answer.{ErrorMeets};
 ghost use Rattle.mach_base.specs.declared.error.Error.{Error};
 ghost use Rattle.mach_fat_writer.specs.Changes.{IsReplaced, IsWithout, RefusesReplace, RefusesRemove};
 ghost use Rattle.mach_fat_writer.specs.Creates.{IsCreated, RefusesCreate, texts_now};
@@ -15,9 +15,9 @@ ghost use Rattle.machfat.specs.Refusals.{refusal_line};
 ghost use Rattle.machfat.specs.Same.{AreOther};
 ghost use Rattle.machfat.specs.declared.refusal.Refusal.TheVariants.{Refused};
 
+use crate::commands::{NAME, refused, status};
 use crate::new_file::{first_same, place_file};
 use crate::refusal::Refusal;
-use crate::run::{NAME, refused, status};
 use mach_cli::Escaped;
 use mach_fat_writer::{FileRefusal, Form, MakeRefusal, create, remove, replace};
 use std::alloc::Global;
@@ -115,7 +115,7 @@ fn place_made<R: Files, E: Write>(
 ) -> u8
     ensures status { IsStatus result }
     ensures written { result ≡ 0 → WasWritten R.File.contents made.now }
-    ensures wanting { result ≡ 1 → (e : Error) × Stands (λ f. ⊥) e
+    ensures wanting { result ≡ 1 → (e : Error) × ErrorMeets (λ f. ⊥) e
         × Appends (E.contents err.old) (E.contents err.new) (refusal_line target.now (Refused e)) }
 {
     status(place_file(files, alloc, made, target), target, target, err)
@@ -125,7 +125,7 @@ fn place_made<R: Files, E: Write>(
 fn refuse<E: Write>(names: &[&str], target: &str, refusal: MakeRefusal, err: &mut E) -> u8
     ensures status { IsStatus result }
     ensures not_zero { 1 ≤ result }
-    ensures told { result ≡ 1 → Appends (E.contents err.old) (E.contents err.new) (make_line names.now target.now refusal) }
+    ensures reported { result ≡ 1 → Appends (E.contents err.old) (E.contents err.new) (make_line names.now target.now refusal) }
 {
     match refusal {
         MakeRefusal::OfFile(FileRefusal { file, why }) => {

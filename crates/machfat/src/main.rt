@@ -9,6 +9,7 @@
 #![tactic(auto)]
 
 // Fat files: taken apart, written, and listed.
+mod commands;
 mod entry;
 mod json;
 mod laws;
@@ -16,7 +17,6 @@ mod made;
 mod members;
 mod new_file;
 mod refusal;
-mod run;
 mod text;
 mod thin;
 mod verify;
@@ -27,15 +27,15 @@ mod archive;
 ghost use Rattle.std.specs.Prelude.{◌≡◌, if◌then◌else◌};
 ghost use Rattle.mach_fat_writer.specs.declared.form.Form.TheVariants.{Bits32, Bits64};
 
+use commands::{NAME, run_extract, run_list};
 use json::run_list_json;
 use mach_cli::{
-    Call, Cpu, Files, Misuse, Others, Program, ShowsFile, Titled, Word, cputype_in, take_json,
+    Call, Cpu, FileView, Files, Misuse, Others, Program, Titled, Word, cputype_in, take_json,
 };
 use mach_fat_writer::Form;
 use made::{one_file, run_create, run_remove, run_replace};
 use members::run_members;
 use new_file::is_same_file;
-use run::{NAME, run_extract, run_list};
 use std::alloc::{AllocError, Allocator, Global};
 use std::io;
 use std::io::{BufWriter, Write};
@@ -60,7 +60,7 @@ enum Shown {
 
 // What is printed of each file, and how many lines at most.
 #[derive(Clone, Copy)]
-struct Asked {
+struct Selected {
     shown: Shown,
     limit: usize,
 }
@@ -123,7 +123,7 @@ fn start(rt: &HostRuntime) -> Result<u8, u8> {
     match shown_by(word, is_json) {
         Some(shown) if !is_wide => show_files(
             rt,
-            Asked {
+            Selected {
                 shown,
                 limit: call.limit.unwrap_or(DEFAULT_LIMIT),
             },
@@ -181,7 +181,7 @@ fn write_file(rt: &HostRuntime, word: &str, form: Form, given: &[&str]) -> Resul
     }
 }
 
-impl<W: Write + Drop, B: Allocator> ShowsFile<BufWriter<W, B>> for Asked {
+impl<W: Write + Drop, B: Allocator> FileView<BufWriter<W, B>> for Selected {
     fn show(&self, rt: &HostRuntime, name: &str, bytes: &[u8], out: &mut BufWriter<W, B>) -> u8 {
         let (alloc, limit, err) = (rt.alloc(), self.limit, &mut rt.stderr());
         match self.shown {
@@ -196,7 +196,7 @@ impl<W: Write + Drop, B: Allocator> ShowsFile<BufWriter<W, B>> for Asked {
 // Shows files in order, and returns the worst status.
 fn show_files(
     rt: &HostRuntime,
-    asked: Asked,
+    selected: Selected,
     files: &[&str],
     others: &Others<'_, Global>,
 ) -> Result<u8, u8> {
@@ -210,10 +210,10 @@ fn show_files(
     let shown = Files {
         program: PROGRAM,
         cpu: Cpu::Any,
-        has_titles: !matches!(asked.shown, Shown::Object),
+        has_titles: !matches!(selected.shown, Shown::Object),
         has_parts: false,
     };
-    shown.show(rt, &asked, files, others, &mut lines)
+    shown.show(rt, &selected, files, others, &mut lines)
 }
 
 // Removes the option from a call's words, if it is before `--`, and returns whether it was there.

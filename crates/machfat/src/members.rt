@@ -14,8 +14,8 @@ ghost use Rattle.machfat.specs.Written.{WritesAs};
 
 use crate::archive::kind::begins_image;
 use crate::archive::{print_archive, print_refused};
-use crate::refusal::{Failure, Refusal, refused_by};
-use crate::run::told;
+use crate::commands::reported;
+use crate::refusal::{Refusal, WriteFailure, refused_by};
 use mach_archive::Archive;
 use mach_base::Error;
 use mach_cli::{Foreign, Outcome, most_items, refused_kind};
@@ -48,7 +48,7 @@ pub fn run_members<W: Write + Drop, B: Allocator, E: Write>(
     ensures flushed { result ≤ 1 → writer_buffer out.new ≡ [] }
 {
     let answer = print_file(alloc, most_items(limit, bytes), bytes, out);
-    told(answer, file, out, err)
+    reported(answer, file, out, err)
 }
 
 // Prints the lines of a file, no more than a limit. Returns whether it is whole.
@@ -57,8 +57,8 @@ fn print_file<O: Write>(
     limit: usize,
     bytes: &[u8],
     out: &mut O,
-) -> Result<bool, Failure>
-    ensures told { IfOk result (λ whole. WritesAs (AreFileLines limit bytes.now) whole (O.contents out.old) (O.contents out.new)) }
+) -> Result<bool, WriteFailure>
+    ensures reported { IfOk result (λ whole. WritesAs (AreFileLines limit bytes.now) whole (O.contents out.old) (O.contents out.new)) }
     ensures refused { IfErr result (RefusesUnwritten (RefusesMembers bytes.now) (O.contents out.old) (O.contents out.new)) }
 {
     match Form::of(bytes) {
@@ -68,7 +68,7 @@ fn print_file<O: Write>(
         }
         None => match Archive::parse(bytes) {
             Ok(archive) => Ok(print_archive(&archive, limit, limit, out)?.whole),
-            Err(error) => Err(Failure::Refused(refused(bytes, error))),
+            Err(error) => Err(WriteFailure::Refused(refused(bytes, error))),
         },
     }
 }

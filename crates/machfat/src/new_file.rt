@@ -5,7 +5,7 @@ ghost use Rattle.machfat.specs.Entry.{Took, TookLast};
 ghost use Rattle.machfat.specs.Refusals.{IsRefusal, IsWant};
 ghost use Rattle.machfat.specs.Same.{is_one_file, is_one_node, AreOther, IsSame};
 
-use crate::refusal::Failure;
+use crate::refusal::WriteFailure;
 use std::alloc::Global;
 use std::fs::{File, OpenFile};
 use std::io::{ErrorKind, Write};
@@ -81,7 +81,7 @@ pub fn place_file<R: Files>(
     alloc: Global,
     bytes: &[u8],
     target: &str,
-) -> Result<R::File, Failure>
+) -> Result<R::File, WriteFailure>
     ensures written { IfOk result (λ file. TookLast R.File.contents file bytes.now) }
     ensures refused { IfErr result (IsRefusal IsWant) }
 {
@@ -107,7 +107,11 @@ fn is_free<R: Files>(files: &R, path: &str) -> bool {
 }
 
 // Creates a file with a new name beside a path.
-fn new_file<R: Files>(files: &R, alloc: Global, path: &str) -> Result<(String, R::File), Failure>
+fn new_file<R: Files>(
+    files: &R,
+    alloc: Global,
+    path: &str,
+) -> Result<(String, R::File), WriteFailure>
     ensures { IfErr result (IsRefusal IsWant) }
 {
     for number in 0..NAMES {
@@ -115,21 +119,21 @@ fn new_file<R: Files>(files: &R, alloc: Global, path: &str) -> Result<(String, R
         match File::create_new(files, name.as_str()) {
             Ok(file) => return Ok((name, file)),
             Err(error) if error.kind() == ErrorKind::AlreadyExists => {}
-            Err(error) => return Err(Failure::Unwritten(error)),
+            Err(error) => return Err(WriteFailure::Unwritten(error)),
         }
     }
     Err(taken())
 }
 
 // Returns the failure if a name is taken.
-fn taken() -> Failure
+fn taken() -> WriteFailure
     ensures { IsRefusal IsWant result }
 {
-    Failure::Unwritten(io::Error::from(ErrorKind::AlreadyExists))
+    WriteFailure::Unwritten(io::Error::from(ErrorKind::AlreadyExists))
 }
 
 // Writes bytes to a file, and syncs it to the disk.
-fn fill<F: Write + OpenFile>(bytes: &[u8], file: &mut F) -> Result<(), Failure>
+fn fill<F: Write + OpenFile>(bytes: &[u8], file: &mut F) -> Result<(), WriteFailure>
     ensures written { OnOk result (Took F.contents file.old file.new bytes.now) }
     ensures refused { IfErr result (IsRefusal IsWant) }
 {
@@ -146,7 +150,7 @@ fn complete<R: Files>(
     mut file: R::File,
     name: &str,
     target: &str,
-) -> Result<R::File, Failure>
+) -> Result<R::File, WriteFailure>
     ensures written { IfOk result (λ filled. Took R.File.contents file filled bytes.now) }
     ensures refused { IfErr result (IsRefusal IsWant) }
 {

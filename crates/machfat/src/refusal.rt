@@ -3,7 +3,7 @@
 ghost use Rattle.std.specs.Prelude.{◌≡◌};
 ghost use Rattle.machfat.specs.Refusals.{refused_by};
 ghost use Rattle.machfat.specs.declared.refusal.Refusal.TheVariants as refusals;
-ghost use Rattle.machfat.specs.declared.refusal.Failure.TheVariants as failures;
+ghost use Rattle.machfat.specs.declared.refusal.WriteFailure.TheVariants as failures;
 
 use goblin_mach::{Error, describe};
 use mach_cli::Foreign;
@@ -69,35 +69,35 @@ pub fn refused_by(kind: Option<Foreign>, error: Error) -> Refusal
 
 /// Why something was not written.
 #[derive(Drop)]
-pub enum Failure {
+pub enum WriteFailure {
     /// There is nothing to write.
     Refused(Refusal),
     /// A write failed.
     Unwritten(io::Error),
 }
 
-impl From<Refusal> for Failure {
+impl From<Refusal> for WriteFailure {
     ghost from_gives = { λ refusal failure. failure ≡ failures.Refused refusal };
 
-    fn from(refusal: Refusal) -> Failure {
-        Failure::Refused(refusal)
+    fn from(refusal: Refusal) -> WriteFailure {
+        WriteFailure::Refused(refusal)
     }
 }
 
-impl From<AllocError> for Failure {
+impl From<AllocError> for WriteFailure {
     ghost use Rattle.mach_base.specs.declared.error.Error.TheVariants as errors;
 
     ghost from_gives = { λ error failure. failure ≡ failures.Refused (refusals.Refused (errors.Memory error)) };
 
-    fn from(error: AllocError) -> Failure {
-        Failure::Refused(Refusal::from(Error::from(error)))
+    fn from(error: AllocError) -> WriteFailure {
+        WriteFailure::Refused(Refusal::from(Error::from(error)))
     }
 }
 
-impl From<io::Error> for Failure {
+impl From<io::Error> for WriteFailure {
     ghost from_gives = { λ error failure. failure ≡ failures.Unwritten error };
 
-    fn from(error: io::Error) -> Failure {
-        Failure::Unwritten(error)
+    fn from(error: io::Error) -> WriteFailure {
+        WriteFailure::Unwritten(error)
     }
 }

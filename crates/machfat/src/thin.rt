@@ -9,10 +9,10 @@ ghost use Rattle.machfat.specs.Refusals.{IsRefusal, RefusesPlainly, refusal_line
 ghost use Rattle.machfat.specs.Same.{IsOther};
 ghost use Rattle.machfat.specs.declared.refusal.Refusal.{Refusal};
 
+use crate::commands::status;
 use crate::made::one_file;
 use crate::new_file::{is_same_file, place_file};
-use crate::refusal::{Failure, Refusal};
-use crate::run::status;
+use crate::refusal::{Refusal, WriteFailure};
 use mach_fat_writer::thin_entry;
 use std::alloc::Global;
 use std::io::Write;
@@ -65,7 +65,7 @@ fn thin<R: Files>(
     bytes: &[u8],
     cputype: u32,
     target: &str,
-) -> Result<R::File, Failure>
+) -> Result<R::File, WriteFailure>
     ensures thinned { IfOk result (λ file. (entry : List ℕ) × (thin_entry_in bytes.now cputype ≡ Ok entry) × TookLast R.File.contents file entry) }
     ensures refused { IfErr result (IsRefusal (RefusesPlainly (thin_entry_in bytes.now cputype))) }
 {

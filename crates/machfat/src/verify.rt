@@ -8,12 +8,12 @@ ghost use Rattle.goblin_mach.specs.File.{HasFatMagic};
 ghost use Rattle.mach_layout.specs.declared.fault.LayoutFault.{LayoutFault};
 ghost use Rattle.mach_cli.specs.Bounds.{most_items};
 ghost use Rattle.mach_cli.specs.Statuses.{IsStatus};
-ghost use Rattle.machfat.specs.Faults.{HasFatFaults, TellsFatFaults, fault_lines, is_faultless, table_fault_line};
+ghost use Rattle.machfat.specs.Faults.{HasFatFaults, ReportsFatFaults, fault_lines, is_faultless, table_fault_line};
 ghost use Rattle.machfat.specs.Refusals.{RefusesFaults, RefusesFile, RefusesUnwritten};
 
+use crate::commands::reported;
 use crate::entry::first_of;
-use crate::refusal::{Failure, Refusal, refused_by};
-use crate::run::told;
+use crate::refusal::{Refusal, WriteFailure, refused_by};
 use goblin_mach::fat::FatArch;
 use goblin_mach::{Mach, MultiArch64, peek};
 use mach_cli::{most_items, print_cut, refused_kind};
@@ -38,21 +38,27 @@ pub fn run_verify<W: Write + Drop, B: Allocator, E: Write>(
 ) -> u8
     ensures status { IsStatus result }
     ensures sound { result ≡ 0
-        → TellsFatFaults (most_items limit bytes.now) bytes.now [] (writer_contents W.contents out.old) (writer_contents W.contents out.new) }
-    ensures faulty { result ≡ 1 → ((fault : LayoutFault) × (faults : List LayoutFault) × TellsFatFaults (most_items limit bytes.now) bytes.now (fault ∷ faults)
+        → ReportsFatFaults (most_items limit bytes.now) bytes.now [] (writer_contents W.contents out.old) (writer_contents W.contents out.new) }
+    ensures faulty { result ≡ 1 → ((fault : LayoutFault) × (faults : List LayoutFault)
+        × ReportsFatFaults (most_items limit bytes.now) bytes.now (fault ∷ faults)
         (writer_contents W.contents out.old) (writer_contents W.contents out.new))
         ⊎ RefusesFile (RefusesFaults bytes.now) file.now (writer_contents W.contents out.old) (writer_contents W.contents out.new)
         (E.contents err.old) (E.contents err.new) }
     ensures flushed { result ≤ 1 → writer_buffer out.new ≡ [] }
 {
     let answer = verify(alloc, most_items(limit, bytes), bytes, out);
-    told(answer, file, out, err)
+    reported(answer, file, out, err)
 }
 
 // Prints the faults, no more than a limit. Returns whether there is none.
-fn verify<O: Write>(alloc: Global, limit: usize, bytes: &[u8], out: &mut O) -> Result<bool, Failure>
-    ensures told { IfOk result (λ sound. (faults : List LayoutFault) × (sound ≡ is_faultless faults)
-        × TellsFatFaults limit bytes.now faults (O.contents out.old) (O.contents out.new)) }
+fn verify<O: Write>(
+    alloc: Global,
+    limit: usize,
+    bytes: &[u8],
+    out: &mut O,
+) -> Result<bool, WriteFailure>
+    ensures reported { IfOk result (λ sound. (faults : List LayoutFault) × (sound ≡ is_faultless faults)
+        × ReportsFatFaults limit bytes.now faults (O.contents out.old) (O.contents out.new)) }
     ensures refused { IfErr result (RefusesUnwritten (RefusesFaults bytes.now) (O.contents out.old) (O.contents out.new)) }
 {
     let faults = fat_faults(alloc, bytes)?;

@@ -10,7 +10,7 @@ use Rattle.std.proofs.lemmas.Bool.{leb-true, leb-false, le-leb, lt-leb}
 use Rattle.std.proofs.lemmas.List.{take-append-drop, get_or-take, get_or-drop, get_or_default, length-drop, length-take, length-take-le, take_all, take_more}
 use Rattle.std.proofs.lemmas.List.Elements.{All-head, All-tail, All-more, All-nil, All-push, All-weaker}
 use Rattle.std.proofs.lemmas.List.Sorted.{IsNonDecreasingBy-push, IsNonDecreasingBy-short}
-use Rattle.machfixups.specs.Stretches.{holds, first_holder, holder_from, AreByAddress, StretchGoesOn, Stays, PassesNext, TellHolders}
+use Rattle.machfixups.specs.Stretches.{holds, first_holder, holder_from, AreByAddress, StretchGoesOn, Stays, PassesNext, ReportHolders}
 use Rattle.machfixups.specs.declared.stretches.Change.{Change}
 use Rattle.machfixups.specs.declared.stretches.Stretch.{Stretch}
 
@@ -25,10 +25,10 @@ holder_append h (c ∷ cs) ds x = holder_append (if nat_le c.start x then c.hold
 
 -- changes after an address don't affect it
 pub holder_skip : (h : Option ℕ) (cs : List Change) (x : ℕ) → All (λ c. x < c.start) cs → holder_from h cs x ≡ h
-holder_skip h [] x behind = refl
-holder_skip h (c ∷ cs) x behind =
-    let off : nat_le c.start x ≡ false = lt-leb c.start x (All-head (λ (c : Change). x < c.start) c cs behind) in
-    ap (λ (b : Bool). holder_from (if b then c.holder else h) cs x) off ∙ holder_skip h cs x (All-tail (λ (c : Change). x < c.start) c cs behind)
+holder_skip h [] x following = refl
+holder_skip h (c ∷ cs) x following =
+    let off : nat_le c.start x ≡ false = lt-leb c.start x (All-head (λ (c : Change). x < c.start) c cs following) in
+    ap (λ (b : Bool). holder_from (if b then c.holder else h) cs x) off ∙ holder_skip h cs x (All-tail (λ (c : Change). x < c.start) c cs following)
 
 module _ (cs : List Change) (k x : ℕ) (at : IsPartitionPoint (λ (c : Change). nat_le c.start x ≡ true) (λ c. nat_le c.start x ≡ false) cs k) where
   pub point_up_to : All (λ c. c.start ≤ x) (take k cs)
@@ -36,21 +36,21 @@ module _ (cs : List Change) (k x : ℕ) (at : IsPartitionPoint (λ (c : Change).
       let short : i < k = omega (arith, length-take k cs, inside) in
       rw (get_or-take k cs i d short) (leb-true _ x (at.0 i d (omega arith) short))
 
-  pub point_tells : holder_from None cs x ≡ holder_from None (take k cs) x
-  point_tells =
-      let behind : All (λ (c : Change). x < c.start) (drop k cs) = λ i d inside.
+  pub point_reports : holder_from None cs x ≡ holder_from None (take k cs) x
+  point_reports =
+      let following : All (λ (c : Change). x < c.start) (drop k cs) = λ i d inside.
       let far : k + i < length cs = omega (arith, length-drop k cs, inside) in
       rw (get_or-drop k cs i d) (leb-false _ x (at.1 (k + i) d (omega arith) far)) in
       ap (λ all. holder_from None all x) (sym (take-append-drop k cs)) ∙ holder_append None (take k cs) (drop k cs) x
-      ∙ holder_skip (holder_from None (take k cs) x) (drop k cs) x behind
+      ∙ holder_skip (holder_from None (take k cs) x) (drop k cs) x following
 
 no_change : Change
 no_change = record { start = 0; holder = None }
 
 -- the last of the first changes decides
-pub last_tells : (cs : List Change) (k last x : ℕ) (d : Change) → k ≤ length cs → 1 ≤ k → last ≡ k - 1 → All (λ c. c.start ≤ x) (take k cs)
+pub last_reports : (cs : List Change) (k last x : ℕ) (d : Change) → k ≤ length cs → 1 ≤ k → last ≡ k - 1 → All (λ c. c.start ≤ x) (take k cs)
     → (get_or cs last d).holder ≡ holder_from None (take k cs) x
-last_tells cs k last x d inside some is up_to =
+last_reports cs k last x d inside some is up_to =
     let n : k ≡ last + 1 = omega arith in
     let there : last < length cs = omega arith in
     let short : last < k = omega arith in
@@ -124,7 +124,7 @@ pub record AreMerged (first second : List Change) (i j : ℕ) (all : List Change
   pub of_second : ArePassed second j at
   pub ordered : AreByAddress all
   pub up_to : All (λ c. c.start ≤ at) all
-  pub tell : (x : ℕ) → holder_from None all x ≡ option_or (holder_from None (take i first) x) (holder_from None (take j second) x)
+  pub report : (x : ℕ) → holder_from None all x ≡ option_or (holder_from None (take i first) x) (holder_from None (take j second) x)
 
 module _ (first second : List Change) where
   pub none_merged : AreMerged first second 0 0 []
@@ -134,13 +134,13 @@ module _ (first second : List Change) where
     of_second = record { inside = omega arith; up_to = All-nil (λ (c : Change). c.start ≤ 0); from = λ i d inside. omega arith };
     ordered = IsNonDecreasingBy-short (λ (c : Change). c.start) [] (omega arith);
     up_to = All-nil (λ (c : Change). c.start ≤ 0);
-    tell = λ x. refl;
+    report = λ x. refl;
   }
 
   pub all_merged : (i j : ℕ) (all : List Change) → AreMerged first second i j all → length first ≤ i → length second ≤ j
       → (x : ℕ) → holder_from None all x ≡ option_or (holder_from None first x) (holder_from None second x)
   all_merged i j all are over_first over_second x =
-      are.tell x ∙ ap (λ f. option_or (holder_from None f x) (holder_from None (take j second) x)) (take_all i first over_first)
+      are.report x ∙ ap (λ f. option_or (holder_from None f x) (holder_from None (take j second) x)) (take_all i first over_first)
       ∙ ap (λ s. option_or (holder_from None first x) (holder_from None s x)) (take_all j second over_second)
 
   module _ (i j more others start : ℕ) (all : List Change) (a b holder : Option ℕ) (are : AreMerged first second i j all) where
@@ -160,13 +160,13 @@ module _ (first second : List Change) where
               (λ d some. let h : (get_or all (length all - 1) d).start ≤ are.at = are.up_to (length all - 1) d (omega arith) in omega arith);
           up_to = All-push (λ (c : Change). c.start ≤ start) all c (All-weaker (λ (c : Change). c.start ≤ are.at) (λ c. c.start ≤ start) (λ c h. omega arith)
               all are.up_to) (omega arith);
-          tell = λ x. holder_push None all c x ∙ (elim (nat_le start x) as (λ (t : Bool). nat_le start x ≡ t → (if t then holder else holder_from None all x)
+          report = λ x. holder_push None all c x ∙ (elim (nat_le start x) as (λ (t : Bool). nat_le start x ≡ t → (if t then holder else holder_from None all x)
               ≡ option_or (holder_from None (take more first) x) (holder_from None (take others second) x)) [
                 | true ↦ λ e. let h : start ≤ x = leb-true start x e in
                     is ∙ ap (λ o. option_or o b) (is_first x (lower x h (take more first) on.passed.up_to))
                     ∙ ap (λ o. option_or (holder_from None (take more first) x) o) (is_second x (lower x h (take others second) other.passed.up_to))
                 | false ↦ λ e. let h : x < start = leb-false start x e in
-                    are.tell x ∙ ap (λ o. option_or o (holder_from None (take j second) x)) (sym (on.same x h))
+                    are.report x ∙ ap (λ o. option_or o (holder_from None (take j second) x)) (sym (on.same x h))
                     ∙ ap (λ o. option_or (holder_from None (take more first) x) o) (sym (other.same x h))
               ]) refl;
         }
@@ -191,16 +191,16 @@ pub first_holder-append : (x n : ℕ) (xs ys : List Stretch)
     → first_holder x n (xs ++ ys) ≡ option_or (first_holder x n xs) (first_holder x (n + length xs) ys)
 first_holder-append x n [] ys = ap (λ m. first_holder x m ys) {x = n} {y = n + 0} (omega arith)
 first_holder-append x n (s ∷ ss) ys =
-    let behind : n + 1 + length ss ≡ n + length (s ∷ ss) = omega arith in
-    let rest = first_holder-append x (n + 1) ss ys ∙ ap (λ m. option_or (first_holder x (n + 1) ss) (first_holder x m ys)) behind in
+    let following : n + 1 + length ss ≡ n + length (s ∷ ss) = omega arith in
+    let rest = first_holder-append x (n + 1) ss ys ∙ ap (λ m. option_or (first_holder x (n + 1) ss) (first_holder x m ys)) following in
     elim (holds s.start s.size x) as (λ (b : Bool). (if b then Some n else first_holder x (n + 1) (ss ++ ys))
     ≡ option_or (if b then Some n else first_holder x (n + 1) ss) (first_holder x (n + length (s ∷ ss)) ys)) [ true ↦ refl | false ↦ rest ]
 
 -- the tables of the first half and of the rest
-pub halves_tell : (n half : ℕ) (all front back : List Stretch) (first second changes : List Change) → half ≤ length all
-    → front ≡ take half all → back ≡ drop half all → TellHolders n front first → TellHolders (n + half) back second
-    → ((x : ℕ) → holder_from None changes x ≡ option_or (holder_from None first x) (holder_from None second x)) → TellHolders n all changes
-halves_tell n half all front back first second changes inside is_front is_back in_front in_back both x fits =
+pub halves_report : (n half : ℕ) (all front back : List Stretch) (first second changes : List Change) → half ≤ length all
+    → front ≡ take half all → back ≡ drop half all → ReportHolders n front first → ReportHolders (n + half) back second
+    → ((x : ℕ) → holder_from None changes x ≡ option_or (holder_from None first x) (holder_from None second x)) → ReportHolders n all changes
+halves_report n half all front back first second changes inside is_front is_back in_front in_back both x fits =
     let long : n + half ≡ n + length front = omega (arith, ap length is_front, length-take-le half all inside) in
     let whole : front ++ back ≡ all = ap (λ f. f ++ back) is_front ∙ ap (λ b. take half all ++ b) is_back ∙ take-append-drop half all in
     both x ∙ ap (λ o. option_or o (holder_from None second x)) (in_front x fits)

@@ -4,24 +4,24 @@ use Rattle.mach_base.specs.Context.{pointer_size}
 use Rattle.mach_base.specs.Text.{texts}
 use Rattle.goblin_mach.specs.Bindings.{AreOpcodeBindings}
 use Rattle.goblin_mach.specs.Facts.{HasChainedFixups}
-use Rattle.goblin_mach.specs.Fixups.{AreImageFixups, chained_held}
+use Rattle.goblin_mach.specs.Fixups.{AreImageFixups, chained_view}
 use Rattle.goblin_mach.specs.ImageStreams.{AreRebasesByOpcodes, AreImageWeakBinds, rebase_stream_in, weak_stream_in}
-use Rattle.goblin_mach.specs.OpenImage.{IsLossyImage, binds_held, bytes_held, commands_held, ctx_held, segments_held}
+use Rattle.goblin_mach.specs.OpenImage.{IsLossyImage, binds_view, bytes_view, commands_view, ctx_view, segments_view}
 use Rattle.goblin_mach.specs.declared.macho.MachO.{MachO}
 use Rattle.goblin_mach.proofs.ImageFacts.{chained_fixups_are, fixups_are, facts_are}
 use Rattle.goblin_mach.proofs.StreamFacts.{weak_binds_are}
 use Rattle.machfixups.specs.Lists.{PointerLists, HasPointerLists}
 
 module _ {A : Type 0} (bytes : List ℕ) (o : ℕ) (m : MachO A) (p : IsLossyImage bytes o m) where
-  pub has_chained_fixups : HasChainedFixups bytes o (chained_held m)
-  has_chained_fixups = ((chained_fixups_are m).lossy bytes o p (chained_held m)).1 refl
+  pub has_chained_fixups : HasChainedFixups bytes o (chained_view m)
+  has_chained_fixups = ((chained_fixups_are m).lossy bytes o p (chained_view m)).1 refl
 
   pub has_lists : (lists : PointerLists)
-      → AreRebasesByOpcodes (rebase_stream_in (bytes_held m) (commands_held m)) (ctx_held m).le (pointer_size (ctx_held m).container) (segments_held m)
+      → AreRebasesByOpcodes (rebase_stream_in (bytes_view m) (commands_view m)) (ctx_view m).le (pointer_size (ctx_view m).container) (segments_view m)
       lists.rebases
-      → AreOpcodeBindings (binds_held m) (pointer_size (ctx_held m).container) (texts m.libs.items) (segments_held m) lists.bindings
-      → AreImageWeakBinds (weak_stream_in (bytes_held m) (commands_held m)) (pointer_size (ctx_held m).container) (segments_held m) lists.weak_binds
-      → AreImageFixups (chained_held m) (segments_held m) lists.fixups → HasPointerLists bytes o lists
+      → AreOpcodeBindings (binds_view m) (pointer_size (ctx_view m).container) (texts m.libs.items) (segments_view m) lists.bindings
+      → AreImageWeakBinds (weak_stream_in (bytes_view m) (commands_view m)) (pointer_size (ctx_view m).container) (segments_view m) lists.weak_binds
+      → AreImageFixups (chained_view m) (segments_view m) lists.fixups → HasPointerLists bytes o lists
   has_lists lists rebases bindings weak fixups = record {
     rebases = (facts_are bytes o m p (λ f. AreRebasesByOpcodes (rebase_stream_in f.bytes f.commands) f.ctx.le (pointer_size f.ctx.container) f.segments
         lists.rebases)).1 rebases;

@@ -13,9 +13,9 @@ use Rattle.mach_base.specs.Fault.{Fault}
 use Rattle.mach_base.specs.declared.error.Error.{Error}
 use Rattle.mach_cli.proofs.Lines.{no_lines, line_more, lines_both}
 use Rattle.mach_cli.specs.Lines.{WritesLines}
-use Rattle.machfixups.specs.Lines.{row_line, line_of_more, WritesFirstRows, WritesTold}
+use Rattle.machfixups.specs.Lines.{row_line, line_of_more, WritesFirstRows, WritesReported}
 use Rattle.machfixups.specs.Rows.{PointerRow, picked, row_read}
-use Rattle.machfixups.specs.declared.print.Told.{Told}
+use Rattle.machfixups.specs.declared.print.ListProgress.{ListProgress}
 use Rattle.machfixups.specs.declared.row.Row as declared
 
 -- ---- the first of two lists
@@ -80,28 +80,28 @@ goes_on limit rows all rest left whole one answer old middle new goes is some ok
     }
 
 -- the visited rows are the first `limit` of all
-told_of : (limit : ℕ) (rows rest : List (Result PointerRow Fault)) (left : ℕ) (whole : Bool) (old new : Option (List ℕ)) (t : Told)
+reported_of : (limit : ℕ) (rows rest : List (Result PointerRow Fault)) (left : ℕ) (whole : Bool) (old new : Option (List ℕ)) (t : ListProgress)
     (goes : Goes limit rows rest left whole old new) → take limit rows ≡ goes.front → t.whole ≡ whole → t.left ≡ limit - length rows
     → t.more ≡ nat_lt limit (length rows) → WritesFirstRows limit rows old new t
-told_of limit rows rest left whole old new t goes told is count more = record {
-  lines = subst (λ (xs : List (Result PointerRow Fault)). WritesLines row_read row_line xs old new) (sym told) goes.lines;
-  whole = is ∙ goes.is_whole ∙ ap (list_all is_ok) (sym told);
+reported_of limit rows rest left whole old new t goes reported is count more = record {
+  lines = subst (λ (xs : List (Result PointerRow Fault)). WritesLines row_read row_line xs old new) (sym reported) goes.lines;
+  whole = is ∙ goes.is_whole ∙ ap (list_all is_ok) (sym reported);
   rest = count;
   more = more;
 }
 
 -- the list was visited to its end
-pub goes_over : (limit : ℕ) (rows rest : List (Result PointerRow Fault)) (left : ℕ) (whole : Bool) (old new : Option (List ℕ)) (t : Told)
+pub goes_over : (limit : ℕ) (rows rest : List (Result PointerRow Fault)) (left : ℕ) (whole : Bool) (old new : Option (List ℕ)) (t : ListProgress)
     → Goes limit rows rest left whole old new → rest ≡ [] → (t.left ≡ left) × (t.whole ≡ whole) × (t.more ≡ false) → WritesFirstRows limit rows old new t
 goes_over limit rows rest left whole old new t goes none is =
     let all : rows ≡ goes.front = goes.are ∙ ap (λ back. goes.front ++ back) none ∙ append-nil goes.front in
     let many : length rows ≡ length goes.front = ap length all in
     let few : length rows ≤ limit = omega (arith, goes.count, many) in
-    told_of limit rows rest left whole old new t goes (take_all limit rows few ∙ all) is.1 (is.0 ∙ omega (arith, goes.count, many))
+    reported_of limit rows rest left whole old new t goes (take_all limit rows few ∙ all) is.1 (is.0 ∙ omega (arith, goes.count, many))
     (is.2 ∙ sym (le-ltb limit (length rows) few))
 
 -- the list was visited to the limit, and an item comes after it
-pub goes_cut : (limit : ℕ) (rows all : List (Result PointerRow Fault)) (left : ℕ) (whole : Bool) (old new : Option (List ℕ)) (t : Told)
+pub goes_cut : (limit : ℕ) (rows all : List (Result PointerRow Fault)) (left : ℕ) (whole : Bool) (old new : Option (List ℕ)) (t : ListProgress)
     (item : Result PointerRow Fault)
     (rest : List (Result PointerRow Fault)) → Goes limit rows all left whole old new → all ≡ item ∷ rest → left ≡ 0
     → (t.left ≡ 0) × (t.whole ≡ whole) × (t.more ≡ true) → WritesFirstRows limit rows old new t
@@ -109,40 +109,40 @@ goes_cut limit rows all left whole old new t item rest goes is none said =
     let are : rows ≡ goes.front ++ item ∷ rest = goes.are ∙ ap (λ back. goes.front ++ back) is in
     let many : length rows ≡ length goes.front + length (item ∷ rest) = ap length are ∙ length-append goes.front (item ∷ rest) in
     let front : length goes.front ≡ limit = omega (arith, goes.count, none) in
-    let told : take limit rows ≡ goes.front =
+    let reported : take limit rows ≡ goes.front =
     ap (λ xs. take limit xs) are ∙ take-append-le limit goes.front (item ∷ rest) (omega (arith, front)) ∙ take_all limit goes.front (omega (arith, front)) in
-    told_of limit rows all left whole old new t goes told said.1 (said.0 ∙ omega (arith, many, front))
+    reported_of limit rows all left whole old new t goes reported said.1 (said.0 ∙ omega (arith, many, front))
     (said.2 ∙ sym (lt-ltb limit (length rows) (omega (arith, many, front))))
 
 -- ---- the lists of an image, one after the other
 
 -- a list that isn't shown
-pub told_unless : (limit : ℕ) (is_shown : Bool) (rows : List (Result PointerRow Fault)) (known : Option (List ℕ)) (t : Told) → is_shown ≡ false
+pub reported_unless : (limit : ℕ) (is_shown : Bool) (rows : List (Result PointerRow Fault)) (known : Option (List ℕ)) (t : ListProgress) → is_shown ≡ false
     → (t.left ≡ limit) × (t.whole ≡ true) × (t.more ≡ false) → WritesFirstRows limit (picked is_shown rows) known known t
-told_unless limit true rows known t off is = absurd (cc)
-told_unless limit false rows known t off is = goes_over limit [] [] limit true known known t (goes_init limit [] [] known refl) refl is
+reported_unless limit true rows known t off is = absurd (cc)
+reported_unless limit false rows known t off is = goes_over limit [] [] limit true known known t (goes_init limit [] [] known refl) refl is
 
-pub told_then : (left : ℕ) (first second : List (Result PointerRow Fault)) (one two t : Told) (old middle new : Option (List ℕ))
+pub reported_then : (left : ℕ) (first second : List (Result PointerRow Fault)) (one two t : ListProgress) (old middle new : Option (List ℕ))
     → WritesFirstRows left first old middle one → WritesFirstRows one.left second middle new two
     → (t.left ≡ two.left) × (t.whole ≡ (one.whole && two.whole)) × (t.more ≡ (one.more || two.more)) → WritesFirstRows left (first ++ second) old new t
-told_then left first second one two t old middle new a b is =
-    let told : take left first ++ take one.left second ≡ take left (first ++ second) =
+reported_then left first second one two t old middle new a b is =
+    let reported : take left first ++ take one.left second ≡ take left (first ++ second) =
     ap (λ (n : ℕ). take left first ++ take n second) a.rest ∙ sym (take_both left first second) in
     record {
-      lines = subst (λ (xs : List (Result PointerRow Fault)). WritesLines row_read row_line xs old new) told
+      lines = subst (λ (xs : List (Result PointerRow Fault)). WritesLines row_read row_line xs old new) reported
           (lines_both row_read row_line (take left first) (take one.left second) old middle new a.lines b.lines);
       whole = is.1 ∙ ap (λ (w : Bool). w && two.whole) a.whole ∙ ap (λ (w : Bool). list_all is_ok (take left first) && w) b.whole
-          ∙ sym (list_all-append is_ok (take left first) (take one.left second)) ∙ ap (list_all is_ok) told;
+          ∙ sym (list_all-append is_ok (take left first) (take one.left second)) ∙ ap (list_all is_ok) reported;
       rest = omega (arith, is.0, a.rest, b.rest, length-append first second);
       more = is.2 ∙ ap (λ (x : Bool). x || two.more) a.more ∙ ap (λ (y : Bool). nat_lt left (length first) || y) b.more
           ∙ ap (λ (n : ℕ). nat_lt left (length first) || nat_lt n (length second)) a.rest ∙ sym (more_both left first second);
     }
 
 -- the line that says that there are more
-pub told_last : (limit left : ℕ) (rows : List (Result PointerRow Fault)) (t : Told) (final : Bool) (old middle new : Option (List ℕ))
+pub reported_last : (limit left : ℕ) (rows : List (Result PointerRow Fault)) (t : ListProgress) (final : Bool) (old middle new : Option (List ℕ))
     → WritesFirstRows left rows old middle t → Appends middle new (line_of_more limit t.more) → final ≡ (t.whole && not t.more)
-    → WritesTold limit left rows final t.left old new
-told_last limit left rows t final old middle new a line is = record {
+    → WritesReported limit left rows final t.left old new
+reported_last limit left rows t final old middle new a line is = record {
   text = a.lines.text ++ line_of_more limit t.more;
   lines = record {
     lines = a.lines.text;

@@ -7,16 +7,16 @@ use Rattle.goblin_mach.specs.Facts.{HasSegments, HasChainedFixups}
 use Rattle.goblin_mach.specs.Image.{Opens}
 use Rattle.machfixups.specs.Lines.{AreLinesTo}
 use Rattle.machfixups.specs.Lists.{PointerLists, HasPointerLists}
-use Rattle.machfixups.specs.Parts.{parts_of}
+use Rattle.machfixups.specs.AllStretches.{parts_of}
 use Rattle.machfixups.specs.Rows.{rows_in_order, readable_table}
-use Rattle.machfixups.specs.declared.rows.Picks.{Picks}
+use Rattle.machfixups.specs.declared.rows.Selection.{Selection}
 
 -- The text is the lines of the image at the start of the bytes, of the selected lists: one for each rebase of its opcodes, in
 -- order, then one for each of their binds, then one for each row of its weak binds, then one for each fixup of its chains. Names
 -- are those of its segments, with at most `room` sections. Of all lines these are the first ones, as many as are left of the
 -- limit, and a line follows if there are more. It is whole if there are no more and each can be read. Of the limit `rest` are
 -- left after it.
-pub record AreImagePointerLines (picks : Picks) (limit room left : ℕ) (bytes : List ℕ) (text : List ℕ) (whole : Bool) (rest : ℕ) : Type 0 where
+pub record AreImagePointerLines (selection : Selection) (limit room left : ℕ) (bytes : List ℕ) (text : List ℕ) (whole : Bool) (rest : ℕ) : Type 0 where
   pub opens : Opens bytes 0
   pub segments : List SegmentView
   pub has_segments : HasSegments bytes 0 segments
@@ -24,4 +24,4 @@ pub record AreImagePointerLines (picks : Picks) (limit room left : ℕ) (bytes :
   pub has_lists : HasPointerLists bytes 0 lists
   pub chained : Result (Option Fixups) Fault
   pub has_chained : HasChainedFixups bytes 0 chained
-  pub lines : AreLinesTo limit left (rows_in_order picks (parts_of room segments) (readable_table chained) lists) text whole rest
+  pub lines : AreLinesTo limit left (rows_in_order selection (parts_of room segments) (readable_table chained) lists) text whole rest

@@ -4,16 +4,16 @@ use Rattle.std.specs.Fmt.{decimal, signed_decimal}
 use Rattle.mach_base.specs.Fault.{Fault}
 use Rattle.mach_chained.specs.Header.{Fixups}
 use Rattle.mach_parts.specs.PointerSigning.{Auth}
-use Rattle.mach_cli.specs.Listings.{told_by}
+use Rattle.mach_cli.specs.Listings.{reported_by}
 use Rattle.mach_dyld.specs.declared.rebases.RebaseKind.{RebaseKind}
 use Rattle.mach_cli.specs.JsonArrays.{NamedRows}
 use Rattle.mach_cli.specs.JsonText.{json_bool, json_string}
 use Rattle.mach_cli.specs.Signing.{auth_members, diversity_members, has_auth, key_by, rebase_type}
 use Rattle.machfixups.specs.Lists.{PointerLists}
-use Rattle.machfixups.specs.Parts.{Part}
+use Rattle.machfixups.specs.AllStretches.{SegmentStretches}
 use Rattle.machfixups.specs.Rows.{PointerPlace, PointerBind, Action, binds, binds_weakly, rebases, is_value, PointerRow, corrects, is_strong}
 use Rattle.machfixups.specs.Rows.{picked, shown_picks, row_for_rebase, row_for_binding, row_for_weak, row_for_fixup}
-use Rattle.machfixups.specs.declared.rows.Picks.{Picks}
+use Rattle.machfixups.specs.declared.rows.Selection.{Selection}
 
 -- the members of a bind's flags
 abbrev pub bind_flags : PointerBind → List ℕ
@@ -98,27 +98,27 @@ pointer_object (corrects place action) = action_object place action
 pointer_object (is_strong name) = strong_object name
 
 -- the object of a row, or the fault if it can't be read
-abbrev pub pointer_told : Result PointerRow Fault → Result (List ℕ) Fault
-pointer_told row = told_by pointer_object row
+abbrev pub pointer_reported : Result PointerRow Fault → Result (List ℕ) Fault
+pointer_reported row = reported_by pointer_object row
 
 -- The lists of an image with the names of their members: for each rebase of the opcodes its object, or its fault, in order, then
 -- for each of their binds, then for each weak bind, and then for each fixup of the chains. A list that isn't shown has no member.
-abbrev pub pointer_members : Picks → List Part → Option Fixups → PointerLists → List NamedRows
+abbrev pub pointer_members : Selection → List SegmentStretches → Option Fixups → PointerLists → List NamedRows
 pointer_members p parts table lists =
     record {
       name = codes "rebases";
-      rows = map pointer_told (picked (shown_picks p).rebases (map (row_for_rebase parts) lists.rebases));
+      rows = map pointer_reported (picked (shown_picks p).rebases (map (row_for_rebase parts) lists.rebases));
     }
     ∷ record {
       name = codes "binds";
-      rows = map pointer_told (picked (shown_picks p).binds (map (row_for_binding parts) lists.bindings));
+      rows = map pointer_reported (picked (shown_picks p).binds (map (row_for_binding parts) lists.bindings));
     }
     ∷ record {
       name = codes "weak";
-      rows = map pointer_told (picked (shown_picks p).weak (map (row_for_weak parts) lists.weak_binds));
+      rows = map pointer_reported (picked (shown_picks p).weak (map (row_for_weak parts) lists.weak_binds));
     }
     ∷ record {
       name = codes "chains";
-      rows = map pointer_told (picked (shown_picks p).chains (map (row_for_fixup parts table) lists.fixups));
+      rows = map pointer_reported (picked (shown_picks p).chains (map (row_for_fixup parts table) lists.fixups));
     }
     ∷ []

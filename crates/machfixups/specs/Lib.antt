@@ -1,5 +1,5 @@
 pub mod Stretches
-pub mod Parts
+pub mod AllStretches
 pub mod Lists
 pub mod Rows
 pub mod PickWords

@@ -16,7 +16,7 @@ use Rattle.mach_dyld.specs.declared.rebases.RebaseKind.{RebaseKind}
 use Rattle.mach_dyld.specs.declared.rebases.RebaseKind.TheVariants.{Pointer, TextAbsolute32, TextRelative32}
 use Rattle.machfixups.specs.Rows.{PointerPlace, PointerBind, Action, binds, binds_weakly, rebases, is_value, PointerRow, corrects, is_strong}
 use Rattle.machfixups.specs.Rows.{row_view, row_read}
-use Rattle.machfixups.specs.declared.print.Told.{Told}
+use Rattle.machfixups.specs.declared.print.ListProgress.{ListProgress}
 use Rattle.machfixups.specs.declared.row.Row as declared
 
 -- a number in hexadecimal
@@ -88,7 +88,7 @@ row_line (Err e) = codes "unreadable: " ++ words_of e ++ codes "\n"
 
 -- the line after the last printed one, if there are more
 abbrev pub limit_line : ℕ → List ℕ
-limit_line limit = codes "limit: " ++ (decimal limit ++ codes " of them are told, and there are more\n")
+limit_line limit = codes "limit: " ++ (decimal limit ++ codes " shown, and there are more\n")
 
 abbrev pub line_of_more : ℕ → (more : Bool) → List ℕ
 line_of_more limit more = if more then limit_line limit else []
@@ -104,13 +104,13 @@ pub record AreLinesTo (limit left : ℕ) (rows : List (Result PointerRow Fault))
   pub is_rest : rest ≡ left - length rows
 
 -- These lines were written.
-pub record WritesTold (limit left : ℕ) (rows : List (Result PointerRow Fault)) (whole : Bool) (rest : ℕ) (old new : Option (List ℕ)) : Type 0 where
+pub record WritesReported (limit left : ℕ) (rows : List (Result PointerRow Fault)) (whole : Bool) (rest : ℕ) (old new : Option (List ℕ)) : Type 0 where
   pub text : List ℕ
   pub lines : AreLinesTo limit left rows text whole rest
   pub written : Appends old new text
 
 -- The lines of the first rows were written, no more than `left`, and `t` says what is known then.
-pub record WritesFirstRows (left : ℕ) (rows : List (Result PointerRow Fault)) (old new : Option (List ℕ)) (t : Told) : Type 0 where
+pub record WritesFirstRows (left : ℕ) (rows : List (Result PointerRow Fault)) (old new : Option (List ℕ)) (t : ListProgress) : Type 0 where
   pub lines : WritesLines row_read row_line (take left rows) old new
   pub whole : t.whole ≡ list_all is_ok (take left rows)
   pub rest : t.left ≡ left - length rows

@@ -9,7 +9,7 @@ use Rattle.mach_base.specs.Items.{read_as}
 use Rattle.mach_chained.specs.Fixups.{Fixup}
 use Rattle.mach_chained.specs.Header.{Fixups}
 use Rattle.mach_chained.specs.Imports.{FixupImport, import_at}
-use Rattle.mach_parts.specs.PointerSigning.{auth_seen}
+use Rattle.mach_parts.specs.PointerSigning.{auth_option_view}
 use Rattle.mach_chained.specs.Views.{fixups_view}
 use Rattle.mach_chained.specs.declared.header.ChainedFixups.{ChainedFixups}
 use Rattle.mach_chained.specs.Pointers.{KindOfFixup, rebase, bind, value}
@@ -19,14 +19,14 @@ use Rattle.mach_dyld.specs.WeakBinds.{WeakBind, strong_name, weakly_bound}
 use Rattle.mach_dyld.specs.declared.rebases.RebaseKind.{RebaseKind}
 use Rattle.mach_dyld.specs.declared.rebases.RebaseKind.TheVariants.{Pointer}
 use Rattle.machfixups.specs.Lists.{PointerLists}
-use Rattle.machfixups.specs.Parts.{Part, part_with, section_with, stretch_name}
+use Rattle.machfixups.specs.AllStretches.{SegmentStretches, part_with, section_with, stretch_name}
 use Rattle.machfixups.specs.declared.row.Action as declared_action
 use Rattle.machfixups.specs.declared.row.Action.TheVariants as variants
 use Rattle.machfixups.specs.declared.row.Bind as declared_bind
-use Rattle.machfixups.specs.declared.row.Place as declared_place
+use Rattle.machfixups.specs.declared.row.Location as declared_place
 use Rattle.machfixups.specs.declared.row.Row as declared
 use Rattle.machfixups.specs.declared.row.Row.TheVariants as rows
-use Rattle.machfixups.specs.declared.rows.Picks.{Picks}
+use Rattle.machfixups.specs.declared.rows.Selection.{Selection}
 
 -- the place of a pointer: its address, and the printed names of its segment and its section
 pub record PointerPlace : Type 0 where
@@ -58,16 +58,16 @@ pub data PointerRow : Type 0 where
   is_strong : (name : List ℕ) → PointerRow
 
 -- the place of an address in a segment, if there is one
-abbrev pub place_in : Option Part → ℕ → PointerPlace
+abbrev pub place_in : Option SegmentStretches → ℕ → PointerPlace
 place_in None address = record { address = address; segment = codes "-"; section = codes "-" }
 place_in (Some p) address = record { address = address; segment = stretch_name (Some p.memory); section = section_with address p.sections }
 
 -- the row of an address, in the first segment that holds it
-abbrev pub row_by_address : List Part → ℕ → Action → PointerRow
+abbrev pub row_by_address : List SegmentStretches → ℕ → Action → PointerRow
 row_by_address parts address action = corrects (place_in (part_with address parts) address) action
 
 -- the row of an address, in the segment with a number
-abbrev pub row_by_segment : List Part → (segment address : ℕ) → Action → PointerRow
+abbrev pub row_by_segment : List SegmentStretches → (segment address : ℕ) → Action → PointerRow
 row_by_segment parts segment address action = corrects (place_in (slice_get parts segment) address) action
 
 -- ---- rebases and binds of the opcodes
@@ -90,15 +90,15 @@ bind_of_binding b = record {
 }
 
 -- the row of a bind, in the first segment that holds its address
-abbrev pub row_of_binding : List Part → Binding → PointerRow
+abbrev pub row_of_binding : List SegmentStretches → Binding → PointerRow
 row_of_binding parts b = row_by_address parts b.address (binds (bind_of_binding b))
 
 -- the row of a rebase, in its segment
-abbrev pub row_of_rebase : List Part → Rebase → PointerRow
+abbrev pub row_of_rebase : List SegmentStretches → Rebase → PointerRow
 row_of_rebase parts r = row_by_segment parts r.segment r.address (rebases r.target r.kind r.auth)
 
 -- the row of a strong name; or that of a weak bind, in the first segment that holds its address
-abbrev pub row_of_weak : List Part → WeakBind → PointerRow
+abbrev pub row_of_weak : List SegmentStretches → WeakBind → PointerRow
 row_of_weak parts (strong_name name) = is_strong name
 row_of_weak parts (weakly_bound b) = row_by_address parts b.address (binds_weakly (bind_of_binding b))
 
@@ -126,21 +126,21 @@ action_of table (value number) auth = Ok (is_value number)
 action_of table (bind import inline) auth = import_in table import >>= (λ i. Ok (binds (bind_of_import i inline auth)))
 
 -- the row of a fixup, in its segment
-abbrev pub row_of_fixup : List Part → Option Fixups → Fixup → Result PointerRow Fault
+abbrev pub row_of_fixup : List SegmentStretches → Option Fixups → Fixup → Result PointerRow Fault
 row_of_fixup parts table f = action_of table f.kind f.auth >>= (λ action. Ok (row_by_segment parts f.segment f.address action))
 
 -- ---- all rows
 
-abbrev pub row_for_rebase : List Part → Result Rebase Fault → Result PointerRow Fault
+abbrev pub row_for_rebase : List SegmentStretches → Result Rebase Fault → Result PointerRow Fault
 row_for_rebase parts item = item >>= (λ r. Ok (row_of_rebase parts r))
 
-abbrev pub row_for_weak : List Part → Result WeakBind Fault → Result PointerRow Fault
+abbrev pub row_for_weak : List SegmentStretches → Result WeakBind Fault → Result PointerRow Fault
 row_for_weak parts item = item >>= (λ w. Ok (row_of_weak parts w))
 
-abbrev pub row_for_binding : List Part → Result Binding Fault → Result PointerRow Fault
+abbrev pub row_for_binding : List SegmentStretches → Result Binding Fault → Result PointerRow Fault
 row_for_binding parts item = item >>= (λ b. Ok (row_of_binding parts b))
 
-abbrev pub row_for_fixup : List Part → Option Fixups → Result Fixup Fault → Result PointerRow Fault
+abbrev pub row_for_fixup : List SegmentStretches → Option Fixups → Result Fixup Fault → Result PointerRow Fault
 row_for_fixup parts table item = item >>= row_of_fixup parts table
 
 -- the chained fixups, if they can be read
@@ -149,15 +149,15 @@ readable_table (Ok table) = table
 readable_table (Err f) = None
 
 -- the lists that are shown: all if none is selected
-abbrev pub none_asked : Picks → Bool
-none_asked p = not (p.rebases || p.binds || p.weak || p.chains)
+abbrev pub none_selected : Selection → Bool
+none_selected p = not (p.rebases || p.binds || p.weak || p.chains)
 
-abbrev pub shown_picks : Picks → Picks
+abbrev pub shown_picks : Selection → Selection
 shown_picks p = record {
-  rebases = p.rebases || none_asked p;
-  binds = p.binds || none_asked p;
-  weak = p.weak || none_asked p;
-  chains = p.chains || none_asked p;
+  rebases = p.rebases || none_selected p;
+  binds = p.binds || none_selected p;
+  weak = p.weak || none_selected p;
+  chains = p.chains || none_selected p;
 }
 
 -- the rows of a list, if it is shown
@@ -166,7 +166,7 @@ picked is_shown rows = if is_shown then rows else []
 
 -- A row, or its fault, for each rebase of the opcodes in order, then for each of their binds, then for each weak bind, and then
 -- for each fixup of the chains, of the lists that are shown.
-abbrev pub rows_in_order : Picks → List Part → Option Fixups → PointerLists → List (Result PointerRow Fault)
+abbrev pub rows_in_order : Selection → List SegmentStretches → Option Fixups → PointerLists → List (Result PointerRow Fault)
 rows_in_order p parts table lists =
     picked (shown_picks p).rebases (map (row_for_rebase parts) lists.rebases)
     ++ (picked (shown_picks p).binds (map (row_for_binding parts) lists.bindings)
@@ -175,10 +175,10 @@ rows_in_order p parts table lists =
 
 -- ---- what the code's values stand for
 
-abbrev pub fixups_table_seen : Option ChainedFixups → Option Fixups
-fixups_table_seen table = option_map fixups_view table
+abbrev pub fixups_table_view : Option ChainedFixups → Option Fixups
+fixups_table_view table = option_map fixups_view table
 
-abbrev pub place_view : declared_place.Place → PointerPlace
+abbrev pub place_view : declared_place.Location → PointerPlace
 place_view p = record { address = p.address; segment = p.segment.now; section = p.section.now }
 
 abbrev pub bind_view : declared_bind.Bind → PointerBind
@@ -188,13 +188,13 @@ bind_view b = record {
   addend = b.addend;
   is_weak = b.is_weak;
   is_lazy = b.is_lazy;
-  auth = auth_seen b.auth;
+  auth = auth_option_view b.auth;
 }
 
 abbrev pub action_view : declared_action.Action → Action
 action_view (variants.Bind b) = binds (bind_view b)
 action_view (variants.Weak b) = binds_weakly (bind_view b)
-action_view (variants.Rebase target kind auth) = rebases target kind (auth_seen auth)
+action_view (variants.Rebase target kind auth) = rebases target kind (auth_option_view auth)
 action_view (variants.Value number) = is_value number
 
 abbrev pub row_view : declared.Row → PointerRow

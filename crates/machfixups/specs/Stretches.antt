@@ -32,8 +32,8 @@ abbrev pub AreByAddress : List Change → Type 0
 AreByAddress changes = IsNonDecreasingBy (λ c. c.start) changes
 
 -- For each address of 64 bits they give the first of some ranges that holds it.
-abbrev pub TellHolders : (number : ℕ) → List Stretch → List Change → Type 0
-TellHolders number stretches changes = (address : ℕ) → address < 2 ^ 64 → holder_from None changes address ≡ first_holder address number stretches
+abbrev pub ReportHolders : (number : ℕ) → List Stretch → List Change → Type 0
+ReportHolders number stretches changes = (address : ℕ) → address < 2 ^ 64 → holder_from None changes address ≡ first_holder address number stretches
 
 -- of a table k changes are passed; the next one is at this address, and is passed too
 abbrev pub StretchGoesOn : List Change → (k more address : ℕ) → Type 0

@@ -9,12 +9,12 @@ ghost use Rattle.mach_cli.specs.Statuses.{IsStatus, status_by};
 ghost use Rattle.mach_cli.specs.Documents.{IsDocument};
 ghost use Rattle.machfixups.specs.JsonImages.{AreImagePointerMembers};
 
+use crate::fixup_view::NAME;
 use crate::members::write_members;
-use crate::rows::Picks;
-use crate::run::NAME;
-use crate::section_names::Parts;
+use crate::rows::Selection;
+use crate::section_names::AllStretches;
 use goblin_mach::MachO;
-use mach_cli::{Cpu, Failure, Heading, Names, Outcome, Shows, most_items};
+use mach_cli::{Cpu, Heading, ImageView, Names, Outcome, ShowFailure, most_items};
 use std::alloc::Allocator;
 use std::io::{BufWriter, Write};
 
@@ -22,15 +22,15 @@ use std::io::{BufWriter, Write};
 #[derive(Clone, Copy)]
 struct Objects<'a> {
     file: &'a str,
-    picks: Picks,
+    selection: Selection,
     // How many sections are read at most.
     room: usize,
 }
 
-impl Shows for Objects<'_> {
-    ghost names = { λ asked. names_text (codes "machfixups") asked.file.now };
+impl ImageView for Objects<'_> {
+    ghost names = { λ selected. names_text (codes "machfixups") selected.file.now };
 
-    ghost lines = { λ asked. AreImagePointerMembers asked.picks asked.room };
+    ghost lines = { λ selected. AreImagePointerMembers selected.selection selected.room };
 
     fn names(&self) -> Names<'_> {
         Names {
@@ -46,10 +46,10 @@ impl Shows for Objects<'_> {
         heading: Heading,
         left: usize,
         out: &mut O,
-    ) -> Result<Outcome, Failure> {
-        let parts = Parts::of_image(alloc, image, self.room)?;
+    ) -> Result<Outcome, ShowFailure> {
+        let parts = AllStretches::of_image(alloc, image, self.room)?;
         write!(out, "{heading}")?;
-        Ok(write_members(image, &parts, self.picks, left, out)?)
+        Ok(write_members(image, &parts, self.selection, left, out)?)
     }
 }
 
@@ -58,7 +58,7 @@ impl Shows for Objects<'_> {
 pub fn run_json<A: Allocator + Clone, W: Write + Drop, B: Allocator, E: Write>(
     alloc: A,
     cpu: Cpu,
-    picks: Picks,
+    selection: Selection,
     limit: usize,
     file: &str,
     bytes: &[u8],
@@ -67,7 +67,7 @@ pub fn run_json<A: Allocator + Clone, W: Write + Drop, B: Allocator, E: Write>(
 ) -> u8
     ensures status { IsStatus result }
     ensures shown { result ≤ 1 → (shown : Shown)
-        × IsDocument cpu (names_text (codes "machfixups") file.now) file.now (AreImagePointerMembers picks (length bytes.now)) (most_items limit bytes.now)
+        × IsDocument cpu (names_text (codes "machfixups") file.now) file.now (AreImagePointerMembers selection (length bytes.now)) (most_items limit bytes.now)
         bytes.now shown
         × (result ≡ status_by shown.whole)
         × Writes shown (writer_contents W.contents out.old) (writer_contents W.contents out.new) (E.contents err.old) (E.contents err.new) }
@@ -76,7 +76,7 @@ pub fn run_json<A: Allocator + Clone, W: Write + Drop, B: Allocator, E: Write>(
     let limit = most_items(limit, bytes);
     let objects = Objects {
         file,
-        picks,
+        selection,
         room: bytes.len(),
     };
     mach_cli::json::run::run(&objects, file, cpu, limit, &alloc, bytes, out, err)

@@ -17,6 +17,8 @@
 //!   read, unless it is a bind and only its import can't be read.
 #![tactic(auto)]
 
+mod arguments;
+mod fixup_view;
 mod json;
 mod laws;
 mod members;
@@ -25,22 +27,20 @@ mod object;
 mod print;
 mod row;
 mod rows;
-mod run;
 mod section_names;
 mod stretches;
 mod text;
-mod words;
 
+use arguments::take_selection;
+use fixup_view::{NAME, run};
 use json::run_json;
-use mach_cli::{Call, Cpu, Files, ForTerminal, Misuse, Program, ShowsFile, Titled, take_json};
+use mach_cli::{Call, Cpu, FileView, Files, ForTerminal, Misuse, Program, Titled, take_json};
 use print::DEFAULT_LIMIT;
-use rows::Picks;
-use run::{NAME, run};
+use rows::Selection;
 use std::alloc::{Allocator, Global};
 use std::io;
 use std::io::{BufWriter, IsTerminal, Write};
 use std::process::ExitCode;
-use words::take_picks;
 
 const USAGE: &str =
     "usage: machfixups [--rebases] [--binds] [--weak] [--chains] [--json] [--limit N] \
@@ -80,13 +80,13 @@ fn start(rt: &HostRuntime) -> Result<u8, u8> {
     let Ok((is_json, words)) = take_json(rt.alloc(), words) else {
         return Err(PROGRAM.out_of_memory(rt));
     };
-    let Ok((picks, words)) = take_picks(rt.alloc(), words) else {
+    let Ok((selection, words)) = take_selection(rt.alloc(), words) else {
         return Err(PROGRAM.out_of_memory(rt));
     };
     let call = PROGRAM.call(rt, &words)?;
     let shown = Shown {
         cpu: call.cpu,
-        picks,
+        selection,
         limit: call.limit.unwrap_or(DEFAULT_LIMIT),
         is_json,
     };
@@ -97,24 +97,24 @@ fn start(rt: &HostRuntime) -> Result<u8, u8> {
 #[derive(Clone, Copy)]
 struct Shown {
     cpu: Cpu,
-    picks: Picks,
+    selection: Selection,
     limit: usize,
     is_json: bool,
 }
 
-impl<W: Write + Drop, B: Allocator> ShowsFile<BufWriter<W, B>> for Shown {
+impl<W: Write + Drop, B: Allocator> FileView<BufWriter<W, B>> for Shown {
     fn show(&self, rt: &HostRuntime, name: &str, bytes: &[u8], out: &mut BufWriter<W, B>) -> u8 {
         let (alloc, err) = (rt.alloc(), &mut rt.stderr());
         let Shown {
             cpu,
-            picks,
+            selection,
             limit,
             ..
         } = *self;
         if self.is_json {
-            run_json(alloc, cpu, picks, limit, name, bytes, out, err)
+            run_json(alloc, cpu, selection, limit, name, bytes, out, err)
         } else {
-            run(alloc, cpu, picks, limit, name, bytes, out, err)
+            run(alloc, cpu, selection, limit, name, bytes, out, err)
         }
     }
 }

@@ -8,20 +8,20 @@ ghost use Rattle.goblin_mach.specs.Facts.{HasChainedFixups};
 ghost use Rattle.goblin_mach.specs.OpenImage.{IsImage};
 ghost use Rattle.mach_cli.specs.JsonArrays.{WritesListMembers, WritesMember};
 ghost use Rattle.machfixups.specs.JsonImages.{objects_left, pointer_row_text};
-ghost use Rattle.machfixups.specs.JsonRows.{pointer_members, pointer_told};
+ghost use Rattle.machfixups.specs.JsonRows.{pointer_members, pointer_reported};
 ghost use Rattle.machfixups.specs.Lists.{PointerLists, HasPointerLists};
-ghost use Rattle.machfixups.specs.Parts.{parts_seen};
-ghost use Rattle.machfixups.specs.Rows.{fixups_table_seen, picked, readable_table};
+ghost use Rattle.machfixups.specs.AllStretches.{parts_view};
+ghost use Rattle.machfixups.specs.Rows.{fixups_table_view, picked, readable_table};
 ghost use Rattle.machfixups.specs.RowsLeft.{rows_of_items};
 
 use crate::object::PointerObject;
 use crate::print::table_of;
 use crate::row::Row;
-use crate::rows::{Items, Picks, Rows};
-use crate::section_names::Parts;
+use crate::rows::{Items, Rows, Selection};
+use crate::section_names::AllStretches;
 use goblin_mach::chained_fixups::ChainedFixups;
 use goblin_mach::{MachO, laws};
-use mach_cli::{Listing, Outcome, Told, print_empty, print_end, print_member, then};
+use mach_cli::{ListProgress, Listing, Outcome, print_empty, print_end, print_member, then};
 use std::alloc::Allocator;
 use std::io;
 use std::io::Write;
@@ -64,26 +64,34 @@ impl<'p, 'a, A: Allocator> Listing for Rows<'p, 'a, '_, A> {
 /// the limit for the images after it.
 pub fn write_members<A: Allocator, B: Allocator, O: Write>(
     image: &MachO<'_, A>,
-    parts: &Parts<B>,
-    picks: Picks,
+    parts: &AllStretches<B>,
+    selection: Selection,
     left: usize,
     out: &mut O,
 ) -> io::Result<Outcome>
     ensures { (bytes : List ℕ) (o : ℕ) → IsImage bytes o image.now
         → IfOk result (λ outcome. (lists : PointerLists) × HasPointerLists bytes o lists
         × (chained : Result (Option Fixups) Fault) × HasChainedFixups bytes o chained
-        × WritesListMembers left (pointer_members picks (parts_seen parts.now) (readable_table chained) lists) outcome.whole outcome.left
+        × WritesListMembers left (pointer_members selection (parts_view parts.now) (readable_table chained) lists) outcome.whole outcome.left
         (O.contents out.old) (O.contents out.new)) }
 {
     laws::strict_image_is_lossy(image);
     let table = table_of(image);
-    let picks = picks.shown();
+    let selection = selection.shown();
     let items = Items::Rebases(image.opcode_rebases());
-    let rebases = write_list("rebases", picks.rebases, parts, &table, items, left, out)?;
+    let rebases = write_list(
+        "rebases",
+        selection.rebases,
+        parts,
+        &table,
+        items,
+        left,
+        out,
+    )?;
     let items = Items::Binds(image.opcode_bindings());
     let binds = write_list(
         "binds",
-        picks.binds,
+        selection.binds,
         parts,
         &table,
         items,
@@ -91,27 +99,43 @@ pub fn write_members<A: Allocator, B: Allocator, O: Write>(
         out,
     )?;
     let items = Items::Weak(image.weak_binds());
-    let weak = write_list("weak", picks.weak, parts, &table, items, binds.left, out)?;
+    let weak = write_list(
+        "weak",
+        selection.weak,
+        parts,
+        &table,
+        items,
+        binds.left,
+        out,
+    )?;
     let items = Items::Chains(image.fixups());
-    let chains = write_list("chains", picks.chains, parts, &table, items, weak.left, out)?;
+    let chains = write_list(
+        "chains",
+        selection.chains,
+        parts,
+        &table,
+        items,
+        weak.left,
+        out,
+    )?;
     let last = then(weak, chains);
     let rest = then(binds, last);
-    let told = then(rebases, rest);
-    print_end(told, out)
+    let reported = then(rebases, rest);
+    print_end(reported, out)
 }
 
 // Writes an object for each row of a list, if it is shown, up to the limit.
 fn write_list<'a, B: Allocator, O: Write>(
     name: &str,
     is_shown: bool,
-    parts: &Parts<B>,
+    parts: &AllStretches<B>,
     table: &Option<ChainedFixups<'a>>,
     items: Items<'a, '_>,
     limit: usize,
     out: &mut O,
-) -> io::Result<Told>
+) -> io::Result<ListProgress>
     ensures { IfOk result (WritesMember name.now limit
-        (map pointer_told (picked is_shown (rows_of_items (parts_seen parts.now) (fixups_table_seen table.now) items.entry)))
+        (map pointer_reported (picked is_shown (rows_of_items (parts_view parts.now) (fixups_table_view table.now) items.entry)))
         (O.contents out.old) (O.contents out.new)) }
 {
     if !is_shown {

@@ -4,8 +4,8 @@ ghost use Rattle.std.specs.Prelude.{◌≡◌, Some, map, IfOk, OnOk};
 ghost use Rattle.mach_base.specs.Items.{read_as};
 ghost use Rattle.mach_parts.specs.Segment.{segment_view};
 ghost use Rattle.mach_parts.specs.SectionItems.{section_and_bytes};
-ghost use Rattle.goblin_mach.specs.View.{IsTold};
-ghost use Rattle.machfixups.specs.Parts.{memory_of_section, room_after, sections_within, shown_name, stretch_name};
+ghost use Rattle.goblin_mach.specs.View.{IsReported};
+ghost use Rattle.machfixups.specs.AllStretches.{memory_of_section, room_after, sections_within, shown_name, stretch_name};
 
 use crate::stretches::Stretch;
 use goblin_mach::segment::{Section, SectionData, Segment};
@@ -42,7 +42,7 @@ pub fn sections_within<A: Allocator + Clone>(
 
 // Returns nothing, or a refused allocation if the error is one.
 fn unless_memory(error: Error) -> Result<(), AllocError>
-    ensures { OnOk result (IsTold error) }
+    ensures { OnOk result (IsReported error) }
 {
     match error {
         Error::Memory(refused) => Err(refused),

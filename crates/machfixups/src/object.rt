@@ -1,12 +1,12 @@
 //! Rebases, binds and fixups as objects of JSON.
 
 ghost use Rattle.std.specs.Prelude.{◌≡◌, Some};
-ghost use Rattle.mach_parts.specs.PointerSigning.{auth_seen};
+ghost use Rattle.mach_parts.specs.PointerSigning.{auth_option_view};
 ghost use Rattle.machfixups.specs.JsonRows.{action_object, bind_flags, bind_members, bind_object, place_members, pointer_object, rebase_object};
 ghost use Rattle.machfixups.specs.JsonRows.{value_object, weak_object};
 ghost use Rattle.machfixups.specs.Rows.{action_view, bind_view, place_view, row_view};
 
-use crate::row::{Action, Bind, Place, Row};
+use crate::row::{Action, Bind, Location, Row};
 use goblin_mach::RebaseKind;
 use goblin_mach::chained_fixups::PointerAuth;
 use mach_cli::{AuthMembers, DiversityMembers, JsonString, has_auth, key_by, rebase_type};
@@ -56,7 +56,7 @@ impl Display for BindMembers<'_> {
 
 // The names of the section and of the segment.
 #[derive(Clone, Copy)]
-struct PlaceMembers<'a>(&'a Place<'a>);
+struct PlaceMembers<'a>(&'a Location<'a>);
 
 impl Display for PlaceMembers<'_> {
     ghost output = { λ t. Some (place_members (place_view t.0.now)) };
@@ -71,7 +71,7 @@ impl Display for PlaceMembers<'_> {
 // A bind at a place.
 #[derive(Clone, Copy)]
 struct BindObject<'a> {
-    place: &'a Place<'a>,
+    place: &'a Location<'a>,
     bind: &'a Bind<'a>,
 }
 
@@ -94,7 +94,7 @@ impl Display for BindObject<'_> {
 // A weak bind at a place.
 #[derive(Clone, Copy)]
 struct WeakObject<'a> {
-    place: &'a Place<'a>,
+    place: &'a Location<'a>,
     bind: &'a Bind<'a>,
 }
 
@@ -120,14 +120,14 @@ impl Display for WeakObject<'_> {
 // A rebase at a place.
 #[derive(Clone, Copy)]
 struct RebaseObject<'a> {
-    place: &'a Place<'a>,
+    place: &'a Location<'a>,
     target: u64,
     kind: RebaseKind,
     auth: Option<PointerAuth>,
 }
 
 impl Display for RebaseObject<'_> {
-    ghost output = { λ t. Some (rebase_object (place_view t.place.now) t.target t.kind (auth_seen t.auth)) };
+    ghost output = { λ t. Some (rebase_object (place_view t.place.now) t.target t.kind (auth_option_view t.auth)) };
 
     fn fmt<W: Write>(&self, f: &mut Formatter<W>) -> fmt::Result {
         let address = self.place.address;
@@ -145,7 +145,7 @@ impl Display for RebaseObject<'_> {
 // A number at a place.
 #[derive(Clone, Copy)]
 struct ValueObject<'a> {
-    place: &'a Place<'a>,
+    place: &'a Location<'a>,
     number: u32,
 }
 
@@ -166,7 +166,7 @@ impl Display for ValueObject<'_> {
 // What is stored at a place.
 #[derive(Clone, Copy)]
 struct ActionObject<'a> {
-    place: &'a Place<'a>,
+    place: &'a Location<'a>,
     action: &'a Action<'a>,
 }
 

@@ -6,17 +6,17 @@ ghost use Rattle.std.specs.Result.{is_ok};
 ghost use Rattle.mach_base.specs.Fault.{Fault};
 ghost use Rattle.mach_chained.specs.Header.{Fixups};
 ghost use Rattle.goblin_mach.specs.Facts.{HasChainedFixups};
-ghost use Rattle.goblin_mach.specs.Fixups.{chained_held};
+ghost use Rattle.goblin_mach.specs.Fixups.{chained_view};
 ghost use Rattle.goblin_mach.specs.OpenImage.{IsImage};
-ghost use Rattle.machfixups.specs.Lines.{row_line, line_of_more, WritesFirstRows, WritesTold};
+ghost use Rattle.machfixups.specs.Lines.{row_line, line_of_more, WritesFirstRows, WritesReported};
 ghost use Rattle.machfixups.specs.Lists.{PointerLists, HasPointerLists};
-ghost use Rattle.machfixups.specs.Parts.{parts_seen};
-ghost use Rattle.machfixups.specs.Rows.{rows_in_order, picked, readable_table, fixups_table_seen};
+ghost use Rattle.machfixups.specs.AllStretches.{parts_view};
+ghost use Rattle.machfixups.specs.Rows.{rows_in_order, picked, readable_table, fixups_table_view};
 ghost use Rattle.machfixups.specs.RowsLeft.{rows_left, rows_of_items};
 
 use crate::row::Row;
-use crate::rows::{Items, Picks, Rows};
-use crate::section_names::Parts;
+use crate::rows::{Items, Rows, Selection};
+use crate::section_names::AllStretches;
 use goblin_mach::chained_fixups::ChainedFixups;
 use goblin_mach::{MachO, describe, laws};
 use mach_cli::Outcome;
@@ -29,7 +29,7 @@ pub const DEFAULT_LIMIT: usize = 10_000_000;
 
 /// What was printed of a list that ends at a limit.
 #[derive(Clone, Copy, Drop)]
-pub struct Told {
+pub struct ListProgress {
     /// How many more lines may be printed.
     pub left: usize,
     /// Whether all that was printed can be read.
@@ -38,12 +38,12 @@ pub struct Told {
     pub more: bool,
 }
 
-impl Told {
+impl ListProgress {
     // Returns the outcome of a list that was printed to its end, with `left` lines left.
-    fn all(left: usize, whole: bool) -> Told
+    fn all(left: usize, whole: bool) -> ListProgress
         ensures { (result.left ≡ left) × (result.whole ≡ whole) × (result.more ≡ false) }
     {
-        Told {
+        ListProgress {
             left,
             whole,
             more: false,
@@ -51,10 +51,10 @@ impl Told {
     }
 
     // Returns the outcome of a list that was cut at the limit.
-    fn cut(whole: bool) -> Told
+    fn cut(whole: bool) -> ListProgress
         ensures { (result.left ≡ 0) × (result.whole ≡ whole) × (result.more ≡ true) }
     {
-        Told {
+        ListProgress {
             left: 0,
             whole,
             more: true,
@@ -62,10 +62,10 @@ impl Told {
     }
 
     // Returns the outcome of a list and another after it, printed with what the first left.
-    fn then(self, next: Told) -> Told
+    fn then(self, next: ListProgress) -> ListProgress
         ensures { (result.left ≡ next.left) × (result.whole ≡ (self.whole && next.whole)) × (result.more ≡ (self.more || next.more)) }
     {
-        Told {
+        ListProgress {
             left: next.left,
             whole: self.whole & next.whole,
             more: self.more | next.more,
@@ -81,8 +81,8 @@ impl Told {
 /// read then. Each line uses up one of the limit for the images after it. Returns whether all of them can be read.
 pub fn print_fixups<A: Allocator, B: Allocator, O: Write>(
     image: &MachO<'_, A>,
-    parts: &Parts<B>,
-    picks: Picks,
+    parts: &AllStretches<B>,
+    selection: Selection,
     limit: usize,
     left: usize,
     out: &mut O,
@@ -90,27 +90,27 @@ pub fn print_fixups<A: Allocator, B: Allocator, O: Write>(
     ensures { (bytes : List ℕ) (o : ℕ) → IsImage bytes o image.now
         → IfOk result (λ outcome. (lists : PointerLists) × HasPointerLists bytes o lists
         × (chained : Result (Option Fixups) Fault) × HasChainedFixups bytes o chained
-        × WritesTold limit left (rows_in_order picks (parts_seen parts.now) (readable_table chained) lists) outcome.whole outcome.left
+        × WritesReported limit left (rows_in_order selection (parts_view parts.now) (readable_table chained) lists) outcome.whole outcome.left
         (O.contents out.old) (O.contents out.new)) }
 {
     laws::strict_image_is_lossy(image);
     let table = table_of(image);
-    let picks = picks.shown();
+    let selection = selection.shown();
     let items = Items::Rebases(image.opcode_rebases());
-    let rebases = print_list(picks.rebases, parts, &table, items, left, out)?;
+    let rebases = print_list(selection.rebases, parts, &table, items, left, out)?;
     let items = Items::Binds(image.opcode_bindings());
-    let binds = print_list(picks.binds, parts, &table, items, rebases.left, out)?;
+    let binds = print_list(selection.binds, parts, &table, items, rebases.left, out)?;
     let items = Items::Weak(image.weak_binds());
-    let weak = print_list(picks.weak, parts, &table, items, binds.left, out)?;
+    let weak = print_list(selection.weak, parts, &table, items, binds.left, out)?;
     let items = Items::Chains(image.fixups());
-    let chains = print_list(picks.chains, parts, &table, items, weak.left, out)?;
+    let chains = print_list(selection.chains, parts, &table, items, weak.left, out)?;
     let last = weak.then(chains);
     let rest = binds.then(last);
-    let told = rebases.then(rest);
-    print_more(limit, told.more, out)?;
+    let reported = rebases.then(rest);
+    print_more(limit, reported.more, out)?;
     Ok(Outcome {
-        whole: told.whole & !told.more,
-        left: told.left,
+        whole: reported.whole & !reported.more,
+        left: reported.left,
     })
 }
 
@@ -119,14 +119,14 @@ fn print_more<O: Write>(limit: usize, more: bool, out: &mut O) -> io::Result<()>
     ensures { OnOk result (Appends (O.contents out.old) (O.contents out.new) (line_of_more limit more)) }
 {
     if more {
-        writeln!(out, "limit: {limit} of them are told, and there are more")?;
+        writeln!(out, "limit: {limit} shown, and there are more")?;
     }
     Ok(())
 }
 
 /// Returns the chained fixups of an image, if it has any that can be read.
 pub fn table_of<'a, A: Allocator>(image: &MachO<'a, A>) -> Option<ChainedFixups<'a>>
-    ensures { fixups_table_seen result ≡ readable_table (chained_held image.now) }
+    ensures { fixups_table_view result ≡ readable_table (chained_view image.now) }
 {
     match image.chained_fixups() {
         Ok(found) => found,
@@ -137,17 +137,17 @@ pub fn table_of<'a, A: Allocator>(image: &MachO<'a, A>) -> Option<ChainedFixups<
 // Prints a line for each row of a list, if it is shown, up to the limit.
 fn print_list<'a, B: Allocator, O: Write>(
     is_shown: bool,
-    parts: &Parts<B>,
+    parts: &AllStretches<B>,
     table: &Option<ChainedFixups<'a>>,
     items: Items<'a, '_>,
     limit: usize,
     out: &mut O,
-) -> io::Result<Told>
-    ensures { IfOk result (WritesFirstRows limit (picked is_shown (rows_of_items (parts_seen parts.now) (fixups_table_seen table.now) items.entry))
+) -> io::Result<ListProgress>
+    ensures { IfOk result (WritesFirstRows limit (picked is_shown (rows_of_items (parts_view parts.now) (fixups_table_view table.now) items.entry))
         (O.contents out.old) (O.contents out.new)) }
 {
     if !is_shown {
-        return Ok(Told::all(limit, true));
+        return Ok(ListProgress::all(limit, true));
     }
     let rows = Rows {
         parts,
@@ -162,19 +162,19 @@ fn print_rows<B: Allocator, O: Write>(
     rows: Rows<'_, '_, '_, B>,
     limit: usize,
     out: &mut O,
-) -> io::Result<Told>
+) -> io::Result<ListProgress>
     ensures { IfOk result (WritesFirstRows limit (rows_left rows.entry) (O.contents out.old) (O.contents out.new)) }
 {
     let mut left = limit;
     let mut whole = true;
     'rows: for row in rows {
         let Some(rest) = left.checked_sub(1) else {
-            return Ok(Told::cut(whole));
+            return Ok(ListProgress::cut(whole));
         };
         left = rest;
         whole &= print_row(&row, out)?;
     }
-    Ok(Told::all(left, whole))
+    Ok(ListProgress::all(left, whole))
 }
 
 // Prints the line of a row, and returns whether it can be read.

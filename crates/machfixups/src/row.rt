@@ -6,22 +6,22 @@ ghost use Rattle.mach_dyld.specs.RebasesLeft.{rebase_read};
 ghost use Rattle.mach_dyld.specs.WeakBindsLeft.{weak_bind_read};
 ghost use Rattle.mach_parts.specs.Bindings.{binding_view, binding_read, provider_view};
 ghost use Rattle.mach_chained.specs.PointerViews.{kind_view};
-ghost use Rattle.mach_parts.specs.PointerSigning.{auth_seen};
+ghost use Rattle.mach_parts.specs.PointerSigning.{auth_option_view};
 ghost use Rattle.mach_chained.specs.Views.{import_view};
 ghost use Rattle.mach_chained.specs.WalkViews.{fixup_view, fixup_read};
-ghost use Rattle.machfixups.specs.Parts.{part_with, part_view, parts_seen};
+ghost use Rattle.machfixups.specs.AllStretches.{part_with, part_view, parts_view};
 ghost use Rattle.machfixups.specs.Rows.{place_in, ordinal_of, bind_of_binding, row_by_address, row_by_segment, import_in, action_of, bind_of_import};
 ghost use Rattle.machfixups.specs.Rows.{row_for_binding, row_for_rebase, row_for_weak, row_for_fixup, place_view, bind_view, action_view, row_view};
-ghost use Rattle.machfixups.specs.Rows.{row_of_fixup, row_read, fixups_table_seen};
+ghost use Rattle.machfixups.specs.Rows.{row_of_fixup, row_read, fixups_table_view};
 
-use crate::section_names::{Part, Parts};
+use crate::section_names::{AllStretches, SegmentStretches};
 use goblin_mach::chained_fixups::{ChainedFixups, ChainedImport, Fixup, FixupKind, PointerAuth};
 use goblin_mach::{Binding, Error, Provider, Rebase, RebaseKind, Result, WeakBind};
 use std::alloc::Allocator;
 
 /// The place of a pointer.
 #[derive(Clone, Copy)]
-pub struct Place<'a> {
+pub struct Location<'a> {
     pub address: u64,
     /// The printed names of the segment and of the section.
     pub segment: &'a str,
@@ -63,7 +63,7 @@ pub enum Action<'a> {
 pub enum Row<'b, 'a> {
     /// A place, and what is stored there.
     At {
-        place: Place<'b>,
+        place: Location<'b>,
         action: Action<'a>,
     },
     /// The name of a strong definition of the image's own.
@@ -71,16 +71,16 @@ pub enum Row<'b, 'a> {
 }
 
 // Returns the place of an address in a segment, if there is one.
-fn place_in<'b, A: Allocator>(part: Option<&'b Part<A>>, address: u64) -> Place<'b>
+fn place_in<'b, A: Allocator>(part: Option<&'b SegmentStretches<A>>, address: u64) -> Location<'b>
     ensures { place_view result ≡ place_in (option_map (λ p. part_view p.now) part.entry) address }
 {
     match part {
-        Some(part) => Place {
+        Some(part) => Location {
             address,
             segment: part.name(),
             section: part.section_with(address),
         },
-        None => Place {
+        None => Location {
             address,
             segment: "-",
             section: "-",
@@ -117,11 +117,11 @@ fn bind_of_binding<'a>(binding: &Binding<'a>) -> Bind<'a>
 
 // Returns the row of an address, in the first segment that holds it.
 fn row_by_address<'b, 'a, A: Allocator>(
-    parts: &'b Parts<A>,
+    parts: &'b AllStretches<A>,
     address: u64,
     action: Action<'a>,
 ) -> Row<'b, 'a>
-    ensures { row_view result ≡ row_by_address (parts_seen parts.now) address (action_view action.entry) }
+    ensures { row_view result ≡ row_by_address (parts_view parts.now) address (action_view action.entry) }
 {
     Row::At {
         place: place_in(parts.first_with(address), address),
@@ -131,12 +131,12 @@ fn row_by_address<'b, 'a, A: Allocator>(
 
 // Returns the row of an address, in the segment with a number.
 fn row_by_segment<'b, 'a, A: Allocator>(
-    parts: &'b Parts<A>,
+    parts: &'b AllStretches<A>,
     segment: u32,
     address: u64,
     action: Action<'a>,
 ) -> Row<'b, 'a>
-    ensures { row_view result ≡ row_by_segment (parts_seen parts.now) segment address (action_view action.entry) }
+    ensures { row_view result ≡ row_by_segment (parts_view parts.now) segment address (action_view action.entry) }
 {
     let part = parts.get(segment as usize);
     Row::At {
@@ -147,7 +147,7 @@ fn row_by_segment<'b, 'a, A: Allocator>(
 
 // Returns the import with a number, if there are chains and their table has it.
 fn import_in<'a>(table: &Option<ChainedFixups<'a>>, index: u32) -> Result<ChainedImport<'a>>
-    ensures { Reads import_view result (import_in (fixups_table_seen table.now) index) }
+    ensures { Reads import_view result (import_in (fixups_table_view table.now) index) }
 {
     match table {
         Some(table) => table.import(index),
@@ -161,7 +161,7 @@ fn bind_of_import<'a>(
     inline: i32,
     auth: Option<PointerAuth>,
 ) -> Bind<'a>
-    ensures { bind_view result ≡ bind_of_import (import_view import.now) inline (auth_seen auth) }
+    ensures { bind_view result ≡ bind_of_import (import_view import.now) inline (auth_option_view auth) }
 {
     Bind {
         name: import.name,
@@ -175,7 +175,7 @@ fn bind_of_import<'a>(
 
 // Returns what a fixup stores.
 fn action_of<'a>(table: &Option<ChainedFixups<'a>>, fixup: &Fixup) -> Result<Action<'a>>
-    ensures { Reads action_view result (action_of (fixups_table_seen table.now) (kind_view fixup.now.kind) (auth_seen fixup.now.auth)) }
+    ensures { Reads action_view result (action_of (fixups_table_view table.now) (kind_view fixup.now.kind) (auth_option_view fixup.now.auth)) }
 {
     let auth = fixup.auth;
     match fixup.kind {
@@ -194,11 +194,11 @@ fn action_of<'a>(table: &Option<ChainedFixups<'a>>, fixup: &Fixup) -> Result<Act
 
 // Returns the row of a fixup of the chains, in its segment; an error if the import of a bind can't be read.
 fn row_of_fixup<'b, 'a, A: Allocator>(
-    parts: &'b Parts<A>,
+    parts: &'b AllStretches<A>,
     table: &Option<ChainedFixups<'a>>,
     fixup: &Fixup,
 ) -> Result<Row<'b, 'a>>
-    ensures { Reads row_view result (row_of_fixup (parts_seen parts.now) (fixups_table_seen table.now) (fixup_view fixup.now)) }
+    ensures { Reads row_view result (row_of_fixup (parts_view parts.now) (fixups_table_view table.now) (fixup_view fixup.now)) }
 {
     let action = action_of(table, fixup)?;
     Ok(row_by_segment(parts, fixup.segment, fixup.address, action))
@@ -206,10 +206,10 @@ fn row_of_fixup<'b, 'a, A: Allocator>(
 
 /// Returns the row of a rebase of the opcodes; its place is in its own segment.
 pub fn rebase_row<'b, 'a, A: Allocator>(
-    parts: &'b Parts<A>,
+    parts: &'b AllStretches<A>,
     item: Result<Rebase>,
 ) -> Result<Row<'b, 'a>>
-    ensures { row_read result ≡ row_for_rebase (parts_seen parts.now) (rebase_read item) }
+    ensures { row_read result ≡ row_for_rebase (parts_view parts.now) (rebase_read item) }
 {
     let rebase = item?;
     let action = Action::Rebase {
@@ -222,10 +222,10 @@ pub fn rebase_row<'b, 'a, A: Allocator>(
 
 /// Returns the row of a weak bind of the opcodes.
 pub fn weak_row<'b, 'a, A: Allocator>(
-    parts: &'b Parts<A>,
+    parts: &'b AllStretches<A>,
     item: Result<WeakBind<'a>>,
 ) -> Result<Row<'b, 'a>>
-    ensures { row_read result ≡ row_for_weak (parts_seen parts.now) (weak_bind_read item.entry) }
+    ensures { row_read result ≡ row_for_weak (parts_view parts.now) (weak_bind_read item.entry) }
 {
     match item? {
         WeakBind::Strong { name } => Ok(Row::Strong(name)),
@@ -238,10 +238,10 @@ pub fn weak_row<'b, 'a, A: Allocator>(
 
 /// Returns the row of a bind of the opcodes; its place is in the first segment that holds its address.
 pub fn binding_row<'b, 'a, A: Allocator>(
-    parts: &'b Parts<A>,
+    parts: &'b AllStretches<A>,
     item: Result<Binding<'a>>,
 ) -> Result<Row<'b, 'a>>
-    ensures { row_read result ≡ row_for_binding (parts_seen parts.now) (binding_read item.entry) }
+    ensures { row_read result ≡ row_for_binding (parts_view parts.now) (binding_read item.entry) }
 {
     let binding = item?;
     let action = Action::Bind(bind_of_binding(&binding));
@@ -250,11 +250,11 @@ pub fn binding_row<'b, 'a, A: Allocator>(
 
 /// Returns the row of a fixup of the chains.
 pub fn fixup_row<'b, 'a, A: Allocator>(
-    parts: &'b Parts<A>,
+    parts: &'b AllStretches<A>,
     table: &Option<ChainedFixups<'a>>,
     item: Result<Fixup>,
 ) -> Result<Row<'b, 'a>>
-    ensures { row_read result ≡ row_for_fixup (parts_seen parts.now) (fixups_table_seen table.now) (fixup_read item) }
+    ensures { row_read result ≡ row_for_fixup (parts_view parts.now) (fixups_table_view table.now) (fixup_read item) }
 {
     match item {
         Ok(fixup) => row_of_fixup(parts, table, &fixup),

@@ -5,7 +5,7 @@ ghost use Rattle.machfixups.specs.Rows.{row_read, shown_picks};
 ghost use Rattle.machfixups.specs.RowsLeft.{rows_left};
 
 use crate::row::{Row, binding_row, fixup_row, rebase_row, weak_row};
-use crate::section_names::Parts;
+use crate::section_names::AllStretches;
 use goblin_mach::chained_fixups::ChainedFixups;
 use goblin_mach::{
     FixupIterator, OpcodeBindingIterator, OpcodeRebaseIterator, Result, WeakBindIterator,
@@ -14,16 +14,16 @@ use std::alloc::Allocator;
 
 /// Which lists are selected.
 #[derive(Clone, Copy)]
-pub struct Picks {
+pub struct Selection {
     pub rebases: bool,
     pub binds: bool,
     pub weak: bool,
     pub chains: bool,
 }
 
-impl Picks {
+impl Selection {
     /// No list.
-    pub const NONE: Picks = Picks {
+    pub const NONE: Selection = Selection {
         rebases: false,
         binds: false,
         weak: false,
@@ -31,11 +31,11 @@ impl Picks {
     };
 
     /// Returns the lists that are shown: all if none is selected.
-    pub fn shown(self) -> Picks
+    pub fn shown(self) -> Selection
         ensures { result ≡ shown_picks self }
     {
         let is_all = !(self.rebases || self.binds || self.weak || self.chains);
-        Picks {
+        Selection {
             rebases: self.rebases || is_all,
             binds: self.binds || is_all,
             weak: self.weak || is_all,
@@ -57,7 +57,7 @@ pub enum Items<'a, 'b> {
 #[derive(Drop)]
 pub struct Rows<'p, 'a, 'b, A: Allocator> {
     /// The segments that hold its items.
-    pub parts: &'p Parts<A>,
+    pub parts: &'p AllStretches<A>,
     /// The chained fixups with the imports of its binds.
     pub table: &'p Option<ChainedFixups<'a>>,
     pub items: Items<'a, 'b>,

@@ -10,7 +10,7 @@ use std::alloc::{AllocError, Allocator};
 
 /// A segment with its sections.
 #[derive(Drop)]
-pub struct Part<A: Allocator> {
+pub struct SegmentStretches<A: Allocator> {
     memory: Stretch,
     // None if one of them can't be read, or if there is no room for them.
     sections: Stretches<A>,
@@ -18,16 +18,16 @@ pub struct Part<A: Allocator> {
 
 /// The segments of an image with their sections, in order.
 #[derive(Drop)]
-pub struct Parts<A: Allocator> {
-    items: Vec<Part<A>, A>,
+pub struct AllStretches<A: Allocator> {
+    items: Vec<SegmentStretches<A>, A>,
     memory: Stretches<A>,
     ghost same: { map (λ p. p.memory) items.items ≡ memory.items.items },
 }
 
-impl<A: Allocator + Clone> Part<A> {
+impl<A: Allocator + Clone> SegmentStretches<A> {
     ghost use Rattle.std.specs.Prelude.{IfOk};
     ghost use Rattle.mach_parts.specs.Segment.{segment_view};
-    ghost use Rattle.machfixups.specs.Parts.{memory_of_segment, sections_within};
+    ghost use Rattle.machfixups.specs.AllStretches.{memory_of_segment, sections_within};
 
     // Returns a segment with its sections, if there is room for them.
     fn of(alloc: &A, segment: &Segment<'_>, room: usize) -> Result<Self, AllocError>
@@ -35,7 +35,7 @@ impl<A: Allocator + Clone> Part<A> {
         ensures sections { IfOk result (λ p. p.sections.items.items ≡ sections_within room (segment_view segment.now)) }
     {
         let sections = sections_within(alloc, segment, room)?;
-        Ok(Part {
+        Ok(SegmentStretches {
             memory: Stretch {
                 name: segment.segname,
                 start: segment.vmaddr,
@@ -46,9 +46,9 @@ impl<A: Allocator + Clone> Part<A> {
     }
 }
 
-impl<A: Allocator> Part<A> {
+impl<A: Allocator> SegmentStretches<A> {
     ghost use Rattle.std.specs.Prelude.{Some};
-    ghost use Rattle.machfixups.specs.Parts.{part_view, section_with, stretch_name};
+    ghost use Rattle.machfixups.specs.AllStretches.{part_view, section_with, stretch_name};
 
     /// Returns the printed name of the segment.
     pub fn name(&self) -> &str
@@ -71,12 +71,12 @@ impl<A: Allocator> Part<A> {
     }
 }
 
-impl<B: Allocator + Clone> Parts<B> {
+impl<B: Allocator + Clone> AllStretches<B> {
     ghost use Rattle.std.specs.Prelude.{ℕ, List, IfOk};
     ghost use Rattle.mach_parts.specs.Segment.{SegmentView, segment_view};
     ghost use Rattle.goblin_mach.specs.Facts.{HasSegments};
     ghost use Rattle.goblin_mach.specs.OpenImage.{IsImage};
-    ghost use Rattle.machfixups.specs.Parts.{parts_of, parts_seen};
+    ghost use Rattle.machfixups.specs.AllStretches.{parts_of, parts_view};
 
     /// Returns the segments of an image with their sections, at most `room` sections in all, in order.
     pub fn of_image<A: Allocator>(
@@ -85,7 +85,7 @@ impl<B: Allocator + Clone> Parts<B> {
         room: usize,
     ) -> Result<Self, AllocError>
         ensures { (bytes : List ℕ) (o : ℕ) → IsImage bytes o image.now → IfOk result (λ parts. (segments : List SegmentView)
-            × HasSegments bytes o segments × (parts_seen parts ≡ parts_of room segments)) }
+            × HasSegments bytes o segments × (parts_view parts ≡ parts_of room segments)) }
     {
         laws::segments_of_image(image);
         Self::of_segments(alloc, image.segments.as_slice(), room)
@@ -93,36 +93,36 @@ impl<B: Allocator + Clone> Parts<B> {
 
     // Returns some segments with their sections, in order.
     fn of_segments(alloc: &B, segments: &[Segment<'_>], room: usize) -> Result<Self, AllocError>
-        ensures { IfOk result (λ parts. parts_seen parts ≡ parts_of room (map segment_view segments.now)) }
+        ensures { IfOk result (λ parts. parts_view parts ≡ parts_of room (map segment_view segments.now)) }
     {
         let mut items = Vec::new(alloc.clone()?);
         let mut memory = Vec::new(alloc.clone()?);
         let mut left = room;
         'segments: for segment in segments {
-            let part = Part::of(alloc, segment, left)?;
+            let part = SegmentStretches::of(alloc, segment, left)?;
             memory.push(part.memory)?;
             items.push(part)?;
             left = room_after(left, segment);
         }
         let memory = Stretches::of(alloc, memory)?;
-        Ok(Parts { items, memory })
+        Ok(AllStretches { items, memory })
     }
 }
 
-impl<A: Allocator> Parts<A> {
+impl<A: Allocator> AllStretches<A> {
     ghost use Rattle.std.specs.Prelude.{option_map, slice_get};
-    ghost use Rattle.machfixups.specs.Parts.{part_view, part_with, parts_seen};
+    ghost use Rattle.machfixups.specs.AllStretches.{part_view, part_with, parts_view};
 
     /// Returns the segment with a number.
-    pub fn get(&self, number: usize) -> Option<&Part<A>>
-        ensures { option_map (λ p. part_view p.now) result ≡ slice_get (parts_seen self.now) number }
+    pub fn get(&self, number: usize) -> Option<&SegmentStretches<A>>
+        ensures { option_map (λ p. part_view p.now) result ≡ slice_get (parts_view self.now) number }
     {
         self.items.get(number)
     }
 
     /// Returns the first segment that holds an address, if one does.
-    pub fn first_with(&self, address: u64) -> Option<&Part<A>>
-        ensures { option_map (λ p. part_view p.now) result ≡ part_with address (parts_seen self.now) }
+    pub fn first_with(&self, address: u64) -> Option<&SegmentStretches<A>>
+        ensures { option_map (λ p. part_view p.now) result ≡ part_with address (parts_view self.now) }
     {
         match self.memory.first_with(address) {
             Some(number) => self.get(number),

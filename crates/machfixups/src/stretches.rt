@@ -3,7 +3,7 @@
 ghost use Rattle.std.specs.Prelude.{◌≡◌, ◌+◌, ◌<◌, ◌≤◌, ◌^◌, ℕ, List, [], ◌∷◌, length, take, Option, None, IfOk};
 ghost use Rattle.std.specs.List.{All};
 ghost use Rattle.std.specs.Option.{option_or};
-ghost use Rattle.machfixups.specs.Stretches.{first_holder, holder_from, AreByAddress, PassesNext, TellHolders};
+ghost use Rattle.machfixups.specs.Stretches.{first_holder, holder_from, AreByAddress, PassesNext, ReportHolders};
 
 use std::alloc::{AllocError, Allocator};
 
@@ -31,7 +31,7 @@ pub struct Stretches<A: Allocator> {
     pub items: Vec<Stretch, A>,
     changes: Vec<Change, A>,
     ghost ordered: { AreByAddress changes.items },
-    ghost told: { TellHolders 0 items.items changes.items },
+    ghost reported: { ReportHolders 0 items.items changes.items },
 }
 
 impl<A: Allocator + Clone> Stretches<A> {
@@ -50,7 +50,7 @@ impl<A: Allocator> Stretches<A> {
         ensures { result ≡ first_holder address 0 self.now.items.items }
     {
         let passed = passed_at(&self.changes, address);
-        holder_behind(&self.changes, passed)
+        holder_after(&self.changes, passed)
     }
 }
 
@@ -59,13 +59,13 @@ fn passed_at(changes: &[Change], address: u64) -> usize
     requires { AreByAddress changes.now }
     ensures inside { result ≤ length changes.now }
     ensures up_to { All (λ c. c.start ≤ address) (take result changes.now) }
-    ensures told { holder_from None changes.now address ≡ holder_from None (take result changes.now) address }
+    ensures reported { holder_from None changes.now address ≡ holder_from None (take result changes.now) address }
 {
     changes.partition_point(|change| change.start <= address)
 }
 
 // Returns the holder after the first `passed` changes.
-fn holder_behind(changes: &[Change], passed: usize) -> Option<usize>
+fn holder_after(changes: &[Change], passed: usize) -> Option<usize>
     requires { passed ≤ length changes.now }
     ensures { (address : ℕ) → All (λ c. c.start ≤ address) (take passed changes.now) → result ≡ holder_from None (take passed changes.now) address }
 {
@@ -83,7 +83,7 @@ fn changes_of<A: Allocator + Clone>(
 ) -> Result<Vec<Change, A>, AllocError>
     requires { number + length stretches.now < 2 ^ 64 }
     ensures ordered { IfOk result (λ v. AreByAddress v.items) }
-    ensures told { IfOk result (λ v. TellHolders number stretches.now v.items) }
+    ensures reported { IfOk result (λ v. ReportHolders number stretches.now v.items) }
 {
     match stretches {
         [] => Ok(Vec::new(alloc.clone()?)),
@@ -105,7 +105,7 @@ fn changes_of_one<A: Allocator>(
     number: usize,
 ) -> Result<Vec<Change, A>, AllocError>
     ensures ordered { IfOk result (λ v. AreByAddress v.items) }
-    ensures told { IfOk result (λ v. TellHolders number (one ∷ []) v.items) }
+    ensures reported { IfOk result (λ v. ReportHolders number (one ∷ []) v.items) }
 {
     let mut changes = Vec::new(alloc);
     changes.push(Change {
@@ -130,14 +130,14 @@ fn merged<A: Allocator>(
     requires first { AreByAddress first.now }
     requires second { AreByAddress second.now }
     ensures ordered { IfOk result (λ v. AreByAddress v.items) }
-    ensures told { IfOk result (λ v. (address : ℕ)
+    ensures reported { IfOk result (λ v. (address : ℕ)
         → holder_from None v.items address ≡ option_or (holder_from None first.now address) (holder_from None second.now address)) }
 {
     let mut changes = Vec::new(alloc);
     let (mut i, mut j) = (0, 0);
     'changes: while let Some((more, others, start)) = pass_next(first, i, second, j) {
         (i, j) = (more, others);
-        let holder = holder_behind(first, i).or(holder_behind(second, j));
+        let holder = holder_after(first, i).or(holder_after(second, j));
         changes.push(Change { start, holder })?;
     }
     Ok(changes)

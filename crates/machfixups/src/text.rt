@@ -1,18 +1,18 @@
 //! Rebases, binds and fixups as they are printed.
 
 ghost use Rattle.std.specs.Prelude.{◌≡◌, Some};
-ghost use Rattle.mach_parts.specs.PointerSigning.{auth_view, auth_seen};
+ghost use Rattle.mach_parts.specs.PointerSigning.{auth_view, auth_option_view};
 ghost use Rattle.machfixups.specs.Lines.{pointer_place_text, key_text, address_text, auth_text, flags_text, bind_text, rebase_kind_text, action_text, row_text};
 ghost use Rattle.machfixups.specs.Rows.{place_view, bind_view, action_view, row_view};
 
-use crate::row::{Action, Bind, Place, Row};
+use crate::row::{Action, Bind, Location, Row};
 use goblin_mach::RebaseKind;
 use goblin_mach::chained_fixups::PointerAuth;
 use mach_cli::Escaped;
 use std::fmt;
 use std::fmt::{Display, Formatter, Write};
 
-impl Display for Place<'_> {
+impl Display for Location<'_> {
     ghost output = { λ t. Some (pointer_place_text (place_view t)) };
 
     fn fmt<W: Write>(&self, f: &mut Formatter<W>) -> fmt::Result {
@@ -66,7 +66,7 @@ struct FlagsText {
 }
 
 impl Display for FlagsText {
-    ghost output = { λ t. Some (flags_text t.is_weak t.is_lazy (auth_seen t.auth)) };
+    ghost output = { λ t. Some (flags_text t.is_weak t.is_lazy (auth_option_view t.auth)) };
 
     fn fmt<W: Write>(&self, f: &mut Formatter<W>) -> fmt::Result {
         let Some(auth) = self.auth else {

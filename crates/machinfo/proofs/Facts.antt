@@ -1,6 +1,6 @@
 -- The rows of each word, by the image that was opened.
 use Rattle.std.proofs.Common.{◌≡◌, ◌-◌, ℕ, List, Result, length, refl}
-use Rattle.mach_base.specs.Items.{begun_items}
+use Rattle.mach_base.specs.Items.{items_in_bounds}
 use Rattle.mach_base.specs.Context.{pointer_size}
 use Rattle.mach_base.specs.Fault.{Fault}
 use Rattle.mach_base.specs.Text.{texts}
@@ -12,11 +12,11 @@ use Rattle.mach_dyld.specs.Rebases.{Rebase}
 use Rattle.mach_dyld.specs.WeakBinds.{WeakBind}
 use Rattle.mach_load.specs.BuildTools.{build_tools_in}
 use Rattle.mach_load.specs.LinkerOptions.{linker_options_in}
-use Rattle.goblin_mach.specs.Fixups.{base_held, chained_held}
-use Rattle.goblin_mach.specs.ImageSlots.{indirect_symbols_in, indirect_table_held, symbol_table_held, image_slots}
+use Rattle.goblin_mach.specs.Fixups.{base_view, chained_view}
+use Rattle.goblin_mach.specs.ImageSlots.{indirect_symbols_in, indirect_table_view, symbol_table_view, image_slots}
 use Rattle.goblin_mach.specs.ImageStreams.{AreImageRebases, AreImageWeakBinds, rebase_stream_in, weak_stream_in}
 use Rattle.goblin_mach.specs.Libraries.{LibraryView, libraries_in}
-use Rattle.goblin_mach.specs.OpenImage.{IsImage, bytes_held, commands_held, ctx_held, segments_held}
+use Rattle.goblin_mach.specs.OpenImage.{IsImage, bytes_view, commands_view, ctx_view, segments_view}
 use Rattle.goblin_mach.specs.Tables.{AreStartsAt, data_in_code_there, data_place_in, starts_place_in}
 use Rattle.goblin_mach.specs.declared.macho.MachO.{MachO}
 use Rattle.goblin_mach.proofs.ImageFacts.{facts_are, libraries_by_kind_are, strict-lossy}
@@ -31,55 +31,55 @@ use Rattle.machinfo.specs.Rows.{provided_row, library_row, rebase_row, weak_row}
 use Rattle.machinfo.specs.declared.word.Word.TheVariants as words
 
 module _ {A : Type 0} (m : MachO A) (bytes : List ℕ) (o : ℕ) (p : IsImage bytes o m) where
-  pub starts_are : (items : List (Result ℕ Fault)) → AreStartsAt (bytes_held m) (starts_place_in (commands_held m)) (base_held m) items
+  pub starts_are : (items : List (Result ℕ Fault)) → AreStartsAt (bytes_view m) (starts_place_in (commands_view m)) (base_view m) items
       → HasRows words.Starts bytes o (as_rows start_row items) 0
   starts_are items is = ((items, ((function_starts_are m).strict bytes o p items).1 is, refl), refl)
 
   pub slot_rows : (items : List (Result Slot Fault))
-      → items ≡ image_slots (ctx_held m) (indirect_table_held m) (symbol_table_held m) (segments_held m)
+      → items ≡ image_slots (ctx_view m) (indirect_table_view m) (symbol_table_view m) (segments_view m)
       → HasRows words.Slots bytes o (as_rows slot_row items) 0
   slot_rows items is = ((items, ((slots_are m).strict bytes o p items).1 is, refl), refl)
 
-  pub indirect_rows : (items : List (Result IndirectSymbol Fault)) → items ≡ indirect_symbols_in (indirect_table_held m)
-      → HasRows words.Indirect bytes o (as_rows indirect_row (begun_items items)) (length items - length (begun_items items))
+  pub indirect_rows : (items : List (Result IndirectSymbol Fault)) → items ≡ indirect_symbols_in (indirect_table_view m)
+      → HasRows words.Indirect bytes o (as_rows indirect_row (items_in_bounds items)) (length items - length (items_in_bounds items))
   indirect_rows items is = (items, ((indirect_symbols_are m).strict bytes o p items).1 is, refl, refl)
 
   pub data_rows : (items : List (Result DataInCodeEntry Fault))
-      → items ≡ data_in_code_there (ctx_held m).le (bytes_held m) (data_place_in (commands_held m))
-      → HasRows words.Data bytes o (as_rows data_row (begun_items items)) (length items - length (begun_items items))
+      → items ≡ data_in_code_there (ctx_view m).le (bytes_view m) (data_place_in (commands_view m))
+      → HasRows words.Data bytes o (as_rows data_row (items_in_bounds items)) (length items - length (items_in_bounds items))
   data_rows items is = (items, ((data_in_code_are m).strict bytes o p items).1 is, refl, refl)
 
-  pub option_rows : (items : List (Result (ℕ × List ℕ) Fault)) → items ≡ linker_options_in (bytes_held m) (commands_held m)
+  pub option_rows : (items : List (Result (ℕ × List ℕ) Fault)) → items ≡ linker_options_in (bytes_view m) (commands_view m)
       → HasRows words.Options bytes o (as_rows option_row items) 0
   option_rows items is = ((items, ((linker_options_are m).strict bytes o p items).1 is, refl), refl)
 
-  pub tool_rows : (items : List (Result (ℕ × BuildToolVersion) Fault)) → items ≡ build_tools_in (ctx_held m).le (bytes_held m) (commands_held m)
+  pub tool_rows : (items : List (Result (ℕ × BuildToolVersion) Fault)) → items ≡ build_tools_in (ctx_view m).le (bytes_view m) (commands_view m)
       → HasRows words.Tools bytes o (as_rows tool_row items) 0
   tool_rows items is = ((items, ((build_tools_are m).strict bytes o p items).1 is, refl), refl)
 
-  pub note_rows : (items : List (Result NumberedNoteView Fault)) → items ≡ numbered_notes_from (bytes_held m) 0 (commands_held m)
+  pub note_rows : (items : List (Result NumberedNoteView Fault)) → items ≡ numbered_notes_from (bytes_view m) 0 (commands_view m)
       → HasRows words.Notes bytes o (as_rows note_row items) 0
   note_rows items is =
       ((items, (facts_are bytes o m (strict-lossy bytes o m p) (λ f. items ≡ numbered_notes_from f.bytes 0 f.commands)).1 is, refl), refl)
 
-  pub provider_rows : (items : List (Result ProvidedView Fault)) → items ≡ provided_in m.header.flags (texts m.libs.items) (symbol_table_held m)
-      → HasRows words.Providers bytes o (as_rows provided_row items) (symbols_past_in (symbol_table_held m))
+  pub provider_rows : (items : List (Result ProvidedView Fault)) → items ≡ provided_in m.header.flags (texts m.libs.items) (symbol_table_view m)
+      → HasRows words.Providers bytes o (as_rows provided_row items) (symbols_past_in (symbol_table_view m))
   provider_rows items is =
       let held = strict-lossy bytes o m p in (
         (items, (facts_are bytes o m held (λ f. items ≡ provided_in f.header.flags f.libs f.symbols)).1 is, refl),
-        (facts_are bytes o m held (λ f. symbols_past_in (symbol_table_held m) ≡ symbols_past_in f.symbols)).1 refl,
+        (facts_are bytes o m held (λ f. symbols_past_in (symbol_table_view m) ≡ symbols_past_in f.symbols)).1 refl,
       )
 
-  pub library_rows : (items : List LibraryView) → items ≡ libraries_in (ctx_held m).le (bytes_held m) (commands_held m)
+  pub library_rows : (items : List LibraryView) → items ≡ libraries_in (ctx_view m).le (bytes_view m) (commands_view m)
       → HasRows words.Libraries bytes o (as_rows library_row (libraries_there items)) 0
   library_rows items is = (items, ((libraries_by_kind_are m).strict bytes o p items).1 is, refl, refl)
 
   pub rebase_rows : (items : List (Result Rebase Fault))
-      → AreImageRebases (rebase_stream_in (bytes_held m) (commands_held m)) (chained_held m) (ctx_held m).le (pointer_size (ctx_held m).container)
-      (segments_held m) items → HasRows words.Rebases bytes o (as_rows rebase_row items) 0
+      → AreImageRebases (rebase_stream_in (bytes_view m) (commands_view m)) (chained_view m) (ctx_view m).le (pointer_size (ctx_view m).container)
+      (segments_view m) items → HasRows words.Rebases bytes o (as_rows rebase_row items) 0
   rebase_rows items is = ((items, ((rebases_are m).strict bytes o p items).1 is, refl), refl)
 
   pub weak_rows : (items : List (Result WeakBind Fault))
-      → AreImageWeakBinds (weak_stream_in (bytes_held m) (commands_held m)) (pointer_size (ctx_held m).container) (segments_held m) items
+      → AreImageWeakBinds (weak_stream_in (bytes_view m) (commands_view m)) (pointer_size (ctx_view m).container) (segments_view m) items
       → HasRows words.Weak bytes o (as_rows weak_row items) 0
   weak_rows items is = ((items, ((weak_binds_are m).strict bytes o p items).1 is, refl), refl)

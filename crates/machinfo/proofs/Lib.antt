@@ -1,4 +1,4 @@
-mod Begun
+mod InBounds
 mod Counted
 mod Facts
 mod Flags

@@ -22,7 +22,7 @@ use Rattle.machinfo.specs.RowTexts.{giver_text, indirect_text, list_row_text, pl
 use Rattle.machinfo.specs.RowTexts.{upper_byte, upper_bytes, weak_row_text}
 use Rattle.machinfo.specs.Rows.{RowView, start_row, slot_row, indirect_row, data_row, option_row, tool_row, note_row, provided_row, library_row}
 use Rattle.machinfo.specs.Rows.{rebase_row, weak_row, uuid_row, platform_row, path_row}
-use Rattle.machinfo.specs.Segments.{field_text, section_said_text, segment_said_line}
+use Rattle.machinfo.specs.Segments.{field_text, section_summary_text, segment_summary_line}
 use Rattle.machinfo.specs.Summary.{summary_text}
 
 no_feed-kind : (kind : SlotKind) → has_no_feed (slot_kind_text kind) ≡ true
@@ -117,5 +117,5 @@ row_line row = line-end (list_row_text row) (no_feed-row row)
 pub summary_line : (row : RowView) → IsOneLine (summary_text row ++ codes "\n")
 summary_line row = line-end (summary_text row) (no_feed-summary row)
 
-pub section_line : (section : Section) → IsOneLine (section_said_text section ++ codes "\n")
-section_line section = line-end (section_said_text section) (search (no_feeds, no_feed-field, rules))
+pub section_line : (section : Section) → IsOneLine (section_summary_text section ++ codes "\n")
+section_line section = line-end (section_summary_text section) (search (no_feeds, no_feed-field, rules))

@@ -3,9 +3,9 @@ use Rattle.std.specs.Prelude.{◌≡◌, ◌==◌, ◌-◌, ◌&&◌, if◌then�
 use Rattle.std.specs.Fmt.{decimal}
 use Rattle.mach_base.specs.Fault.{Fault}
 use Rattle.mach_cli.specs.Listings.{CountsRows}
-use Rattle.mach_cli.specs.declared.listing.Told.{Told}
+use Rattle.mach_cli.specs.declared.listing.ListProgress.{ListProgress}
 use Rattle.mach_cli.specs.JsonText.{json_bool}
-use Rattle.machinfo.specs.RowTexts.{row_texts, said_if}
+use Rattle.machinfo.specs.RowTexts.{row_texts, line_if}
 use Rattle.machinfo.specs.Lists.{HasRows}
 use Rattle.machinfo.specs.Rows.{RowView}
 use Rattle.machinfo.specs.Words.{spelling_of}
@@ -19,33 +19,33 @@ abbrev pub past_text : ℕ → List ℕ
 past_text past = if past == 0 then [] else codes ", and " ++ (decimal past ++ codes " more past the end")
 
 -- the count of rows up to the limit, whether there are more, whether some can't be read, and how many more are claimed
-abbrev pub count_text : ℕ → Told → ℕ → List ℕ
-count_text limit told past =
-    said_if told.more (codes "more than ") ++ decimal (limit - told.left) ++ said_if (not told.whole) (codes ", not all readable") ++ past_text past
+abbrev pub count_text : ℕ → ListProgress → ℕ → List ℕ
+count_text limit reported past =
+    line_if reported.more (codes "more than ") ++ decimal (limit - reported.left) ++ line_if (not reported.whole) (codes ", not all readable") ++ past_text past
 
-abbrev pub count_line : Word → ℕ → Told → ℕ → List ℕ
-count_line word limit told past = spelling_of word ++ codes ": " ++ count_text limit told past ++ codes "\n"
+abbrev pub count_line : Word → ℕ → ListProgress → ℕ → List ℕ
+count_line word limit reported past = spelling_of word ++ codes ": " ++ count_text limit reported past ++ codes "\n"
 
 -- the same as members of an object
-abbrev pub count_members : ℕ → Told → ℕ → List ℕ
-count_members limit told past =
+abbrev pub count_members : ℕ → ListProgress → ℕ → List ℕ
+count_members limit reported past =
     codes "\"count\":"
-    ++ (decimal (limit - told.left)
+    ++ (decimal (limit - reported.left)
     ++ (codes ",\"limit_met\":"
-    ++ (json_bool told.more
-    ++ (codes ",\"past_the_end\":" ++ (decimal past ++ (codes ",\"readable\":" ++ json_bool told.whole))))))
+    ++ (json_bool reported.more
+    ++ (codes ",\"past_the_end\":" ++ (decimal past ++ (codes ",\"readable\":" ++ json_bool reported.whole))))))
 
-abbrev pub count_member : Word → ℕ → Told → ℕ → List ℕ
-count_member word limit told past = codes "\"" ++ (spelling_of word ++ (codes "\":{" ++ (count_members limit told past ++ codes "},")))
+abbrev pub count_member : Word → ℕ → ListProgress → ℕ → List ℕ
+count_member word limit reported past = codes "\"" ++ (spelling_of word ++ (codes "\":{" ++ (count_members limit reported past ++ codes "},")))
 
 -- the text of a list's count in the given form
-abbrev pub count_told : Form → Word → ℕ → Told → ℕ → List ℕ
-count_told Lines word limit told past = count_line word limit told past
-count_told Members word limit told past = count_member word limit told past
+abbrev pub count_reported : Form → Word → ℕ → ListProgress → ℕ → List ℕ
+count_reported Lines word limit reported past = count_line word limit reported past
+count_reported Members word limit reported past = count_member word limit reported past
 
 -- all rows were counted, all can be read, and no more are claimed
-abbrev pub are_counted_whole : Told → ℕ → Bool
-are_counted_whole told past = (told.whole && not told.more) && (past == 0)
+abbrev pub are_counted_whole : ListProgress → ℕ → Bool
+are_counted_whole reported past = (reported.whole && not reported.more) && (past == 0)
 
 -- The text gives one count for each of these words, in order: how many rows the word's list has in the image at the start of the
 -- bytes, counted up to the limit, and how many more the list claims past the end of the bytes. It is whole if no list has or
@@ -53,8 +53,8 @@ are_counted_whole told past = (told.whole && not told.more) && (past == 0)
 pub data AreCounts (form : Form) (limit : ℕ) (bytes : List ℕ) : List Word → List ℕ → Bool → Type 0 where
   no_counts : AreCounts form limit bytes [] [] true
   counts_more : (words : List Word) (word : Word) (text : List ℕ) (whole : Bool) (rows : List (Result RowView Fault)) (past : ℕ)
-      (told : Told) → AreCounts form limit bytes words text whole → HasRows word bytes 0 rows past → CountsRows limit (row_texts rows) told
-      → AreCounts form limit bytes (words ++ word ∷ []) (text ++ count_told form word limit told past) (whole && are_counted_whole told past)
+      (reported : ListProgress) → AreCounts form limit bytes words text whole → HasRows word bytes 0 rows past → CountsRows limit (row_texts rows) reported
+      → AreCounts form limit bytes (words ++ word ∷ []) (text ++ count_reported form word limit reported past) (whole && are_counted_whole reported past)
 
 -- the lists that are counted
 abbrev pub counted_words : List Word

@@ -5,7 +5,7 @@ use Rattle.mach_base.specs.Fault.{Fault}
 use Rattle.goblin_mach.specs.Image.{Opens}
 use Rattle.goblin_mach.specs.ImageFacts.{Facts, HasFacts}
 use Rattle.mach_cli.specs.Listings.{AreFirstLines}
-use Rattle.mach_cli.specs.JsonArrays.{AreBegunMembers}
+use Rattle.mach_cli.specs.JsonArrays.{AreMembersInBounds}
 use Rattle.mach_signature.specs.Directories.{Directory}
 use Rattle.mach_signature.specs.SignedFacts.{HasCodeDirectory}
 use Rattle.machinfo.specs.Counts.{AreCounts, counted_words}
@@ -14,7 +14,7 @@ use Rattle.machinfo.specs.RowObjects.{row_objects}
 use Rattle.machinfo.specs.RowTexts.{row_texts}
 use Rattle.machinfo.specs.Rows.{RowView}
 use Rattle.machinfo.specs.Words.{spelling_of}
-use Rattle.machinfo.specs.Signed.{AreSignatureSaid, is_readable}
+use Rattle.machinfo.specs.Signed.{AreSignatureLinesOf, is_readable}
 use Rattle.machinfo.specs.States.{state_of_commands, state_lines}
 use Rattle.machinfo.specs.declared.word.Word.{Word}
 use Rattle.machinfo.specs.declared.counts.Form.TheVariants.{Lines, Members}
@@ -37,7 +37,7 @@ pub record AreImageListMembers (word : Word) (left : ℕ) (bytes : List ℕ) (te
   pub rows : List (Result RowView Fault)
   pub past : ℕ
   pub has_rows : HasRows word bytes 0 rows past
-  pub members : AreBegunMembers left (record { name = spelling_of word; rows = row_objects rows } ∷ []) past text whole rest
+  pub members : AreMembersInBounds left (record { name = spelling_of word; rows = row_objects rows } ∷ []) past text whole rest
 
 -- The text is the summary of the image at the start of the bytes. Its parts are: some text first; whether the image is signed,
 -- and what its code directory says; whether it is encrypted and stripped, and how many symbols it has; and how many items each
@@ -50,7 +50,7 @@ pub record AreImageSummaryLines (limit left : ℕ) (bytes : List ℕ) (text : Li
   pub there : Result (Option Directory) Fault
   pub has_directory : HasCodeDirectory bytes 0 there
   pub signed : List ℕ
-  pub are_signed : AreSignatureSaid there signed
+  pub are_signed : AreSignatureLinesOf there signed
   pub facts : Facts
   pub has_facts : HasFacts bytes 0 facts
   pub counts : List ℕ

@@ -5,7 +5,7 @@ pub mod Words
 pub mod NumberedNotes
 pub mod ProvidedSymbols
 pub mod Rows
-pub mod Said
+pub mod FactRows
 pub mod Lists
 pub mod States
 pub mod Segments

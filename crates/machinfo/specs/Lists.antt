@@ -3,7 +3,7 @@ use Rattle.std.specs.Prelude.{◌≡◌, ℕ, ◌-◌, List, [], length, map, co
 use Rattle.std.specs.Slice.Iter.{iter_rest}
 use Rattle.mach_base.specs.Answer.{◌>>=◌}
 use Rattle.mach_base.specs.Fault.{Fault}
-use Rattle.mach_base.specs.Items.{begun_items}
+use Rattle.mach_base.specs.Items.{items_in_bounds}
 use Rattle.mach_base.specs.Text.{texts}
 use Rattle.mach_parts.specs.SlotViews.{indirect_left}
 use Rattle.mach_parts.specs.SlotsLeft.{slots_left}
@@ -20,7 +20,7 @@ use Rattle.goblin_mach.specs.ImageFacts.{OfFacts}
 use Rattle.machinfo.specs.ProvidedSymbols.{HasProvidedSymbols, provided_left, symbols_past_in}
 use Rattle.machinfo.specs.Rows.{RowView, start_row, slot_row, indirect_row, data_row, option_row, tool_row, note_row, provided_row, library_row}
 use Rattle.machinfo.specs.Rows.{rebase_row, weak_row, path_row}
-use Rattle.machinfo.specs.Said.{said_left}
+use Rattle.machinfo.specs.FactRows.{facts_left}
 use Rattle.machinfo.specs.declared.list.ImageList.{ImageList}
 use Rattle.machinfo.specs.declared.list.ImageList.TheVariants as lists
 use Rattle.machinfo.specs.declared.word.Word.{Word}
@@ -41,7 +41,7 @@ libraries_there libraries = map (λ l. Ok l) libraries
 -- these are the items of a table whose records begin within the bytes, as rows, and `past` more are claimed
 abbrev pub AreBegunRowsOf : {X : Type 0} → (X → RowView) → (List (Result X Fault) → Type 0) → List (Result RowView Fault) → (past : ℕ) → Type 0
 AreBegunRowsOf {X} row Has found past =
-    (items : List (Result X Fault)) × Has items × (found ≡ as_rows row (begun_items items)) × (past ≡ length items - length (begun_items items))
+    (items : List (Result X Fault)) × Has items × (found ≡ as_rows row (items_in_bounds items)) × (past ≡ length items - length (items_in_bounds items))
 
 -- The rows of a word's list, of the image at an offset: one for each item of the list, in order, or the fault in its place if it
 -- can't be read. Of a table they are the rows that begin within the bytes, and `past` more are claimed.
@@ -82,7 +82,7 @@ list_rows_left (lists.Providers it) = as_rows provided_row (provided_left it)
 list_rows_left (lists.Libraries it) = as_rows library_row (libraries_there (libraries_left it))
 list_rows_left (lists.Rebases it) = as_rows rebase_row (rebases_left it)
 list_rows_left (lists.Weak it) = as_rows weak_row (weak_binds_left it)
-list_rows_left (lists.Said it) = map (λ r. Ok r) (said_left it)
+list_rows_left (lists.FactRows it) = map (λ r. Ok r) (facts_left it)
 list_rows_left (lists.Paths it) = map (λ path. Ok (path_row path)) (texts (iter_rest it))
 
 -- how many more rows a list claims past the end of the bytes, and their name

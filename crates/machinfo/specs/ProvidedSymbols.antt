@@ -7,7 +7,7 @@ use Rattle.mach_base.specs.Fault.{Fault}
 use Rattle.mach_base.specs.Items.{read_as}
 use Rattle.mach_base.specs.Text.{texts}
 use Rattle.mach_parts.specs.Bindings.{Provider, provider_view}
-use Rattle.mach_parts.specs.Symbols.{SymbolTable, begun_of, symbols_of}
+use Rattle.mach_parts.specs.Symbols.{SymbolTable, table_in_bounds, symbols_of}
 use Rattle.mach_parts.specs.SymbolViews.{symbols_left}
 use Rattle.mach_parts.specs.declared.symbols.nlist.Nlist.{Nlist}
 use Rattle.goblin_mach.specs.ImageFacts.{OfFacts}
@@ -31,12 +31,12 @@ provided_by flags libs (Ok symbol) = option_map (named_provider symbol.0) (symbo
 -- the providers of a table's symbols whose records begin within the bytes; none without a table
 abbrev pub provided_in : ℕ → List (List ℕ) → Option SymbolTable → List (Result ProvidedView Fault)
 provided_in flags libs None = []
-provided_in flags libs (Some table) = filter_map (provided_by flags libs) (symbols_of (begun_of table))
+provided_in flags libs (Some table) = filter_map (provided_by flags libs) (symbols_of (table_in_bounds table))
 
 -- how many symbols a table claims past the end of the bytes
 abbrev pub symbols_past_in : Option SymbolTable → ℕ
 symbols_past_in None = 0
-symbols_past_in (Some table) = table.nsyms - (begun_of table).nsyms
+symbols_past_in (Some table) = table.nsyms - (table_in_bounds table).nsyms
 
 -- these are the providers of the symbols of the image at an offset
 abbrev pub HasProvidedSymbols : List ℕ → ℕ → List (Result ProvidedView Fault) → Type 0

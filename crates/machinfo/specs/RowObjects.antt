@@ -12,7 +12,7 @@ use Rattle.mach_dyld.specs.Rebases.{Rebase}
 use Rattle.mach_dyld.specs.WeakBinds.{WeakBind, strong_name, weakly_bound}
 use Rattle.goblin_mach.specs.Libraries.{LibraryView}
 use Rattle.goblin_mach.specs.declared.libraries.LibraryAttributes.{LibraryAttributes}
-use Rattle.mach_cli.specs.Listings.{told_by}
+use Rattle.mach_cli.specs.Listings.{reported_by}
 use Rattle.mach_cli.specs.JsonText.{json_bool, json_string}
 use Rattle.mach_cli.specs.Signing.{auth_members, rebase_type}
 use Rattle.machinfo.specs.NumberedNotes.{NumberedNoteView}
@@ -23,7 +23,7 @@ use Rattle.machinfo.specs.Rows.{rebase_row, weak_row, uuid_row, platform_row, pa
 use Rattle.machinfo.specs.Lists.{list_rows_left}
 use Rattle.machinfo.specs.declared.object.ObjectList.{ObjectList}
 use Rattle.machinfo.specs.declared.row.Row.{Row}
-use Rattle.machinfo.specs.declared.said.PlatformSaid.{PlatformSaid}
+use Rattle.machinfo.specs.declared.command_facts.PlatformFact.{PlatformFact}
 
 abbrev pub start_object : (address : ℕ) → List ℕ
 start_object address = codes "{\"address\":" ++ (decimal address ++ codes "}")
@@ -134,7 +134,7 @@ weak_bind_object (weakly_bound b) = weak_place_object b
 abbrev pub sdk_object : ℕ → List ℕ
 sdk_object sdk = if sdk == 0 then codes "null" else codes "\"" ++ (version_text sdk ++ codes "\"")
 
-abbrev pub platform_object : PlatformSaid → List ℕ
+abbrev pub platform_object : PlatformFact → List ℕ
 platform_object p =
     codes "{\"name\":\""
     ++ (platform_name p.platform
@@ -159,7 +159,7 @@ object_of (path_row path) = json_string path
 
 -- the objects of rows; a fault stays in its place
 abbrev pub row_objects : List (Result RowView Fault) → List (Result (List ℕ) Fault)
-row_objects found = map (told_by object_of) found
+row_objects found = map (reported_by object_of) found
 
 abbrev pub object_shown : Row → List ℕ
 object_shown row = object_of (list_row_view row)

@@ -19,7 +19,7 @@ use Rattle.goblin_mach.specs.declared.libraries.LibraryAttributes.{LibraryAttrib
 use Rattle.goblin_mach.specs.declared.libraries.LibraryKind.{LibraryKind}
 use Rattle.goblin_mach.specs.declared.libraries.LibraryKind.TheVariants.{Lazy}
 use Rattle.mach_cli.specs.Escapes.{escaped_text}
-use Rattle.mach_cli.specs.Listings.{hex_text, told_by}
+use Rattle.mach_cli.specs.Listings.{hex_text, reported_by}
 use Rattle.mach_cli.specs.Signing.{rebase_type}
 use Rattle.mach_base.specs.Fault.{Fault}
 use Rattle.machinfo.specs.NumberedNotes.{NumberedNoteView}
@@ -29,7 +29,7 @@ use Rattle.machinfo.specs.Rows.{rebase_row, weak_row, uuid_row, platform_row, pa
 use Rattle.machinfo.specs.Lists.{list_rows_left}
 use Rattle.machinfo.specs.declared.list.ImageList.{ImageList}
 use Rattle.machinfo.specs.declared.row.Row.{Row}
-use Rattle.machinfo.specs.declared.said.PlatformSaid.{PlatformSaid}
+use Rattle.machinfo.specs.declared.command_facts.PlatformFact.{PlatformFact}
 
 -- the offset from the image's first byte, the length and the kind
 abbrev pub data_text : DataInCodeEntry → List ℕ
@@ -86,8 +86,8 @@ giver_text weak_lookup = codes "weak-lookup"
 abbrev pub provided_text : ProvidedView → List ℕ
 provided_text p = escaped_text p.name ++ codes " " ++ giver_text p.provider
 
-abbrev pub said_if : Bool → List ℕ → List ℕ
-said_if is_so word = if is_so then word else []
+abbrev pub line_if : Bool → List ℕ → List ℕ
+line_if is_so word = if is_so then word else []
 
 -- a library that is loaded at its first use (LC_LAZY_LOAD_DYLIB)
 abbrev pub is_lazy_kind : LibraryKind → Bool
@@ -97,9 +97,9 @@ is_lazy_kind _ = false
 -- how a library is used, `-` if it has no attribute
 abbrev pub use_text : LibraryAttributes → (is_lazy : Bool) → List ℕ
 use_text a is_lazy =
-    said_if a.is_weak (codes " weak") ++ said_if a.is_reexport (codes " reexport") ++ said_if a.is_upward (codes " upward")
-    ++ said_if a.is_delayed (codes " delayed") ++ said_if is_lazy (codes " lazy")
-    ++ said_if (not (a.is_weak || a.is_reexport || a.is_upward || a.is_delayed || is_lazy)) (codes " -")
+    line_if a.is_weak (codes " weak") ++ line_if a.is_reexport (codes " reexport") ++ line_if a.is_upward (codes " upward")
+    ++ line_if a.is_delayed (codes " delayed") ++ line_if is_lazy (codes " lazy")
+    ++ line_if (not (a.is_weak || a.is_reexport || a.is_upward || a.is_delayed || is_lazy)) (codes " -")
 
 abbrev pub library_row_text : LibraryView → List ℕ
 library_row_text l = escaped_text l.name ++ use_text l.attributes (is_lazy_kind l.kind)
@@ -118,7 +118,7 @@ key_word key =
 abbrev pub signing_text : Option Auth → List ℕ
 signing_text None = []
 signing_text (Some a) =
-    codes " auth:" ++ key_word a.key ++ codes ":" ++ hex_text a.diversity ++ said_if a.is_address_diverse (codes ":address")
+    codes " auth:" ++ key_word a.key ++ codes ":" ++ hex_text a.diversity ++ line_if a.is_address_diverse (codes ":address")
 
 -- the address, the type of the rebase, the target, and how the pointer is signed
 abbrev pub rebase_row_text : Rebase → List ℕ
@@ -183,7 +183,7 @@ platform_name number = name_or (codes "unknown") platform_names number
 abbrev pub sdk_text : ℕ → List ℕ
 sdk_text sdk = if sdk == 0 then [] else codes ", sdk " ++ version_text sdk
 
-abbrev pub platform_text : PlatformSaid → List ℕ
+abbrev pub platform_text : PlatformFact → List ℕ
 platform_text p = codes "platform: " ++ platform_name p.platform ++ codes " " ++ version_text p.least ++ sdk_text p.sdk
 
 -- ---- rows
@@ -206,7 +206,7 @@ list_row_text (path_row path) = codes "run path: " ++ escaped_text path
 
 -- the texts of rows; a fault stays in its place
 abbrev pub row_texts : List (Result RowView Fault) → List (Result (List ℕ) Fault)
-row_texts found = map (told_by list_row_text) found
+row_texts found = map (reported_by list_row_text) found
 
 abbrev pub row_shown : Row → List ℕ
 row_shown row = list_row_text (list_row_view row)

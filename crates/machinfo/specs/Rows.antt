@@ -17,7 +17,7 @@ use Rattle.machinfo.specs.NumberedNotes.{NumberedNoteView, numbered_note_view}
 use Rattle.machinfo.specs.ProvidedSymbols.{ProvidedView, provided_view}
 use Rattle.machinfo.specs.declared.row.Row.{Row}
 use Rattle.machinfo.specs.declared.row.Row.TheVariants as rows
-use Rattle.machinfo.specs.declared.said.PlatformSaid.{PlatformSaid}
+use Rattle.machinfo.specs.declared.command_facts.PlatformFact.{PlatformFact}
 
 -- a row of a list
 pub data RowView : Type 0 where
@@ -36,7 +36,7 @@ pub data RowView : Type 0 where
   weak_row : (bind : WeakBind) → RowView
   -- rows of the summary: the UUID, a platform, and a run path
   uuid_row : (uuid : List ℕ) → RowView
-  platform_row : (platform : PlatformSaid) → RowView
+  platform_row : (platform : PlatformFact) → RowView
   path_row : (path : List ℕ) → RowView
 
 -- ---- what the code's values stand for

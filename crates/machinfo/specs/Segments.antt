@@ -6,14 +6,14 @@ use Rattle.std.specs.Io.KnownBytes.{Appends}
 use Rattle.std.specs.Result.{result_ok}
 use Rattle.mach_base.specs.Answer.{◌>>=◌}
 use Rattle.mach_base.specs.Fault.{Fault}
-use Rattle.mach_base.specs.Items.{begun_items}
+use Rattle.mach_base.specs.Items.{items_in_bounds}
 use Rattle.mach_base.specs.Text.{run_at, text_at}
 use Rattle.mach_parts.specs.Segment.{SegmentView, sections_of}
 use Rattle.mach_parts.specs.SectionItems.{sections_left}
 use Rattle.mach_parts.specs.declared.segment.section.Section.{Section}
 use Rattle.mach_cli.specs.Escapes.{escaped_bytes}
 use Rattle.mach_cli.specs.JsonText.{json_string}
-use Rattle.mach_cli.specs.Listings.{hex_text, told_by}
+use Rattle.mach_cli.specs.Listings.{hex_text, reported_by}
 use Rattle.machinfo.specs.declared.segments.SectionList.{SectionList}
 use Rattle.machinfo.specs.declared.segments.SectionObjects.{SectionObjects}
 
@@ -30,14 +30,14 @@ abbrev pub rights_text : ℕ → List ℕ
 rights_text rights = right_text rights 1 (codes "r") ++ right_text rights 2 (codes "w") ++ right_text rights 4 (codes "x")
 
 -- the name, the address, the size in memory, and the initial protection
-abbrev pub segment_said_line : SegmentView → List ℕ
-segment_said_line s =
+abbrev pub segment_summary_line : SegmentView → List ℕ
+segment_summary_line s =
     codes "segment: " ++ field_text (run_at s.command.segname 0) ++ codes " " ++ hex_text s.command.vmaddr ++ codes " " ++ hex_text s.command.vmsize
     ++ codes " " ++ rights_text s.command.initprot ++ codes "\n"
 
 -- the name, the address and the size
-abbrev pub section_said_text : Section → List ℕ
-section_said_text s = codes "section: " ++ field_text (run_at s.sectname 0) ++ codes " " ++ hex_text s.addr ++ codes " " ++ hex_text s.size
+abbrev pub section_summary_text : Section → List ℕ
+section_summary_text s = codes "section: " ++ field_text (run_at s.sectname 0) ++ codes " " ++ hex_text s.addr ++ codes " " ++ hex_text s.size
 
 -- sections without their data
 abbrev pub without_data : List (Result (Section × List ℕ) Fault) → List (Result Section Fault)
@@ -45,11 +45,11 @@ without_data found = map (λ item. item >>= (λ s. Ok s.0)) found
 
 -- the texts of sections; a fault stays in its place
 abbrev pub section_texts : List (Result (Section × List ℕ) Fault) → List (Result (List ℕ) Fault)
-section_texts found = map (told_by section_said_text) (without_data found)
+section_texts found = map (reported_by section_summary_text) (without_data found)
 
 -- how many sections a segment claims past the end of the bytes
 abbrev pub sections_past_the_end : SegmentView → ℕ
-sections_past_the_end s = length (sections_of s) - length (begun_items (sections_of s))
+sections_past_the_end s = length (sections_of s) - length (items_in_bounds (sections_of s))
 
 -- ---- as objects
 
@@ -72,4 +72,4 @@ abbrev pub section_rows_left : SectionList → List (Result (List ℕ) Fault)
 section_rows_left it = section_texts (sections_left it.sections)
 
 abbrev pub section_objects_left : SectionObjects → List (Result (List ℕ) Fault)
-section_objects_left it = map (told_by section_object) (sections_named it.0)
+section_objects_left it = map (reported_by section_object) (sections_named it.0)

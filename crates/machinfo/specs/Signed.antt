@@ -25,15 +25,15 @@ said_name label name = label ++ (codes ": " ++ (name_text name ++ codes "\n"))
 abbrev pub signature_flags_line : (flags : ℕ) → List ℕ
 signature_flags_line flags = codes "signature flags: " ++ (worded_flags_text code_flags flags ++ codes "\n")
 
-abbrev pub directory_said : Directory → List ℕ
-directory_said d =
+abbrev pub directory_summary : Directory → List ℕ
+directory_summary d =
     signed_line d.head.flags
     ++ (said_name (codes "identifier") (identifier_of d) ++ (said_name (codes "team") (team_of d) ++ signature_flags_line d.head.flags))
 
 -- the text of an answer: there is no signature, or what the directory says, or the error
 abbrev pub signature_answer_text : Result (Option CodeDirectory) Error → List ℕ
 signature_answer_text (Ok None) = codes "signed: no\n"
-signature_answer_text (Ok (Some d)) = directory_said (directory_view d)
+signature_answer_text (Ok (Some d)) = directory_summary (directory_view d)
 signature_answer_text (Err e) = codes "signed: refused: " ++ (words_of e ++ codes "\n")
 
 -- whether the directory and its names can be read, or there is none
@@ -43,7 +43,7 @@ is_readable (Ok (Some d)) = is_ok (identifier_of d) && is_ok (team_of d)
 is_readable (Err f) = false
 
 -- The text is that of an answer which reads as `there`: the directory, or an error that reports its fault.
-pub record AreSignatureSaid (there : Result (Option Directory) Fault) (text : List ℕ) : Type 0 where
+pub record AreSignatureLinesOf (there : Result (Option Directory) Fault) (text : List ℕ) : Type 0 where
   pub answer : Result (Option CodeDirectory) Error
   pub reads : Reads (option_map directory_view) answer there
   pub is_text : text ≡ signature_answer_text answer
@@ -51,5 +51,5 @@ pub record AreSignatureSaid (there : Result (Option Directory) Fault) (text : Li
 -- These lines were written.
 pub record WritesSignedLines (there : Result (Option Directory) Fault) (old new : Option (List ℕ)) : Type 0 where
   pub text : List ℕ
-  pub lines : AreSignatureSaid there text
+  pub lines : AreSignatureLinesOf there text
   pub written : Appends old new text

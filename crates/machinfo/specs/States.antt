@@ -6,7 +6,7 @@ use Rattle.mach_base.specs.Fault.{Fault}
 use Rattle.mach_base.specs.Record.{Value, number_among}
 use Rattle.mach_load.specs.Command.{Command}
 use Rattle.mach_load.specs.Commands.{Kind, encryption_info32, encryption_info64}
-use Rattle.mach_parts.specs.Symbols.{SymbolTable, begun_of, is_stab, symbols_of}
+use Rattle.mach_parts.specs.Symbols.{SymbolTable, table_in_bounds, is_stab, symbols_of}
 use Rattle.mach_parts.specs.declared.symbols.nlist.Nlist.{Nlist}
 use Rattle.machinfo.specs.Counts.{past_text}
 use Rattle.machinfo.specs.declared.state.State.{State}
@@ -35,9 +35,9 @@ abbrev pub state_of_commands : List Command → Option SymbolTable → State
 state_of_commands cs None = record { is_encrypted = list_any is_encrypting cs; is_stripped = true; symbols = 0; past = 0 }
 state_of_commands cs (Some t) = record {
   is_encrypted = list_any is_encrypting cs;
-  is_stripped = not (list_any is_local_item (symbols_of (begun_of t)));
-  symbols = (begun_of t).nsyms;
-  past = t.nsyms - (begun_of t).nsyms;
+  is_stripped = not (list_any is_local_item (symbols_of (table_in_bounds t)));
+  symbols = (table_in_bounds t).nsyms;
+  past = t.nsyms - (table_in_bounds t).nsyms;
 }
 
 abbrev pub yes_or_no : Bool → List ℕ

@@ -10,7 +10,7 @@ use Rattle.mach_parts.specs.HeaderNames.{filetype_name, flag_name}
 use Rattle.mach_parts.specs.declared.header.Header.{Header}
 use Rattle.mach_cli.specs.Cpus.{ArchRow, arch_rows}
 use Rattle.mach_cli.specs.Escapes.{escaped_text}
-use Rattle.mach_cli.specs.Listings.{hex_text, told_by, AreFirstLines}
+use Rattle.mach_cli.specs.Listings.{hex_text, reported_by, AreFirstLines}
 use Rattle.machinfo.specs.Lists.{list_rows_left}
 use Rattle.machinfo.specs.RowObjects.{object_of}
 use Rattle.machinfo.specs.RowTexts.{library_row_text, list_row_text, version_text}
@@ -51,13 +51,13 @@ abbrev pub flag_short_name : List ℕ → Option (List ℕ)
 flag_short_name name = if bytes_eq (take 3 name) (codes "MH_") then Some (drop 3 name) else None
 
 -- the name of a bit, or its number if it has none
-abbrev pub flag_said : ℕ → Option (List ℕ) → List ℕ
-flag_said flag None = hex_text flag
-flag_said flag (Some name) = name
+abbrev pub flag_text : ℕ → Option (List ℕ) → List ℕ
+flag_text flag None = hex_text flag
+flag_text flag (Some name) = name
 
 -- the same, nothing if the bit is not set
 abbrev pub flag_word : ℕ → List ℕ
-flag_word flag = if flag == 0 then [] else codes " " ++ flag_said flag (flag_short_name (flag_name flag))
+flag_word flag = if flag == 0 then [] else codes " " ++ flag_text flag (flag_short_name (flag_name flag))
 
 abbrev pub flags_line : ℕ → List ℕ
 flags_line flags = codes "flags:" ++ (flat_map (λ bit. flag_word (bit_and flags (2 ^ bit))) (range_with_len 0 32) ++ codes "\n")
@@ -72,11 +72,11 @@ summary_text (library_row l) =
 summary_text row = list_row_text row
 
 abbrev pub summary_texts : List (Result RowView Fault) → List (Result (List ℕ) Fault)
-summary_texts found = map (told_by summary_text) found
+summary_texts found = map (reported_by summary_text) found
 
 -- A line was written for each of these rows in order, up to the limit, and a line if there are more. It is whole if there are no
 -- more, and all can be read.
-pub record WritesSaid (word : List ℕ) (limit : ℕ) (rows : List (Result RowView Fault)) (name : List ℕ) (past : ℕ) (whole : Bool) (old new : Option (List ℕ))
+pub record WritesSummary (word : List ℕ) (limit : ℕ) (rows : List (Result RowView Fault)) (name : List ℕ) (past : ℕ) (whole : Bool) (old new : Option (List ℕ))
     : Type 0 where
   pub text : List ℕ
   pub rest : ℕ
@@ -96,7 +96,7 @@ summary_object (tool_row found) =
 summary_object row = object_of row
 
 abbrev pub summary_objects : List (Result RowView Fault) → List (Result (List ℕ) Fault)
-summary_objects found = map (told_by summary_object) found
+summary_objects found = map (reported_by summary_object) found
 
 -- ---- what the code's values stand for
 

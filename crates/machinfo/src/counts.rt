@@ -6,13 +6,13 @@ ghost use Rattle.goblin_mach.specs.OpenImage.{IsImage};
 ghost use Rattle.mach_cli.specs.Listings.{CountsRows};
 ghost use Rattle.machinfo.specs.RowTexts.{row_texts};
 ghost use Rattle.machinfo.specs.Lists.{HasRows};
-ghost use Rattle.machinfo.specs.Counts.{are_counted_whole, count_members, count_text, count_told, past_text, AreCounts};
+ghost use Rattle.machinfo.specs.Counts.{are_counted_whole, count_members, count_text, count_reported, past_text, AreCounts};
 
 use crate::list::ImageList;
-use crate::text::said_if;
+use crate::text::line_if;
 use crate::word::Word;
 use goblin_mach::MachO;
-use mach_cli::{Told, count_rows};
+use mach_cli::{ListProgress, count_rows};
 use std::alloc::Allocator;
 use std::fmt::{Display, Formatter};
 use std::io::Write;
@@ -47,17 +47,17 @@ impl Display for PastText {
 #[derive(Clone, Copy)]
 struct CountText {
     limit: usize,
-    told: Told,
+    reported: ListProgress,
     past: usize,
 }
 
 impl Display for CountText {
-    ghost output = { λ t. Some (count_text t.limit t.told t.past) };
+    ghost output = { λ t. Some (count_text t.limit t.reported t.past) };
 
     fn fmt<W: fmt::Write>(&self, f: &mut Formatter<W>) -> fmt::Result {
-        let more = said_if(self.told.more, "more than ");
-        let count = self.limit.saturating_sub(self.told.left);
-        let refused = said_if(!self.told.whole, ", not all readable");
+        let more = line_if(self.reported.more, "more than ");
+        let count = self.limit.saturating_sub(self.reported.left);
+        let refused = line_if(!self.reported.whole, ", not all readable");
         let past = PastText(self.past);
         write!(f, "{more}{count}{refused}{past}")
     }
@@ -67,16 +67,16 @@ impl Display for CountText {
 #[derive(Clone, Copy)]
 struct CountMembers {
     limit: usize,
-    told: Told,
+    reported: ListProgress,
     past: usize,
 }
 
 impl Display for CountMembers {
-    ghost output = { λ t. Some (count_members t.limit t.told t.past) };
+    ghost output = { λ t. Some (count_members t.limit t.reported t.past) };
 
     fn fmt<W: fmt::Write>(&self, f: &mut Formatter<W>) -> fmt::Result {
-        let Told { whole, more, .. } = self.told;
-        let count = self.limit.saturating_sub(self.told.left);
+        let ListProgress { whole, more, .. } = self.reported;
+        let count = self.limit.saturating_sub(self.reported.left);
         let past = self.past;
         write!(
             f,
@@ -113,15 +113,15 @@ fn print_count<A: Allocator, O: Write>(
     limit: usize,
     out: &mut O,
 ) -> io::Result<bool>
-    ensures { (bytes : List ℕ) → IsImage bytes 0 image.now → IfOk result (λ whole. (rows : _) × (past : ℕ) × HasRows word bytes 0 rows past × (told : _)
-        × CountsRows limit (row_texts rows) told × (whole ≡ are_counted_whole told past)
-        × Appends (O.contents out.old) (O.contents out.new) (count_told form word limit told past)) }
+    ensures { (bytes : List ℕ) → IsImage bytes 0 image.now → IfOk result (λ whole. (rows : _) × (past : ℕ) × HasRows word bytes 0 rows past × (reported : _)
+        × CountsRows limit (row_texts rows) reported × (whole ≡ are_counted_whole reported past)
+        × Appends (O.contents out.old) (O.contents out.new) (count_reported form word limit reported past)) }
 {
     let mut list = ImageList::of(word, image);
     let past = list.past_rows();
-    let told = count_rows(&mut list, limit);
-    write_count(form, word, limit, told, past, out)?;
-    Ok(told.whole & !told.more & (past == 0))
+    let reported = count_rows(&mut list, limit);
+    write_count(form, word, limit, reported, past, out)?;
+    Ok(reported.whole & !reported.more & (past == 0))
 }
 
 // Writes the count of a list.
@@ -129,20 +129,28 @@ fn write_count<O: Write>(
     form: Form,
     word: Word,
     limit: usize,
-    told: Told,
+    reported: ListProgress,
     past: usize,
     out: &mut O,
 ) -> io::Result<()>
-    ensures { OnOk result (Appends (O.contents out.old) (O.contents out.new) (count_told form word limit told past)) }
+    ensures { OnOk result (Appends (O.contents out.old) (O.contents out.new) (count_reported form word limit reported past)) }
 {
     let name = word.name();
     match form {
         Form::Lines => {
-            let count = CountText { limit, told, past };
+            let count = CountText {
+                limit,
+                reported,
+                past,
+            };
             writeln!(out, "{name}: {count}")
         }
         Form::Members => {
-            let count = CountMembers { limit, told, past };
+            let count = CountMembers {
+                limit,
+                reported,
+                past,
+            };
             write!(out, "\"{name}\":{{{count}}},")
         }
     }

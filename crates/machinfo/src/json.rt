@@ -14,11 +14,11 @@ use crate::counts::{Form, print_counts};
 use crate::list::ImageList;
 use crate::members::write_front;
 use crate::object::ObjectList;
-use crate::run::{COUNTED, NAME};
+use crate::views::{COUNTED, NAME};
 use crate::word::Word;
 use goblin_mach::MachO;
 use mach_cli::{
-    Cpu, Failure, Heading, Names, Outcome, Shows, most_items, print_end_past, print_member,
+    Cpu, Heading, ImageView, Names, Outcome, ShowFailure, most_items, print_end_past, print_member,
 };
 use std::alloc::Allocator;
 use std::io;
@@ -31,10 +31,10 @@ struct ObjectsOf<'a> {
     word: Word,
 }
 
-impl Shows for ObjectsOf<'_> {
-    ghost names = { λ asked. names_text (codes "machinfo") asked.file.now };
+impl ImageView for ObjectsOf<'_> {
+    ghost names = { λ selected. names_text (codes "machinfo") selected.file.now };
 
-    ghost lines = { λ asked. AreImageListMembers asked.word };
+    ghost lines = { λ selected. AreImageListMembers selected.word };
 
     fn names(&self) -> Names<'_> {
         Names {
@@ -50,13 +50,13 @@ impl Shows for ObjectsOf<'_> {
         heading: Heading,
         left: usize,
         out: &mut O,
-    ) -> Result<Outcome, Failure> {
+    ) -> Result<Outcome, ShowFailure> {
         let mut list = ObjectList(ImageList::of(self.word, image));
         write!(out, "{heading}")?;
         let name = self.word.name();
         let past = list.0.past_rows();
-        let told = print_member(name, &mut list, left, out)?;
-        Ok(print_end_past(told, past, out)?)
+        let reported = print_member(name, &mut list, left, out)?;
+        Ok(print_end_past(reported, past, out)?)
     }
 }
 
@@ -67,10 +67,10 @@ struct MembersOf<'a> {
     limit: usize,
 }
 
-impl Shows for MembersOf<'_> {
-    ghost names = { λ asked. names_text (codes "machinfo") asked.file.now };
+impl ImageView for MembersOf<'_> {
+    ghost names = { λ selected. names_text (codes "machinfo") selected.file.now };
 
-    ghost lines = { λ asked. AreImageSummaryMembers asked.limit };
+    ghost lines = { λ selected. AreImageSummaryMembers selected.limit };
 
     fn names(&self) -> Names<'_> {
         Names {
@@ -86,7 +86,7 @@ impl Shows for MembersOf<'_> {
         heading: Heading,
         left: usize,
         out: &mut O,
-    ) -> Result<Outcome, Failure> {
+    ) -> Result<Outcome, ShowFailure> {
         write!(out, "{heading}")?;
         let front = write_front(image, self.limit, out)?;
         write!(out, "\"counts\":{{")?;

@@ -1,7 +1,7 @@
 //! The lists of an image.
 
 ghost use Rattle.std.specs.Prelude.{◌≡◌, ◌-◌, ℕ, List, Ok, length, map};
-ghost use Rattle.mach_base.specs.Items.{begun_items};
+ghost use Rattle.mach_base.specs.Items.{items_in_bounds};
 ghost use Rattle.mach_load.specs.TablesLeft.{data_in_code_left};
 ghost use Rattle.mach_parts.specs.SlotViews.{indirect_left};
 ghost use Rattle.std.specs.Iterator.{YieldsFirstBy};
@@ -9,14 +9,14 @@ ghost use Rattle.goblin_mach.specs.OpenImage.{IsImage};
 ghost use Rattle.machinfo.specs.RowTexts.{listed_rows_left, row_shown};
 ghost use Rattle.machinfo.specs.Lists.{HasRows, list_rows_left, list_rows_past, past_name, rows_name_of};
 ghost use Rattle.machinfo.specs.Rows.{list_row_read, path_row};
-ghost use Rattle.machinfo.specs.Said.{said_within};
-ghost use Rattle.goblin_mach.specs.OpenImage.{commands_held};
+ghost use Rattle.machinfo.specs.FactRows.{facts_within};
+ghost use Rattle.goblin_mach.specs.OpenImage.{commands_view};
 ghost use Rattle.mach_base.specs.Text.{texts};
 
+use crate::command_facts::{CommandFacts, Question};
 use crate::notes::NumberedNotes;
 use crate::providers::ProvidedSymbols;
 use crate::row::Row;
-use crate::said::{Question, SaidCommands};
 use crate::word::Word;
 use goblin_mach::slots::{IndirectSymbolIterator, SlotIterator};
 use goblin_mach::{
@@ -44,28 +44,30 @@ pub enum ImageList<'a, 'b, A: Allocator> {
     Libraries(LibraryIterator<'a, 'b>),
     Rebases(RebaseIterator<'a, 'b>),
     Weak(WeakBindIterator<'a, 'b>),
-    Said(SaidCommands<'b>),
+    FactRows(CommandFacts<'b>),
     Paths(Iter<'b, &'a str>),
 }
 
 // Returns the indirect symbols that begin within the bytes, and how many more are claimed.
-fn begun_indirect(list: IndirectSymbolIterator<'_>) -> (IndirectSymbolIterator<'_>, usize)
-    ensures left { indirect_left result.0 ≡ begun_items (indirect_left list.entry) }
-    ensures past { result.1 ≡ length (indirect_left list.entry) - length (begun_items (indirect_left list.entry)) }
+fn indirect_symbols_in_bounds(
+    list: IndirectSymbolIterator<'_>,
+) -> (IndirectSymbolIterator<'_>, usize)
+    ensures left { indirect_left result.0 ≡ items_in_bounds (indirect_left list.entry) }
+    ensures past { result.1 ≡ length (indirect_left list.entry) - length (items_in_bounds (indirect_left list.entry)) }
 {
-    let begun = list.begun();
-    let past = list.len() - begun.len();
-    (begun, past)
+    let in_bounds = list.in_bounds();
+    let past = list.len() - in_bounds.len();
+    (in_bounds, past)
 }
 
 // Returns the entries of data in code that begin within the bytes, and how many more are claimed.
-fn begun_data(list: DataInCodeIterator<'_>) -> (DataInCodeIterator<'_>, usize)
-    ensures left { data_in_code_left result.0 ≡ begun_items (data_in_code_left list.entry) }
-    ensures past { result.1 ≡ length (data_in_code_left list.entry) - length (begun_items (data_in_code_left list.entry)) }
+fn data_in_bounds(list: DataInCodeIterator<'_>) -> (DataInCodeIterator<'_>, usize)
+    ensures left { data_in_code_left result.0 ≡ items_in_bounds (data_in_code_left list.entry) }
+    ensures past { result.1 ≡ length (data_in_code_left list.entry) - length (items_in_bounds (data_in_code_left list.entry)) }
 {
-    let begun = list.begun();
-    let past = list.len() - begun.len();
-    (begun, past)
+    let in_bounds = list.in_bounds();
+    let past = list.len() - in_bounds.len();
+    (in_bounds, past)
 }
 
 impl<'a, 'b, A: Allocator> ImageList<'a, 'b, A> {
@@ -78,12 +80,12 @@ impl<'a, 'b, A: Allocator> ImageList<'a, 'b, A> {
             Word::Starts => ImageList::Starts(image.function_starts()),
             Word::Slots => ImageList::Slots(image.symbol_slots()),
             Word::Indirect => {
-                let (begun, past) = begun_indirect(image.indirect_symbols());
-                ImageList::Indirect(begun, past)
+                let (in_bounds, past) = indirect_symbols_in_bounds(image.indirect_symbols());
+                ImageList::Indirect(in_bounds, past)
             }
             Word::Data => {
-                let (begun, past) = begun_data(image.data_in_code());
-                ImageList::Data(begun, past)
+                let (in_bounds, past) = data_in_bounds(image.data_in_code());
+                ImageList::Data(in_bounds, past)
             }
             Word::Options => ImageList::Options(image.linker_options()),
             Word::Tools => ImageList::Tools(image.build_tools()),
@@ -96,11 +98,11 @@ impl<'a, 'b, A: Allocator> ImageList<'a, 'b, A> {
     }
 
     /// Returns the answers of an image's commands to a question.
-    pub fn said(question: Question, image: &'b MachO<'a, A>) -> Self
-        ensures left { list_rows_left result ≡ map (λ r. Ok r) (said_within question (commands_held image.now)) }
+    pub fn facts(question: Question, image: &'b MachO<'a, A>) -> Self
+        ensures left { list_rows_left result ≡ map (λ r. Ok r) (facts_within question (commands_view image.now)) }
         ensures past { list_rows_past result ≡ 0 }
     {
-        ImageList::Said(SaidCommands::of(question, image))
+        ImageList::FactRows(CommandFacts::of(question, image))
     }
 
     /// Returns the run paths of an image.
@@ -157,7 +159,7 @@ impl<'a, 'b, A: Allocator> ImageList<'a, 'b, A> {
                 Ok(bind) => Some(Ok(Row::Weak(bind))),
                 Err(error) => Some(Err(error)),
             },
-            ImageList::Said(list) => Some(Ok(list.take_next()?)),
+            ImageList::FactRows(list) => Some(Ok(list.take_next()?)),
             ImageList::Paths(list) => Some(Ok(Row::RunPath(*list.next()?))),
         }
     }

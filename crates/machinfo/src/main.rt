@@ -12,32 +12,32 @@
 mod counts;
 mod json;
 mod members;
-mod run;
 mod segments;
 mod signed;
 mod state;
 mod summary;
+mod views;
 
 // The lists of an image: an item is a row, which is shown as a line or as an object of JSON.
+mod command_facts;
 mod list;
 mod notes;
 mod object;
 mod providers;
 mod row;
-mod said;
 mod text;
 mod word;
 
 use crate::word::Word;
 use json::{write_list, write_summary};
 use mach_cli::{
-    Call, Cpu, Files, ForTerminal, Misuse, Others, Program, ShowsFile, Titled, take_json,
+    Call, Cpu, FileView, Files, ForTerminal, Misuse, Others, Program, Titled, take_json,
 };
-use run::{DEFAULT_LIMIT, NAME, run_list, run_summary};
 use std::alloc::{Allocator, Global};
 use std::io;
 use std::io::{BufWriter, IsTerminal, Write};
 use std::process::ExitCode;
+use views::{DEFAULT_LIMIT, NAME, run_list, run_summary};
 
 const PROGRAM: Program = Program {
     name: NAME,
@@ -109,7 +109,7 @@ struct Shown {
     limit: usize,
 }
 
-impl<W: Write + Drop, B: Allocator> ShowsFile<BufWriter<W, B>> for Shown {
+impl<W: Write + Drop, B: Allocator> FileView<BufWriter<W, B>> for Shown {
     fn show(&self, rt: &HostRuntime, name: &str, bytes: &[u8], out: &mut BufWriter<W, B>) -> u8 {
         let (alloc, err) = (rt.alloc(), &mut rt.stderr());
         let Shown { cpu, limit, .. } = *self;

@@ -4,12 +4,12 @@ ghost use Rattle.machinfo.specs.Lists.{list_rows_past, rows_name_of};
 ghost use Rattle.std.specs.Prelude.{OnOk};
 ghost use Rattle.std.specs.Io.KnownBytes.{Appends};
 ghost use Rattle.mach_parts.specs.HeaderNames.{flag_name};
-ghost use Rattle.machinfo.specs.Summary.{flag_said, flag_short_name, summary_object_shown, summary_objects_left, WritesSome};
+ghost use Rattle.machinfo.specs.Summary.{flag_text, flag_short_name, summary_object_shown, summary_objects_left, WritesSome};
 
+use crate::command_facts::Question;
 use crate::list::ImageList;
 use crate::object::RowObject;
 use crate::row::Row;
-use crate::said::Question;
 use crate::segments::{TextOrNull, write_segments};
 use crate::signed::{is_ad_hoc, is_readable};
 use crate::state::{State, state_of};
@@ -18,7 +18,7 @@ use crate::text::VersionText;
 use crate::word::Word;
 use goblin_mach::header::{Header, filetype_to_str};
 use goblin_mach::{Error, MachO, Result, describe};
-use mach_cli::{Listing, Told, comma_before, print_member, then};
+use mach_cli::{ListProgress, Listing, comma_before, print_member, then};
 use mach_signature::CodeDirectory;
 use mach_signature::image::code_directory;
 use std::alloc::Allocator;
@@ -96,7 +96,7 @@ fn write_lists<A: Allocator, O: Write>(
     image: &MachO<'_, A>,
     limit: usize,
     out: &mut O,
-) -> io::Result<Told>
+) -> io::Result<ListProgress>
     ensures { OnOk result (WritesSome (O.contents out.old) (O.contents out.new)) }
 {
     let libraries = write_list(
@@ -106,11 +106,11 @@ fn write_lists<A: Allocator, O: Write>(
         out,
     )?;
     let paths = write_list("run_paths", ImageList::run_paths(image), limit, out)?;
-    let list = ImageList::said(Question::Platform, image);
+    let list = ImageList::facts(Question::Platform, image);
     let platforms = write_list("platforms", list, limit, out)?;
     let segments = write_segments(image.segments.as_slice(), limit, out)?;
     let tools = write_list("tools", ImageList::of(Word::Tools, image), limit, out)?;
-    let list = ImageList::said(Question::Uuid, image);
+    let list = ImageList::facts(Question::Uuid, image);
     let uuids = write_list("uuids", list, limit, out)?;
     let used = then(then(libraries, paths), platforms);
     Ok(then(then(used, segments), then(tools, uuids)))
@@ -122,11 +122,11 @@ fn write_list<A: Allocator, O: Write>(
     list: ImageList<'_, '_, A>,
     limit: usize,
     out: &mut O,
-) -> io::Result<Told>
+) -> io::Result<ListProgress>
     ensures { OnOk result (WritesSome (O.contents out.old) (O.contents out.new)) }
 {
-    let told = print_member(name, &mut SummaryObjects(list), limit, out)?;
-    Ok(told)
+    let reported = print_member(name, &mut SummaryObjects(list), limit, out)?;
+    Ok(reported)
 }
 
 // Writes the cpu, the entry point, the kind of the file, and the name as a library.
@@ -181,7 +181,7 @@ fn write_flag<O: Write>(flag: u32, is_first: bool, out: &mut O) -> io::Result<bo
 
 // Writes the name of a bit, or its number.
 fn write_bit<O: Write>(flag: u32, out: &mut O) -> io::Result<()>
-    ensures { OnOk result (Appends (O.contents out.old) (O.contents out.new) (flag_said flag (flag_short_name (flag_name flag)))) }
+    ensures { OnOk result (Appends (O.contents out.old) (O.contents out.new) (flag_text flag (flag_short_name (flag_name flag)))) }
 {
     match flag_short_name(flag) {
         Some(name) => write!(out, "{name}"),

@@ -2,7 +2,7 @@
 
 ghost use Rattle.std.specs.Prelude.{◌≡◌, option_map};
 ghost use Rattle.std.specs.Iterator.{YieldsFirstBy};
-ghost use Rattle.goblin_mach.specs.OpenImage.{bytes_held, commands_held};
+ghost use Rattle.goblin_mach.specs.OpenImage.{bytes_view, commands_view};
 ghost use Rattle.mach_load.specs.Variants.{command_of};
 ghost use Rattle.machinfo.specs.NumberedNotes as defined;
 ghost use Rattle.machinfo.specs.NumberedNotes.{note_place_of, numbered_notes_from, notes_numbered_left, numbered_note_read};
@@ -67,7 +67,7 @@ fn noted_by<'a>(
 impl<'a, 'b> NumberedNotes<'a, 'b> {
     /// Returns the notes of an image.
     pub fn of<A: Allocator>(image: &'b MachO<'a, A>) -> Self
-        ensures { notes_numbered_left result ≡ numbered_notes_from (bytes_held image.now) 0 (commands_held image.now) }
+        ensures { notes_numbered_left result ≡ numbered_notes_from (bytes_view image.now) 0 (commands_view image.now) }
     {
         NumberedNotes {
             bytes: image.bytes(),

@@ -14,11 +14,11 @@ ghost use Rattle.machinfo.specs.RowObjects.{platform_object, sdk_object};
 ghost use Rattle.machinfo.specs.Lists.{list_rows_past, rows_name_of};
 ghost use Rattle.machinfo.specs.RowObjects.{weak_bind_object, weak_place_object};
 
+use crate::command_facts::PlatformFact;
 use crate::list::ImageList;
 use crate::notes::NumberedNote;
 use crate::providers::Provided;
 use crate::row::Row;
-use crate::said::PlatformSaid;
 use crate::text::{UuidText, VersionText, is_lazy_kind, kind_text, platform_name};
 use goblin_mach::load_command::{BuildToolVersion, DataInCodeEntry};
 use goblin_mach::slots::{IndirectSymbol, SlotSymbol, SymbolSlot};
@@ -322,7 +322,7 @@ impl Display for SdkObject {
 
 // A platform, with its versions as texts.
 #[derive(Clone, Copy)]
-struct PlatformObject(PlatformSaid);
+struct PlatformObject(PlatformFact);
 
 impl Display for PlatformObject {
     ghost output = { λ t. Some (platform_object t.0) };

@@ -3,7 +3,7 @@
 ghost use Rattle.std.specs.Prelude.{◌≡◌};
 ghost use Rattle.std.specs.Iterator.{YieldsFirstBy};
 ghost use Rattle.mach_base.specs.Text.{texts};
-ghost use Rattle.goblin_mach.specs.ImageSlots.{symbol_table_held};
+ghost use Rattle.goblin_mach.specs.ImageSlots.{symbol_table_view};
 ghost use Rattle.machinfo.specs.ProvidedSymbols.{provided_in, provided_left, provided_read, symbols_past_in};
 
 use goblin_mach::symbols::SymbolIterator;
@@ -29,8 +29,8 @@ pub struct ProvidedSymbols<'a, 'b, A: Allocator> {
 impl<'a, 'b, A: Allocator> ProvidedSymbols<'a, 'b, A> {
     /// Returns the symbols of an image that have a provider.
     pub fn of(image: &'b MachO<'a, A>) -> Self
-        ensures left { provided_left result ≡ provided_in image.now.header.flags (texts image.now.libs.items) (symbol_table_held image.now) }
-        ensures past { result.past ≡ symbols_past_in (symbol_table_held image.now) }
+        ensures left { provided_left result ≡ provided_in image.now.header.flags (texts image.now.libs.items) (symbol_table_view image.now) }
+        ensures past { result.past ≡ symbols_past_in (symbol_table_view image.now) }
     {
         let Some(table) = &image.symbols else {
             return ProvidedSymbols {
@@ -39,11 +39,11 @@ impl<'a, 'b, A: Allocator> ProvidedSymbols<'a, 'b, A> {
                 past: 0,
             };
         };
-        let begun = table.begun();
+        let in_bounds = table.in_bounds();
         ProvidedSymbols {
             image,
-            symbols: begun.iter(),
-            past: table.len() - begun.len(),
+            symbols: in_bounds.iter(),
+            past: table.len() - in_bounds.len(),
         }
     }
 

@@ -5,12 +5,12 @@ ghost use Rattle.mach_parts.specs.declared.segment.section.Section.{Section};
 ghost use Rattle.mach_cli.specs.Escapes.{IsOneLine};
 ghost use Rattle.machinfo.specs.RowTexts.{list_row_text, row_shown};
 ghost use Rattle.machinfo.specs.Rows.{RowView};
-ghost use Rattle.machinfo.specs.Segments.{section_said_text};
+ghost use Rattle.machinfo.specs.Segments.{section_summary_text};
 ghost use Rattle.machinfo.specs.Summary.{summary_text};
 
+use crate::command_facts::PlatformFact;
 use crate::notes::NumberedNote;
 use crate::providers::Provided;
-use crate::said::PlatformSaid;
 use crate::text::{
     DataText, IndirectText, LibraryText, NoteText, OptionText, PlatformText, ProvidedText,
     RebaseText, SlotText, ToolText, UuidText, WeakText,
@@ -37,7 +37,7 @@ pub enum Row<'a> {
     Rebase(Rebase),
     Weak(WeakBind<'a>),
     Uuid([u8; 16]),
-    Platform(PlatformSaid),
+    Platform(PlatformFact),
     RunPath(&'a str),
 }
 
@@ -106,6 +106,6 @@ impl Display for Row<'_> {
 /// Each row of a list, each row of the summary and each section is one line, whatever the names in the file hold.
 pub fn rows_are_lines()
     ensures row { (row : RowView) → IsOneLine (list_row_text row ++ codes "\n") }
-    ensures said { (row : RowView) → IsOneLine (summary_text row ++ codes "\n") }
-    ensures section { (section : Section) → IsOneLine (section_said_text section ++ codes "\n") }
+    ensures facts { (row : RowView) → IsOneLine (summary_text row ++ codes "\n") }
+    ensures section { (section : Section) → IsOneLine (section_summary_text section ++ codes "\n") }
 {}

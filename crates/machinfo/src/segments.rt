@@ -3,7 +3,7 @@
 ghost use Rattle.std.specs.Prelude.{◌≡◌, ◌≤◌, ◌==◌, ◌&&◌, Some, codes, length, map, take, nat_lt, IfOk, OnOk};
 ghost use Rattle.std.specs.Io.KnownBytes.{Appends};
 ghost use Rattle.std.specs.Iterator.{YieldsFirstBy};
-ghost use Rattle.mach_base.specs.Items.{begun_items, read_as};
+ghost use Rattle.mach_base.specs.Items.{items_in_bounds, read_as};
 ghost use Rattle.std.specs.List.{position_or_len};
 ghost use Rattle.std.specs.Result.{result_ok};
 ghost use Rattle.mach_base.specs.Text.{is_zero, run_at, text_at};
@@ -11,15 +11,15 @@ ghost use Rattle.mach_parts.specs.Segment.{sections_of, segment_view};
 ghost use Rattle.mach_dyld.specs.Exports.{text_in};
 ghost use Rattle.mach_parts.specs.SectionItems.{sections_left};
 ghost use Rattle.machinfo.specs.Segments.{field_text, name_or_null, rights_text, section_object};
-ghost use Rattle.machinfo.specs.Segments.{section_objects_left, section_rows_left, section_said_text};
+ghost use Rattle.machinfo.specs.Segments.{section_objects_left, section_rows_left, section_summary_text};
 ghost use Rattle.machinfo.specs.Summary.{WritesSome};
-ghost use Rattle.machinfo.specs.Segments.{sections_named, sections_past_the_end, segment_said_line};
+ghost use Rattle.machinfo.specs.Segments.{sections_named, sections_past_the_end, segment_summary_line};
 
 use goblin_mach::Result;
 use goblin_mach::segment::{Section, SectionIterator, Segment};
 use mach_cli::{
-    EscapedBytes, JsonString, Listing, Told, comma_before, print_array, print_cut, print_listing,
-    then,
+    EscapedBytes, JsonString, ListProgress, Listing, comma_before, print_array, print_cut,
+    print_listing, then,
 };
 use memchr::memchr;
 use std::fmt::{Display, Formatter};
@@ -82,11 +82,11 @@ struct SectionList<'a> {
 impl<'a> SectionList<'a> {
     // Returns the sections of a segment.
     fn of(segment: &Segment<'a>) -> Self
-        ensures left { sections_left result.sections ≡ begun_items (sections_of (segment_view segment.now)) }
+        ensures left { sections_left result.sections ≡ items_in_bounds (sections_of (segment_view segment.now)) }
         ensures past { result.past ≡ sections_past_the_end (segment_view segment.now) }
     {
         let all = segment.into_iter();
-        let sections = all.begun();
+        let sections = all.in_bounds();
         let past = all.len() - sections.len();
         SectionList { sections, past }
     }
@@ -105,7 +105,7 @@ impl<'a> SectionList<'a> {
 impl Listing for SectionList<'_> {
     type Row = Section;
 
-    ghost text = { section_said_text };
+    ghost text = { section_summary_text };
 
     ghost left = { section_rows_left };
 
@@ -129,7 +129,7 @@ impl Listing for SectionList<'_> {
     }
 
     fn write_row<O: Write>(row: &Section, out: &mut O) -> io::Result<()>
-        ensures { OnOk result (Appends (O.contents out.old) (O.contents out.new) (section_said_text row.now)) }
+        ensures { OnOk result (Appends (O.contents out.old) (O.contents out.new) (section_summary_text row.now)) }
     {
         let name = NameText(name_in(&row.sectname));
         let (address, size) = (row.addr, row.size);
@@ -165,7 +165,7 @@ pub fn print_segments<O: Write>(
 
 // Prints the line of a segment.
 fn print_segment<O: Write>(segment: &Segment<'_>, out: &mut O) -> io::Result<()>
-    ensures { OnOk result (Appends (O.contents out.old) (O.contents out.new) (segment_said_line (segment_view segment.now))) }
+    ensures { OnOk result (Appends (O.contents out.old) (O.contents out.new) (segment_summary_line (segment_view segment.now))) }
 {
     let name = NameText(name_in(&segment.segname));
     let (address, size) = (segment.vmaddr, segment.vmsize);
@@ -248,22 +248,22 @@ pub fn write_segments<O: Write>(
     segments: &[Segment<'_>],
     limit: usize,
     out: &mut O,
-) -> io::Result<Told>
+) -> io::Result<ListProgress>
     ensures { OnOk result (WritesSome (O.contents out.old) (O.contents out.new)) }
 {
     let first = &segments[..segments.len().min(limit)];
-    let mut told = Told {
+    let mut reported = ListProgress {
         left: limit,
         whole: true,
         more: limit < segments.len(),
     };
     write!(out, "\"segments\":[")?;
     'segments: for (number, segment) in first.iter().enumerate() {
-        let next = write_segment(segment, number == 0, told.left, out)?;
-        told = then(told, next);
+        let next = write_segment(segment, number == 0, reported.left, out)?;
+        reported = then(reported, next);
     }
     write!(out, "],")?;
-    Ok(told)
+    Ok(reported)
 }
 
 // Writes the object of a segment with its sections, up to the limit.
@@ -272,7 +272,7 @@ fn write_segment<O: Write>(
     is_first: bool,
     limit: usize,
     out: &mut O,
-) -> io::Result<Told>
+) -> io::Result<ListProgress>
     ensures { OnOk result (WritesSome (O.contents out.old) (O.contents out.new)) }
 {
     let comma = comma_before(is_first);
@@ -285,11 +285,11 @@ fn write_segment<O: Write>(
     )?;
     let mut sections = SectionObjects(SectionList::of(segment));
     let past = sections.0.past;
-    let told = print_array(&mut sections, limit, out)?;
+    let reported = print_array(&mut sections, limit, out)?;
     write!(out, ",\"past_the_end\":{past}}}")?;
-    Ok(Told {
-        left: told.left,
-        whole: told.whole & (past == 0),
-        more: told.more,
+    Ok(ListProgress {
+        left: reported.left,
+        whole: reported.whole & (past == 0),
+        more: reported.more,
     })
 }

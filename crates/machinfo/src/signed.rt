@@ -5,11 +5,11 @@ ghost use Rattle.std.specs.Option.{option_map};
 ghost use Rattle.std.specs.Io.KnownBytes.{Appends};
 ghost use Rattle.mach_base.specs.Items.{read_as};
 ghost use Rattle.mach_base.specs.Words.{words_of};
-ghost use Rattle.goblin_mach.specs.OpenImage.{bytes_held, commands_held};
+ghost use Rattle.goblin_mach.specs.OpenImage.{bytes_view, commands_view};
 ghost use Rattle.mach_signature.specs.Directories.{identifier_of, team_of};
 ghost use Rattle.mach_signature.specs.DirectoryViews.{directory_view};
 ghost use Rattle.mach_signature.specs.SignedImages.{image_directory};
-ghost use Rattle.machinfo.specs.Signed.{directory_said, is_readable, said_name, signature_flags_line, signed_line, signature_answer_text, WritesSignedLines};
+ghost use Rattle.machinfo.specs.Signed.{directory_summary, is_readable, said_name, signature_flags_line, signed_line, signature_answer_text, WritesSignedLines};
 
 use goblin_mach::{Error, MachO, describe};
 use mach_cli::{print_code_flags, print_name};
@@ -22,7 +22,7 @@ use std::io::Write;
 /// Prints whether an image is signed, and what the code directory says that is used; or the error. Returns whether all can be
 /// read.
 pub fn print_signed<A: Allocator, O: Write>(image: &MachO<'_, A>, out: &mut O) -> io::Result<bool>
-    ensures { IfOk result (λ whole. let there = image_directory (bytes_held image.now) (commands_held image.now) in
+    ensures { IfOk result (λ whole. let there = image_directory (bytes_view image.now) (commands_view image.now) in
         (whole ≡ is_readable there) × WritesSignedLines there (O.contents out.old) (O.contents out.new)) }
 {
     let directory = code_directory(image);
@@ -65,7 +65,7 @@ fn print_refused<O: Write>(error: &Error, out: &mut O) -> io::Result<()>
 
 // Prints what a code directory says.
 fn print_directory<O: Write>(directory: &CodeDirectory<'_>, out: &mut O) -> io::Result<()>
-    ensures { OnOk result (Appends (O.contents out.old) (O.contents out.new) (directory_said (directory_view directory.now))) }
+    ensures { OnOk result (Appends (O.contents out.old) (O.contents out.new) (directory_summary (directory_view directory.now))) }
 {
     print_kind(directory.head.flags, out)?;
     print_identifier(directory, out)?;
@@ -96,7 +96,7 @@ fn print_identifier<O: Write>(directory: &CodeDirectory<'_>, out: &mut O) -> io:
     ensures { OnOk result (Appends (O.contents out.old) (O.contents out.new)
         (said_name (codes "identifier") (identifier_of (directory_view directory.now)))) }
 {
-    print_said("identifier", directory.identifier(), out)
+    print_facts("identifier", directory.identifier(), out)
 }
 
 // Prints the line of the team.
@@ -104,11 +104,11 @@ fn print_team<O: Write>(directory: &CodeDirectory<'_>, out: &mut O) -> io::Resul
     ensures { OnOk result (Appends (O.contents out.old) (O.contents out.new)
         (said_name (codes "team") (team_of (directory_view directory.now)))) }
 {
-    print_said("team", directory.team(), out)
+    print_facts("team", directory.team(), out)
 }
 
 // Prints the line of a label and a name.
-fn print_said<O: Write>(
+fn print_facts<O: Write>(
     label: &str,
     name: goblin_mach::Result<Option<&str>>,
     out: &mut O,

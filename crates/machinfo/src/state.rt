@@ -3,10 +3,10 @@
 ghost use Rattle.std.specs.Prelude.{◌≡◌, ◌++◌, codes, map, not, OnOk};
 ghost use Rattle.std.specs.Io.KnownBytes.{Appends};
 ghost use Rattle.std.specs.List.{list_any};
-ghost use Rattle.goblin_mach.specs.ImageSlots.{symbol_table_held};
-ghost use Rattle.goblin_mach.specs.OpenImage.{commands_held};
+ghost use Rattle.goblin_mach.specs.ImageSlots.{symbol_table_view};
+ghost use Rattle.goblin_mach.specs.OpenImage.{commands_view};
 ghost use Rattle.mach_load.specs.Variants.{command_of};
-ghost use Rattle.mach_parts.specs.Symbols.{begun_of, symbols_of};
+ghost use Rattle.mach_parts.specs.Symbols.{table_in_bounds, symbols_of};
 ghost use Rattle.mach_parts.specs.SymbolViews.{table_of};
 ghost use Rattle.machinfo.specs.Counts.{past_text};
 ghost use Rattle.machinfo.specs.States.{is_encrypting, is_local_symbol, is_local_item, state_of_commands, state_lines, yes_or_no};
@@ -65,9 +65,9 @@ fn is_local_symbol(symbol: &Nlist) -> bool
 
 // Whether a table has such a symbol within the bytes.
 fn has_local(table: &Symbols<'_>) -> bool
-    ensures { result ≡ list_any is_local_item (symbols_of (begun_of (table_of table.now))) }
+    ensures { result ≡ list_any is_local_item (symbols_of (table_in_bounds (table_of table.now))) }
 {
-    let mut symbols = table.begun().iter();
+    let mut symbols = table.in_bounds().iter();
     'symbols: while let Some(item) = symbols.next() {
         if let Ok((_, symbol)) = item {
             if is_local_symbol(&symbol) {
@@ -80,7 +80,7 @@ fn has_local(table: &Symbols<'_>) -> bool
 
 /// Returns the state of an image.
 pub fn state_of<A: Allocator>(image: &MachO<'_, A>) -> State
-    ensures { result ≡ state_of_commands (commands_held image.now) (symbol_table_held image.now) }
+    ensures { result ≡ state_of_commands (commands_view image.now) (symbol_table_view image.now) }
 {
     let is_encrypted = is_encrypted(image.load_commands.as_slice());
     match &image.symbols {
@@ -91,7 +91,7 @@ pub fn state_of<A: Allocator>(image: &MachO<'_, A>) -> State
             past: 0,
         },
         Some(table) => {
-            let symbols = table.begun().len();
+            let symbols = table.in_bounds().len();
             State {
                 is_encrypted,
                 is_stripped: !has_local(table),

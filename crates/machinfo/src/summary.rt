@@ -7,11 +7,11 @@ ghost use Rattle.machinfo.specs.Lists.{list_rows_left, list_rows_past, rows_name
 ghost use Rattle.mach_cli.specs.Cpus.{arch_rows};
 ghost use Rattle.machinfo.specs.Summary.{cpu_line, cpu_named, entry_point_line, flag_word, flags_line, kind_lines, own_name_line};
 ghost use Rattle.mach_parts.specs.HeaderNames.{flag_name};
-ghost use Rattle.machinfo.specs.Summary.{flag_short_name, summary_lines_left, summary_shown, WritesSaid, WritesSome};
+ghost use Rattle.machinfo.specs.Summary.{flag_short_name, summary_lines_left, summary_shown, WritesSummary, WritesSome};
 
+use crate::command_facts::Question;
 use crate::list::ImageList;
 use crate::row::Row;
-use crate::said::Question;
 use crate::segments::print_segments;
 use crate::text::{LibraryText, VersionText};
 use crate::word::Word;
@@ -84,25 +84,25 @@ pub fn print_front<A: Allocator, O: Write>(
 {
     print_kind(&image.header, out)?;
     print_image_name(image.name, out)?;
-    let said = print_said(image, limit, out)?;
+    let facts = print_facts(image, limit, out)?;
     print_entry(image.entry, out)?;
     print_flags(image.header.flags, out)?;
     let segments = print_segments(image.segments.as_slice(), limit, out)?;
     let used = print_used(image, limit, out)?;
-    Ok(said & segments & used)
+    Ok(facts & segments & used)
 }
 
 // Prints the UUIDs, the platforms and the tools of an image. Returns whether all were printed and can be read.
-fn print_said<A: Allocator, O: Write>(
+fn print_facts<A: Allocator, O: Write>(
     image: &MachO<'_, A>,
     limit: usize,
     out: &mut O,
 ) -> io::Result<bool>
     ensures { OnOk result (WritesSome (O.contents out.old) (O.contents out.new)) }
 {
-    let list = ImageList::said(Question::Uuid, image);
+    let list = ImageList::facts(Question::Uuid, image);
     let uuids = print_list(list, "uuid", limit, out)?;
-    let list = ImageList::said(Question::Platform, image);
+    let list = ImageList::facts(Question::Platform, image);
     let platforms = print_list(list, "platform", limit, out)?;
     let list = ImageList::of(Word::Tools, image);
     let tools = print_list(list, "tool: refused", limit, out)?;
@@ -131,7 +131,7 @@ fn print_list<A: Allocator, O: Write>(
     limit: usize,
     out: &mut O,
 ) -> io::Result<bool>
-    ensures { IfOk result (λ whole. WritesSaid word.now limit (list_rows_left list.entry) (rows_name_of list.entry) (list_rows_past list.entry) whole
+    ensures { IfOk result (λ whole. WritesSummary word.now limit (list_rows_left list.entry) (rows_name_of list.entry) (list_rows_past list.entry) whole
         (O.contents out.old) (O.contents out.new)) }
 {
     let mut lines = SummaryLines(list);

@@ -3,22 +3,22 @@
 ghost use Rattle.std.specs.Prelude.{◌≡◌, Some};
 ghost use Rattle.mach_parts.specs.Bindings.{binding_view, provider_view};
 ghost use Rattle.mach_parts.specs.SlotViews.{slot_symbol_view, slot_view};
-ghost use Rattle.mach_parts.specs.PointerSigning.{auth_seen};
+ghost use Rattle.mach_parts.specs.PointerSigning.{auth_option_view};
 ghost use Rattle.goblin_mach.specs.Libraries.{library_view};
 ghost use Rattle.mach_dyld.specs.RebasesLeft.{rebase_view};
 ghost use Rattle.mach_dyld.specs.WeakBindsLeft.{weak_bind_view};
 ghost use Rattle.machinfo.specs.NumberedNotes.{numbered_note_view};
 ghost use Rattle.machinfo.specs.ProvidedSymbols.{provided_view};
 ghost use Rattle.machinfo.specs.RowTexts.{data_text, indirect_text, option_text, tool_text, note_row_text, slot_kind_text, slot_owner_text, slot_text};
-ghost use Rattle.machinfo.specs.RowTexts.{giver_text, provided_text, said_if, is_lazy_kind, library_row_text, key_word, signing_text};
+ghost use Rattle.machinfo.specs.RowTexts.{giver_text, provided_text, line_if, is_lazy_kind, library_row_text, key_word, signing_text};
 ghost use Rattle.machinfo.specs.RowTexts.{rebase_row_text, weak_row_text};
 ghost use Rattle.machinfo.specs.RowTexts.{platform_name, platform_text, sdk_text, upper_bytes, uuid_text, version_text};
 ghost use Rattle.machinfo.specs.RowTexts.{weak_flag, weak_place_text};
 ghost use Rattle.std.specs.Fmt.{WritesOnOk};
 
+use crate::command_facts::PlatformFact;
 use crate::notes::NumberedNote;
 use crate::providers::Provided;
-use crate::said::PlatformSaid;
 use goblin_mach::chained_fixups::PointerAuth;
 use goblin_mach::load_command::{
     BuildToolVersion, DataInCodeEntry, PLATFORM_BRIDGEOS, PLATFORM_DRIVERKIT, PLATFORM_IOS,
@@ -193,8 +193,8 @@ impl Display for ProvidedText<'_> {
 }
 
 /// Returns a word if something is so, and nothing otherwise.
-pub fn said_if(is_so: bool, word: &'static str) -> &'static str
-    ensures { result.now ≡ said_if is_so word.now }
+pub fn line_if(is_so: bool, word: &'static str) -> &'static str
+    ensures { result.now ≡ line_if is_so word.now }
 {
     if is_so { word } else { "" }
 }
@@ -223,17 +223,17 @@ impl Display for LibraryText<'_> {
         let name = Escaped(self.0.name);
         let how = self.0.attributes;
         let is_lazy = is_lazy_kind(self.0.kind);
-        let weak = said_if(how.is_weak, " weak");
-        let reexport = said_if(how.is_reexport, " reexport");
-        let upward = said_if(how.is_upward, " upward");
-        let delayed = said_if(how.is_delayed, " delayed");
-        let lazy = said_if(is_lazy, " lazy");
+        let weak = line_if(how.is_weak, " weak");
+        let reexport = line_if(how.is_reexport, " reexport");
+        let upward = line_if(how.is_upward, " upward");
+        let delayed = line_if(how.is_delayed, " delayed");
+        let lazy = line_if(is_lazy, " lazy");
         let is_plain = !(how.is_weak
             || how.is_reexport
             || how.is_upward
             || how.is_delayed
             || is_lazy);
-        let plain = said_if(is_plain, " -");
+        let plain = line_if(is_plain, " -");
         write!(f, "{name}{weak}{reexport}{upward}{delayed}{lazy}{plain}")
     }
 }
@@ -255,7 +255,7 @@ fn key_word(key: u8) -> &'static str
 struct SigningText(Option<PointerAuth>);
 
 impl Display for SigningText {
-    ghost output = { λ t. Some (signing_text (auth_seen t.0)) };
+    ghost output = { λ t. Some (signing_text (auth_option_view t.0)) };
 
     fn fmt<W: Write>(&self, f: &mut Formatter<W>) -> fmt::Result {
         match self.0 {
@@ -263,7 +263,7 @@ impl Display for SigningText {
             Some(auth) => {
                 let key = key_word(auth.key);
                 let diversity = auth.diversity;
-                let address = said_if(auth.is_address_diverse, ":address");
+                let address = line_if(auth.is_address_diverse, ":address");
                 write!(f, " auth:{key}:0x{diversity:x}{address}")
             }
         }
@@ -404,7 +404,7 @@ impl Display for SdkText {
 
 /// A platform, its oldest system version, and the version of the SDK.
 #[derive(Clone, Copy)]
-pub struct PlatformText(pub PlatformSaid);
+pub struct PlatformText(pub PlatformFact);
 
 impl Display for PlatformText {
     ghost output = { λ t. Some (platform_text t.0) };

@@ -16,7 +16,7 @@ outcome_few limit p ls o (resolved answers notes more is) =
     let each : length answers ≡ length is.bindings = AllZip-long (IsAnswer is.files is.known) is.bindings answers is.are_answers in
     let first : length (take limit is.items) ≡ length is.bindings = ap length is.are_first ∙ length-map is.bindings (λ (b : Binding). Ok b) in
     omega (arith, each, first, length-take limit is.items)
-outcome_few limit p ls o (fault file e told) = omega arith
+outcome_few limit p ls o (fault file e reported) = omega arith
 
 -- of an entry at most as many as the limit
 pub entry_few : (limit : ℕ) (p : GivenFile) (ls : List GivenFile) (o : Outcome) → IsEntryOutcome limit p ls o → answer_count o ≤ limit
@@ -44,8 +44,8 @@ report_few limit p ls wanted r (other_image cputype other is differs) = omega ar
 report_few limit p ls wanted r (fat table parts os has is all) = entries_few limit p ls parts os all
 report_few limit p ls wanted r (entry cputype part o finds is) = entry_few limit (entry_of_program p part) ls o is
 report_few limit p ls wanted r (no_entry cputype finds) = omega arith
-report_few limit p ls wanted r (unopened e told) = omega arith
-report_few limit p ls wanted r (unfound cputype e told) = omega arith
+report_few limit p ls wanted r (unopened e reported) = omega arith
+report_few limit p ls wanted r (unfound cputype e reported) = omega arith
 
 outcomes_push : (limit : ℕ) (p : GivenFile) (ls : List GivenFile) (entries : List (List ℕ)) (os : List Outcome) (part : List ℕ) (o : Outcome)
     → AreEntryOutcomes limit p ls entries os → IsEntryOutcome (limit - sum_by answer_count os) (entry_of_program p part) ls o

@@ -3,16 +3,16 @@ use Rattle.std.proofs.Common.{◌≡◌, ℕ, List, Option, Some, None, Result, 
 use Rattle.std.specs.Prelude.{option_map}
 use Rattle.mach_parts.specs.ArchForms.{ArchForm, arch_form_32, arch_form_64}
 use Rattle.mach_parts.specs.declared.fat64.FatArch64.{FatArch64}
-use Rattle.mach_base.proofs.Faults.{Stands-in, Stands-reported}
-use Rattle.mach_base.specs.Answer.{◌>>=◌, Stands}
+use Rattle.mach_base.proofs.Faults.{ErrorMeets-in, ErrorMeets-reported}
+use Rattle.mach_base.specs.Answer.{◌>>=◌, ErrorMeets}
 use Rattle.mach_base.specs.Fault.{Fault, fault_of}
 use Rattle.mach_base.specs.declared.error.Error.{Error}
 use Rattle.mach_base.specs.declared.error.Error.TheVariants.{BadMagic}
 use Rattle.mach_parts.specs.declared.fat.FatArch.{FatArch}
 use Rattle.goblin_mach.specs.Inputs.{InputFault, IsInput, begins_any_archive}
 use Rattle.goblin_mach.specs.declared.input.Input.TheVariants.{Fat, Fat64}
-use Rattle.goblin_mach.specs.FatFile.{arch_table_in, archs_in, file_held, first_arch_of_cpu}
-use Rattle.goblin_mach.specs.OpenImage.{IsImage, commands_held}
+use Rattle.goblin_mach.specs.FatFile.{arch_table_in, archs_in, file_view, first_arch_of_cpu}
+use Rattle.goblin_mach.specs.OpenImage.{IsImage, commands_view}
 use Rattle.goblin_mach.specs.declared.fat_file.table.FatTable.{FatTable}
 use Rattle.goblin_mach.specs.declared.macho.MachO.{MachO}
 use Rattle.machresolve.specs.Cpu.{FileFault, FindsEntry, ForFault, HasFor, HasTable, IsOfCpu, an_archive, entry_bytes, image, of_32_bits, of_64_bits}
@@ -23,27 +23,27 @@ use Rattle.machresolve.specs.Given.{GivenFile, IsFile, IsLibrary, NumberedFault,
 -- an image that was opened is one of its header's cpu
 pub of_cpu : {A : Type 0} (bytes : List ℕ) (m : MachO A) → IsImage bytes 0 m → IsOfCpu bytes m.header.cputype
 of_cpu bytes m is = record {
-  opens = (is.ctx, commands_held m, is.opens);
-  cpu = record { ctx = is.ctx; cs = commands_held m; opens = is.opens.lossy; holds = (m.header, is.fields.header, refl) };
+  opens = (is.ctx, commands_view m, is.opens);
+  cpu = record { ctx = is.ctx; cs = commands_view m; opens = is.opens.lossy; holds = (m.header, is.fields.header, refl) };
 }
 
 -- a table's contents, by what is read of its records
 pub table_entries : {R A : Type 0} (form : ArchForm R) (bytes : List ℕ) (m : FatTable R A) (there : Result (List R) Fault)
-    → arch_table_in form (file_held m) ≡ there
-    → (fat_table_view form bytes (file_held m)).entries ≡ (there >>= (λ arches. Ok (map (entry_bytes form bytes) arches)))
+    → arch_table_in form (file_view m) ≡ there
+    → (fat_table_view form bytes (file_view m)).entries ≡ (there >>= (λ arches. Ok (map (entry_bytes form bytes) arches)))
 table_entries {R} form bytes m there is = ap (λ (r : Result (List R) Fault). r >>= (λ arches. Ok (map (entry_bytes form bytes) arches))) is
 
 pub table_first : {R A : Type 0} (form : ArchForm R) (bytes : List ℕ) (m : FatTable R A) (cputype : ℕ) (there : Result (Option R) Fault)
-    → first_arch_of_cpu form cputype (archs_in form (file_held m)) ≡ there
-    → (fat_table_view form bytes (file_held m)).first_for cputype ≡ (there >>= (λ found. Ok (option_map (entry_bytes form bytes) found)))
+    → first_arch_of_cpu form cputype (archs_in form (file_view m)) ≡ there
+    → (fat_table_view form bytes (file_view m)).first_for cputype ≡ (there >>= (λ found. Ok (option_map (entry_bytes form bytes) found)))
 table_first {R} form bytes m cputype there is = ap (λ (r : Result (Option R) Fault). r >>= (λ found. Ok (option_map (entry_bytes form bytes) found))) is
 
 -- an entry was found in a table, or none
 pub finds : {R A : Type 0} (form : ArchForm R) (bytes : List ℕ) (m : FatTable R A) (cputype : ℕ) (found : Option R)
-    → HasTable bytes (fat_table_view form bytes (file_held m)) → first_arch_of_cpu form cputype (archs_in form (file_held m)) ≡ Ok found
+    → HasTable bytes (fat_table_view form bytes (file_view m)) → first_arch_of_cpu form cputype (archs_in form (file_view m)) ≡ Ok found
     → FindsEntry bytes cputype (option_map (entry_bytes form bytes) found)
 finds form bytes m cputype found has is =
-    record { table = fat_table_view form bytes (file_held m); has = has; is_first = table_first form bytes m cputype (Ok found) is }
+    record { table = fat_table_view form bytes (file_view m); has = has; is_first = table_first form bytes m cputype (Ok found) is }
 
 has_entry : (bytes slice entry : List ℕ) (cputype : ℕ) → FindsEntry bytes cputype (Some entry) → slice ≡ entry → HasFor bytes cputype (Some slice)
 has_entry bytes slice entry cputype found is = subst (λ (b : List ℕ). HasFor bytes cputype (Some b)) (sym is) (of_table found)
@@ -58,40 +58,40 @@ entry_library cputype number g slice entry f found is opened =
 pub entry_fault : (cputype number : ℕ) (g : GivenFile) (slice entry : List ℕ) → FindsEntry g.bytes cputype (Some entry)
     → slice ≡ entry → (n : ℕ) (f : Fault) → OpenFault number (record { path = g.path; bytes = slice }) n f
     → NumberedFault number (LibraryFault cputype g) n f
-entry_fault cputype number g slice entry found is n f stands = (stands.0, of_image slice (has_entry g.bytes slice entry cputype found is) stands.1)
+entry_fault cputype number g slice entry found is n f occurs = (occurs.0, of_image slice (has_entry g.bytes slice entry cputype found is) occurs.1)
 
 -- a fault that refuses a search in a table holds
 pub search_fault : {R A : Type 0} (form : ArchForm R) (bytes : List ℕ) (m : FatTable R A) (cputype : ℕ) (e : Error)
-    → HasTable bytes (fat_table_view form bytes (file_held m)) → first_arch_of_cpu form cputype (archs_in form (file_held m)) ≡ Err (fault_of e)
-    → Stands (ForFault bytes cputype) e
+    → HasTable bytes (fat_table_view form bytes (file_view m)) → first_arch_of_cpu form cputype (archs_in form (file_view m)) ≡ Err (fault_of e)
+    → ErrorMeets (ForFault bytes cputype) e
 search_fault form bytes m cputype e has is =
-    Stands-reported (ForFault bytes cputype) e
-    (of_record (fat_table_view form bytes (file_held m)) has (table_first form bytes m cputype (Err (fault_of e)) is))
+    ErrorMeets-reported (ForFault bytes cputype) e
+    (of_record (fat_table_view form bytes (file_view m)) has (table_first form bytes m cputype (Err (fault_of e)) is))
 
 -- a fault of a file is one of the library
-pub library_fault : (cputype number : ℕ) (g : GivenFile) (e : Error) → Stands (ForFault g.bytes cputype) e
-    → Stands (NumberedFault number (LibraryFault cputype g) number) e
-library_fault cputype number g e stands =
-    Stands-in (ForFault g.bytes cputype) (NumberedFault number (LibraryFault cputype g) number) e (λ f s. (refl, unfound s)) stands
+pub library_fault : (cputype number : ℕ) (g : GivenFile) (e : Error) → ErrorMeets (ForFault g.bytes cputype) e
+    → ErrorMeets (NumberedFault number (LibraryFault cputype g) number) e
+library_fault cputype number g e occurs =
+    ErrorMeets-in (ForFault g.bytes cputype) (NumberedFault number (LibraryFault cputype g) number) e (λ f s. (refl, unfound s)) occurs
 
 -- a file that opened as a fat file has its table
 pub narrow_table : {A : Type 0} (bytes : List ℕ) (m : FatTable FatArch A) → IsInput bytes (Fat m)
-    → HasTable bytes (fat_table_view arch_form_32 bytes (file_held m))
-narrow_table bytes m is = of_32_bits (file_held m) is.1.magic is.1.file
+    → HasTable bytes (fat_table_view arch_form_32 bytes (file_view m))
+narrow_table bytes m is = of_32_bits (file_view m) is.1.magic is.1.file
 
 pub wide_table : {A : Type 0} (bytes : List ℕ) (m : FatTable FatArch64 A) → IsInput bytes (Fat64 m)
-    → HasTable bytes (fat_table_view arch_form_64 bytes (file_held m))
-wide_table bytes m is = of_64_bits (file_held m) is.1 is.2
+    → HasTable bytes (fat_table_view arch_form_64 bytes (file_view m))
+wide_table bytes m is = of_64_bits (file_view m) is.1 is.2
 
 -- the fault of a file that doesn't open holds, and that of an archive
-pub input_fault : (bytes : List ℕ) (e : Error) → Stands (InputFault bytes) e → Stands (FileFault bytes) e
-input_fault bytes e stands = Stands-in (InputFault bytes) (FileFault bytes) e (λ f s. of_input s) stands
+pub input_fault : (bytes : List ℕ) (e : Error) → ErrorMeets (InputFault bytes) e → ErrorMeets (FileFault bytes) e
+input_fault bytes e occurs = ErrorMeets-in (InputFault bytes) (FileFault bytes) e (λ f s. of_input s) occurs
 
-pub archive_fault : (bytes : List ℕ) (e : Error) → begins_any_archive bytes ≡ true → e ≡ BadMagic 0x213c_6172 → Stands (FileFault bytes) e
-archive_fault bytes e begins is = subst (Stands (FileFault bytes)) (sym is) (an_archive begins)
+pub archive_fault : (bytes : List ℕ) (e : Error) → begins_any_archive bytes ≡ true → e ≡ BadMagic 0x213c_6172 → ErrorMeets (FileFault bytes) e
+archive_fault bytes e begins is = subst (ErrorMeets (FileFault bytes)) (sym is) (an_archive begins)
 
-pub file_fault : (cputype : ℕ) (bytes : List ℕ) (e : Error) → Stands (FileFault bytes) e → Stands (ForFault bytes cputype) e
-file_fault cputype bytes e stands = Stands-in (FileFault bytes) (ForFault bytes cputype) e (λ f s. of_file s) stands
+pub file_fault : (cputype : ℕ) (bytes : List ℕ) (e : Error) → ErrorMeets (FileFault bytes) e → ErrorMeets (ForFault bytes cputype) e
+file_fault cputype bytes e occurs = ErrorMeets-in (FileFault bytes) (ForFault bytes cputype) e (λ f s. of_file s) occurs
 
 -- an image for the cpu
 pub image_library : {A : Type 0} (cputype number : ℕ) (g : GivenFile) (m : MachO A) (f : File) → IsImage g.bytes 0 m → m.header.cputype ≡ cputype

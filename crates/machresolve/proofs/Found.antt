@@ -3,14 +3,14 @@ use Rattle.std.proofs.Common.{◌≡◌, ◌∙◌, ◌<◌, ◌++◌, ℕ, List
 use Rattle.std.specs.Prelude.{slice_get, option_map, Result, Ok, Err, IfOk}
 use Rattle.std.specs.List.{AllZip}
 use Rattle.std.proofs.lemmas.Option.{slice_get-map, slice_get_read}
-use Rattle.machresolve.specs.Seen.{file_seen}
+use Rattle.machresolve.specs.ResolveViews.{input_view}
 use Rattle.machresolve.specs.declared.file.File.{File}
 
 pub file_at : {A : Type 0} (items xs : List (File A)) (i : ℕ) (f : File A) → xs ≡ items → i < length xs → f ≡ get_or xs i f
-    → slice_get (map file_seen items) i ≡ Some (file_seen f)
+    → slice_get (map input_view items) i ≡ Some (input_view f)
 file_at items xs i f same inside is =
-    subst (λ (ys : List (File _)). slice_get (map file_seen ys) i ≡ Some (file_seen f)) same
-    (slice_get-map file_seen xs i ∙ ap (option_map file_seen) (slice_get_read xs (length xs) i f refl inside is))
+    subst (λ (ys : List (File _)). slice_get (map input_view ys) i ≡ Some (input_view f)) same
+    (slice_get-map input_view xs i ∙ ap (option_map input_view) (slice_get_read xs (length xs) i f refl inside is))
 
 pub ok_more : {X E : Type 0} (P Q : X → Type 0) (r : Result X E) → ((x : X) → P x → Q x) → IfOk r P → IfOk r Q
 ok_more P Q (Ok x) more p = more x p

@@ -5,7 +5,7 @@ use Rattle.mach_parts.specs.Bindings.{Binding}
 use Rattle.goblin_mach.specs.Facts.{OfImage, HasName, HasLibrariesByKind, HasBindings}
 use Rattle.goblin_mach.specs.Image.{Opens}
 use Rattle.goblin_mach.specs.Libraries.{LibraryView, libraries_in}
-use Rattle.goblin_mach.specs.OpenImage.{IsImage, commands_held}
+use Rattle.goblin_mach.specs.OpenImage.{IsImage, commands_view}
 use Rattle.goblin_mach.specs.Subjects.{own_name_in}
 use Rattle.goblin_mach.specs.declared.macho.MachO.{MachO}
 use Rattle.machresolve.specs.Answers.{Program}
@@ -23,7 +23,7 @@ absences_said bytes absences libraries is has =
     record { ctx = has.ctx; cs = has.cs; opens = has.opens; holds = is ∙ ap may_be_absent has.holds }
 
 opens_as : {A : Type 0} (bytes : List ℕ) (m : MachO A) → IsImage bytes 0 m → Opens bytes 0
-opens_as bytes m is = (is.ctx, commands_held m, is.opens)
+opens_as bytes m is = (is.ctx, commands_view m, is.opens)
 
 -- the program whose image was opened
 pub is_program : {A : Type 0} (g : GivenFile) (m : MachO A) (p : Program) (items : List (Result Binding Fault)) (own : Option (List ℕ))
@@ -41,5 +41,5 @@ is_program g m p items own libraries is name has absences are all = record {
 pub more_faults : {A : Type 0} (limit : ℕ) (p : GivenFile) (ls : List GivenFile) (m : MachO A) (all : Gathered) → GathersAll p ls all
     → ((items : List (Result Binding Fault)) → HoldsItems m items → HasBindings p.bytes 0 items) → (n : ℕ) (f : Fault) → AnswerFault limit all.files m n f
     → ResolveFault limit p ls n f
-more_faults limit p ls m all gathered stand n f (of_bindings bindings rest holds within) = of_bindings bindings rest (stand _ holds) within
-more_faults limit p ls m all gathered stand n f (of_trie stands) = of_trie all gathered stands
+more_faults limit p ls m all gathered occur n f (of_bindings bindings rest holds within) = of_bindings bindings rest (occur _ holds) within
+more_faults limit p ls m all gathered occur n f (of_trie occurs) = of_trie all gathered occurs

@@ -7,12 +7,12 @@ use Rattle.std.proofs.lemmas.List.{append_assoc, map_push, length-map, at_drop_m
 use Rattle.std.proofs.lemmas.Option.{slice_get-get_or}
 use Rattle.mach_base.specs.Fault.{Fault}
 use Rattle.goblin_mach.specs.Libraries.{LibraryView}
-use Rattle.machresolve.specs.Opened.{given_seen}
+use Rattle.machresolve.specs.Opened.{given_view}
 use Rattle.machresolve.specs.declared.inputs.Given as declared
 use Rattle.machresolve.specs.Note.{Note, given_before}
 use Rattle.machresolve.specs.Given.{GivenFile, Adds, counts, again, is_named, reexported, NumberedFault, OpenFault}
 use Rattle.machresolve.specs.Given.{LibraryFault, FaultFor, of_program, of_library}
-use Rattle.machresolve.specs.Seen.{file_seen, note_seen}
+use Rattle.machresolve.specs.ResolveViews.{input_view, note_view_of}
 use Rattle.machresolve.specs.declared.note.Note as noted
 use Rattle.machresolve.specs.declared.file.File.{File}
 
@@ -22,12 +22,12 @@ list_any-map p h (y ∷ ys) = ap (λ (b : Bool). p (h y) || b) (list_any-map p h
 
 -- the names that are kept are the names of the files
 pub named_among : {A : Type 0} (name : List ℕ) (items : List (File A)) (keys : List (Bor (List ℕ))) → map (λ f. f.name.now) items ≡ map (λ k. k.now) keys
-    → list_any (λ k. bytes_eq name k.now) keys ≡ is_named (map file_seen items) name
+    → list_any (λ k. bytes_eq name k.now) keys ≡ is_named (map input_view items) name
 named_among name items keys named =
     sym (list_any-map (bytes_eq name) (λ k. k.now) keys)
     ∙ (ap (list_any (bytes_eq name)) (sym named)
     ∙ (list_any-map (bytes_eq name) (λ f. f.name.now) items
-    ∙ sym (list_any-map (λ f. bytes_eq name f.name) file_seen items)))
+    ∙ sym (list_any-map (λ f. bytes_eq name f.name) input_view items)))
 
 pub names_more : {A : Type 0} (items more : List (File A)) (keys others : List (Bor (List ℕ))) (f : File A) → more ≡ items ++ f ∷ []
     → others ≡ (if false then keys else keys ++ f.name ∷ []) → map (λ f. f.name.now) items ≡ map (λ k. k.now) keys
@@ -38,40 +38,41 @@ names_more items more keys others f pushed inserted named =
     ∙ (sym (map_push (λ k. k.now) keys f.name) ∙ sym (ap (map (λ k. k.now)) inserted))))
 
 pub adds_more : {A : Type 0} (items more : List (File A)) (notes : List Note) (f : File A) → more ≡ items ++ f ∷ []
-    → is_named (map file_seen items) f.name.now ≡ false
-    → Adds (record { files = map file_seen items; notes = notes }) (file_seen f) (record { files = map file_seen more; notes = notes })
+    → is_named (map input_view items) f.name.now ≡ false
+    → Adds (record { files = map input_view items; notes = notes }) (input_view f) (record { files = map input_view more; notes = notes })
 adds_more items more notes f pushed new =
-    subst (λ (fs : List _). Adds (record { files = map file_seen items; notes = notes }) (file_seen f) (record { files = fs; notes = notes }))
-    (sym (ap (map file_seen) pushed ∙ map_push file_seen items f)) (counts new)
+    subst (λ (fs : List _). Adds (record { files = map input_view items; notes = notes }) (input_view f) (record { files = fs; notes = notes }))
+    (sym (ap (map input_view) pushed ∙ map_push input_view items f)) (counts new)
 
 pub adds_again : {A : Type 0} (items : List (File A)) (notes more : List Note) (f : File A) → more ≡ notes ++ given_before f.number f.name.now ∷ []
-    → is_named (map file_seen items) f.name.now ≡ true
-    → Adds (record { files = map file_seen items; notes = notes }) (file_seen f) (record { files = map file_seen items; notes = more })
+    → is_named (map input_view items) f.name.now ≡ true
+    → Adds (record { files = map input_view items; notes = notes }) (input_view f) (record { files = map input_view items; notes = more })
 adds_again items notes more f pushed there =
-    subst (λ (ns : List Note). Adds (record { files = map file_seen items; notes = notes }) (file_seen f) (record { files = map file_seen items; notes = ns }))
+    subst (λ (ns : List Note). Adds (record { files = map input_view items; notes = notes }) (input_view f)
+    (record { files = map input_view items; notes = ns }))
     (sym pushed) (again there)
 
 -- a file that is used
 pub adds_new : {A : Type 0} (items more : List (File A)) (notes kept : List noted.Note) (f : File A) → more ≡ items ++ f ∷ [] → kept ≡ notes
-    → is_named (map file_seen items) f.name.now ≡ false
-    → Adds (record { files = map file_seen items; notes = map note_seen notes }) (file_seen f)
-    (record { files = map file_seen more; notes = map note_seen kept })
+    → is_named (map input_view items) f.name.now ≡ false
+    → Adds (record { files = map input_view items; notes = map note_view_of notes }) (input_view f)
+    (record { files = map input_view more; notes = map note_view_of kept })
 adds_new items more notes kept f pushed same new =
-    subst (λ (ns : List noted.Note). Adds (record { files = map file_seen items; notes = map note_seen notes }) (file_seen f)
-    (record { files = map file_seen more; notes = map note_seen ns }))
-    (sym same) (adds_more items more (map note_seen notes) f pushed new)
+    subst (λ (ns : List noted.Note). Adds (record { files = map input_view items; notes = map note_view_of notes }) (input_view f)
+    (record { files = map input_view more; notes = map note_view_of ns }))
+    (sym same) (adds_more items more (map note_view_of notes) f pushed new)
 
 -- a file whose name is there already, which is noted
 pub adds_known : {A : Type 0} (items kept : List (File A)) (notes more : List noted.Note) (n : noted.Note) (f : File A) → kept ≡ items → more ≡ notes ++ n ∷ []
-    → note_seen n ≡ given_before f.number f.name.now → is_named (map file_seen items) f.name.now ≡ true
-    → Adds (record { files = map file_seen items; notes = map note_seen notes }) (file_seen f)
-    (record { files = map file_seen kept; notes = map note_seen more })
+    → note_view_of n ≡ given_before f.number f.name.now → is_named (map input_view items) f.name.now ≡ true
+    → Adds (record { files = map input_view items; notes = map note_view_of notes }) (input_view f)
+    (record { files = map input_view kept; notes = map note_view_of more })
 adds_known items kept notes more n f same pushed is there =
-    subst (λ (fs : List (File _)). Adds (record { files = map file_seen items; notes = map note_seen notes }) (file_seen f)
-    (record { files = map file_seen fs; notes = map note_seen more }))
+    subst (λ (fs : List (File _)). Adds (record { files = map input_view items; notes = map note_view_of notes }) (input_view f)
+    (record { files = map input_view fs; notes = map note_view_of more }))
     (sym same)
-    (adds_again items (map note_seen notes) (map note_seen more) f
-    (ap (map note_seen) pushed ∙ (map_push note_seen notes n ∙ ap (λ (x : Note). map note_seen notes ++ x ∷ []) is)) there)
+    (adds_again items (map note_view_of notes) (map note_view_of more) f
+    (ap (map note_view_of) pushed ∙ (map_push note_view_of notes n ∙ ap (λ (x : Note). map note_view_of notes ++ x ∷ []) is)) there)
 
 -- one more library was visited
 pub reexported_more : (all : List (List ℕ)) (names pushed : List (Bor (List ℕ))) (l : LibraryView) (ls left : List LibraryView) (name : Bor (List ℕ))
@@ -102,19 +103,19 @@ absent_more all front pushed l ls left b so_far is same more =
 
 -- a fault of the program
 pub program_fault : (cputype : ℕ) (p : GivenFile) (ls : List GivenFile) (n : ℕ) (f : Fault) → OpenFault 0 p n f → FaultFor cputype p ls n f
-program_fault cputype p ls n f stands = subst (λ (k : ℕ). FaultFor cputype p ls k f) (sym stands.0) (of_program stands.1)
+program_fault cputype p ls n f occurs = subst (λ (k : ℕ). FaultFor cputype p ls k f) (sym occurs.0) (of_program occurs.1)
 
 -- a fault of a library, by its place among them
 pub library_fault : (cputype : ℕ) (p : GivenFile) (ls : List declared.Given) (i : ℕ) (d : declared.Given) → i < length ls → (n : ℕ) (f : Fault)
-    → NumberedFault (i + 1) (LibraryFault cputype (given_seen (get_or ls i d))) n f → FaultFor cputype p (map given_seen ls) n f
-library_fault cputype p ls i d inside n f stands =
-    let xs = map given_seen ls in
-    let at : slice_get xs i ≡ Some (get_or xs i (given_seen d)) = slice_get-get_or xs i (given_seen d) (omega (arith, length-map ls given_seen)) in
-    subst (λ (k : ℕ). FaultFor cputype p xs k f) (sym stands.0)
-    (of_library i (given_seen (get_or ls i d)) (at ∙ ap Some (get_or-map given_seen ls i d (given_seen d) inside)) stands.1)
+    → NumberedFault (i + 1) (LibraryFault cputype (given_view (get_or ls i d))) n f → FaultFor cputype p (map given_view ls) n f
+library_fault cputype p ls i d inside n f occurs =
+    let xs = map given_view ls in
+    let at : slice_get xs i ≡ Some (get_or xs i (given_view d)) = slice_get-get_or xs i (given_view d) (omega (arith, length-map ls given_view)) in
+    subst (λ (k : ℕ). FaultFor cputype p xs k f) (sym occurs.0)
+    (of_library i (given_view (get_or ls i d)) (at ∙ ap Some (get_or-map given_view ls i d (given_view d) inside)) occurs.1)
 
 pub given_at : (ls : List declared.Given) (i : ℕ) (d : declared.Given) → i < length ls
-    → drop i (map given_seen ls) ≡ given_seen (get_or ls i d) ∷ drop (i + 1) (map given_seen ls)
+    → drop i (map given_view ls) ≡ given_view (get_or ls i d) ∷ drop (i + 1) (map given_view ls)
 given_at ls i d inside =
-    at_drop_more (λ xs. xs) (map given_seen ls) i (given_seen d) (omega (arith, length-map ls given_seen))
-    ∙ ap (λ x. x ∷ drop (i + 1) (map given_seen ls)) (get_or-map given_seen ls i d (given_seen d) inside)
+    at_drop_more (λ xs. xs) (map given_view ls) i (given_view d) (omega (arith, length-map ls given_view))
+    ∙ ap (λ x. x ∷ drop (i + 1) (map given_view ls)) (get_or-map given_view ls i d (given_view d) inside)

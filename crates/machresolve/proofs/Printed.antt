@@ -9,7 +9,8 @@ use Rattle.machresolve.specs.Answers.{Answer}
 use Rattle.machresolve.specs.Follow.{not_given}
 use Rattle.machresolve.specs.Note.{Note}
 use Rattle.machresolve.specs.Report.{Outcome}
-use Rattle.machresolve.specs.Lines.{ResolveCall, place_text, answer_text, lines_of, entry_heading, entry_text, entries_text, note_text, said_line, said_lines}
+use Rattle.machresolve.specs.Lines.{ResolveCall, place_text, answer_text, lines_of, entry_heading}
+use Rattle.machresolve.specs.Lines.{entry_text, entries_text, note_text, message_line, message_lines}
 
 pub lines_push : (xs : List Answer) (a : Answer) → lines_of (xs ++ a ∷ []) ≡ lines_of xs ++ (answer_text a ++ codes "\n")
 lines_push [] a = append-nil (answer_text a ++ codes "\n")
@@ -29,11 +30,11 @@ gap_text library reexported =
     sym (append_assoc (front ++ codes " re-exports ") to (codes ", which is not given")
     ∙ (append_assoc front (codes " re-exports ") tail ∙ append_assoc (codes "not found; ") of (codes " re-exports " ++ tail)))
 
-pub said_push : (call : ResolveCall) (ns : List Note) (n : Note) → said_lines call (ns ++ n ∷ []) ≡ said_lines call ns ++ said_line (note_text call n)
-said_push call [] n = append-nil (said_line (note_text call n))
+pub said_push : (call : ResolveCall) (ns : List Note) (n : Note) → message_lines call (ns ++ n ∷ []) ≡ message_lines call ns ++ message_line (note_text call n)
+said_push call [] n = append-nil (message_line (note_text call n))
 said_push call (x ∷ ns) n =
-    ap (λ t. said_line (note_text call x) ++ t) (said_push call ns n)
-    ∙ sym (append_assoc (said_line (note_text call x)) (said_lines call ns) (said_line (note_text call n)))
+    ap (λ t. message_line (note_text call x) ++ t) (said_push call ns n)
+    ∙ sym (append_assoc (message_line (note_text call x)) (message_lines call ns) (message_line (note_text call n)))
 
 -- one more entry, after the others
 pub entries_push : (call : ResolveCall) (k : ℕ) (os : List Outcome) (o : Outcome)

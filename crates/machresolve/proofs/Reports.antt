@@ -1,56 +1,56 @@
 -- The reports of programs, and of refused files.
 use Rattle.std.proofs.Common.{◌≡◌, ℕ, false, List, Option, Some, None, Result, Ok, Err, refl, sym, ap, subst}
 use Rattle.std.specs.Prelude.{IfOk}
-use Rattle.mach_base.proofs.Faults.{Stands-in}
-use Rattle.mach_base.specs.Answer.{Stands}
+use Rattle.mach_base.proofs.Faults.{ErrorMeets-in}
+use Rattle.mach_base.specs.Answer.{ErrorMeets}
 use Rattle.mach_base.specs.Fault.{Fault}
 use Rattle.mach_base.specs.declared.error.Error.{Error}
 use Rattle.mach_parts.specs.Magic.{begins_archive}
-use Rattle.goblin_mach.proofs.Views.{tells}
-use Rattle.goblin_mach.specs.View.{IsTold, Tells}
+use Rattle.goblin_mach.proofs.Views.{reports}
+use Rattle.goblin_mach.specs.View.{IsReported, ReportsFault}
 use Rattle.machresolve.specs.Cpu as cpu
 use Rattle.machresolve.specs.Cpu.{FileFault, ForFault, IsOfCpu}
 use Rattle.machresolve.specs.Failures.{IsFailure}
 use Rattle.machresolve.specs.Given.{GivenFile}
 use Rattle.machresolve.specs.Report as report
 use Rattle.machresolve.specs.Report.{IsOutcome, fault, IsEntryOutcome, an_image, IsOneOf, image, image_of_cpu, IsProgramReport, unopened, unfound}
-use Rattle.machresolve.specs.Report.{ProgramFault, TellsError, of_file}
+use Rattle.machresolve.specs.Report.{ProgramFault, ReportsError, of_file}
 use Rattle.machresolve.specs.Resolved.{ResolveFault}
-use Rattle.machresolve.specs.Seen.{outcome_seen, IsOutcomeOfFailure}
-use Rattle.machresolve.specs.declared.failure.Failure.{Failure}
+use Rattle.machresolve.specs.ResolveViews.{outcome_view, IsOutcomeOfFailure}
+use Rattle.machresolve.specs.declared.failure.ResolveFailure.{ResolveFailure}
 use Rattle.machresolve.specs.declared.report.Outcome.{Outcome}
 use Rattle.machresolve.specs.declared.report.Outcome.TheVariants.{Answered, Archive, Refused}
 
 -- the outcome for a failure to resolve
-pub refused_outcome : {A : Type 0} (n : ℕ) (p : GivenFile) (ls : List GivenFile) (x : Failure) (r : Result (Outcome A) Failure)
+pub refused_outcome : {A : Type 0} (n : ℕ) (p : GivenFile) (ls : List GivenFile) (x : ResolveFailure) (r : Result (Outcome A) ResolveFailure)
     → IsFailure (ResolveFault n p ls) x → IsOutcomeOfFailure x r
-    → IfOk r (λ o. IsOutcome n p ls (outcome_seen o))
-refused_outcome n p ls x (Ok (Refused file e)) stands is = fault file e (subst (IsFailure (ResolveFault n p ls)) is stands)
-refused_outcome n p ls x (Ok Archive) stands is = absurd is
-refused_outcome n p ls x (Ok (Answered resolved)) stands is = absurd is
-refused_outcome n p ls x (Err kept) stands is = tt
+    → IfOk r (λ o. IsOutcome n p ls (outcome_view o))
+refused_outcome n p ls x (Ok (Refused file e)) occurs is = fault file e (subst (IsFailure (ResolveFault n p ls)) is occurs)
+refused_outcome n p ls x (Ok Archive) occurs is = absurd is
+refused_outcome n p ls x (Ok (Answered resolved)) occurs is = absurd is
+refused_outcome n p ls x (Err kept) occurs is = tt
 
-tells_fault : (P : Fault → Type 0) (e : Error) → IsTold e → Stands P e → Tells P e
-tells_fault P e told stands = tells P P e told (λ f s. s) stands
+reports_fault : (P : Fault → Type 0) (e : Error) → IsReported e → ErrorMeets P e → ReportsFault P e
+reports_fault P e reported occurs = reports P P e reported (λ f s. s) occurs
 
 -- a program whose table is refused, for all of it or for a cpu
-pub table_refused : (n : ℕ) (p : GivenFile) (ls : List GivenFile) (e : Error) (r : report.Report) → TellsError e r → Stands (ProgramFault p.bytes) e
+pub table_refused : (n : ℕ) (p : GivenFile) (ls : List GivenFile) (e : Error) (r : report.Report) → ReportsError e r → ErrorMeets (ProgramFault p.bytes) e
     → IsProgramReport n p ls None r
-table_refused n p ls e r told stands =
-    subst (IsProgramReport n p ls None) (sym told.0) (unopened e (tells_fault (ProgramFault p.bytes) e told.1 stands))
+table_refused n p ls e r reported occurs =
+    subst (IsProgramReport n p ls None) (sym reported.0) (unopened e (reports_fault (ProgramFault p.bytes) e reported.1 occurs))
 
-pub search_refused : (n : ℕ) (p : GivenFile) (ls : List GivenFile) (c : ℕ) (e : Error) (r : report.Report) → TellsError e r
-    → Stands (ForFault p.bytes c) e → IsProgramReport n p ls (Some c) r
-search_refused n p ls c e r told stands =
-    subst (IsProgramReport n p ls (Some c)) (sym told.0) (unfound c e (tells_fault (ForFault p.bytes c) e told.1 stands))
+pub search_refused : (n : ℕ) (p : GivenFile) (ls : List GivenFile) (c : ℕ) (e : Error) (r : report.Report) → ReportsError e r
+    → ErrorMeets (ForFault p.bytes c) e → IsProgramReport n p ls (Some c) r
+search_refused n p ls c e r reported occurs =
+    subst (IsProgramReport n p ls (Some c)) (sym reported.0) (unfound c e (reports_fault (ForFault p.bytes c) e reported.1 occurs))
 
 -- a program that doesn't open, whichever cpu is selected
-pub file_refused : (n : ℕ) (p : GivenFile) (ls : List GivenFile) (wanted : Option ℕ) (e : Error) (r : report.Report) → TellsError e r
-    → Stands (FileFault p.bytes) e → IsProgramReport n p ls wanted r
-file_refused n p ls None e r told stands =
-    table_refused n p ls e r told (Stands-in (FileFault p.bytes) (ProgramFault p.bytes) e (λ f s. of_file s) stands)
-file_refused n p ls (Some c) e r told stands =
-    search_refused n p ls c e r told (Stands-in (FileFault p.bytes) (ForFault p.bytes c) e (λ f s. cpu.of_file s) stands)
+pub file_refused : (n : ℕ) (p : GivenFile) (ls : List GivenFile) (wanted : Option ℕ) (e : Error) (r : report.Report) → ReportsError e r
+    → ErrorMeets (FileFault p.bytes) e → IsProgramReport n p ls wanted r
+file_refused n p ls None e r reported occurs =
+    table_refused n p ls e r reported (ErrorMeets-in (FileFault p.bytes) (ProgramFault p.bytes) e (λ f s. of_file s) occurs)
+file_refused n p ls (Some c) e r reported occurs =
+    search_refused n p ls c e r reported (ErrorMeets-in (FileFault p.bytes) (ForFault p.bytes c) e (λ f s. cpu.of_file s) occurs)
 
 -- an entry that is no archive
 pub entry_image : (n : ℕ) (path slice bytes : List ℕ) (ls : List GivenFile) (o : report.Outcome) → slice ≡ bytes → begins_archive slice ≡ false

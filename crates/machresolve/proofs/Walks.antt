@@ -6,7 +6,7 @@ use Rattle.std.proofs.lemmas.List.{reverse-append, get_or-set_same, get_or-set_o
 use Rattle.std.proofs.lemmas.Bool.{cases_eq, true≢false}
 use Rattle.mach_base.specs.Among.{IsAmong}
 use Rattle.machresolve.specs.Files.{File, place_of_file}
-use Rattle.machresolve.specs.Behind.{Edge, Met, none_met, with_place, with_gap, edges_of, Walks, done, absent, again, first}
+use Rattle.machresolve.specs.Following.{Edge, Met, none_met, with_place, with_gap, edges_of, Walks, done, absent, again, first}
 use Rattle.machresolve.proofs.Places.{among_pushed, among_before, among_or_last}
 
 -- a walk along some edges and others after them stops between them

@@ -3,7 +3,7 @@ use Rattle.std.specs.Prelude.{◌≡◌, ℕ, Bool, List, Option, Some, None, sl
 use Rattle.mach_base.specs.Fault.{Fault}
 use Rattle.mach_dyld.specs.Trie.{Info}
 use Rattle.mach_dyld.specs.TrieRange.{TrieRange}
-use Rattle.goblin_mach.specs.LookUp.{StandsInImage}
+use Rattle.goblin_mach.specs.LookUp.{IsAnswerInImage}
 use Rattle.goblin_mach.specs.Subjects.{ImageExportsFault}
 
 -- A file: its number among the given files, 0 for the program; its name; whether it is a main executable; the libraries that it
@@ -22,7 +22,7 @@ place_of_file files name = position (λ f. bytes_eq name f.name) files
 
 -- What the own trie of a file has for a name: its export, or nothing.
 abbrev pub Says : File → List ℕ → Option Info → Type 0
-Says f name found = StandsInImage f.trie f.libs name found
+Says f name found = IsAnswerInImage f.trie f.libs name found
 
 -- the own trie of the file at this place doesn't have the name
 abbrev pub Lacks : List File → List ℕ → ℕ → Type 0

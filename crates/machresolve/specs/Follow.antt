@@ -4,7 +4,7 @@ use Rattle.std.specs.Prelude.{◌≡◌, ◌==◌, ℕ, Bool, List, [], ◌∷�
 use Rattle.mach_base.specs.Among.{IsAmong}
 use Rattle.mach_dyld.specs.Trie.{Info, regular, reexport, stub}
 use Rattle.machresolve.specs.Files.{File, place_of_file, Says, Lacks}
-use Rattle.machresolve.specs.Behind.{Edge, Met, IsBehind}
+use Rattle.machresolve.specs.Following.{Edge, Met, IsAfter}
 
 -- a name, and the name of the library in which it is looked up
 pub record Symbol : Type 0 where
@@ -50,10 +50,10 @@ abbrev pub NoneHas : List File → List ℕ → List ℕ → Type 0
 NoneHas files name places = All (Lacks files name) places
 
 -- the library of a symbol is given, and this is its closure
-pub record IsGiven (files : List File) (s : Symbol) (behind : Met) : Type 0 where
+pub record IsGiven (files : List File) (s : Symbol) (following : Met) : Type 0 where
   pub place : ℕ
   pub is_place : place_of_file files s.library ≡ Some place
-  pub is_behind : IsBehind files s.library behind
+  pub is_after : IsAfter files s.library following
 
 -- the symbol that a re-export leads to: in the library that it names, by the name that it gives, or by its own name if it gives
 -- none
@@ -62,7 +62,8 @@ LeadsTo info name t = (given : Option (List ℕ)) × (flags : ℕ) × (info ≡ 
 
 -- a symbol leads to another: the first file in the closure of its library whose own trie has the name re-exports it
 abbrev pub IsReexport : List File → Symbol → Symbol → Type 0
-IsReexport files s t = (behind : Met) × IsGiven files s behind × (g : File) × (info : Info) × HasFirst files s.name behind.places g info × LeadsTo info s.name t
+IsReexport files s t = (following : Met) × IsGiven files s following × (g : File) × (info : Info) × HasFirst files s.name following.places g info
+    × LeadsTo info s.name t
 
 -- no file in the closure of a library has the name: it is missing, unless one of them re-exports a library that is not given
 abbrev pub nowhere : List ℕ → Option Edge → SymbolPlace
@@ -72,9 +73,9 @@ nowhere library (Some gap) = not_given gap.from gap.to
 -- A symbol leads no further.
 pub data IsEnd (files : List File) (s : Symbol) : SymbolPlace → Type 0 where
   absent : place_of_file files s.library ≡ None → IsEnd files s (no_library s.library)
-  at : (behind : Met) (g : File) (info : Info) (address : ℕ) → IsGiven files s behind → HasFirst files s.name behind.places g info
+  at : (following : Met) (g : File) (info : Info) (address : ℕ) → IsGiven files s following → HasFirst files s.name following.places g info
       → address_of info ≡ Some address → IsEnd files s (found g.name address (is_absolute info))
-  unlisted : (behind : Met) → IsGiven files s behind → NoneHas files s.name behind.places → IsEnd files s (nowhere s.library behind.gap)
+  unlisted : (following : Met) → IsGiven files s following → NoneHas files s.name following.places → IsEnd files s (nowhere s.library following.gap)
 
 -- The place that a symbol leads to, after those that were met on the way: back, if it is one of them; or its end; or the place of
 -- the symbol that it re-exports.

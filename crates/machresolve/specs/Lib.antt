@@ -1,5 +1,5 @@
 pub mod Files
-pub mod Behind
+pub mod Following
 pub mod Follow
 pub mod Special
 pub mod Answers
@@ -7,7 +7,7 @@ pub mod Note
 pub mod Cpu
 pub mod Given
 pub mod Failures
-pub mod Seen
+pub mod ResolveViews
 pub mod Opened
 pub mod Resolved
 pub mod Report

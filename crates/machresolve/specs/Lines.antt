@@ -7,7 +7,7 @@ use Rattle.mach_cli.specs.Escapes.{escaped_text}
 use Rattle.machresolve.specs.Follow.{SymbolPlace, found, leads_back, no_library, missing, not_given, not_found, no_main}
 use Rattle.machresolve.specs.Answers.{Answer}
 use Rattle.machresolve.specs.Given.{GivenFile}
-use Rattle.machresolve.specs.Refusals.{told_words}
+use Rattle.machresolve.specs.Refusals.{reported_words}
 use Rattle.machresolve.specs.Note.{Note, given_before, nothing_for, all_noted}
 use Rattle.machresolve.specs.Report.{Outcome, answered, archive, refused, Report, one, entries, nothing}
 
@@ -63,7 +63,7 @@ lines_of (a ∷ others) = answer_text a ++ codes "\n" ++ lines_of others
 
 -- a line if there are more bindings than the limit
 abbrev pub more_text : ℕ → Bool → List ℕ
-more_text limit more = if more then codes "limit: " ++ (decimal limit ++ codes " of them are told, and there are more\n") else []
+more_text limit more = if more then codes "limit: " ++ (decimal limit ++ codes " shown, and there are more\n") else []
 
 -- the answers of a program, and a line after them if there are more bindings
 abbrev pub resolved_text : ℕ → List Answer → Bool → List ℕ
@@ -81,7 +81,7 @@ file_at call number = get_or (call.program ∷ call.libraries) number call.progr
 
 -- the message about a refused file
 abbrev pub refusal_text : GivenFile → Error → List ℕ
-refusal_text file e = escaped_text file.path ++ (codes ": " ++ told_words file.bytes e)
+refusal_text file e = escaped_text file.path ++ (codes ": " ++ reported_words file.bytes e)
 
 abbrev pub nothing_words : ℕ → List ℕ
 nothing_words cputype = codes "nothing for cputype 0x" ++ digits 16 false cputype
@@ -92,16 +92,16 @@ nothing_text file cputype = escaped_text file.path ++ (codes ": " ++ nothing_wor
 
 abbrev pub note_text : ResolveCall → Note → List ℕ
 note_text call (given_before library name) =
-    escaped_text (file_at call library).path ++ (codes ": " ++ (escaped_text name ++ codes " is given before"))
+    escaped_text (file_at call library).path ++ (codes ": " ++ (escaped_text name ++ codes " was given before"))
 note_text call (nothing_for library cputype) = nothing_text (file_at call library) cputype
 
 -- a line of a message
-abbrev pub said_line : List ℕ → List ℕ
-said_line text = codes "machresolve: " ++ text ++ codes "\n"
+abbrev pub message_line : List ℕ → List ℕ
+message_line text = codes "machresolve: " ++ text ++ codes "\n"
 
-abbrev pub said_lines : ResolveCall → List Note → List ℕ
-said_lines call [] = []
-said_lines call (n ∷ notes) = said_line (note_text call n) ++ said_lines call notes
+abbrev pub message_lines : ResolveCall → List Note → List ℕ
+message_lines call [] = []
+message_lines call (n ∷ notes) = message_line (note_text call n) ++ message_lines call notes
 
 -- the text of an entry
 abbrev pub entry_text : ResolveCall → Outcome → List ℕ
@@ -146,17 +146,17 @@ notes_in (entries outcomes) = all_notes [] outcomes
 notes_in (nothing cputype) = []
 
 -- the message if one program is refused
-abbrev pub said_refusal : ResolveCall → Outcome → List ℕ
-said_refusal call (answered answers notes more) = []
-said_refusal call archive = []
-said_refusal call (refused file e) = said_line (refusal_text (file_at call file) e)
+abbrev pub refusal_message : ResolveCall → Outcome → List ℕ
+refusal_message call (answered answers notes more) = []
+refusal_message call archive = []
+refusal_message call (refused file e) = message_line (refusal_text (file_at call file) e)
 
 -- the message if nothing is printed
-abbrev pub said_first : ResolveCall → Report → List ℕ
-said_first call (one o) = said_refusal call o
-said_first call (entries outcomes) = []
-said_first call (nothing cputype) = said_line (nothing_text call.program cputype)
+abbrev pub first_message : ResolveCall → Report → List ℕ
+first_message call (one o) = refusal_message call o
+first_message call (entries outcomes) = []
+first_message call (nothing cputype) = message_line (nothing_text call.program cputype)
 
 -- the messages of a report
-abbrev pub said_of_report : ResolveCall → Report → List ℕ
-said_of_report call r = said_first call r ++ said_lines call (notes_in r)
+abbrev pub messages_of_report : ResolveCall → Report → List ℕ
+messages_of_report call r = first_message call r ++ message_lines call (notes_in r)

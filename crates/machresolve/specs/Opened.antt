@@ -5,8 +5,8 @@ use Rattle.machresolve.specs.Lines.{ResolveCall}
 use Rattle.machresolve.specs.declared.call.Call.{Call}
 use Rattle.machresolve.specs.declared.inputs.Given.{Given}
 
-abbrev pub given_seen : Given → given.GivenFile
-given_seen g = record { path = g.path.now; bytes = g.bytes.now }
+abbrev pub given_view : Given → given.GivenFile
+given_view g = record { path = g.path.now; bytes = g.bytes.now }
 
-abbrev pub call_seen : Call → ResolveCall
-call_seen c = record { limit = c.limit; program = given_seen c.program; libraries = map given_seen c.libraries.now }
+abbrev pub call_view_of : Call → ResolveCall
+call_view_of c = record { limit = c.limit; program = given_view c.program; libraries = map given_view c.libraries.now }

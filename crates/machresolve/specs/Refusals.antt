@@ -18,9 +18,9 @@ has_table bytes = is_table_by (number_at Big 4 bytes 0) (number_at Big 4 bytes 4
 
 -- The kind of a file that is refused for an error, if it is not Mach-O. A file that holds a fat table is a fat file, however many
 -- entries it has, and not a Java class.
-abbrev pub kind_told : List ℕ → Error → Option Foreign
-kind_told bytes e = if has_table bytes then None else refused_kind bytes e
+abbrev pub kind_reported : List ℕ → Error → Option Foreign
+kind_reported bytes e = if has_table bytes then None else refused_kind bytes e
 
 -- the words for a refused file: its kind, if it is not Mach-O, else those of the error
-abbrev pub told_words : List ℕ → Error → List ℕ
-told_words bytes e = words_by (kind_told bytes e) e
+abbrev pub reported_words : List ℕ → Error → List ℕ
+reported_words bytes e = words_by (kind_reported bytes e) e

@@ -4,7 +4,7 @@ use Rattle.std.specs.List.{list_all}
 use Rattle.mach_base.specs.Fault.{Fault}
 use Rattle.mach_base.specs.declared.error.Error.{Error}
 use Rattle.mach_parts.specs.Magic.{begins_archive}
-use Rattle.goblin_mach.specs.View.{IsTold, Tells}
+use Rattle.goblin_mach.specs.View.{IsReported, ReportsFault}
 use Rattle.machresolve.specs.Answers.{Answer, is_settled}
 use Rattle.machresolve.specs.Cpu.{FatTableView, FileFault, FindsEntry, ForFault, HasTable, IsOfCpu}
 use Rattle.machresolve.specs.Given.{GivenFile}
@@ -28,7 +28,7 @@ answer_count (refused file e) = 0
 pub data IsOutcome (limit : ℕ) (program : GivenFile) (libraries : List GivenFile) : Outcome → Type 0 where
   resolved : (answers : List Answer) (notes : List Note) (more : Bool) → IsResolved limit program libraries answers notes more
       → IsOutcome limit program libraries (answered answers notes more)
-  fault : (file : ℕ) (e : Error) → Tells (ResolveFault limit program libraries file) e → IsOutcome limit program libraries (refused file e)
+  fault : (file : ℕ) (e : Error) → ReportsFault (ResolveFault limit program libraries file) e → IsOutcome limit program libraries (refused file e)
 
 -- the outcome for an entry of a fat program: an archive, by its first bytes, or an image
 pub data IsEntryOutcome (limit : ℕ) (program : GivenFile) (libraries : List GivenFile) : Outcome → Type 0 where
@@ -71,8 +71,8 @@ IsOneOf Holds (entries outcomes) = ⊥
 IsOneOf Holds (nothing cputype) = ⊥
 
 -- the program, which is file 0, is reported as refused for this error, which is no refused allocation
-abbrev pub TellsError : Error → Report → Type 0
-TellsError e r = (r ≡ one (refused 0 e)) × IsTold e
+abbrev pub ReportsError : Error → Report → Type 0
+ReportsError e r = (r ≡ one (refused 0 e)) × IsReported e
 
 -- The report of a program: all of it, or what it has for a selected cpu. Of the bindings of its images, in order, the first
 -- `limit` are answered.
@@ -87,8 +87,9 @@ pub data IsProgramReport (limit : ℕ) (program : GivenFile) (libraries : List G
   entry : (cputype : ℕ) (part : List ℕ) (o : Outcome) → FindsEntry program.bytes cputype (Some part)
       → IsEntryOutcome limit (entry_of_program program part) libraries o → IsProgramReport limit program libraries (Some cputype) (one o)
   no_entry : (cputype : ℕ) → FindsEntry program.bytes cputype None → IsProgramReport limit program libraries (Some cputype) (nothing cputype)
-  unopened : (e : Error) → Tells (ProgramFault program.bytes) e → IsProgramReport limit program libraries None (one (refused 0 e))
-  unfound : (cputype : ℕ) (e : Error) → Tells (ForFault program.bytes cputype) e → IsProgramReport limit program libraries (Some cputype) (one (refused 0 e))
+  unopened : (e : Error) → ReportsFault (ProgramFault program.bytes) e → IsProgramReport limit program libraries None (one (refused 0 e))
+  unfound : (cputype : ℕ) (e : Error) → ReportsFault (ForFault program.bytes cputype) e
+      → IsProgramReport limit program libraries (Some cputype) (one (refused 0 e))
 
 -- whether all is answered and settled, and nothing was refused
 abbrev pub is_whole : Outcome → Bool

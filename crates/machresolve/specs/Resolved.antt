@@ -6,10 +6,10 @@ use Rattle.mach_parts.specs.Bindings.{Binding}
 use Rattle.mach_base.specs.Text.{texts}
 use Rattle.goblin_mach.specs.Bindings.{AreImageBindings}
 use Rattle.goblin_mach.specs.Facts.{OfImage, HasBindings}
-use Rattle.goblin_mach.specs.Fixups.{chained_held}
+use Rattle.goblin_mach.specs.Fixups.{chained_view}
 use Rattle.goblin_mach.specs.Image.{Opens}
 use Rattle.goblin_mach.specs.Libraries.{libraries_in}
-use Rattle.goblin_mach.specs.OpenImage.{binds_held, ctx_held, segments_held}
+use Rattle.goblin_mach.specs.OpenImage.{binds_view, ctx_view, segments_view}
 use Rattle.goblin_mach.specs.Subjects.{own_name_in}
 use Rattle.goblin_mach.specs.declared.macho.MachO.{MachO}
 use Rattle.machresolve.specs.Files.{File, TrieFaultAt}
@@ -49,7 +49,7 @@ pub data ResolveFault (limit : ℕ) (program : GivenFile) (libraries : List Give
 
 abbrev pub HoldsItems : {A : Type 0} → MachO A → List (Result Binding Fault) → Type 0
 HoldsItems m items =
-    AreImageBindings (binds_held m) (chained_held m) (pointer_size (ctx_held m).container) (texts m.libs.items) (segments_held m) items
+    AreImageBindings (binds_view m) (chained_view m) (pointer_size (ctx_view m).container) (texts m.libs.items) (segments_view m) items
 
 -- These are its first `limit` bindings, and this is whether it has more.
 pub record HoldsFirst {A : Type 0} (limit : ℕ) (m : MachO A) (bindings : List Binding) (more : Bool) : Type 0 where

@@ -2,7 +2,7 @@
 use Rattle.std.specs.Prelude.{◌≡◌, ◌≤◌, ℕ, Bool, List, [], codes, Option, if◌then◌else◌}
 use Rattle.std.specs.Io.KnownBytes.{Appends}
 use Rattle.machresolve.specs.Given.{GivenFile}
-use Rattle.machresolve.specs.Lines.{printed, said_line, said_of_report}
+use Rattle.machresolve.specs.Lines.{printed, message_line, messages_of_report}
 use Rattle.machresolve.specs.Report.{Report, IsProgramReport, answers_in, all_whole}
 
 -- the exit status: 0 if all is answered and settled and nothing was refused, else 1
@@ -17,12 +17,12 @@ pub record Runs (wanted : Option ℕ) (limit : ℕ) (program : GivenFile) (libra
   pub few : answers_in report ≤ limit
   pub status_is : status ≡ run_status (all_whole report)
   pub text : Appends out_old out_new (printed (record { limit = limit; program = program; libraries = libraries }) report)
-  pub told : Appends err_old err_new (said_of_report (record { limit = limit; program = program; libraries = libraries }) report)
+  pub reported : Appends err_old err_new (messages_of_report (record { limit = limit; program = program; libraries = libraries }) report)
 
 -- What a run writes, and its status: the report of a program, or only that an allocation was refused.
 pub data IsRun (wanted : Option ℕ) (limit : ℕ) (program : GivenFile) (libraries : List GivenFile) (status : ℕ)
     (out_old out_new err_old err_new : Option (List ℕ)) : Type 0 where
   resolved : Runs wanted limit program libraries status out_old out_new err_old err_new
       → IsRun wanted limit program libraries status out_old out_new err_old err_new
-  memory_refused : status ≡ 1 → Appends out_old out_new [] → Appends err_old err_new (said_line (codes "out of memory"))
+  memory_refused : status ≡ 1 → Appends out_old out_new [] → Appends err_old err_new (message_line (codes "out of memory"))
       → IsRun wanted limit program libraries status out_old out_new err_old err_new

@@ -2,16 +2,16 @@
 use Rattle.std.specs.Prelude.{◌≡◌, ◌≢◌, ◌⊎◌, ℕ, List, [], All, take, IsTrue, IsFalse, Some, None, slice_get, bit_and}
 use Rattle.mach_dyld.specs.Trie.{Info}
 use Rattle.machresolve.specs.Files.{File, Says}
-use Rattle.machresolve.specs.Behind.{Met, IsBehindAll}
+use Rattle.machresolve.specs.Following.{Met, IsAfterAll}
 use Rattle.machresolve.specs.Follow.{Symbol, SymbolPlace, found, not_found, no_main, address_of, flags_of_export, is_absolute, HasFirst, NoneHas, LeadsTo}
 use Rattle.machresolve.specs.Follow.{FollowsTo}
 
 -- A name is looked up in all files: in the closure of the program, in that of the first library, and so on, each file once.
 pub data IsFlat (files : List File) (name : List ℕ) : SymbolPlace → Type 0 where
-  nowhere : (all : Met) → IsBehindAll files all → NoneHas files name all.places → IsFlat files name not_found
-  at : (all : Met) (g : File) (info : Info) (address : ℕ) → IsBehindAll files all → HasFirst files name all.places g info
+  nowhere : (all : Met) → IsAfterAll files all → NoneHas files name all.places → IsFlat files name not_found
+  at : (all : Met) (g : File) (info : Info) (address : ℕ) → IsAfterAll files all → HasFirst files name all.places g info
       → address_of info ≡ Some address → IsFlat files name (found g.name address (is_absolute info))
-  further : (all : Met) (g : File) (info : Info) (t : Symbol) (p : SymbolPlace) → IsBehindAll files all → HasFirst files name all.places g info
+  further : (all : Met) (g : File) (info : Info) (t : Symbol) (p : SymbolPlace) → IsAfterAll files all → HasFirst files name all.places g info
       → LeadsTo info name t → FollowsTo files [] t p → IsFlat files name p
 
 -- the own trie of a file defines a name: it has the name with an address, not as a re-export

@@ -4,14 +4,14 @@ ghost use Rattle.std.specs.Prelude.{◌≡◌, ◌||◌, map, IfOk, IfErr};
 ghost use Rattle.std.specs.List.{list_all};
 ghost use Rattle.mach_parts.specs.Bindings.{provider_view, binding_view};
 ghost use Rattle.machresolve.specs.Files.{TrieFaultAt};
-ghost use Rattle.machresolve.specs.Behind.{Met, IsBehindAll};
+ghost use Rattle.machresolve.specs.Following.{Met, IsAfterAll};
 ghost use Rattle.machresolve.specs.Answers.{IsProvided, IsAnswer, is_absent_weak, is_settled};
 ghost use Rattle.machresolve.specs.Failures.{IsFailure};
-ghost use Rattle.machresolve.specs.Seen.{files_seen, place_seen, program_seen, answer_seen};
+ghost use Rattle.machresolve.specs.ResolveViews.{input_views, place_view_of, program_view, answer_view};
 
-use crate::failure::Failure;
+use crate::failure::ResolveFailure;
 use crate::file::Files;
-use crate::follow::{Place, Symbol, follow};
+use crate::follow::{NamePlace, Symbol, follow};
 use crate::special::{flat, in_main, weak_lookup};
 use goblin_mach::{Binding, Provider};
 use std::alloc::Allocator;
@@ -33,7 +33,7 @@ pub struct Answer<'a> {
     /// The provider of the name.
     pub provider: Provider<'a>,
     /// The place of the name.
-    pub place: Place<'a>,
+    pub place: NamePlace<'a>,
     /// Whether the name may be missing.
     pub is_weak: bool,
 }
@@ -41,16 +41,16 @@ pub struct Answer<'a> {
 impl<'a> Answer<'a> {
     /// Whether the binding is settled: the name is found, or may be missing.
     pub fn is_settled(&self) -> bool
-        ensures { result ≡ is_settled (answer_seen self.now) }
+        ensures { result ≡ is_settled (answer_view self.now) }
     {
         match self.place {
-            Place::Found { .. } => true,
-            Place::LeadsBack { .. } => false,
-            Place::NoLibrary { .. }
-            | Place::Missing { .. }
-            | Place::NotGiven { .. }
-            | Place::NotFound
-            | Place::NoMain => self.is_weak,
+            NamePlace::Found { .. } => true,
+            NamePlace::LeadsBack { .. } => false,
+            NamePlace::NoLibrary { .. }
+            | NamePlace::Missing { .. }
+            | NamePlace::NotGiven { .. }
+            | NamePlace::NotFound
+            | NamePlace::NoMain => self.is_weak,
         }
     }
 }
@@ -59,12 +59,12 @@ impl<'a> Answer<'a> {
 fn is_missed<A: Allocator>(
     program: &Program<'_, A>,
     provider: Provider<'_>,
-    place: Place<'_>,
+    place: NamePlace<'_>,
 ) -> bool
-    ensures { result ≡ is_absent_weak (program_seen program.now) (provider_view provider.entry) (place_seen place.entry) }
+    ensures { result ≡ is_absent_weak (program_view program.now) (provider_view provider.entry) (place_view_of place.entry) }
 {
     match (provider, place) {
-        (Provider::Library { ordinal, name }, Place::NoLibrary { library }) => {
+        (Provider::Library { ordinal, name }, NamePlace::NoLibrary { library }) => {
             name == library
                 && program
                     .may_be_absent
@@ -84,10 +84,10 @@ fn provided<'a, A: Allocator + Copy>(
     program: &Program<'a, A>,
     provider: Provider<'a>,
     name: &'a str,
-) -> Result<Place<'a>, Failure>
-    ensures provided { (met : Met) → IsBehindAll (files_seen files.now) met → met.places ≡ all.now
-        → IfOk result (λ place. IsProvided (files_seen files.now) (program_seen program.now) (provider_view provider.entry) name.now (place_seen place)) }
-    ensures refused { IfErr result (IsFailure (TrieFaultAt (files_seen files.now))) }
+) -> Result<NamePlace<'a>, ResolveFailure>
+    ensures provided { (met : Met) → IsAfterAll (input_views files.now) met → met.places ≡ all.now
+        → IfOk result (λ place. IsProvided (input_views files.now) (program_view program.now) (provider_view provider.entry) name.now (place_view_of place)) }
+    ensures refused { IfErr result (IsFailure (TrieFaultAt (input_views files.now))) }
 {
     match provider {
         Provider::Library { name: library, .. } => follow(alloc, files, Symbol { library, name }),
@@ -108,10 +108,10 @@ pub fn answer_for<'a, A: Allocator + Copy>(
     all: &[usize],
     program: &Program<'a, A>,
     binding: Binding<'a>,
-) -> Result<Answer<'a>, Failure>
-    ensures answered { (met : Met) → IsBehindAll (files_seen files.now) met → met.places ≡ all.now
-        → IfOk result (λ a. IsAnswer (files_seen files.now) (program_seen program.now) (binding_view binding.entry) (answer_seen a)) }
-    ensures refused { IfErr result (IsFailure (TrieFaultAt (files_seen files.now))) }
+) -> Result<Answer<'a>, ResolveFailure>
+    ensures answered { (met : Met) → IsAfterAll (input_views files.now) met → met.places ≡ all.now
+        → IfOk result (λ a. IsAnswer (input_views files.now) (program_view program.now) (binding_view binding.entry) (answer_view a)) }
+    ensures refused { IfErr result (IsFailure (TrieFaultAt (input_views files.now))) }
 {
     let Binding {
         name,
@@ -130,7 +130,7 @@ pub fn answer_for<'a, A: Allocator + Copy>(
 
 /// Whether all bindings are settled.
 pub fn all_settled(answers: &[Answer<'_>]) -> bool
-    ensures { result ≡ list_all is_settled (map answer_seen answers.now) }
+    ensures { result ≡ list_all is_settled (map answer_view answers.now) }
 {
     let mut settled = true;
     for answer in answers {

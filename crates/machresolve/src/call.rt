@@ -2,7 +2,7 @@
 
 ghost use Rattle.std.specs.Prelude.{◌≡◌};
 ghost use Rattle.machresolve.specs.Lines.{file_at};
-ghost use Rattle.machresolve.specs.Opened.{call_seen, given_seen};
+ghost use Rattle.machresolve.specs.Opened.{call_view_of, given_view};
 
 use crate::inputs::Given;
 
@@ -20,7 +20,7 @@ pub struct Call<'a, 'b> {
 impl<'a> Call<'a, '_> {
     /// Returns the file with a number.
     pub fn file_at(&self, number: usize) -> Given<'a>
-        ensures { given_seen result ≡ file_at (call_seen self.now) number }
+        ensures { given_view result ≡ file_at (call_view_of self.now) number }
     {
         match number.checked_sub(1) {
             Some(index) => self.libraries.get(index).copied().unwrap_or(self.program),

@@ -1,45 +1,45 @@
 //! Why a program could not be resolved.
 
 ghost use Rattle.std.specs.Prelude.{◌≡◌};
-ghost use Rattle.machresolve.specs.Failures.{told_as};
-ghost use Rattle.machresolve.specs.declared.failure.Failure.TheVariants as failures;
+ghost use Rattle.machresolve.specs.Failures.{reported_as};
+ghost use Rattle.machresolve.specs.declared.failure.ResolveFailure.TheVariants as failures;
 
 use goblin_mach::Error;
 use std::alloc::{AllocError, AllocFailed};
 
 /// Why a program could not be resolved.
 #[derive(Drop)]
-pub enum Failure {
+pub enum ResolveFailure {
     /// A file was refused: the program, which is file 0, or a library by its number.
     Refused { file: usize, error: Error },
     /// An allocation was refused.
     Memory,
 }
 
-impl Failure {
+impl ResolveFailure {
     /// Returns the failure for a file's error, which may be a refused allocation.
-    pub fn refused(file: usize, error: Error) -> Failure
-        ensures { result ≡ told_as file error }
+    pub fn refused(file: usize, error: Error) -> ResolveFailure
+        ensures { result ≡ reported_as file error }
     {
         match error {
-            Error::Memory(_) => Failure::Memory,
-            other => Failure::Refused { file, error: other },
+            Error::Memory(_) => ResolveFailure::Memory,
+            other => ResolveFailure::Refused { file, error: other },
         }
     }
 }
 
-impl From<AllocError> for Failure {
+impl From<AllocError> for ResolveFailure {
     ghost from_gives = { λ _ failure. failure ≡ failures.Memory };
 
-    fn from(_error: AllocError) -> Failure {
-        Failure::Memory
+    fn from(_error: AllocError) -> ResolveFailure {
+        ResolveFailure::Memory
     }
 }
 
-impl<T: Drop> From<AllocFailed<T>> for Failure {
+impl<T: Drop> From<AllocFailed<T>> for ResolveFailure {
     ghost from_gives = { λ _ failure. failure ≡ failures.Memory };
 
-    fn from(_error: AllocFailed<T>) -> Failure {
-        Failure::Memory
+    fn from(_error: AllocFailed<T>) -> ResolveFailure {
+        ResolveFailure::Memory
     }
 }

@@ -5,9 +5,9 @@ ghost use Rattle.mach_dyld.specs.Exports.{info_of};
 ghost use Rattle.machresolve.specs.Files.{place_of_file, Says, Lacks, TrieFaultAt};
 ghost use Rattle.machresolve.specs.Follow.{HasFirst, NoneHas};
 ghost use Rattle.machresolve.specs.Failures.{IsFailure};
-ghost use Rattle.machresolve.specs.Seen.{file_seen, files_seen};
+ghost use Rattle.machresolve.specs.ResolveViews.{input_view, input_views};
 
-use crate::failure::Failure;
+use crate::failure::ResolveFailure;
 use crate::file::{File, Files};
 use goblin_mach::exports::ExportInfo;
 use std::alloc::Allocator;
@@ -15,7 +15,7 @@ use std::alloc::Allocator;
 impl<'a, A: Allocator + Copy> Files<'a, A> {
     /// Returns the place of the file with a name.
     pub fn place_of(&self, name: &str) -> Option<usize>
-        ensures place { result ≡ place_of_file (files_seen self.now) name.now }
+        ensures place { result ≡ place_of_file (input_views self.now) name.now }
         ensures inside { IfSome result (λ i. i < length self.now.items.items) }
     {
         self.names.get_index_of(name)
@@ -27,11 +27,11 @@ impl<'a, A: Allocator + Copy> Files<'a, A> {
         alloc: A,
         place: usize,
         name: &str,
-    ) -> Result<Option<(&File<'a, A>, ExportInfo<'a>)>, Failure>
-        ensures found { IfOk result (λ o. IfSome o (λ x. (slice_get (files_seen self.now) place ≡ Some (file_seen x.0.now))
-            × Says (file_seen x.0.now) name.now (Some (info_of x.1)))) }
-        ensures none { IfOk result (λ o. IfNone o (Lacks (files_seen self.now) name.now place)) }
-        ensures refused { IfErr result (IsFailure (TrieFaultAt (files_seen self.now))) }
+    ) -> Result<Option<(&File<'a, A>, ExportInfo<'a>)>, ResolveFailure>
+        ensures found { IfOk result (λ o. IfSome o (λ x. (slice_get (input_views self.now) place ≡ Some (input_view x.0.now))
+            × Says (input_view x.0.now) name.now (Some (info_of x.1)))) }
+        ensures none { IfOk result (λ o. IfNone o (Lacks (input_views self.now) name.now place)) }
+        ensures refused { IfErr result (IsFailure (TrieFaultAt (input_views self.now))) }
     {
         let Some(file) = self.items.get(place) else {
             return Ok(None);
@@ -39,7 +39,7 @@ impl<'a, A: Allocator + Copy> Files<'a, A> {
         match file.image.find_export(alloc, name) {
             Ok(Some(info)) => Ok(Some((file, info))),
             Ok(None) => Ok(None),
-            Err(error) => Err(Failure::refused(file.number, error)),
+            Err(error) => Err(ResolveFailure::refused(file.number, error)),
         }
     }
 
@@ -49,10 +49,10 @@ impl<'a, A: Allocator + Copy> Files<'a, A> {
         alloc: A,
         places: &[usize],
         name: &str,
-    ) -> Result<Option<(&File<'a, A>, ExportInfo<'a>)>, Failure>
-        ensures found { IfOk result (λ o. IfSome o (λ x. HasFirst (files_seen self.now) name.now places.now (file_seen x.0.now) (info_of x.1))) }
-        ensures none { IfOk result (λ o. IfNone o (NoneHas (files_seen self.now) name.now places.now)) }
-        ensures refused { IfErr result (IsFailure (TrieFaultAt (files_seen self.now))) }
+    ) -> Result<Option<(&File<'a, A>, ExportInfo<'a>)>, ResolveFailure>
+        ensures found { IfOk result (λ o. IfSome o (λ x. HasFirst (input_views self.now) name.now places.now (input_view x.0.now) (info_of x.1))) }
+        ensures none { IfOk result (λ o. IfNone o (NoneHas (input_views self.now) name.now places.now)) }
+        ensures refused { IfErr result (IsFailure (TrieFaultAt (input_views self.now))) }
     {
         for place in places {
             match self.find(alloc, *place, name) {

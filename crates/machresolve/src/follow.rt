@@ -6,11 +6,11 @@ ghost use Rattle.mach_dyld.specs.Exports.{info_of};
 ghost use Rattle.machresolve.specs.Files.{TrieFaultAt};
 ghost use Rattle.machresolve.specs.Follow.{FollowsTo, found, nowhere};
 ghost use Rattle.machresolve.specs.Failures.{IsFailure};
-ghost use Rattle.machresolve.specs.Seen.{file_seen, files_seen, edge_seen, symbol_seen, place_seen, LeadsToStep, IsStep};
+ghost use Rattle.machresolve.specs.ResolveViews.{input_view, input_views, edge_view, symbol_view_of, place_view_of, LeadsToStep, IsStep};
 
-use crate::failure::Failure;
+use crate::failure::ResolveFailure;
 use crate::file::{File, Files};
-use crate::reexports::{Edge, behind};
+use crate::reexports::{Edge, following};
 use goblin_mach::exports::{
     EXPORT_SYMBOL_FLAGS_KIND_ABSOLUTE, EXPORT_SYMBOL_FLAGS_KIND_MASK, ExportInfo,
 };
@@ -27,7 +27,7 @@ pub struct Symbol<'a> {
 
 /// The place of a name, or why it has none. The library is the last one that re-exports of tries lead to.
 #[derive(Clone, Copy)]
-pub enum Place<'a> {
+pub enum NamePlace<'a> {
     /// In a file, at this address: relative to the file's start, or absolute.
     Found {
         file: &'a str,
@@ -62,12 +62,12 @@ pub enum Step<'a> {
     /// To another symbol.
     Leads(Symbol<'a>),
     /// It leads no further.
-    Ends(Place<'a>),
+    Ends(NamePlace<'a>),
 }
 
 /// Returns what an export of a file leads to, given the name that was looked up.
 pub fn lead<'a, A: Allocator>(file: &File<'a, A>, info: ExportInfo<'a>, name: &'a str) -> Step<'a>
-    ensures { LeadsToStep (file_seen file.now) (info_of info.entry) name.now result }
+    ensures { LeadsToStep (input_view file.now) (info_of info.entry) name.now result }
 {
     match info {
         ExportInfo::Regular { address, flags } => Step::Ends(found(file, address, flags)),
@@ -88,10 +88,10 @@ pub fn lead<'a, A: Allocator>(file: &File<'a, A>, info: ExportInfo<'a>, name: &'
 }
 
 // Returns the place at an address of a file.
-fn found<'a, A: Allocator>(file: &File<'a, A>, address: u64, flags: u64) -> Place<'a>
-    ensures { place_seen result ≡ found file.now.name.now address (bit_and flags 3 == 2) }
+fn found<'a, A: Allocator>(file: &File<'a, A>, address: u64, flags: u64) -> NamePlace<'a>
+    ensures { place_view_of result ≡ found file.now.name.now address (bit_and flags 3 == 2) }
 {
-    Place::Found {
+    NamePlace::Found {
         file: file.name,
         address,
         is_absolute: flags & EXPORT_SYMBOL_FLAGS_KIND_MASK == EXPORT_SYMBOL_FLAGS_KIND_ABSOLUTE,
@@ -104,9 +104,9 @@ fn note<'a, A: Allocator + Copy>(
     symbol: Symbol<'a>,
 ) -> Result<bool, AllocFailed<Symbol<'a>>>
     ensures few { result ≡ Ok true → (length met.old.keys < 2 ^ 63) × (length met.new.keys ≡ length met.old.keys + 1) }
-    ensures fresh { result ≡ Ok true → (map symbol_seen met.new.keys ≡ map symbol_seen met.old.keys ++ symbol_seen symbol.entry ∷ [])
-        × (IsAmong (symbol_seen symbol.entry) (map symbol_seen met.old.keys) → ⊥) }
-    ensures again { result ≡ Ok false → IsAmong (symbol_seen symbol.entry) (map symbol_seen met.old.keys) }
+    ensures fresh { result ≡ Ok true → (map symbol_view_of met.new.keys ≡ map symbol_view_of met.old.keys ++ symbol_view_of symbol.entry ∷ [])
+        × (IsAmong (symbol_view_of symbol.entry) (map symbol_view_of met.old.keys) → ⊥) }
+    ensures again { result ≡ Ok false → IsAmong (symbol_view_of symbol.entry) (map symbol_view_of met.old.keys) }
 {
     let before = met.len();
     met.insert(symbol)?;
@@ -118,32 +118,32 @@ fn turn<'a, A: Allocator + Copy>(
     alloc: A,
     files: &Files<'a, A>,
     symbol: Symbol<'a>,
-) -> Result<Step<'a>, Failure>
-    ensures step { IfOk result (IsStep (files_seen files.now) (symbol_seen symbol.entry)) }
-    ensures refused { IfErr result (IsFailure (TrieFaultAt (files_seen files.now))) }
+) -> Result<Step<'a>, ResolveFailure>
+    ensures step { IfOk result (IsStep (input_views files.now) (symbol_view_of symbol.entry)) }
+    ensures refused { IfErr result (IsFailure (TrieFaultAt (input_views files.now))) }
 {
     let Symbol { library, name } = symbol;
     let Some(_) = files.place_of(library) else {
-        return Ok(Step::Ends(Place::NoLibrary { library }));
+        return Ok(Step::Ends(NamePlace::NoLibrary { library }));
     };
-    let behind = behind(alloc, files, library)?;
-    match files.first_having(alloc, behind.places.as_slice(), name) {
+    let following = following(alloc, files, library)?;
+    match files.first_having(alloc, following.places.as_slice(), name) {
         Ok(Some((file, info))) => Ok(lead(file, info, name)),
-        Ok(None) => Ok(Step::Ends(nowhere(library, behind.gap))),
+        Ok(None) => Ok(Step::Ends(nowhere(library, following.gap))),
         Err(failure) => Err(failure),
     }
 }
 
 // Returns the end of a name that no file in the closure of a library has.
-fn nowhere<'a>(library: &'a str, gap: Option<Edge<'a>>) -> Place<'a>
-    ensures { place_seen result ≡ nowhere library.now (option_map edge_seen gap.entry) }
+fn nowhere<'a>(library: &'a str, gap: Option<Edge<'a>>) -> NamePlace<'a>
+    ensures { place_view_of result ≡ nowhere library.now (option_map edge_view gap.entry) }
 {
     match gap {
-        Some(Edge { from, to }) => Place::NotGiven {
+        Some(Edge { from, to }) => NamePlace::NotGiven {
             library: from,
             reexported: to,
         },
-        None => Place::Missing { library },
+        None => NamePlace::Missing { library },
     }
 }
 
@@ -152,20 +152,20 @@ pub fn follow<'a, A: Allocator + Copy>(
     alloc: A,
     files: &Files<'a, A>,
     start: Symbol<'a>,
-) -> Result<Place<'a>, Failure>
-    ensures followed { IfOk result (λ place. FollowsTo (files_seen files.now) [] (symbol_seen start.entry) (place_seen place)) }
-    ensures refused { IfErr result (IsFailure (TrieFaultAt (files_seen files.now))) }
+) -> Result<NamePlace<'a>, ResolveFailure>
+    ensures followed { IfOk result (λ place. FollowsTo (input_views files.now) [] (symbol_view_of start.entry) (place_view_of place)) }
+    ensures refused { IfErr result (IsFailure (TrieFaultAt (input_views files.now))) }
 {
     let mut met = IndexSet::new(alloc);
-    let mut sought = start;
+    let mut target = start;
     'turns: loop {
-        if !note(&mut met, sought)? {
-            return Ok(Place::LeadsBack {
-                library: sought.library,
+        if !note(&mut met, target)? {
+            return Ok(NamePlace::LeadsBack {
+                library: target.library,
             });
         }
-        match turn(alloc, files, sought) {
-            Ok(Step::Leads(next)) => sought = next,
+        match turn(alloc, files, target) {
+            Ok(Step::Leads(next)) => target = next,
             Ok(Step::Ends(place)) => return Ok(place),
             Err(failure) => return Err(failure),
         }

@@ -3,17 +3,17 @@
 ghost use Rattle.std.specs.Prelude.{◌≡◌, ℕ, List, None, map, IfOk, IfErr, IfSome, IfNone};
 ghost use Rattle.mach_base.specs.Text.{texts};
 ghost use Rattle.goblin_mach.specs.Libraries.{libraries_in};
-ghost use Rattle.goblin_mach.specs.OpenImage.{IsImage, bytes_held, commands_held, ctx_held};
-ghost use Rattle.goblin_mach.specs.FatFile.{file_held};
+ghost use Rattle.goblin_mach.specs.OpenImage.{IsImage, bytes_view, commands_view, ctx_view};
+ghost use Rattle.goblin_mach.specs.FatFile.{file_view};
 ghost use Rattle.machresolve.specs.Failures.{IsFailure};
 ghost use Rattle.mach_base.specs.declared.error.Error.TheVariants as errors;
 ghost use Rattle.machresolve.specs.Cpu.{HasFor, HasTable, fat_table_view};
 ghost use Rattle.machresolve.specs.Given.{IsFile, IsLibrary, only, Adds, AddsLibrary, GathersFor, reexported, may_be_absent};
 ghost use Rattle.machresolve.specs.Given.{NumberedFault, OpenFault, LibraryFault, FaultFor};
-ghost use Rattle.machresolve.specs.Seen.{file_seen, gathered_seen};
-ghost use Rattle.machresolve.specs.Opened.{given_seen};
+ghost use Rattle.machresolve.specs.ResolveViews.{input_view, gathered_view};
+ghost use Rattle.machresolve.specs.Opened.{given_view};
 
-use crate::failure::Failure;
+use crate::failure::ResolveFailure;
 use crate::file::{File, Files};
 use crate::note::Note;
 use goblin_mach::header::MH_EXECUTE;
@@ -33,7 +33,7 @@ fn reexports_of<'a, A: Allocator + Copy>(
     alloc: A,
     image: &MachO<'a, A>,
 ) -> Result<Vec<&'a str, A>, AllocError>
-    ensures { IfOk result (λ v. texts v.items ≡ reexported (libraries_in (ctx_held image.now).le (bytes_held image.now) (commands_held image.now))) }
+    ensures { IfOk result (λ v. texts v.items ≡ reexported (libraries_in (ctx_view image.now).le (bytes_view image.now) (commands_view image.now))) }
 {
     let mut names = Vec::new(alloc);
     'libraries: for library in image.libraries() {
@@ -49,7 +49,7 @@ pub fn absences_of<'a, A: Allocator + Copy>(
     alloc: A,
     image: &MachO<'a, A>,
 ) -> Result<Vec<bool, A>, AllocError>
-    ensures { IfOk result (λ v. v.items ≡ may_be_absent (libraries_in (ctx_held image.now).le (bytes_held image.now) (commands_held image.now))) }
+    ensures { IfOk result (λ v. v.items ≡ may_be_absent (libraries_in (ctx_view image.now).le (bytes_view image.now) (commands_view image.now))) }
 {
     let mut absences = Vec::new(alloc);
     absences.push(false)?;
@@ -66,7 +66,7 @@ fn file_of<'a, A: Allocator + Copy>(
     path: &'a str,
     image: MachO<'a, A>,
 ) -> Result<File<'a, A>, AllocError>
-    ensures { (bytes : List ℕ) → IsImage bytes 0 image.entry → IfOk result (λ f. IsFile number (record { path = path.now; bytes = bytes }) (file_seen f)) }
+    ensures { (bytes : List ℕ) → IsImage bytes 0 image.entry → IfOk result (λ f. IsFile number (record { path = path.now; bytes = bytes }) (input_view f)) }
 {
     laws::libraries_by_kind_of_image(&image);
     Ok(File {
@@ -90,13 +90,13 @@ fn open<'a, A: Allocator + Copy>(
     alloc: A,
     number: usize,
     given: Given<'a>,
-) -> Result<File<'a, A>, Failure>
-    ensures opened { IfOk result (λ f. IsFile number (given_seen given.entry) (file_seen f)) }
-    ensures refused { IfErr result (IsFailure (OpenFault number (given_seen given.entry))) }
+) -> Result<File<'a, A>, ResolveFailure>
+    ensures opened { IfOk result (λ f. IsFile number (given_view given.entry) (input_view f)) }
+    ensures refused { IfErr result (IsFailure (OpenFault number (given_view given.entry))) }
 {
     match MachO::parse(alloc, given.bytes, 0) {
         Ok(image) => Ok(file_of(alloc, number, given.path, image)?),
-        Err(error) => Err(Failure::refused(number, error)),
+        Err(error) => Err(ResolveFailure::refused(number, error)),
     }
 }
 
@@ -107,13 +107,13 @@ fn open_entry<'a, R: ArchRecord, A: Allocator + Copy>(
     number: usize,
     given: Given<'a>,
     container: &FatTable<'a, R, A>,
-) -> Result<Option<File<'a, A>>, Failure>
-    ensures opened { HasTable given.entry.bytes.now (fat_table_view R.arch_form given.entry.bytes.now (file_held container.now))
-        → IfOk result (λ o. IfSome o (λ f. IsLibrary cputype number (given_seen given.entry) (file_seen f))) }
-    ensures none { HasTable given.entry.bytes.now (fat_table_view R.arch_form given.entry.bytes.now (file_held container.now))
+) -> Result<Option<File<'a, A>>, ResolveFailure>
+    ensures opened { HasTable given.entry.bytes.now (fat_table_view R.arch_form given.entry.bytes.now (file_view container.now))
+        → IfOk result (λ o. IfSome o (λ f. IsLibrary cputype number (given_view given.entry) (input_view f))) }
+    ensures none { HasTable given.entry.bytes.now (fat_table_view R.arch_form given.entry.bytes.now (file_view container.now))
         → IfOk result (λ o. IfNone o (HasFor given.entry.bytes.now cputype None)) }
-    ensures refused { HasTable given.entry.bytes.now (fat_table_view R.arch_form given.entry.bytes.now (file_held container.now))
-        → IfErr result (IsFailure (NumberedFault number (LibraryFault cputype (given_seen given.entry)))) }
+    ensures refused { HasTable given.entry.bytes.now (fat_table_view R.arch_form given.entry.bytes.now (file_view container.now))
+        → IfErr result (IsFailure (NumberedFault number (LibraryFault cputype (given_view given.entry)))) }
 {
     let Given { path, bytes } = given;
     match container.find_cputype(cputype) {
@@ -125,7 +125,7 @@ fn open_entry<'a, R: ArchRecord, A: Allocator + Copy>(
             }
         }
         Ok(None) => Ok(None),
-        Err(error) => Err(Failure::refused(number, error)),
+        Err(error) => Err(ResolveFailure::refused(number, error)),
     }
 }
 
@@ -136,10 +136,10 @@ fn open_library<'a, A: Allocator + Copy>(
     cputype: u32,
     number: usize,
     given: Given<'a>,
-) -> Result<Option<File<'a, A>>, Failure>
-    ensures opened { IfOk result (λ o. IfSome o (λ f. IsLibrary cputype number (given_seen given.entry) (file_seen f))) }
+) -> Result<Option<File<'a, A>>, ResolveFailure>
+    ensures opened { IfOk result (λ o. IfSome o (λ f. IsLibrary cputype number (given_view given.entry) (input_view f))) }
     ensures none { IfOk result (λ o. IfNone o (HasFor given.entry.bytes.now cputype None)) }
-    ensures refused { IfErr result (IsFailure (NumberedFault number (LibraryFault cputype (given_seen given.entry)))) }
+    ensures refused { IfErr result (IsFailure (NumberedFault number (LibraryFault cputype (given_view given.entry)))) }
 {
     match Input::parse(alloc, given.bytes) {
         Ok(Input::Image(image)) => {
@@ -151,8 +151,8 @@ fn open_library<'a, A: Allocator + Copy>(
         }
         Ok(Input::Fat(container)) => open_entry(alloc, cputype, number, given, &container),
         Ok(Input::Fat64(container)) => open_entry(alloc, cputype, number, given, &container),
-        Ok(Input::Archive(_)) => Err(Failure::refused(number, archive_error())),
-        Err(error) => Err(Failure::refused(number, error)),
+        Ok(Input::Archive(_)) => Err(ResolveFailure::refused(number, archive_error())),
+        Err(error) => Err(ResolveFailure::refused(number, error)),
     }
 }
 
@@ -168,7 +168,7 @@ fn add<'a, A: Allocator + Copy>(
     gathered: Gathered<'a, A>,
     file: File<'a, A>,
 ) -> Result<Gathered<'a, A>, AllocError>
-    ensures { IfOk result (λ g. Adds (gathered_seen gathered.entry) (file_seen file.entry) (gathered_seen g)) }
+    ensures { IfOk result (λ g. Adds (gathered_view gathered.entry) (input_view file.entry) (gathered_view g)) }
 {
     let Gathered { files, mut notes } = gathered;
     let Files {
@@ -190,7 +190,7 @@ fn add<'a, A: Allocator + Copy>(
 
 // Returns one file alone.
 fn only<'a, A: Allocator + Copy>(alloc: A, file: File<'a, A>) -> Result<Gathered<'a, A>, AllocError>
-    ensures { IfOk result (λ g. gathered_seen g ≡ only (file_seen file.entry)) }
+    ensures { IfOk result (λ g. gathered_view g ≡ only (input_view file.entry)) }
 {
     let mut names = IndexSet::new(alloc);
     let mut items = Vec::new(alloc);
@@ -209,9 +209,9 @@ fn add_library<'a, A: Allocator + Copy>(
     number: usize,
     given: Given<'a>,
     gathered: Gathered<'a, A>,
-) -> Result<Gathered<'a, A>, Failure>
-    ensures added { IfOk result (λ g. AddsLibrary cputype number (given_seen given.entry) (gathered_seen gathered.entry) (gathered_seen g)) }
-    ensures refused { IfErr result (IsFailure (NumberedFault number (LibraryFault cputype (given_seen given.entry)))) }
+) -> Result<Gathered<'a, A>, ResolveFailure>
+    ensures added { IfOk result (λ g. AddsLibrary cputype number (given_view given.entry) (gathered_view gathered.entry) (gathered_view g)) }
+    ensures refused { IfErr result (IsFailure (NumberedFault number (LibraryFault cputype (given_view given.entry)))) }
 {
     match open_library(alloc, cputype, number, given) {
         Ok(Some(file)) => Ok(add(gathered, file)?),
@@ -234,9 +234,9 @@ pub fn gather<'a, A: Allocator + Copy>(
     cputype: u32,
     program: Given<'a>,
     libraries: &[Given<'a>],
-) -> Result<Gathered<'a, A>, Failure>
-    ensures gathered { IfOk result (λ g. GathersFor cputype (given_seen program.entry) (map given_seen libraries.now) (gathered_seen g)) }
-    ensures refused { IfErr result (IsFailure (FaultFor cputype (given_seen program.entry) (map given_seen libraries.now))) }
+) -> Result<Gathered<'a, A>, ResolveFailure>
+    ensures gathered { IfOk result (λ g. GathersFor cputype (given_view program.entry) (map given_view libraries.now) (gathered_view g)) }
+    ensures refused { IfErr result (IsFailure (FaultFor cputype (given_view program.entry) (map given_view libraries.now))) }
 {
     let file = match open(alloc, 0, program) {
         Ok(file) => file,

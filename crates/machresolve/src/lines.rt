@@ -3,12 +3,12 @@
 ghost use Rattle.std.specs.Prelude.{◌≡◌, Some};
 ghost use Rattle.mach_parts.specs.Bindings.{provider_view};
 ghost use Rattle.machresolve.specs.Lines.{provider_text, place_text, front_text, answer_text, nothing_words, nothing_text, note_text};
-ghost use Rattle.machresolve.specs.Opened.{call_seen, given_seen};
-ghost use Rattle.machresolve.specs.Seen.{place_seen, answer_seen, note_seen};
+ghost use Rattle.machresolve.specs.Opened.{call_view_of, given_view};
+ghost use Rattle.machresolve.specs.ResolveViews.{place_view_of, answer_view, note_view_of};
 
 use crate::answers::Answer;
 use crate::call::Call;
-use crate::follow::Place;
+use crate::follow::NamePlace;
 use crate::inputs::Given;
 use crate::note::Note;
 use goblin_mach::Provider;
@@ -39,14 +39,14 @@ impl<'a> Display for ProviderText<'a> {
 
 // The place of a name, or why it has none.
 #[derive(Clone, Copy)]
-struct PlaceText<'a>(Place<'a>);
+struct PlaceText<'a>(NamePlace<'a>);
 
 impl<'a> Display for PlaceText<'a> {
-    ghost output = { λ t. Some (place_text (place_seen t.0)) };
+    ghost output = { λ t. Some (place_text (place_view_of t.0)) };
 
     fn fmt<W: Write>(&self, f: &mut Formatter<W>) -> fmt::Result {
         match self.0 {
-            Place::Found {
+            NamePlace::Found {
                 file,
                 address,
                 is_absolute: false,
@@ -54,23 +54,23 @@ impl<'a> Display for PlaceText<'a> {
                 let file = Escaped(file);
                 write!(f, "0x{address:x} in {file}")
             }
-            Place::Found { file, address, .. } => {
+            NamePlace::Found { file, address, .. } => {
                 let file = Escaped(file);
                 write!(f, "absolute 0x{address:x} in {file}")
             }
-            Place::LeadsBack { library } => {
+            NamePlace::LeadsBack { library } => {
                 let library = Escaped(library);
                 write!(f, "leads back to {library}")
             }
-            Place::NoLibrary { library } => {
+            NamePlace::NoLibrary { library } => {
                 let library = Escaped(library);
                 write!(f, "no library {library}")
             }
-            Place::Missing { library } => {
+            NamePlace::Missing { library } => {
                 let library = Escaped(library);
                 write!(f, "missing in {library}")
             }
-            Place::NotGiven {
+            NamePlace::NotGiven {
                 library,
                 reexported,
             } => {
@@ -80,8 +80,8 @@ impl<'a> Display for PlaceText<'a> {
                     "not found; {library} re-exports {reexported}, which is not given"
                 )
             }
-            Place::NotFound => write!(f, "not found"),
-            Place::NoMain => write!(f, "no main executable"),
+            NamePlace::NotFound => write!(f, "not found"),
+            NamePlace::NoMain => write!(f, "no main executable"),
         }
     }
 }
@@ -89,10 +89,10 @@ impl<'a> Display for PlaceText<'a> {
 impl<'a> Answer<'a> {
     // Returns the words before the place, if the name may be missing and is.
     fn front(&self) -> &'static str
-        ensures { result.now ≡ front_text (answer_seen self.now) }
+        ensures { result.now ≡ front_text (answer_view self.now) }
     {
         match self.place {
-            Place::Found { .. } | Place::LeadsBack { .. } => "",
+            NamePlace::Found { .. } | NamePlace::LeadsBack { .. } => "",
             _ if self.is_weak => "weak, ",
             _ => "",
         }
@@ -100,7 +100,7 @@ impl<'a> Answer<'a> {
 }
 
 impl<'a> Display for Answer<'a> {
-    ghost output = { λ a. Some (answer_text (answer_seen a)) };
+    ghost output = { λ a. Some (answer_text (answer_view a)) };
 
     fn fmt<W: Write>(&self, f: &mut Formatter<W>) -> fmt::Result {
         let name = Escaped(self.name);
@@ -132,7 +132,7 @@ pub struct NothingText<'a> {
 }
 
 impl Display for NothingText<'_> {
-    ghost output = { λ t. Some (nothing_text (given_seen t.file) t.cputype) };
+    ghost output = { λ t. Some (nothing_text (given_view t.file) t.cputype) };
 
     fn fmt<W: Write>(&self, f: &mut Formatter<W>) -> fmt::Result {
         let path = Escaped(self.file.path);
@@ -149,14 +149,14 @@ pub struct NoteText<'a, 'b> {
 }
 
 impl Display for NoteText<'_, '_> {
-    ghost output = { λ t. Some (note_text (call_seen t.call) (note_seen t.note)) };
+    ghost output = { λ t. Some (note_text (call_view_of t.call) (note_view_of t.note)) };
 
     fn fmt<W: Write>(&self, f: &mut Formatter<W>) -> fmt::Result {
         match self.note {
             Note::GivenBefore { library, name } => {
                 let path = Escaped(self.call.file_at(library).path);
                 let name = Escaped(name);
-                write!(f, "{path}: {name} is given before")
+                write!(f, "{path}: {name} was given before")
             }
             Note::NothingFor { library, cputype } => {
                 let nothing = NothingText {

@@ -18,19 +18,19 @@ mod resolve;
 mod special;
 
 // What is printed of the answers.
+mod arguments;
 mod call;
 mod failure;
 mod laws;
 mod lines;
 mod note;
+mod output;
 mod refusal;
 mod report;
-mod run;
-mod words;
 
+use crate::arguments::{DEFAULT_LIMIT, Mistake, Words};
 use crate::inputs::Given;
-use crate::run::{NAME, run};
-use crate::words::{DEFAULT_LIMIT, Mistake, Words};
+use crate::output::{NAME, run};
 use mach_cli::{ForTerminal, Misuse, Program, Progress};
 use std::io;
 use std::io::{BufWriter, IsTerminal};

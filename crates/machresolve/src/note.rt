@@ -2,7 +2,7 @@
 
 ghost use Rattle.std.specs.Prelude.{◌≡◌, map, OnOk};
 ghost use Rattle.machresolve.specs.Note.{all_noted};
-ghost use Rattle.machresolve.specs.Seen.{note_seen};
+ghost use Rattle.machresolve.specs.ResolveViews.{note_view_of};
 
 use indexmap::IndexSet;
 use std::alloc::{AllocFailed, Allocator};
@@ -25,7 +25,7 @@ pub fn note_all<'a, A: Allocator + Copy>(
     noted: &mut Notes<'a, A>,
     notes: &[Note<'a>],
 ) -> Result<(), AllocFailed<Note<'a>>>
-    ensures { OnOk result (map note_seen noted.new.keys ≡ all_noted (map note_seen noted.old.keys) (map note_seen notes.now)) }
+    ensures { OnOk result (map note_view_of noted.new.keys ≡ all_noted (map note_view_of noted.old.keys) (map note_view_of notes.now)) }
 {
     'notes: for note in notes {
         noted.insert(*note)?;

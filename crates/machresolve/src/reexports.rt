@@ -1,8 +1,8 @@
 //! The closure of a library: the library itself, and the files that it re-exports as a whole.
 
 ghost use Rattle.std.specs.Prelude.{◌≡◌, ◌++◌, map, reverse, option_map, IfOk, OnOk};
-ghost use Rattle.machresolve.specs.Behind.{Walks, none_met, edges_of, first_gap, met_first, IsBehind, IsBehindAll};
-ghost use Rattle.machresolve.specs.Seen.{file_seen, files_seen, edge_seen, met_seen};
+ghost use Rattle.machresolve.specs.Following.{Walks, none_met, edges_of, first_gap, met_first, IsAfter, IsAfterAll};
+ghost use Rattle.machresolve.specs.ResolveViews.{input_view, input_views, edge_view, met_view};
 
 use crate::file::{File, Files};
 use std::alloc::{AllocError, Allocator};
@@ -26,7 +26,7 @@ pub struct Met<'a, A: Allocator> {
 impl<'a> Edge<'a> {
     // Returns the edge that starts at a library.
     fn start_at(name: &'a str) -> Edge<'a>
-        ensures { edge_seen result ≡ met_first name.now }
+        ensures { edge_view result ≡ met_first name.now }
     {
         Edge {
             from: name,
@@ -40,7 +40,7 @@ fn push_edges<'a, A: Allocator>(
     file: &File<'a, A>,
     left: &mut Vec<Edge<'a>, A>,
 ) -> Result<(), AllocError>
-    ensures { OnOk result (reverse (map edge_seen left.new.items) ≡ edges_of (file_seen file.now) ++ reverse (map edge_seen left.old.items)) }
+    ensures { OnOk result (reverse (map edge_view left.new.items) ≡ edges_of (input_view file.now) ++ reverse (map edge_view left.old.items)) }
 {
     let count = file.reexports.len();
     for done in 0..count {
@@ -58,7 +58,7 @@ fn walk<'a, A: Allocator + Copy>(
     files: &Files<'a, A>,
     starts: Vec<Edge<'a>, A>,
 ) -> Result<Met<'a, A>, AllocError>
-    ensures { IfOk result (λ m. Walks (files_seen files.now) (reverse (map edge_seen starts.entry.items)) none_met (met_seen m)) }
+    ensures { IfOk result (λ m. Walks (input_views files.now) (reverse (map edge_view starts.entry.items)) none_met (met_view m)) }
 {
     let mut is_met = vec![in alloc; false; files.items.len()]?;
     let mut places = Vec::new(alloc);
@@ -83,7 +83,7 @@ fn walk<'a, A: Allocator + Copy>(
 
 // Returns the first gap, if there is one, else this one.
 fn keep<'a>(gap: Option<Edge<'a>>, edge: Edge<'a>) -> Option<Edge<'a>>
-    ensures { option_map edge_seen result ≡ first_gap (option_map edge_seen gap.entry) (edge_seen edge.entry) }
+    ensures { option_map edge_view result ≡ first_gap (option_map edge_view gap.entry) (edge_view edge.entry) }
 {
     match gap {
         Some(first) => Some(first),
@@ -93,12 +93,12 @@ fn keep<'a>(gap: Option<Edge<'a>>, edge: Edge<'a>) -> Option<Edge<'a>>
 
 /// Returns the closure of the library with a name, itself first: depth first, each file once. It takes time in the number of
 /// re-exports of the files that it meets.
-pub fn behind<'a, A: Allocator + Copy>(
+pub fn following<'a, A: Allocator + Copy>(
     alloc: A,
     files: &Files<'a, A>,
     name: &'a str,
 ) -> Result<Met<'a, A>, AllocError>
-    ensures { IfOk result (λ m. IsBehind (files_seen files.now) name.now (met_seen m)) }
+    ensures { IfOk result (λ m. IsAfter (input_views files.now) name.now (met_view m)) }
 {
     let mut starts = Vec::new(alloc);
     starts.push(Edge::start_at(name))?;
@@ -106,11 +106,11 @@ pub fn behind<'a, A: Allocator + Copy>(
 }
 
 /// Returns the closure of all files, one after the other, each file once.
-pub fn behind_all<'a, A: Allocator + Copy>(
+pub fn following_all<'a, A: Allocator + Copy>(
     alloc: A,
     files: &Files<'a, A>,
 ) -> Result<Met<'a, A>, AllocError>
-    ensures { IfOk result (λ m. IsBehindAll (files_seen files.now) (met_seen m)) }
+    ensures { IfOk result (λ m. IsAfterAll (input_views files.now) (met_view m)) }
 {
     let count = files.items.len();
     let mut starts = Vec::new(alloc);

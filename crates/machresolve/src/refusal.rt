@@ -1,7 +1,7 @@
 //! The words for a refused file.
 
 ghost use Rattle.std.specs.Prelude.{◌≡◌};
-ghost use Rattle.machresolve.specs.Refusals.{has_table, kind_told};
+ghost use Rattle.machresolve.specs.Refusals.{has_table, kind_reported};
 
 use crate::inputs::Given;
 use goblin_mach::fat::{FAT_MAGIC, SIZEOF_FAT_ARCH, SIZEOF_FAT_HEADER};
@@ -24,8 +24,8 @@ fn has_table(bytes: &[u8]) -> bool
 }
 
 // Returns the kind of a file that is refused for this error, if it is not Mach-O.
-fn kind_told(bytes: &[u8], error: &Error) -> Option<Foreign>
-    ensures { result ≡ kind_told bytes.now error.now }
+fn kind_reported(bytes: &[u8], error: &Error) -> Option<Foreign>
+    ensures { result ≡ kind_reported bytes.now error.now }
 {
     if has_table(bytes) {
         None
@@ -44,14 +44,14 @@ pub struct RefusalText<'a, 'b> {
 impl Display for RefusalText<'_, '_> {
     ghost use Rattle.std.specs.Prelude.{Some};
     ghost use Rattle.machresolve.specs.Lines.{refusal_text};
-    ghost use Rattle.machresolve.specs.Opened.{given_seen};
+    ghost use Rattle.machresolve.specs.Opened.{given_view};
 
-    ghost output = { λ t. Some (refusal_text (given_seen t.file) t.error.now) };
+    ghost output = { λ t. Some (refusal_text (given_view t.file) t.error.now) };
 
     fn fmt<W: Write>(&self, f: &mut Formatter<W>) -> fmt::Result {
         let Given { path, bytes } = self.file;
         let path = Escaped(path);
-        match kind_told(bytes, self.error) {
+        match kind_reported(bytes, self.error) {
             Some(kind) => write!(f, "{path}: {kind}"),
             None => {
                 let words = describe(self.error);

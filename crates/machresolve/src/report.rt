@@ -2,16 +2,16 @@
 
 ghost use Rattle.std.specs.Prelude.{◌≡◌, ◌≤◌, map, Some, None, IfOk, IfErr};
 ghost use Rattle.std.specs.List.{list_all};
-ghost use Rattle.goblin_mach.specs.FatFile.{file_held};
+ghost use Rattle.goblin_mach.specs.FatFile.{file_view};
 ghost use Rattle.machresolve.specs.Cpu.{HasTable, IsOfCpu, entry_bytes, fat_table_view};
-ghost use Rattle.machresolve.specs.Opened.{given_seen};
-ghost use Rattle.machresolve.specs.Report.{entry_of_program, IsOneOf, IsOutcome, IsEntryOutcome, AreEntryOutcomes, IsProgramReport, TellsError, answer_count};
+ghost use Rattle.machresolve.specs.Opened.{given_view};
+ghost use Rattle.machresolve.specs.Report.{entry_of_program, IsOneOf, IsOutcome, IsEntryOutcome, AreEntryOutcomes, IsProgramReport, ReportsError, answer_count};
 ghost use Rattle.machresolve.specs.Report.{answers_in, is_whole, all_whole};
-ghost use Rattle.machresolve.specs.Seen.{outcome_seen, report_seen, IsOutcomeOfFailure};
-ghost use Rattle.machresolve.specs.declared.failure.Failure.TheVariants as failures;
+ghost use Rattle.machresolve.specs.ResolveViews.{outcome_view, report_view, IsOutcomeOfFailure};
+ghost use Rattle.machresolve.specs.declared.failure.ResolveFailure.TheVariants as failures;
 
 use crate::answers::all_settled;
-use crate::failure::Failure;
+use crate::failure::ResolveFailure;
 use crate::inputs::{Given, archive_error};
 use crate::resolve::{Resolved, resolve};
 use goblin_mach::{ArchRecord, Error, FatTable, Input};
@@ -42,7 +42,7 @@ pub enum Report<'a, A: Allocator> {
 impl<'a, A: Allocator> Outcome<'a, A> {
     // Whether all is answered and settled, and nothing was refused.
     fn is_whole(&self) -> bool
-        ensures { result ≡ is_whole (outcome_seen self.now) }
+        ensures { result ≡ is_whole (outcome_view self.now) }
     {
         match self {
             Outcome::Answered(resolved) => { all_settled(&resolved.answers) && !resolved.more }
@@ -53,7 +53,7 @@ impl<'a, A: Allocator> Outcome<'a, A> {
 
     // Returns how many bindings are answered.
     fn answer_count(&self) -> usize
-        ensures { result ≡ answer_count (outcome_seen self.now) }
+        ensures { result ≡ answer_count (outcome_view self.now) }
     {
         match self {
             Outcome::Answered(resolved) => resolved.answers.len(),
@@ -64,7 +64,7 @@ impl<'a, A: Allocator> Outcome<'a, A> {
 
 // Whether all is answered and settled in all entries, and nothing was refused.
 fn all_whole<A: Allocator>(outcomes: &[Outcome<'_, A>]) -> bool
-    ensures { result ≡ list_all is_whole (map outcome_seen outcomes.now) }
+    ensures { result ≡ list_all is_whole (map outcome_view outcomes.now) }
 {
     let mut whole = true;
     for outcome in outcomes {
@@ -76,7 +76,7 @@ fn all_whole<A: Allocator>(outcomes: &[Outcome<'_, A>]) -> bool
 impl<'a, A: Allocator> Report<'a, A> {
     /// Whether all is answered and settled, and nothing was refused.
     pub fn is_whole(&self) -> bool
-        ensures { result ≡ all_whole (report_seen self.now) }
+        ensures { result ≡ all_whole (report_view self.now) }
     {
         match self {
             Report::One(outcome) => outcome.is_whole(),
@@ -87,12 +87,12 @@ impl<'a, A: Allocator> Report<'a, A> {
 }
 
 // Returns the outcome for a refused file; a refused allocation stays a failure.
-fn refusal<'a, A: Allocator>(failure: Failure) -> Result<Outcome<'a, A>, Failure>
+fn refusal<'a, A: Allocator>(failure: ResolveFailure) -> Result<Outcome<'a, A>, ResolveFailure>
     ensures { IsOutcomeOfFailure failure result }
 {
     match failure {
-        Failure::Refused { file, error } => Ok(Outcome::Refused { file, error }),
-        Failure::Memory => Err(failure),
+        ResolveFailure::Refused { file, error } => Ok(Outcome::Refused { file, error }),
+        ResolveFailure::Memory => Err(failure),
     }
 }
 
@@ -102,8 +102,8 @@ fn outcome_for<'a, A: Allocator + Copy>(
     limit: usize,
     program: Given<'a>,
     libraries: &[Given<'a>],
-) -> Result<Outcome<'a, A>, Failure>
-    ensures told { IfOk result (λ o. IsOutcome limit (given_seen program.entry) (map given_seen libraries.now) (outcome_seen o)) }
+) -> Result<Outcome<'a, A>, ResolveFailure>
+    ensures reported { IfOk result (λ o. IsOutcome limit (given_view program.entry) (map given_view libraries.now) (outcome_view o)) }
     ensures memory { IfErr result (λ failure. failure ≡ failures.Memory) }
 {
     match resolve(alloc, limit, program, libraries) {
@@ -119,10 +119,10 @@ fn entry_outcome<'a, R: ArchRecord, A: Allocator + Copy>(
     program: Given<'a>,
     arch: &R,
     libraries: &[Given<'a>],
-) -> Result<Outcome<'a, A>, Failure>
-    ensures told { IfOk result (λ o. IsEntryOutcome limit
-        (entry_of_program (given_seen program.entry) (entry_bytes R.arch_form program.entry.bytes.now arch.now)) (map given_seen libraries.now)
-        (outcome_seen o)) }
+) -> Result<Outcome<'a, A>, ResolveFailure>
+    ensures reported { IfOk result (λ o. IsEntryOutcome limit
+        (entry_of_program (given_view program.entry) (entry_bytes R.arch_form program.entry.bytes.now arch.now)) (map given_view libraries.now)
+        (outcome_view o)) }
     ensures memory { IfErr result (λ failure. failure ≡ failures.Memory) }
 {
     let Given { path, bytes } = program;
@@ -142,9 +142,9 @@ fn entry_outcomes<'a, R: ArchRecord, A: Allocator + Copy>(
     program: Given<'a>,
     arches: &[R],
     libraries: &[Given<'a>],
-) -> Result<Vec<Outcome<'a, A>, A>, Failure>
-    ensures told { IfOk result (λ v. AreEntryOutcomes limit (given_seen program.entry) (map given_seen libraries.now)
-        (map (entry_bytes R.arch_form program.entry.bytes.now) arches.now) (map outcome_seen v.items)) }
+) -> Result<Vec<Outcome<'a, A>, A>, ResolveFailure>
+    ensures reported { IfOk result (λ v. AreEntryOutcomes limit (given_view program.entry) (map given_view libraries.now)
+        (map (entry_bytes R.arch_form program.entry.bytes.now) arches.now) (map outcome_view v.items)) }
     ensures memory { IfErr result (λ failure. failure ≡ failures.Memory) }
 {
     let mut outcomes = Vec::new(alloc);
@@ -162,12 +162,12 @@ fn entry_outcomes<'a, R: ArchRecord, A: Allocator + Copy>(
 }
 
 // Returns the report of a program that is refused for an error; a refused allocation is a failure.
-fn report_refused<'a, A: Allocator>(error: Error) -> Result<Report<'a, A>, Failure>
-    ensures told { IfOk result (λ r. TellsError error (report_seen r)) }
+fn report_refused<'a, A: Allocator>(error: Error) -> Result<Report<'a, A>, ResolveFailure>
+    ensures reported { IfOk result (λ r. ReportsError error (report_view r)) }
     ensures memory { IfErr result (λ failure. failure ≡ failures.Memory) }
 {
     match error {
-        Error::Memory(_) => Err(Failure::Memory),
+        Error::Memory(_) => Err(ResolveFailure::Memory),
         error => Ok(Report::One(Outcome::Refused { file: 0, error })),
     }
 }
@@ -179,9 +179,9 @@ fn report_all<'a, R: ArchRecord, A: Allocator + Copy>(
     program: Given<'a>,
     container: &FatTable<'a, R, A>,
     libraries: &[Given<'a>],
-) -> Result<Report<'a, A>, Failure>
-    ensures told { HasTable program.entry.bytes.now (fat_table_view R.arch_form program.entry.bytes.now (file_held container.now))
-        → IfOk result (λ r. IsProgramReport limit (given_seen program.entry) (map given_seen libraries.now) None (report_seen r)) }
+) -> Result<Report<'a, A>, ResolveFailure>
+    ensures reported { HasTable program.entry.bytes.now (fat_table_view R.arch_form program.entry.bytes.now (file_view container.now))
+        → IfOk result (λ r. IsProgramReport limit (given_view program.entry) (map given_view libraries.now) None (report_view r)) }
     ensures memory { IfErr result (λ failure. failure ≡ failures.Memory) }
 {
     match container.arches() {
@@ -201,9 +201,9 @@ fn report_entry<'a, R: ArchRecord, A: Allocator + Copy>(
     program: Given<'a>,
     container: &FatTable<'a, R, A>,
     libraries: &[Given<'a>],
-) -> Result<Report<'a, A>, Failure>
-    ensures told { HasTable program.entry.bytes.now (fat_table_view R.arch_form program.entry.bytes.now (file_held container.now))
-        → IfOk result (λ r. IsProgramReport limit (given_seen program.entry) (map given_seen libraries.now) (Some cputype) (report_seen r)) }
+) -> Result<Report<'a, A>, ResolveFailure>
+    ensures reported { HasTable program.entry.bytes.now (fat_table_view R.arch_form program.entry.bytes.now (file_view container.now))
+        → IfOk result (λ r. IsProgramReport limit (given_view program.entry) (map given_view libraries.now) (Some cputype) (report_view r)) }
     ensures memory { IfErr result (λ failure. failure ≡ failures.Memory) }
 {
     match container.find_cputype(cputype) {
@@ -222,8 +222,8 @@ fn report_one<'a, A: Allocator + Copy>(
     limit: usize,
     program: Given<'a>,
     libraries: &[Given<'a>],
-) -> Result<Report<'a, A>, Failure>
-    ensures told { IfOk result (λ r. IsOneOf (IsOutcome limit (given_seen program.entry) (map given_seen libraries.now)) (report_seen r)) }
+) -> Result<Report<'a, A>, ResolveFailure>
+    ensures reported { IfOk result (λ r. IsOneOf (IsOutcome limit (given_view program.entry) (map given_view libraries.now)) (report_view r)) }
     ensures memory { IfErr result (λ failure. failure ≡ failures.Memory) }
 {
     match outcome_for(alloc, limit, program, libraries) {
@@ -240,9 +240,9 @@ fn report_image<'a, A: Allocator + Copy>(
     limit: usize,
     program: Given<'a>,
     libraries: &[Given<'a>],
-) -> Result<Report<'a, A>, Failure>
-    ensures told { IsOfCpu program.entry.bytes.now cputype
-        → IfOk result (λ r. IsProgramReport limit (given_seen program.entry) (map given_seen libraries.now) wanted (report_seen r)) }
+) -> Result<Report<'a, A>, ResolveFailure>
+    ensures reported { IsOfCpu program.entry.bytes.now cputype
+        → IfOk result (λ r. IsProgramReport limit (given_view program.entry) (map given_view libraries.now) wanted (report_view r)) }
     ensures memory { IfErr result (λ failure. failure ≡ failures.Memory) }
 {
     match wanted {
@@ -260,9 +260,9 @@ fn report_fat<'a, R: ArchRecord, A: Allocator + Copy>(
     program: Given<'a>,
     container: &FatTable<'a, R, A>,
     libraries: &[Given<'a>],
-) -> Result<Report<'a, A>, Failure>
-    ensures told { HasTable program.entry.bytes.now (fat_table_view R.arch_form program.entry.bytes.now (file_held container.now))
-        → IfOk result (λ r. IsProgramReport limit (given_seen program.entry) (map given_seen libraries.now) wanted (report_seen r)) }
+) -> Result<Report<'a, A>, ResolveFailure>
+    ensures reported { HasTable program.entry.bytes.now (fat_table_view R.arch_form program.entry.bytes.now (file_view container.now))
+        → IfOk result (λ r. IsProgramReport limit (given_view program.entry) (map given_view libraries.now) wanted (report_view r)) }
     ensures memory { IfErr result (λ failure. failure ≡ failures.Memory) }
 {
     match wanted {
@@ -279,9 +279,9 @@ pub fn report_on<'a, A: Allocator + Copy>(
     limit: usize,
     program: Given<'a>,
     libraries: &[Given<'a>],
-) -> Result<Report<'a, A>, Failure>
-    ensures told { IfOk result (λ r. IsProgramReport limit (given_seen program.entry) (map given_seen libraries.now) wanted (report_seen r)) }
-    ensures few { IfOk result (λ r. answers_in (report_seen r) ≤ limit) }
+) -> Result<Report<'a, A>, ResolveFailure>
+    ensures reported { IfOk result (λ r. IsProgramReport limit (given_view program.entry) (map given_view libraries.now) wanted (report_view r)) }
+    ensures few { IfOk result (λ r. answers_in (report_view r) ≤ limit) }
     ensures memory { IfErr result (λ failure. failure ≡ failures.Memory) }
 {
     match Input::parse(alloc, program.bytes) {

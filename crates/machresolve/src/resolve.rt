@@ -2,20 +2,20 @@
 
 ghost use Rattle.std.specs.Prelude.{◌≡◌, ◌∷◌, List, map, IfOk, IfErr};
 ghost use Rattle.mach_parts.specs.Bindings.{Binding};
-ghost use Rattle.machresolve.specs.Behind.{Met, IsBehindAll};
+ghost use Rattle.machresolve.specs.Following.{Met, IsAfterAll};
 ghost use Rattle.machresolve.specs.Answers as answered;
 ghost use Rattle.machresolve.specs.Answers.{AreAnswers};
 ghost use Rattle.machresolve.specs.Failures.{IsFailure};
 ghost use Rattle.machresolve.specs.Resolved.{HoldsFirst, IsResolved, ResolveFault, AnswerFault};
-ghost use Rattle.machresolve.specs.Seen.{files_seen, program_seen, answer_seen, note_seen};
-ghost use Rattle.machresolve.specs.Opened.{given_seen};
+ghost use Rattle.machresolve.specs.ResolveViews.{input_views, program_view, answer_view, note_view_of};
+ghost use Rattle.machresolve.specs.Opened.{given_view};
 
 use crate::answers::{Answer, Program, answer_for};
-use crate::failure::Failure;
+use crate::failure::ResolveFailure;
 use crate::file::Files;
 use crate::inputs::{Gathered, Given, absences_of, gather};
 use crate::note::Note;
-use crate::reexports::behind_all;
+use crate::reexports::following_all;
 use goblin_mach::{MachO, laws};
 use std::alloc::Allocator;
 
@@ -27,11 +27,11 @@ fn answer_all<'a, A: Allocator + Copy>(
     all: &[usize],
     program: &Program<'a, A>,
     image: &MachO<'a, A>,
-) -> Result<(Vec<Answer<'a>, A>, bool), Failure>
-    ensures answered { (met : Met) → IsBehindAll (files_seen files.now) met → met.places ≡ all.now
+) -> Result<(Vec<Answer<'a>, A>, bool), ResolveFailure>
+    ensures answered { (met : Met) → IsAfterAll (input_views files.now) met → met.places ≡ all.now
         → IfOk result (λ v. (bindings : List Binding) × HoldsFirst limit image.now bindings v.1
-        × AreAnswers (files_seen files.now) (program_seen program.now) bindings (map answer_seen v.0.items)) }
-    ensures refused { IfErr result (IsFailure (AnswerFault limit (files_seen files.now) image.now)) }
+        × AreAnswers (input_views files.now) (program_view program.now) bindings (map answer_view v.0.items)) }
+    ensures refused { IfErr result (IsFailure (AnswerFault limit (input_views files.now) image.now)) }
 {
     let mut answers = Vec::new(alloc);
     'bindings: for item in image.bindings() {
@@ -43,7 +43,7 @@ fn answer_all<'a, A: Allocator + Copy>(
                 Ok(answer) => answers.push(answer)?,
                 Err(failure) => return Err(failure),
             },
-            Err(error) => return Err(Failure::refused(0, error)),
+            Err(error) => return Err(ResolveFailure::refused(0, error)),
         }
     }
     Ok((answers, false))
@@ -68,22 +68,22 @@ pub fn resolve<'a, A: Allocator + Copy>(
     limit: usize,
     program: Given<'a>,
     libraries: &[Given<'a>],
-) -> Result<Resolved<'a, A>, Failure>
+) -> Result<Resolved<'a, A>, ResolveFailure>
     ensures resolved { IfOk result
-        (λ r. IsResolved limit (given_seen program.entry) (map given_seen libraries.now) (map answer_seen r.answers.items)
-        (map note_seen r.notes.items) r.more) }
-    ensures refused { IfErr result (IsFailure (ResolveFault limit (given_seen program.entry) (map given_seen libraries.now))) }
+        (λ r. IsResolved limit (given_view program.entry) (map given_view libraries.now) (map answer_view r.answers.items)
+        (map note_view_of r.notes.items) r.more) }
+    ensures refused { IfErr result (IsFailure (ResolveFault limit (given_view program.entry) (map given_view libraries.now))) }
 {
     let image = match MachO::parse(alloc, program.bytes, 0) {
         Ok(image) => image,
-        Err(error) => return Err(Failure::refused(0, error)),
+        Err(error) => return Err(ResolveFailure::refused(0, error)),
     };
     let gathered = match gather(alloc, image.header.cputype, program, libraries) {
         Ok(gathered) => gathered,
         Err(failure) => return Err(failure),
     };
     let Gathered { files, notes } = gathered;
-    let all = behind_all(alloc, &files)?;
+    let all = following_all(alloc, &files)?;
     let known = Program {
         name: image.name.unwrap_or(program.path),
         may_be_absent: absences_of(alloc, &image)?,

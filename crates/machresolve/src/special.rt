@@ -4,14 +4,14 @@ ghost use Rattle.std.specs.Prelude.{◌≡◌, slice_get, Some, IfOk, IfErr, IfS
 ghost use Rattle.mach_dyld.specs.Exports.{info_of};
 ghost use Rattle.machresolve.specs.Files.{File, TrieFaultAt};
 ghost use Rattle.machresolve.specs.Follow.{flags_of_export};
-ghost use Rattle.machresolve.specs.Behind.{Met, IsBehindAll};
+ghost use Rattle.machresolve.specs.Following.{Met, IsAfterAll};
 ghost use Rattle.machresolve.specs.Special.{IsFlat, DefinesNot, IsWeakLookup, IsInMain};
 ghost use Rattle.machresolve.specs.Failures.{IsFailure};
-ghost use Rattle.machresolve.specs.Seen.{files_seen, place_seen, IsDefinition, strong_place, first_place};
+ghost use Rattle.machresolve.specs.ResolveViews.{input_views, place_view_of, IsDefinition, strong_place, first_place};
 
-use crate::failure::Failure;
+use crate::failure::ResolveFailure;
 use crate::file::Files;
-use crate::follow::{Place, Step, Symbol, follow, lead};
+use crate::follow::{NamePlace, Step, Symbol, follow, lead};
 use goblin_mach::exports::{EXPORT_SYMBOL_FLAGS_WEAK_DEFINITION, ExportInfo};
 use std::alloc::Allocator;
 
@@ -22,17 +22,17 @@ pub fn flat<'a, A: Allocator + Copy>(
     files: &Files<'a, A>,
     all: &[usize],
     name: &'a str,
-) -> Result<Place<'a>, Failure>
-    ensures flat { (met : Met) → IsBehindAll (files_seen files.now) met → met.places ≡ all.now
-        → IfOk result (λ place. IsFlat (files_seen files.now) name.now (place_seen place)) }
-    ensures refused { IfErr result (IsFailure (TrieFaultAt (files_seen files.now))) }
+) -> Result<NamePlace<'a>, ResolveFailure>
+    ensures flat { (met : Met) → IsAfterAll (input_views files.now) met → met.places ≡ all.now
+        → IfOk result (λ place. IsFlat (input_views files.now) name.now (place_view_of place)) }
+    ensures refused { IfErr result (IsFailure (TrieFaultAt (input_views files.now))) }
 {
     match files.first_having(alloc, all, name) {
         Ok(Some((file, info))) => match lead(file, info, name) {
             Step::Leads(next) => follow(alloc, files, next),
             Step::Ends(place) => Ok(place),
         },
-        Ok(None) => Ok(Place::NotFound),
+        Ok(None) => Ok(NamePlace::NotFound),
         Err(failure) => Err(failure),
     }
 }
@@ -40,7 +40,7 @@ pub fn flat<'a, A: Allocator + Copy>(
 // A definition of a name, and whether it is weak.
 #[derive(Clone, Copy)]
 struct Definition<'a> {
-    place: Place<'a>,
+    place: NamePlace<'a>,
     is_weak: bool,
 }
 
@@ -61,10 +61,10 @@ fn define<'a, A: Allocator + Copy>(
     files: &Files<'a, A>,
     place: usize,
     name: &'a str,
-) -> Result<Option<Definition<'a>>, Failure>
-    ensures some { IfOk result (λ o. IfSome o (IsDefinition (files_seen files.now) place name.now)) }
-    ensures none { IfOk result (λ o. IfNone o ((g : File) → slice_get (files_seen files.now) place ≡ Some g → DefinesNot g name.now)) }
-    ensures refused { IfErr result (IsFailure (TrieFaultAt (files_seen files.now))) }
+) -> Result<Option<Definition<'a>>, ResolveFailure>
+    ensures some { IfOk result (λ o. IfSome o (IsDefinition (input_views files.now) place name.now)) }
+    ensures none { IfOk result (λ o. IfNone o ((g : File) → slice_get (input_views files.now) place ≡ Some g → DefinesNot g name.now)) }
+    ensures refused { IfErr result (IsFailure (TrieFaultAt (input_views files.now))) }
 {
     match files.find(alloc, place, name) {
         Ok(Some((file, info))) => {
@@ -84,11 +84,11 @@ pub fn weak_lookup<'a, A: Allocator + Copy>(
     alloc: A,
     files: &Files<'a, A>,
     name: &'a str,
-) -> Result<Place<'a>, Failure>
-    ensures sought { IfOk result (λ place. IsWeakLookup (files_seen files.now) name.now (place_seen place)) }
-    ensures refused { IfErr result (IsFailure (TrieFaultAt (files_seen files.now))) }
+) -> Result<NamePlace<'a>, ResolveFailure>
+    ensures target { IfOk result (λ place. IsWeakLookup (input_views files.now) name.now (place_view_of place)) }
+    ensures refused { IfErr result (IsFailure (TrieFaultAt (input_views files.now))) }
 {
-    let mut weak: Option<Place<'a>> = None;
+    let mut weak: Option<NamePlace<'a>> = None;
     for place in 0..files.items.len() {
         let found = match define(alloc, files, place, name) {
             Ok(found) => found,
@@ -101,12 +101,12 @@ pub fn weak_lookup<'a, A: Allocator + Copy>(
     }
     match weak {
         Some(place) => Ok(place),
-        None => Ok(Place::NotFound),
+        None => Ok(NamePlace::NotFound),
     }
 }
 
 // Returns the place of a definition, unless it is weak.
-fn strong<'a>(found: Option<Definition<'a>>) -> Option<Place<'a>>
+fn strong<'a>(found: Option<Definition<'a>>) -> Option<NamePlace<'a>>
     ensures { result ≡ strong_place found.entry }
 {
     match found {
@@ -116,7 +116,10 @@ fn strong<'a>(found: Option<Definition<'a>>) -> Option<Place<'a>>
 }
 
 // Returns the first place, if there is one, else that of this definition.
-fn first_place<'a>(first: Option<Place<'a>>, found: Option<Definition<'a>>) -> Option<Place<'a>>
+fn first_place<'a>(
+    first: Option<NamePlace<'a>>,
+    found: Option<Definition<'a>>,
+) -> Option<NamePlace<'a>>
     ensures { result ≡ first_place first.entry found.entry }
 {
     match first {
@@ -133,9 +136,9 @@ pub fn in_main<'a, A: Allocator + Copy>(
     alloc: A,
     files: &Files<'a, A>,
     name: &'a str,
-) -> Result<Place<'a>, Failure>
-    ensures sought { IfOk result (λ place. IsInMain (files_seen files.now) name.now (place_seen place)) }
-    ensures refused { IfErr result (IsFailure (TrieFaultAt (files_seen files.now))) }
+) -> Result<NamePlace<'a>, ResolveFailure>
+    ensures target { IfOk result (λ place. IsInMain (input_views files.now) name.now (place_view_of place)) }
+    ensures refused { IfErr result (IsFailure (TrieFaultAt (input_views files.now))) }
 {
     for file in &files.items {
         if file.is_main {
@@ -146,5 +149,5 @@ pub fn in_main<'a, A: Allocator + Copy>(
             return follow(alloc, files, start);
         }
     }
-    Ok(Place::NoMain)
+    Ok(NamePlace::NoMain)
 }

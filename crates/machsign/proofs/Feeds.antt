@@ -10,7 +10,7 @@ use Rattle.mach_cli.proofs.OneLine.{no_feeds, no_feed-append, no_feed-hex, no_fe
 use Rattle.mach_signature.specs.SignWords.{hexadecimal, slot_names, slot_words}
 use Rattle.machsign.specs.Blobs.{blob_text}
 use Rattle.machsign.specs.Blocks.{name_line}
-use Rattle.machsign.specs.Special.{SlotSeen, hash_after, slot_line, state_text}
+use Rattle.machsign.specs.Special.{SlotView, hash_after, slot_line, state_text}
 use Rattle.machsign.specs.declared.special.SlotState.{SlotState}
 use Rattle.machsign.specs.declared.special.SlotState.TheVariants.{AsSigned, OtherFile, Unreadable, Unknown, Unsealed, Changed, Absent}
 
@@ -52,7 +52,7 @@ no_feed-hash Unsealed hash = refl
 no_feed-hash Changed hash = refl
 no_feed-hash Absent hash = refl
 
-no_feed-slot_line : (s : SlotSeen) → has_no_feed (slot_line s) ≡ true
+no_feed-slot_line : (s : SlotView) → has_no_feed (slot_line s) ≡ true
 no_feed-slot_line s = search (no_feeds, no_feed-slot, no_feed-state, no_feed-hash, rules)
 
 no_feed-blob : (slot len : ℕ) → has_no_feed (blob_text slot len) ≡ true
@@ -64,7 +64,7 @@ name_is_line label name one =
     line-more (codes "  ") (label ++ (codes ": " ++ text)) refl
     (line-more label (codes ": " ++ text) one (line-more (codes ": ") text refl (line-end (name_text name) (no_feed-name name))))
 
-pub slot_is_line : (s : SlotSeen) → IsOneLine (slot_line s ++ codes "\n")
+pub slot_is_line : (s : SlotView) → IsOneLine (slot_line s ++ codes "\n")
 slot_is_line s = line-end (slot_line s) (no_feed-slot_line s)
 
 pub blob_is_line : (slot len : ℕ) → IsOneLine (blob_text slot len ++ codes "\n")

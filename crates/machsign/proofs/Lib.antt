@@ -1,7 +1,7 @@
 pub mod Written
 pub mod Rows
 pub mod Slots
-pub mod Told
+pub mod ListProgress
 pub mod Limited
 pub mod Whole
 pub mod SignedFacts

@@ -8,49 +8,49 @@ use Rattle.mach_base.specs.Fault.{Fault}
 use Rattle.mach_base.specs.declared.error.Error.{Error}
 use Rattle.mach_cli.specs.JsonArrays.{row_object, with_commas, IsArrayOf}
 use Rattle.mach_cli.specs.Lines.{WritesLines}
-use Rattle.mach_cli.specs.Listings.{text_read, told_line}
+use Rattle.mach_cli.specs.Listings.{text_read, reported_line}
 
 module _ {X : Type 0} (text : X → List ℕ) where
   -- the row of an item
   abbrev pub row : X → Result (List ℕ) Fault
   row x = Ok (text x)
 
-  lines_told : (word : List ℕ) (xs : List X) (answers : List (Result (List ℕ) Error)) → map text_read answers ≡ map row xs
-      → flat_map (told_line word) answers ≡ flat_map (λ x. text x ++ codes "\n") xs
-  lines_told word [] [] e = refl
-  lines_told word [] (a ∷ answers) e = absurd (cc)
-  lines_told word (x ∷ xs) [] e = absurd (cc)
-  lines_told word (x ∷ xs) (Ok a ∷ answers) e =
+  lines_reported : (word : List ℕ) (xs : List X) (answers : List (Result (List ℕ) Error)) → map text_read answers ≡ map row xs
+      → flat_map (reported_line word) answers ≡ flat_map (λ x. text x ++ codes "\n") xs
+  lines_reported word [] [] e = refl
+  lines_reported word [] (a ∷ answers) e = absurd (cc)
+  lines_reported word (x ∷ xs) [] e = absurd (cc)
+  lines_reported word (x ∷ xs) (Ok a ∷ answers) e =
       let head : a ≡ text x = cc in
       let tail : map text_read answers ≡ map row xs = cc in
-      ap (λ (t : List ℕ). (t ++ codes "\n") ++ flat_map (told_line word) answers) head
-      ∙ ap (λ (rest : List ℕ). (text x ++ codes "\n") ++ rest) (lines_told word xs answers tail)
-  lines_told word (x ∷ xs) (Err a ∷ answers) e = absurd (cc)
+      ap (λ (t : List ℕ). (t ++ codes "\n") ++ flat_map (reported_line word) answers) head
+      ∙ ap (λ (rest : List ℕ). (text x ++ codes "\n") ++ rest) (lines_reported word xs answers tail)
+  lines_reported word (x ∷ xs) (Err a ∷ answers) e = absurd (cc)
 
-  objects_told : (xs : List X) (answers : List (Result (List ℕ) Error)) → map text_read answers ≡ map row xs → map row_object answers ≡ map text xs
-  objects_told [] [] e = refl
-  objects_told [] (a ∷ answers) e = absurd (cc)
-  objects_told (x ∷ xs) [] e = absurd (cc)
-  objects_told (x ∷ xs) (Ok a ∷ answers) e =
+  objects_reported : (xs : List X) (answers : List (Result (List ℕ) Error)) → map text_read answers ≡ map row xs → map row_object answers ≡ map text xs
+  objects_reported [] [] e = refl
+  objects_reported [] (a ∷ answers) e = absurd (cc)
+  objects_reported (x ∷ xs) [] e = absurd (cc)
+  objects_reported (x ∷ xs) (Ok a ∷ answers) e =
       let head : a ≡ text x = cc in
       let tail : map text_read answers ≡ map row xs = cc in
-      ap (λ (t : List ℕ). t ∷ map row_object answers) head ∙ ap (λ (rest : List (List ℕ)). text x ∷ rest) (objects_told xs answers tail)
-  objects_told (x ∷ xs) (Err a ∷ answers) e = absurd (cc)
+      ap (λ (t : List ℕ). t ∷ map row_object answers) head ∙ ap (λ (rest : List (List ℕ)). text x ∷ rest) (objects_reported xs answers tail)
+  objects_reported (x ∷ xs) (Err a ∷ answers) e = absurd (cc)
 
   -- the lines that were written of the first items
   pub rows_lines : (word : List ℕ) (left : ℕ) (xs : List X) (old new : Option (List ℕ))
-      → WritesLines text_read (told_line word) (take left (map row xs)) old new
+      → WritesLines text_read (reported_line word) (take left (map row xs)) old new
       → Appends old new (flat_map (λ x. text x ++ codes "\n") (take left xs))
   rows_lines word left xs old new w =
       subst (λ (t : List ℕ). Appends old new t)
-      (w.lines.is_text ∙ lines_told word (take left xs) w.lines.answers (w.lines.are_items ∙ take-map row left xs)) w.written
+      (w.lines.is_text ∙ lines_reported word (take left xs) w.lines.answers (w.lines.are_items ∙ take-map row left xs)) w.written
 
   -- the array of the first items
   pub rows_array : (left : ℕ) (xs : List X) (array : List ℕ) → IsArrayOf (take left (map row xs)) array
       → array ≡ codes "[" ++ (with_commas (map text (take left xs)) ++ codes "]")
   rows_array left xs array a =
       a.is_text ∙ ap (λ (objects : List (List ℕ)). codes "[" ++ (with_commas objects ++ codes "]"))
-      (objects_told (take left xs) a.answers (a.are_rows ∙ take-map row left xs))
+      (objects_reported (take left xs) a.answers (a.are_rows ∙ take-map row left xs))
 
   -- how many may be printed after them
   pub rows_left : (left : ℕ) (xs : List X) (n : ℕ) → n ≡ left - length (map row xs) → n ≡ left - length xs

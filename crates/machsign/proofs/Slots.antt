@@ -6,7 +6,7 @@ use Rattle.std.specs.Prelude.{filter_map, min}
 use Rattle.std.specs.List.{range_with_len, cons_option}
 use Rattle.mach_signature.specs.AsSigned.{SignedImage}
 use Rattle.mach_signature.specs.Directories.{Directory}
-use Rattle.machsign.specs.Special.{SlotSeen, shown_slot, shown_slots, slot_told}
+use Rattle.machsign.specs.Special.{SlotView, shown_slot, shown_slots, slot_reported}
 use Rattle.machsign.specs.SpecialLeft.{slots_yet, slot_rows_left}
 use Rattle.machsign.specs.declared.form.Form.{Form}
 use Rattle.machsign.specs.declared.special.SpecialSlots.{SpecialSlots}
@@ -32,6 +32,7 @@ pub all_slots : (x : SignedImage) (d : Directory) → take 11 (shown_slots x d) 
 all_slots x d = take_all 11 (shown_slots x d) (few_slots x d)
 
 -- the rows of the slots that are left to print, in a form
-pub slot_rows_are : (it : SpecialSlots) (form : Form) (slots : List SlotSeen) → slots_yet it ≡ slots → it.form ≡ form
-    → slot_rows_left it ≡ map (row (slot_told form)) slots
-slot_rows_are it form slots are is = ap (λ (xs : List SlotSeen). map (row (slot_told it.form)) xs) are ∙ ap (λ (f : Form). map (row (slot_told f)) slots) is
+pub slot_rows_are : (it : SpecialSlots) (form : Form) (slots : List SlotView) → slots_yet it ≡ slots → it.form ≡ form
+    → slot_rows_left it ≡ map (row (slot_reported form)) slots
+slot_rows_are it form slots are is = ap (λ (xs : List SlotView). map (row (slot_reported it.form)) xs) are
+    ∙ ap (λ (f : Form). map (row (slot_reported f)) slots) is

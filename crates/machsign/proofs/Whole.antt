@@ -4,7 +4,7 @@ use Rattle.std.specs.Prelude.{◌↔◌, ◌&&◌, not, IsTrue}
 use Rattle.mach_base.specs.Answer.{◌>>=◌}
 use Rattle.mach_base.specs.Fault.{Fault}
 use Rattle.mach_parts.specs.Segment.{SegmentView}
-use Rattle.mach_signature.specs.AsSigned.{SignedImage, SignatureFaultSeen, signature_faults_of, signature_in}
+use Rattle.mach_signature.specs.AsSigned.{SignedImage, SignatureFaultView, signature_faults_of, signature_in}
 use Rattle.mach_signature.specs.SuperBlob.{SuperBlob}
 use Rattle.mach_signature.specs.SignedImages.{plist_of, faults_there}
 use Rattle.machsign.specs.Faults.{has_none}
@@ -13,7 +13,7 @@ use Rattle.machsign.specs.JsonSignature.{IsSignatureObject, unsigned_object, unr
 use Rattle.machsign.specs.Signatures.{AreSignatureLines, unsigned, unreadable, signed}
 
 -- the faults of a signature, if one is there
-abbrev pub faults_by : Result (Option SignedImage) Fault → Result (Option (List SignatureFaultSeen)) Fault
+abbrev pub faults_by : Result (Option SignedImage) Fault → Result (Option (List SignatureFaultView)) Fault
 faults_by (Ok None) = Ok None
 faults_by (Ok (Some x)) = Ok (Some (signature_faults_of x))
 faults_by (Err f) = Err f
@@ -45,18 +45,18 @@ is_unfaulted (Ok (Some x)) = has_none (signature_faults_of x)
 is_unfaulted (Err f) = false
 
 -- whether all is printed besides
-abbrev pub is_all_told : (left : ℕ) → Result (Option SignedImage) Fault → Bool
-is_all_told left there = is_unfaulted there && not (is_there_cut left there)
+abbrev pub is_all_reported : (left : ℕ) → Result (Option SignedImage) Fault → Bool
+is_all_reported left there = is_unfaulted there && not (is_there_cut left there)
 
 -- lines and objects are whole exactly then
 pub lines_unfaulted : (limit left : ℕ) (there : Result (Option SignedImage) Fault) (text : List ℕ) (whole : Bool) (rest : ℕ)
-    → AreSignatureLines limit left there text whole rest → whole ≡ is_all_told left there
+    → AreSignatureLines limit left there text whole rest → whole ≡ is_all_reported left there
 lines_unfaulted limit left _ _ _ _ unsigned = refl
 lines_unfaulted limit left _ _ _ _ (unreadable e) = refl
 lines_unfaulted limit left _ _ _ _ (signed x text whole rest are) = are.is_whole
 
 pub object_unfaulted : (left : ℕ) (there : Result (Option SignedImage) Fault) (text : List ℕ) (whole : Bool) (rest : ℕ)
-    → IsSignatureObject left there text whole rest → whole ≡ is_all_told left there
+    → IsSignatureObject left there text whole rest → whole ≡ is_all_reported left there
 object_unfaulted left _ _ _ _ unsigned_object = refl
 object_unfaulted left _ _ _ _ (unreadable_object e) = refl
 object_unfaulted left _ _ _ _ (signed_object x text whole rest is) = is.is_whole
@@ -68,13 +68,13 @@ and_not true false = ((λ h. (refl, refl)), (λ h. refl))
 and_not false b = ((λ h. absurd (cc)), (λ h. absurd (cc)))
 
 -- an unfaulted signature has an empty list of faults
-pub unfaulted_untold : (there : Result (Option SignedImage) Fault) → IsTrue (is_unfaulted there) → faults_by there ≡ Ok (Some [])
-unfaulted_untold (Ok None) h = absurd (cc)
-unfaulted_untold (Ok (Some x)) h = ap (λ (told : List SignatureFaultSeen). Ok (Some told)) (none_of (signature_faults_of x) h)
-unfaulted_untold (Err f) h = absurd (cc)
+pub unfaulted_unreported : (there : Result (Option SignedImage) Fault) → IsTrue (is_unfaulted there) → faults_by there ≡ Ok (Some [])
+unfaulted_unreported (Ok None) h = absurd (cc)
+unfaulted_unreported (Ok (Some x)) h = ap (λ (reported : List SignatureFaultView). Ok (Some reported)) (none_of (signature_faults_of x) h)
+unfaulted_unreported (Err f) h = absurd (cc)
 
 -- a signature with an empty list of faults is unfaulted
-pub untold_unfaulted : (there : Result (Option SignedImage) Fault) → faults_by there ≡ Ok (Some []) → IsTrue (is_unfaulted there)
-untold_unfaulted (Ok None) e = absurd (cc)
-untold_unfaulted (Ok (Some x)) e = ap has_none (empty_there (signature_faults_of x) e)
-untold_unfaulted (Err f) e = absurd (cc)
+pub unreported_unfaulted : (there : Result (Option SignedImage) Fault) → faults_by there ≡ Ok (Some []) → IsTrue (is_unfaulted there)
+unreported_unfaulted (Ok None) e = absurd (cc)
+unreported_unfaulted (Ok (Some x)) e = ap has_none (empty_there (signature_faults_of x) e)
+unreported_unfaulted (Err f) e = absurd (cc)

@@ -28,12 +28,12 @@ abbrev pub blob_object : (slot len : ℕ) → List ℕ
 blob_object slot len =
     codes "{\"bytes\":" ++ (decimal len ++ (codes ",\"name\":\"" ++ (slot_words slot ++ (codes "\",\"slot\":" ++ (decimal slot ++ codes "}")))))
 
-abbrev pub blob_told : Form → OtherBlob → List ℕ
-blob_told form b = by_form form (blob_text b.slot b.len) (blob_object b.slot b.len)
+abbrev pub blob_reported : Form → OtherBlob → List ℕ
+blob_reported form b = by_form form (blob_text b.slot b.len) (blob_object b.slot b.len)
 
 -- the lines of the first blobs, no more than `left`, in order, and the array of their objects
 abbrev pub blobs_lines : (left : ℕ) → SuperBlob → List ℕ
-blobs_lines left s = flat_map (λ b. blob_told Lines b ++ codes "\n") (take left (other_blobs_of s))
+blobs_lines left s = flat_map (λ b. blob_reported Lines b ++ codes "\n") (take left (other_blobs_of s))
 
 abbrev pub blobs_array : (left : ℕ) → SuperBlob → List ℕ
-blobs_array left s = codes "[" ++ (with_commas (map (blob_told Objects) (take left (other_blobs_of s))) ++ codes "]")
+blobs_array left s = codes "[" ++ (with_commas (map (blob_reported Objects) (take left (other_blobs_of s))) ++ codes "]")

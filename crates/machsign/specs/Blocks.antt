@@ -14,7 +14,7 @@ use Rattle.mach_signature.specs.declared.records.ExecutableSegment.{ExecutableSe
 use Rattle.mach_signature.specs.declared.records.RuntimeFields.{RuntimeFields}
 use Rattle.mach_cli.specs.Flags.{code_flags, segment_flags, worded_flags_text}
 use Rattle.mach_cli.specs.SignatureNames.{bytes_text, name_text}
-use Rattle.machsign.specs.Special.{shown_slots, slot_told}
+use Rattle.machsign.specs.Special.{shown_slots, slot_reported}
 use Rattle.machsign.specs.Texts.{hash_name, pages_text, runtime_text}
 use Rattle.machsign.specs.declared.form.Form.TheVariants.{Lines}
 
@@ -73,7 +73,7 @@ code_line d image = codes "  code: " ++ (code_text (page_count_of d) (code_fault
 
 -- the lines of the special slots
 abbrev pub special_lines : SignedImage → Directory → List ℕ
-special_lines x d = flat_map (λ s. slot_told Lines s ++ codes "\n") (shown_slots x d)
+special_lines x d = flat_map (λ s. slot_reported Lines s ++ codes "\n") (shown_slots x d)
 
 -- ---- the whole directory
 

@@ -1,6 +1,6 @@
 -- The entitlements that the program writes of a file.
 use Rattle.std.specs.Prelude.{◌≡◌, ◌⊎◌, ℕ, List, [], ◌∷◌, codes, Bool, true, false, Option, Some, None, Result, Ok, Err}
-use Rattle.mach_base.specs.Answer.{Stands}
+use Rattle.mach_base.specs.Answer.{ErrorMeets}
 use Rattle.mach_base.specs.Fault.{Fault}
 use Rattle.mach_base.specs.declared.error.Error.{Error}
 use Rattle.goblin_mach.specs.Facts.{OfImage}
@@ -10,7 +10,7 @@ use Rattle.goblin_mach.specs.Items.{ContentView, ItemView, content_bytes, items_
 use Rattle.goblin_mach.specs.declared.item.EntryCpu.{EntryCpu}
 use Rattle.mach_signature.specs.SuperBlob.{SuperBlob, content_of}
 use Rattle.mach_signature.specs.SignedImages.{image_signature}
-use Rattle.goblin_mach.specs.View.{Tells}
+use Rattle.goblin_mach.specs.View.{ReportsFault}
 use Rattle.mach_cli.specs.Cpus.{IsTaken, is_of_cpu}
 use Rattle.mach_cli.specs.Foreigners.{refused_words}
 use Rattle.mach_cli.specs.Shown.{complaint}
@@ -32,16 +32,16 @@ abbrev pub HasEntitlements : List ℕ → ℕ → Option (List ℕ) → Type 0
 HasEntitlements bytes o found = OfImage bytes o (λ ctx cs. found ≡ entitlements_of (image_signature bytes cs))
 
 -- whether an image is selected: by the cpu of its entry, or else by its header
-abbrev pub IsAskedImage : Cpu → Option EntryCpu → List ℕ → Bool → Type 0
-IsAskedImage cpu (Some entry) bytes asked = is_of_cpu cpu entry.cputype entry.cpusubtype ≡ asked
-IsAskedImage cpu None bytes asked = IsTaken cpu bytes asked
+abbrev pub IsSelectedImage : Cpu → Option EntryCpu → List ℕ → Bool → Type 0
+IsSelectedImage cpu (Some entry) bytes selected = is_of_cpu cpu entry.cputype entry.cpusubtype ≡ selected
+IsSelectedImage cpu None bytes selected = IsTaken cpu bytes selected
 
 -- the entitlements of what is at a place of a file, if it is a selected image; what is no image has none
 pub data EntitlesContent (cpu : Cpu) (entry : Option EntryCpu) (content : ContentView) : Option (List ℕ) → Type 0 where
-  asked_entitles : (found : Option (List ℕ)) → IsAskedImage cpu entry (content_bytes content) true → HasEntitlements (content_bytes content) 0 found
+  selected_entitles : (found : Option (List ℕ)) → IsSelectedImage cpu entry (content_bytes content) true → HasEntitlements (content_bytes content) 0 found
       → EntitlesContent cpu entry content found
-  other_entitles : IsAskedImage cpu entry (content_bytes content) false → EntitlesContent cpu entry content None
-  refusal_entitles : (e : Error) → Tells (ImageFault (content_bytes content) 0) e → EntitlesContent cpu entry content None
+  other_entitles : IsSelectedImage cpu entry (content_bytes content) false → EntitlesContent cpu entry content None
+  refusal_entitles : (e : Error) → ReportsFault (ImageFault (content_bytes content) 0) e → EntitlesContent cpu entry content None
 
 -- the entitlements of an item; an entry that can't be read has none
 pub data EntitlesItem (cpu : Cpu) (x : ItemView) : Option (List ℕ) → Type 0 where
@@ -74,4 +74,4 @@ EntitlementFault cpu bytes f = InputFault bytes f ⊎ RefusesItems cpu (items_in
 -- The line says that no selected image has entitlements, or why the file is refused, or that an allocation is.
 pub data SaysWhyNone (cpu : Cpu) (names bytes : List ℕ) : (said : List ℕ) → Type 0 where
   none_has_some : EntitlesItems cpu (items_in bytes) None → SaysWhyNone cpu names bytes (complaint names (codes "no entitlements"))
-  file_is_refused : (e : Error) → Stands (EntitlementFault cpu bytes) e → SaysWhyNone cpu names bytes (complaint names (refused_words bytes e))
+  file_is_refused : (e : Error) → ErrorMeets (EntitlementFault cpu bytes) e → SaysWhyNone cpu names bytes (complaint names (refused_words bytes e))

@@ -2,8 +2,8 @@
 use Rattle.std.specs.Prelude.{◌≡◌, ◌-◌, ℕ, List, [], ◌∷◌, ◌++◌, codes, length, take, map, flat_map, nat_lt, Bool, true, false, Option}
 use Rattle.std.specs.Io.KnownBytes.{Appends}
 use Rattle.mach_cli.specs.JsonArrays.{with_commas}
-use Rattle.mach_cli.specs.declared.listing.Told.{Told}
-use Rattle.mach_signature.specs.AsSigned.{SignatureFaultSeen}
+use Rattle.mach_cli.specs.declared.listing.ListProgress.{ListProgress}
+use Rattle.mach_signature.specs.AsSigned.{SignatureFaultView}
 use Rattle.mach_signature.specs.FaultViews.{signature_fault_view}
 use Rattle.mach_signature.specs.SignWords.{signature_fault_words}
 use Rattle.mach_signature.specs.declared.fault.SignatureFault.{SignatureFault}
@@ -27,22 +27,22 @@ has_none [] = true
 has_none (x ∷ xs) = false
 
 -- The text has the first of these faults, no more than `left`, in order, each with the words of an error that reports its fault.
-pub record TellsFaults (telling : List SignatureFault → List ℕ) (left : ℕ) (faults : List SignatureFaultSeen) (text : List ℕ) : Type 0 where
+pub record ReportsFaults (telling : List SignatureFault → List ℕ) (left : ℕ) (faults : List SignatureFaultView) (text : List ℕ) : Type 0 where
   pub answers : List SignatureFault
   pub are_faults : map signature_fault_view answers ≡ take left faults
   pub is_text : text ≡ telling answers
 
 -- What is known of faults whose first ones were printed, no more than `left`: whether there is none, how many more may be
 -- printed, and whether there are more.
-pub record CountsFaults (left : ℕ) (faults : List SignatureFaultSeen) (t : Told) : Type 0 where
+pub record CountsFaults (left : ℕ) (faults : List SignatureFaultView) (t : ListProgress) : Type 0 where
   pub whole : t.whole ≡ has_none faults
   pub rest : t.left ≡ left - length faults
   pub more : t.more ≡ nat_lt left (length faults)
 
 -- Such a text was written.
-pub record WritesFaults (telling : List SignatureFault → List ℕ) (left : ℕ) (faults : List SignatureFaultSeen) (old new : Option (List ℕ)) (t : Told)
+pub record WritesFaults (telling : List SignatureFault → List ℕ) (left : ℕ) (faults : List SignatureFaultView) (old new : Option (List ℕ)) (t : ListProgress)
     : Type 0 where
   pub text : List ℕ
-  pub tells : TellsFaults telling left faults text
+  pub reports : ReportsFaults telling left faults text
   pub counts : CountsFaults left faults t
   pub written : Appends old new text

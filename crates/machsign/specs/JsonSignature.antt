@@ -20,7 +20,7 @@ use Rattle.mach_signature.specs.declared.records.DirectoryHead.{DirectoryHead}
 use Rattle.mach_signature.specs.declared.records.ExecutableSegment.{ExecutableSegment}
 use Rattle.mach_signature.specs.declared.records.RuntimeFields.{RuntimeFields}
 use Rattle.machsign.specs.Blobs.{blobs_array}
-use Rattle.machsign.specs.Faults.{fault_strings, TellsFaults}
+use Rattle.machsign.specs.Faults.{fault_strings, ReportsFaults}
 use Rattle.machsign.specs.ImageLines.{HasSigned, is_there_cut}
 use Rattle.machsign.specs.Signatures.{blobs_counted, is_cut, is_unfaulted_whole, limited_count}
 use Rattle.machsign.specs.Special.{slots_array}
@@ -112,7 +112,7 @@ pub record IsSignedObject (left : ℕ) (x : SignedImage) (text : List ℕ) (whol
   pub directory : Result CodeDirectory Error
   pub is_directory : read_as directory_view directory ≡ directory_of x.signature
   pub faults : List ℕ
-  pub are_faults : TellsFaults fault_strings (left - blobs_counted x) (signature_faults_of x) faults
+  pub are_faults : ReportsFaults fault_strings (left - blobs_counted x) (signature_faults_of x) faults
   pub is_text : text
       ≡ (codes "{\"blobs\":" ++ blobs_array left x.signature) ++ (before_faults directory ++ (faults ++ after_faults x (is_cut left x) directory))
   pub is_whole : whole ≡ is_unfaulted_whole left x

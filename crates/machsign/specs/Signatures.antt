@@ -10,7 +10,7 @@ use Rattle.mach_signature.specs.Directories.{Directory}
 use Rattle.mach_cli.specs.Listings.{cut_line}
 use Rattle.machsign.specs.Blobs.{blobs_lines, other_blobs_of}
 use Rattle.machsign.specs.Blocks.{slot_directory_lines}
-use Rattle.machsign.specs.Faults.{signature_fault_lines, has_none, TellsFaults}
+use Rattle.machsign.specs.Faults.{signature_fault_lines, has_none, ReportsFaults}
 
 -- the lines of its directories, in the order of the index; if none is used, no directory has lines
 abbrev pub directories_lines_by : Result Directory Fault → (lines : List ℕ) → List ℕ
@@ -40,7 +40,7 @@ is_unfaulted_whole left x = has_none (signature_faults_of x) && not (is_cut left
 -- and all is printed.
 pub record AreSignedLines (limit left : ℕ) (x : SignedImage) (text : List ℕ) (whole : Bool) (rest : ℕ) : Type 0 where
   pub faults : List ℕ
-  pub are_faults : TellsFaults signature_fault_lines (left - blobs_counted x) (signature_faults_of x) faults
+  pub are_faults : ReportsFaults signature_fault_lines (left - blobs_counted x) (signature_faults_of x) faults
   pub is_text : text ≡ directories_lines x ++ (blobs_lines left x.signature ++ (faults ++ cut_line limit (is_cut left x)))
   pub is_whole : whole ≡ is_unfaulted_whole left x
   pub is_rest : rest ≡ left - limited_count x

@@ -48,28 +48,28 @@ slot_state (Some (faults.Absent k)) there = Absent
 -- ---- which slots are shown
 
 -- a slot as it is printed: its number, its hash, and its state
-pub record SlotSeen : Type 0 where
+pub record SlotView : Type 0 where
   pub number : ℕ
   pub hash : List ℕ
   pub state : SlotState
 
-abbrev pub seen_slot : ℕ → List ℕ → SlotState → SlotSeen
+abbrev pub seen_slot : ℕ → List ℕ → SlotState → SlotView
 seen_slot k hash state = record { number = k; hash = hash; state = state }
 
 -- a slot with a fault, or one whose hash isn't zero
-abbrev pub if_shown : ℕ → List ℕ → Option SpecialFault → Result (Option (List ℕ)) Fault → Option SlotSeen
+abbrev pub if_shown : ℕ → List ℕ → Option SpecialFault → Result (Option (List ℕ)) Fault → Option SlotView
 if_shown k hash None there = if is_unsealing hash then None else Some (seen_slot k hash (unfaulted_state there))
 if_shown k hash (Some fault) there = Some (seen_slot k hash (slot_state (Some fault) there))
 
-abbrev pub shown_if_any : SignedImage → Directory → ℕ → Option (List ℕ) → Option SlotSeen
+abbrev pub shown_if_any : SignedImage → Directory → ℕ → Option (List ℕ) → Option SlotView
 shown_if_any x d k None = None
 shown_if_any x d k (Some hash) = if_shown k hash (special_fault d x.signature x.plist k) (component_of x.signature x.plist k)
 
-abbrev pub shown_slot : SignedImage → Directory → ℕ → Option SlotSeen
+abbrev pub shown_slot : SignedImage → Directory → ℕ → Option SlotView
 shown_slot x d k = shown_if_any x d k (special_slot_of d k)
 
 -- the shown slots up to 11, from 1 on
-abbrev pub shown_slots : SignedImage → Directory → List SlotSeen
+abbrev pub shown_slots : SignedImage → Directory → List SlotView
 shown_slots x d = filter_map (λ k. shown_slot x d (k + 1)) (range_with_len 0 (min d.head.n_special_slots 11))
 
 -- ---- their texts
@@ -84,16 +84,16 @@ hash_after Unsealed hash = []
 hash_after Changed hash = []
 hash_after Absent hash = []
 
-abbrev pub slot_line : SlotSeen → List ℕ
+abbrev pub slot_line : SlotView → List ℕ
 slot_line s = (codes "  " ++ (slot_words s.number ++ (codes ": " ++ state_text s.state))) ++ hash_after s.state s.hash
 
-abbrev pub special_slot_object : SlotSeen → List ℕ
+abbrev pub special_slot_object : SlotView → List ℕ
 special_slot_object s =
     codes "{\"hash\":\"" ++ (bytes_text s.hash ++ (codes "\",\"name\":\"" ++ (slot_words s.number
     ++ (codes "\",\"slot\":" ++ (decimal s.number ++ (codes ",\"state\":\"" ++ (state_text s.state ++ codes "\"}")))))))
 
-abbrev pub slot_told : Form → SlotSeen → List ℕ
-slot_told form s = by_form form (slot_line s) (special_slot_object s)
+abbrev pub slot_reported : Form → SlotView → List ℕ
+slot_reported form s = by_form form (slot_line s) (special_slot_object s)
 
 -- the array of them
 abbrev pub slots_array : SignedImage → Directory → List ℕ

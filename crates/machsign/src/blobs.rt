@@ -4,7 +4,7 @@ ghost use Rattle.std.specs.Prelude.{◌≡◌, Some, OnOk};
 ghost use Rattle.std.specs.Io.KnownBytes.{Appends};
 ghost use Rattle.std.specs.Iterator.{YieldsFirst};
 ghost use Rattle.mach_signature.specs.SignViews.{blob_read, signature_view};
-ghost use Rattle.machsign.specs.Blobs.{blob_told, other_blob, other_blobs_of};
+ghost use Rattle.machsign.specs.Blobs.{blob_reported, other_blob, other_blobs_of};
 ghost use Rattle.machsign.specs.BlobsLeft.{blob_row_text, blob_rows_left, blobs_yet};
 
 use crate::form::Form;
@@ -30,7 +30,7 @@ pub struct BlobRow {
 }
 
 impl Display for BlobRow {
-    ghost output = { λ row. Some (blob_told row.form row.blob) };
+    ghost output = { λ row. Some (blob_reported row.form row.blob) };
 
     fn fmt<W: fmt::Write>(&self, f: &mut Formatter<W>) -> fmt::Result {
         let OtherBlob { slot, len } = self.blob;

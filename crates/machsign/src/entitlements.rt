@@ -4,7 +4,7 @@ ghost use Rattle.std.specs.Prelude.{◌≡◌, ◌≤◌, [], ℕ, List, codes, 
 ghost use Rattle.std.specs.Io.Buffered.{writer_buffer, writer_contents};
 ghost use Rattle.std.specs.Io.KnownBytes.{Appends};
 ghost use Rattle.std.specs.Option.{option_map};
-ghost use Rattle.mach_base.specs.Answer.{IsOkUnlessMemory, Stands};
+ghost use Rattle.mach_base.specs.Answer.{IsOkUnlessMemory, ErrorMeets};
 ghost use Rattle.mach_base.specs.Items.{read_as};
 ghost use Rattle.mach_signature.specs.DirectoryViews.{slot_read};
 ghost use Rattle.mach_signature.specs.SignViews.{signature_view};
@@ -12,14 +12,14 @@ ghost use Rattle.mach_cli.specs.Foreigners.{refused_words};
 ghost use Rattle.mach_cli.specs.Names.{names_text};
 ghost use Rattle.mach_cli.specs.Shown.{complaint};
 ghost use Rattle.mach_cli.specs.Statuses.{IsStatus};
-ghost use Rattle.goblin_mach.specs.View.{IsTold};
+ghost use Rattle.goblin_mach.specs.View.{IsReported};
 ghost use Rattle.goblin_mach.specs.OpenImage.{IsImage};
 ghost use Rattle.goblin_mach.specs.Items.{content_view, items_in};
 ghost use Rattle.goblin_mach.specs.ItemsLeft.{input_item_read};
-ghost use Rattle.machsign.specs.Entitlements.{entitlements_of, HasEntitlements, EntitlesContent, EntitlesItem, EntitlesItems, IsAskedImage};
+ghost use Rattle.machsign.specs.Entitlements.{entitlements_of, HasEntitlements, EntitlesContent, EntitlesItem, EntitlesItems, IsSelectedImage};
 ghost use Rattle.machsign.specs.Entitlements.{RefusesItem, EntitlementFault, SaysWhyNone};
 
-use crate::run::NAME;
+use crate::signature_view::NAME;
 use goblin_mach::{Content, EntryCpu, Error, Input, InputItem, MachO, Result, describe};
 use mach_cli::output::failed;
 use mach_cli::{Cpu, Names, refused_kind};
@@ -52,7 +52,7 @@ fn of_image<'a, A: Allocator>(image: &MachO<'a, A>) -> Option<&'a [u8]>
 
 // Returns no entitlements for what is no image; a refused allocation stays an error.
 fn of_refused<'a>(error: Error) -> Result<Option<&'a [u8]>>
-    ensures none { IfOk result (λ found. (slot_read found ≡ None) × IsTold error) }
+    ensures none { IfOk result (λ found. (slot_read found ≡ None) × IsReported error) }
     ensures memory { IsOkUnlessMemory result }
 {
     match error {
@@ -62,8 +62,8 @@ fn of_refused<'a>(error: Error) -> Result<Option<&'a [u8]>>
 }
 
 // Whether an image is selected: by the cpu of its entry, or else by its header.
-fn is_asked<A: Allocator>(cpu: Cpu, entry: Option<EntryCpu>, image: &MachO<'_, A>) -> bool
-    ensures { (bytes : List ℕ) → IsImage bytes 0 image.now → IsAskedImage cpu entry bytes result }
+fn is_selected<A: Allocator>(cpu: Cpu, entry: Option<EntryCpu>, image: &MachO<'_, A>) -> bool
+    ensures { (bytes : List ℕ) → IsImage bytes 0 image.now → IsSelectedImage cpu entry bytes result }
 {
     match entry {
         Some(entry) => cpu.takes(entry.cputype, entry.cpusubtype),
@@ -82,7 +82,7 @@ fn of_content<'a, A: Allocator + Clone>(
     ensures memory { IsOkUnlessMemory result }
 {
     match content.open(alloc.clone()?) {
-        Ok(image) if is_asked(cpu, entry, &image) => Ok(of_image(&image)),
+        Ok(image) if is_selected(cpu, entry, &image) => Ok(of_image(&image)),
         Ok(_) => Ok(None),
         Err(error) => of_refused(error),
     }
@@ -96,7 +96,7 @@ fn of_item<'a, A: Allocator + Clone>(
     item: InputItem<'a>,
 ) -> Result<Option<&'a [u8]>>
     ensures found { IfOk result (λ found. EntitlesItem cpu (input_item_read item.entry) (slot_read found)) }
-    ensures refused { IfErr result (Stands (RefusesItem (input_item_read item.entry))) }
+    ensures refused { IfErr result (ErrorMeets (RefusesItem (input_item_read item.entry))) }
 {
     let place = item.place;
     match item.content {
@@ -117,7 +117,7 @@ fn first_in<'a, A: Allocator + Clone>(
     bytes: &'a [u8],
 ) -> Result<Option<&'a [u8]>>
     ensures found { IfOk result (λ found. EntitlesItems cpu (items_in bytes.now) (slot_read found)) }
-    ensures refused { IfErr result (Stands (EntitlementFault cpu bytes.now)) }
+    ensures refused { IfErr result (ErrorMeets (EntitlementFault cpu bytes.now)) }
 {
     let input = Input::parse(alloc.clone()?, bytes)?;
     'items: for item in input.images() {
@@ -143,7 +143,7 @@ fn put<W: Write + Drop, B: Allocator>(bytes: &[u8], out: &mut BufWriter<W, B>) -
 fn none_there<E: Write>(file: &str, err: &mut E) -> u8
     ensures bound { IsStatus result }
     ensures not_zero { 1 ≤ result }
-    ensures told { result ≡ 1 → Appends (E.contents err.old) (E.contents err.new)
+    ensures reported { result ≡ 1 → Appends (E.contents err.old) (E.contents err.new)
         (complaint (names_text (codes "machsign") file.now) (codes "no entitlements")) }
 {
     let names = Names {
@@ -178,7 +178,7 @@ fn say_refused<E: Write>(file: &str, bytes: &[u8], error: &Error, err: &mut E) -
 fn refused<E: Write>(file: &str, bytes: &[u8], error: &Error, err: &mut E) -> u8
     ensures bound { IsStatus result }
     ensures not_zero { 1 ≤ result }
-    ensures told { result ≡ 1 → Appends (E.contents err.old) (E.contents err.new)
+    ensures reported { result ≡ 1 → Appends (E.contents err.old) (E.contents err.new)
         (complaint (names_text (codes "machsign") file.now) (refused_words bytes.now error.now)) }
 {
     match say_refused(file, bytes, error, err) {
@@ -204,7 +204,7 @@ pub fn run_entitlements<A: Allocator + Clone, W: Write + Drop, B: Allocator, E: 
         × Appends (writer_contents W.contents out.old) (writer_contents W.contents out.new) found }
     ensures flushed { result ≡ 0 → writer_buffer out.new ≡ [] }
     ensures nothing { result ≡ 1 → Appends (writer_contents W.contents out.old) (writer_contents W.contents out.new) [] }
-    ensures told { result ≡ 1 → (said : List ℕ) × SaysWhyNone cpu (names_text (codes "machsign") file.now) bytes.now said
+    ensures reported { result ≡ 1 → (said : List ℕ) × SaysWhyNone cpu (names_text (codes "machsign") file.now) bytes.now said
         × Appends (E.contents err.old) (E.contents err.new) said }
 {
     match first_in(&alloc, cpu, bytes) {

@@ -10,9 +10,9 @@ ghost use Rattle.mach_cli.specs.Documents.{IsDocument};
 ghost use Rattle.machsign.specs.JsonSignature.{AreImageSignatureMembers};
 
 use crate::members::write_members;
-use crate::run::NAME;
+use crate::signature_view::NAME;
 use goblin_mach::MachO;
-use mach_cli::{Cpu, Failure, Heading, Names, Outcome, Shows, most_items};
+use mach_cli::{Cpu, Heading, ImageView, Names, Outcome, ShowFailure, most_items};
 use std::alloc::Allocator;
 use std::io::{BufWriter, Write};
 
@@ -22,8 +22,8 @@ struct ObjectsOf<'a> {
     file: &'a str,
 }
 
-impl Shows for ObjectsOf<'_> {
-    ghost names = { λ asked. names_text (codes "machsign") asked.file.now };
+impl ImageView for ObjectsOf<'_> {
+    ghost names = { λ selected. names_text (codes "machsign") selected.file.now };
 
     ghost lines = { λ _. AreImageSignatureMembers };
 
@@ -41,7 +41,7 @@ impl Shows for ObjectsOf<'_> {
         heading: Heading,
         left: usize,
         out: &mut O,
-    ) -> Result<Outcome, Failure> {
+    ) -> Result<Outcome, ShowFailure> {
         write!(out, "{heading}")?;
         Ok(write_members(image, left, out)?)
     }

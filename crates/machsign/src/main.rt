@@ -7,6 +7,7 @@
 //! It does not check who signed: a CMS blob is not verified, and no other file is read.
 #![tactic(auto)]
 
+mod arguments;
 mod blobs;
 mod block;
 mod entitlements;
@@ -15,23 +16,22 @@ mod json;
 mod laws;
 mod members;
 mod print;
-mod run;
+mod signature_view;
 mod signed;
 mod special;
 mod text;
-mod words;
 
+use arguments::take_entitlements;
 use entitlements::run_entitlements;
 use json::run_json;
 use mach_cli::{
-    Call, Cpu, Files, ForTerminal, Misuse, Others, Program, ShowsFile, Titled, take_json,
+    Call, Cpu, FileView, Files, ForTerminal, Misuse, Others, Program, Titled, take_json,
 };
-use run::{NAME, run};
+use signature_view::{NAME, run};
 use std::alloc::{Allocator, Global};
 use std::io;
 use std::io::{BufWriter, IsTerminal, Write};
 use std::process::ExitCode;
-use words::take_entitlements;
 
 const PROGRAM: Program = Program {
     name: NAME,
@@ -66,21 +66,21 @@ fn start(rt: &HostRuntime) -> Result<u8, u8> {
     let Ok((is_json, words)) = take_json(rt.alloc(), words) else {
         return Err(PROGRAM.out_of_memory(rt));
     };
-    let Ok((are_asked, words)) = take_entitlements(rt.alloc(), words) else {
+    let Ok((are_selected, words)) = take_entitlements(rt.alloc(), words) else {
         return Err(PROGRAM.out_of_memory(rt));
     };
     let call = PROGRAM.call(rt, &words)?;
-    answer(rt, are_asked, is_json, &call)
+    answer(rt, are_selected, is_json, &call)
 }
 
 // Runs a parsed call: writes entitlements, or shows each file.
 fn answer(
     rt: &HostRuntime,
-    are_asked: bool,
+    are_selected: bool,
     is_json: bool,
     call: &Call<'_, Global>,
 ) -> Result<u8, u8> {
-    if are_asked {
+    if are_selected {
         return write_entitlements(rt, call.cpu, &call.words);
     }
     let shown = Shown {
@@ -111,7 +111,7 @@ struct Shown {
     is_json: bool,
 }
 
-impl<W: Write + Drop, B: Allocator> ShowsFile<BufWriter<W, B>> for Shown {
+impl<W: Write + Drop, B: Allocator> FileView<BufWriter<W, B>> for Shown {
     fn show(&self, rt: &HostRuntime, name: &str, bytes: &[u8], out: &mut BufWriter<W, B>) -> u8 {
         let (alloc, err) = (rt.alloc(), &mut rt.stderr());
         let Shown {

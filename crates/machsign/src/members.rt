@@ -5,7 +5,7 @@ ghost use Rattle.std.specs.Io.KnownBytes.{Appends};
 ghost use Rattle.std.specs.Option.{option_map};
 ghost use Rattle.mach_base.specs.Items.{read_as};
 ghost use Rattle.mach_base.specs.Words.{words_of};
-ghost use Rattle.goblin_mach.specs.OpenImage.{bytes_held, commands_held, segments_held};
+ghost use Rattle.goblin_mach.specs.OpenImage.{bytes_view, commands_view, segments_view};
 ghost use Rattle.mach_cli.specs.JsonArrays.{comma_before, with_commas};
 ghost use Rattle.mach_cli.specs.JsonText.{json_string};
 ghost use Rattle.mach_signature.specs.DirectoryViews.{directory_view};
@@ -22,7 +22,7 @@ use crate::signed::signed_image;
 use crate::special::{MOST_SLOTS, SpecialSlots};
 use crate::text::RuntimeText;
 use goblin_mach::{Error, MachO, Result, describe};
-use mach_cli::{JsonString, Outcome, Told, print_array, print_bytes};
+use mach_cli::{JsonString, ListProgress, Outcome, print_array, print_bytes};
 use mach_signature::{
     CodeDirectory, ExecutableSegment, RuntimeFields, SignatureFault, SignatureFaults, SignedBytes,
 };
@@ -39,7 +39,7 @@ pub fn write_members<A: Allocator, O: Write>(
     out: &mut O,
 ) -> io::Result<Outcome>
     ensures { IfOk result (λ outcome. defined.WritesSignatureMembers left
-        (image_signed (bytes_held image.now) (commands_held image.now) (segments_held image.now)) outcome.whole outcome.left
+        (image_signed (bytes_view image.now) (commands_view image.now) (segments_view image.now)) outcome.whole outcome.left
         (O.contents out.old) (O.contents out.new)) }
 {
     write!(out, "\"kind\":\"image\",\"signature\":")?;
@@ -305,7 +305,7 @@ fn write_faults<O: Write>(
     mut faults: SignatureFaults<'_>,
     limit: usize,
     out: &mut O,
-) -> io::Result<Told>
+) -> io::Result<ListProgress>
     ensures { IfOk result (WritesFaults fault_strings limit (signature_faults_left faults.entry) (O.contents out.old) (O.contents out.new)) }
 {
     let mut left = limit;
@@ -314,7 +314,7 @@ fn write_faults<O: Write>(
         let is_first = whole;
         whole = false;
         let Some(rest) = left.checked_sub(1) else {
-            return Ok(Told {
+            return Ok(ListProgress {
                 left: 0,
                 whole,
                 more: true,
@@ -323,7 +323,7 @@ fn write_faults<O: Write>(
         left = rest;
         write_fault(&fault, is_first, out)?;
     }
-    Ok(Told {
+    Ok(ListProgress {
         left,
         whole,
         more: false,

@@ -3,7 +3,7 @@
 ghost use Rattle.std.specs.Prelude.{◌≡◌, ◌++◌, ◌&&◌, codes, false, not, flat_map, IfOk, OnOk};
 ghost use Rattle.std.specs.Io.KnownBytes.{Appends};
 ghost use Rattle.mach_base.specs.Words.{words_of};
-ghost use Rattle.goblin_mach.specs.OpenImage.{bytes_held, commands_held, segments_held};
+ghost use Rattle.goblin_mach.specs.OpenImage.{bytes_view, commands_view, segments_view};
 ghost use Rattle.mach_signature.specs.Chosen.{directories_of};
 ghost use Rattle.mach_signature.specs.ChosenViews.{slot_directory_read};
 ghost use Rattle.mach_signature.specs.FaultViews.{signed_view, signature_faults_left};
@@ -18,7 +18,7 @@ use crate::block::print_directory;
 use crate::form::Form;
 use crate::signed::signed_image;
 use goblin_mach::{Error, MachO, describe};
-use mach_cli::{Outcome, Told, print_cut, print_rows};
+use mach_cli::{ListProgress, Outcome, print_cut, print_rows};
 use mach_signature::{CodeDirectory, SignatureFault, SignatureFaults, SignedBytes};
 use std::alloc::Allocator;
 use std::io;
@@ -34,7 +34,7 @@ pub fn print_signature<A: Allocator, O: Write>(
     out: &mut O,
 ) -> io::Result<Outcome>
     ensures { IfOk result (λ outcome. defined.WritesSignature limit left
-        (image_signed (bytes_held image.now) (commands_held image.now) (segments_held image.now)) outcome.whole outcome.left
+        (image_signed (bytes_view image.now) (commands_view image.now) (segments_view image.now)) outcome.whole outcome.left
         (O.contents out.old) (O.contents out.new)) }
 {
     match signed_image(image) {
@@ -133,7 +133,7 @@ fn print_faults<O: Write>(
     mut faults: SignatureFaults<'_>,
     limit: usize,
     out: &mut O,
-) -> io::Result<Told>
+) -> io::Result<ListProgress>
     ensures { IfOk result (WritesFaults signature_fault_lines limit (signature_faults_left faults.entry) (O.contents out.old) (O.contents out.new)) }
 {
     let mut left = limit;
@@ -141,7 +141,7 @@ fn print_faults<O: Write>(
     'faults: while let Some(fault) = faults.next() {
         whole = false;
         let Some(rest) = left.checked_sub(1) else {
-            return Ok(Told {
+            return Ok(ListProgress {
                 left: 0,
                 whole,
                 more: true,
@@ -150,7 +150,7 @@ fn print_faults<O: Write>(
         left = rest;
         print_fault(&fault, out)?;
     }
-    Ok(Told {
+    Ok(ListProgress {
         left,
         whole,
         more: false,

@@ -3,7 +3,7 @@
 ghost use Rattle.std.specs.Prelude.{◌≡◌, Option};
 ghost use Rattle.std.specs.Option.{option_map};
 ghost use Rattle.mach_base.specs.Answer.{Reads};
-ghost use Rattle.goblin_mach.specs.OpenImage.{bytes_held, commands_held, segments_held};
+ghost use Rattle.goblin_mach.specs.OpenImage.{bytes_view, commands_view, segments_view};
 ghost use Rattle.mach_signature.specs.FaultViews.{signed_view};
 ghost use Rattle.machsign.specs.ImageLines.{image_signed};
 
@@ -14,7 +14,7 @@ use std::alloc::Allocator;
 
 /// Returns the signature of an image, if it has one, with the bytes of the image.
 pub fn signed_image<'a, A: Allocator>(image: &MachO<'a, A>) -> Result<Option<SignedBytes<'a>>>
-    ensures { Reads (option_map signed_view) result (image_signed (bytes_held image.now) (commands_held image.now) (segments_held image.now)) }
+    ensures { Reads (option_map signed_view) result (image_signed (bytes_view image.now) (commands_view image.now) (segments_view image.now)) }
 {
     let Some((dataoff, datasize)) = signature_place(image.load_commands.as_slice()) else {
         return Ok(None);

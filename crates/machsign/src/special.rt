@@ -144,7 +144,7 @@ impl<'a> SpecialSlots<'a> {
     }
 
     // Returns the next slot.
-    #[tactic(auto, using(mach_signature::proofs::NumberedLists::told_first, mach_signature::proofs::NumberedLists::told_none))]
+    #[tactic(auto, using(mach_signature::proofs::NumberedLists::reported_first, mach_signature::proofs::NumberedLists::reported_none))]
     fn take_next(&mut self) -> Option<SpecialSlot<'a>>
         ensures slot { YieldsFirstBy special_slot_view slots_yet self.old result self.new }
         ensures form { self.new.form ≡ self.old.form }

@@ -13,7 +13,7 @@ use Rattle.std.specs.Option.{option_map}
 use Rattle.std.specs.Prelude.{MatchOption, Some, None, not}
 use Rattle.std.specs.Str.{bytes_eq}
 use Rattle.std.specs.Str.Pattern.{FindsTextSuffix, StripsSuffix, RFindsChar, SplitsAroundMatch}
-use Rattle.machsyms.specs.ShortNames.{cut_end, is_other, part_behind, part_before}
+use Rattle.machsyms.specs.ShortNames.{cut_end, is_other, part_after, part_before}
 
 never_so : (b : Bool) → (b ≡ true → ⊥) → b ≡ false
 never_so true never = absurd (never refl)
@@ -40,7 +40,7 @@ end_cut end text (Some x) h =
 
 -- what `rsplit_once` returns for a byte that is a character
 module _ (c : ℕ) (text : List ℕ) (low : c < 128) where
-  pub no_parts : RFindsChar c text None → (part_behind c text ≡ text) × (part_before c text ≡ [])
+  pub no_parts : RFindsChar c text None → (part_after c text ≡ text) × (part_before c text ≡ [])
   no_parts none =
       let all : suffix_len (is_other c) text ≡ length text - 0 =
       suffix_len_is (is_other c) text 0 0 (omega arith) (λ k a inside. ap not (ne_eqb (get_or text k 0) c (NoCharPasses-char c text k none low inside)))
@@ -50,7 +50,7 @@ module _ (c : ℕ) (text : List ℕ) (low : c < 128) where
       )
 
   pub parts_around : (front back : List ℕ) → SplitsAroundMatch (RFindsChar c) text front back
-      → (front ≡ part_before c text) × (back ≡ part_behind c text)
+      → (front ≡ part_before c text) × (back ≡ part_after c text)
   parts_around front back h =
       let i = h.0 in
       let j = h.1 in

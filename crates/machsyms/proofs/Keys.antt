@@ -10,24 +10,24 @@ use Rattle.machsyms.specs.declared.order.SortKey.{SortKey}
 
 module _ (by : SortedBy) (t : SymbolTable) where
   -- the keys of the symbols from a number on
-  abbrev pub keys_behind : ℕ → List SymbolKey
-  keys_behind i = items_from (λ k. symbol_key_of by k (symbol_at t k)) i (t.nsyms - i)
+  abbrev pub keys_after : ℕ → List SymbolKey
+  keys_after i = items_from (λ k. symbol_key_of by k (symbol_at t k)) i (t.nsyms - i)
 
-  pub keys_none : (keys : List SortKey) → keys ≡ [] → map key_view keys ++ keys_behind 0 ≡ keys_of_table by t
+  pub keys_none : (keys : List SortKey) → keys ≡ [] → map key_view keys ++ keys_after 0 ≡ keys_of_table by t
   keys_none keys none =
       let all : t.nsyms - 0 ≡ t.nsyms = omega arith in
-      ap (λ ks. map key_view ks ++ keys_behind 0) none ∙ ap (λ (n : ℕ). items_from (λ k. symbol_key_of by k (symbol_at t k)) 0 n) all
+      ap (λ ks. map key_view ks ++ keys_after 0) none ∙ ap (λ (n : ℕ). items_from (λ k. symbol_key_of by k (symbol_at t k)) 0 n) all
 
   pub keys_more : (done more : List SortKey) (key : SortKey) (i : ℕ) → i < t.nsyms → more ≡ done ++ key ∷ []
-      → key_view key ≡ symbol_key_of by i (symbol_at t i) → map key_view more ++ keys_behind (i + 1) ≡ map key_view done ++ keys_behind i
+      → key_view key ≡ symbol_key_of by i (symbol_at t i) → map key_view more ++ keys_after (i + 1) ≡ map key_view done ++ keys_after i
   keys_more done more key i inside are is =
-      ap (λ ks. map key_view ks ++ keys_behind (i + 1)) are
-      ∙ ap (λ front. front ++ keys_behind (i + 1)) (map-append key_view done (key ∷ []))
-      ∙ append_assoc (map key_view done) (key_view key ∷ []) (keys_behind (i + 1))
-      ∙ ap (λ x. map key_view done ++ x ∷ keys_behind (i + 1)) is
+      ap (λ ks. map key_view ks ++ keys_after (i + 1)) are
+      ∙ ap (λ front. front ++ keys_after (i + 1)) (map-append key_view done (key ∷ []))
+      ∙ append_assoc (map key_view done) (key_view key ∷ []) (keys_after (i + 1))
+      ∙ ap (λ x. map key_view done ++ x ∷ keys_after (i + 1)) is
       ∙ ap (λ rest. map key_view done ++ rest) (sym (items_from-first (λ k. symbol_key_of by k (symbol_at t k)) i t.nsyms inside))
 
-  pub keys_all : (done : List SortKey) (i : ℕ) → t.nsyms ≤ i → map key_view done ++ keys_behind i ≡ keys_of_table by t
+  pub keys_all : (done : List SortKey) (i : ℕ) → t.nsyms ≤ i → map key_view done ++ keys_after i ≡ keys_of_table by t
       → map key_view done ≡ keys_of_table by t
   keys_all done i over is =
       let none : t.nsyms - i ≡ 0 = omega (arith, over) in

@@ -1,6 +1,6 @@
 mod Written
 mod Taken
 mod Keys
-mod AskedLists
+mod SelectedLists
 mod SymbolLines
 mod Ends

@@ -22,9 +22,9 @@ use Rattle.machsyms.specs.Letters.{letter, letter_at, letter_of, named_sections,
 use Rattle.machsyms.specs.Lines.{fields_text, file_text, form_text, kind_text, letter_text, line_text, padded_hex, right, stab_text, value_text, words_text}
 use Rattle.machsyms.specs.Setting.{SymbolSetting, setting_of, symbol_described}
 use Rattle.machsyms.specs.Stabs.{name_among, stab_name, stab_names}
-use Rattle.machsyms.specs.SymbolWords.{alignment_text, giver_said, kind_words, mark_words}
-use Rattle.machsyms.specs.SymbolWords.{origin_said, reach_words, section_text, symbol_words, undefined_words}
-use Rattle.machsyms.specs.declared.selection.Asked.{Asked}
+use Rattle.machsyms.specs.SymbolWords.{alignment_text, provider_words, kind_words, mark_words}
+use Rattle.machsyms.specs.SymbolWords.{origin_words, reach_words, section_text, symbol_words, undefined_words}
+use Rattle.machsyms.specs.declared.selection.Request.{Request}
 use Rattle.machsyms.specs.declared.selection.Form.{Form}
 use Rattle.machsyms.specs.declared.selection.Form.TheVariants.{Letters, Names, Hexadecimal, Words}
 
@@ -198,7 +198,7 @@ no_feed-reach s = search (no_feeds, rules)
 no_feed-marks : (filetype : ℕ) (s : Nlist) → has_no_feed (mark_words filetype s) ≡ true
 no_feed-marks filetype s = search (no_feeds, rules)
 
-no_feed-giver : (desc : ℕ) (p : Result Provider Fault) → has_no_feed (giver_said false desc p) ≡ true
+no_feed-giver : (desc : ℕ) (p : Result Provider Fault) → has_no_feed (provider_words false desc p) ≡ true
 no_feed-giver desc (Ok (of_library ordinal path)) = search (no_feeds, rules)
 no_feed-giver desc (Ok itself) = refl
 no_feed-giver desc (Ok main_executable) = refl
@@ -206,7 +206,7 @@ no_feed-giver desc (Ok flat) = refl
 no_feed-giver desc (Ok weak_lookup) = refl
 no_feed-giver desc (Err f) = search (no_feeds, rules)
 
-no_feed-origin : (desc : ℕ) (p : Option (Result Provider Fault)) → has_no_feed (origin_said false desc p) ≡ true
+no_feed-origin : (desc : ℕ) (p : Option (Result Provider Fault)) → has_no_feed (origin_words false desc p) ≡ true
 no_feed-origin desc None = refl
 no_feed-origin desc (Some p) = no_feed-giver desc p
 
@@ -230,7 +230,7 @@ no_feed-file : (file : Option (Bor (List ℕ))) → has_no_feed (file_text false
 no_feed-file None = refl
 no_feed-file (Some file) = search (no_feeds, rules)
 
-pub symbol_is_one_line : (a : Asked) (is_64 : Bool) (f : Facts) (name : List ℕ) (s : Nlist) → a.is_raw ≡ false
+pub symbol_is_one_line : (a : Request) (is_64 : Bool) (f : Facts) (name : List ℕ) (s : Nlist) → a.is_raw ≡ false
     → IsOneLine (line_text a (setting_of is_64 f) (name, s) ++ codes "\n")
 symbol_is_one_line a is_64 f name s plain =
     let text : Bool → List ℕ = λ is_raw. file_text is_raw a.file ++ form_text a.form is_raw (setting_of is_64 f) name s in

@@ -11,7 +11,7 @@ use Rattle.mach_base.specs.Fault.{Fault}
 use Rattle.mach_cli.proofs.Arrays.{one_list}
 use Rattle.mach_cli.specs.JsonArrays.{lists_end_past, AreArrayMembers, NamedRows, WritesMember}
 use Rattle.mach_cli.specs.Listings.{cut_line, past_line, WritesFirstLines}
-use Rattle.mach_cli.specs.declared.listing.Told.{Told}
+use Rattle.mach_cli.specs.declared.listing.ListProgress.{ListProgress}
 use Rattle.machsyms.specs.JsonSymbols.{WritesSymbolMembers}
 
 -- what holds of a value
@@ -40,7 +40,7 @@ no_symbols word name limit left known =
     }
 
 -- the members of one list, and the number of items past the end
-pub list_and_past : (left : ℕ) (l : NamedRows) (past : ℕ) (t : Told) (whole : Bool) (rest : ℕ) (old middle new : Option (List ℕ))
+pub list_and_past : (left : ℕ) (l : NamedRows) (past : ℕ) (t : ListProgress) (whole : Bool) (rest : ℕ) (old middle new : Option (List ℕ))
     → WritesMember l.name left l.rows old middle t → (whole ≡ ((t.whole && not t.more) && (past == 0))) × (rest ≡ t.left)
     × Appends middle new (lists_end_past t.more past) → WritesSymbolMembers left (l ∷ []) past whole rest old new
 list_and_past left l past t whole rest old middle new wrote end =

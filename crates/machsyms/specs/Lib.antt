@@ -3,7 +3,7 @@ pub mod Letters
 pub mod LetterWords
 pub mod Stabs
 pub mod Setting
-pub mod Asked
+pub mod Request
 pub mod Order
 pub mod Lines
 pub mod ImageLines

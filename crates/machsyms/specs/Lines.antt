@@ -6,15 +6,15 @@ use Rattle.std.specs.Fmt.{digits, padded, padded_integral, format_spec}
 use Rattle.std.specs.List.{filter}
 use Rattle.std.specs.Borrow.{Bor}
 use Rattle.mach_base.specs.Fault.{Fault}
-use Rattle.mach_parts.specs.Symbols.{SymbolTable, begun_of, is_stab}
+use Rattle.mach_parts.specs.Symbols.{SymbolTable, table_in_bounds, is_stab}
 use Rattle.mach_parts.specs.declared.symbols.nlist.Nlist.{Nlist}
-use Rattle.mach_cli.specs.Listings.{told_by}
-use Rattle.machsyms.specs.Asked.{is_elsewhere, takes}
+use Rattle.mach_cli.specs.Listings.{reported_by}
+use Rattle.machsyms.specs.Request.{is_elsewhere, takes}
 use Rattle.machsyms.specs.Letters.{symbol_letter}
 use Rattle.machsyms.specs.Setting.{SymbolSetting, symbol_described}
 use Rattle.machsyms.specs.ShownNames.{name_shown}
 use Rattle.machsyms.specs.Stabs.{stab_name}
-use Rattle.machsyms.specs.declared.selection.Asked.{Asked}
+use Rattle.machsyms.specs.declared.selection.Request.{Request}
 use Rattle.machsyms.specs.declared.selection.Form.{Form}
 use Rattle.machsyms.specs.declared.selection.Form.TheVariants.{Letters, Names, Hexadecimal, Words}
 
@@ -76,23 +76,23 @@ file_text is_raw None = []
 file_text is_raw (Some file) = name_shown is_raw file.now ++ codes ": "
 
 -- the line of a symbol with its name
-abbrev pub line_text : Asked → SymbolSetting → List ℕ × Nlist → List ℕ
+abbrev pub line_text : Request → SymbolSetting → List ℕ × Nlist → List ℕ
 line_text a w found = file_text a.is_raw a.file ++ form_text a.form a.is_raw w found.0 found.1
 
 -- the word before the error of a symbol that can't be read
-abbrev pub unreadable_word : Asked → List ℕ
+abbrev pub unreadable_word : Request → List ℕ
 unreadable_word a = file_text a.is_raw a.file ++ codes "unreadable"
 
 -- the lines of the selected symbols; a fault stays in its place
-abbrev pub asked_lines : Asked → SymbolSetting → List (Result (List ℕ × Nlist) Fault) → List (Result (List ℕ) Fault)
-asked_lines a w symbols = map (told_by (line_text a w)) (filter (takes a) symbols)
+abbrev pub selected_lines : Request → SymbolSetting → List (Result (List ℕ × Nlist) Fault) → List (Result (List ℕ) Fault)
+selected_lines a w symbols = map (reported_by (line_text a w)) (filter (takes a) symbols)
 
 -- how many symbols of a table have records that don't begin within the bytes
 abbrev pub past_the_end : Option SymbolTable → ℕ
 past_the_end None = 0
-past_the_end (Some t) = t.nsyms - (begun_of t).nsyms
+past_the_end (Some t) = t.nsyms - (table_in_bounds t).nsyms
 
 -- The symbols of a table whose records begin within the bytes, as `list` lists the symbols of a table.
 abbrev pub symbols_over : (SymbolTable → List (Result (List ℕ × Nlist) Fault)) → Option SymbolTable → List (Result (List ℕ × Nlist) Fault)
 symbols_over list None = []
-symbols_over list (Some t) = list (begun_of t)
+symbols_over list (Some t) = list (table_in_bounds t)

@@ -8,7 +8,7 @@ use Rattle.mach_base.specs.Fault.{Fault}
 use Rattle.mach_base.specs.Items.{items_from}
 use Rattle.mach_parts.specs.Symbols.{SymbolTable, symbol_at, symbols_of}
 use Rattle.mach_parts.specs.declared.symbols.nlist.Nlist.{Nlist}
-use Rattle.machsyms.specs.Asked.{is_elsewhere}
+use Rattle.machsyms.specs.Request.{is_elsewhere}
 use Rattle.machsyms.specs.declared.selection.SortedBy.{SortedBy}
 use Rattle.machsyms.specs.declared.selection.SortedBy.TheVariants.{Name, Address}
 use Rattle.machsyms.specs.declared.selection.Sorting.{Sorting}

@@ -5,8 +5,8 @@ use Rattle.mach_parts.specs.declared.segment.section.Section.{Section}
 use Rattle.mach_parts.specs.declared.symbols.nlist.Nlist.{Nlist}
 use Rattle.goblin_mach.specs.ImageFacts.{Facts}
 use Rattle.goblin_mach.specs.ImageSlots.{symbol_provider_of}
-use Rattle.machsyms.specs.SymbolWords.{origin_said, origin_text, section_seen, symbol_words}
-use Rattle.machsyms.specs.declared.nm.words.SymbolWords.{SymbolWords}
+use Rattle.machsyms.specs.SymbolWords.{origin_words, origin_text, section_option_view, symbol_words}
+use Rattle.machsyms.specs.declared.nm.descriptions.SymbolWords.{SymbolWords}
 use Rattle.machsyms.specs.Letters.{letters_of, named_sections, section_by}
 use Rattle.machsyms.specs.declared.setting.Setting.{Setting}
 
@@ -45,8 +45,8 @@ setting_view s =
 -- the words for a symbol of this name
 abbrev pub symbol_described : (is_raw : Bool) → SymbolSetting → List ℕ → Nlist → List ℕ
 symbol_described is_raw w name s =
-    symbol_words is_raw (section_by w.sections s.n_sect) w.filetype name (origin_said is_raw s.n_desc (symbol_provider_of w.flags w.libs s)) s
+    symbol_words is_raw (section_by w.sections s.n_sect) w.filetype name (origin_words is_raw s.n_desc (symbol_provider_of w.flags w.libs s)) s
 
 -- what the code's words are
 abbrev pub words_shown : SymbolWords → List ℕ
-words_shown t = symbol_words t.is_raw (section_seen t.section) t.filetype t.name.now (origin_text t.is_raw t.origin) t.symbol.now
+words_shown t = symbol_words t.is_raw (section_option_view t.section) t.filetype t.name.now (origin_text t.is_raw t.origin) t.symbol.now

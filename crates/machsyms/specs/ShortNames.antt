@@ -11,15 +11,15 @@ cut_end end text = if bytes_eq (drop (length text - length end) text) end then S
 abbrev pub is_other : (c : ℕ) → ℕ → Bool
 is_other c byte = not (byte == c)
 
-abbrev pub part_behind : (c : ℕ) → List ℕ → List ℕ
-part_behind c text = drop (length text - suffix_len (is_other c) text) text
+abbrev pub part_after : (c : ℕ) → List ℕ → List ℕ
+part_after c text = drop (length text - suffix_len (is_other c) text) text
 
 abbrev pub part_before : (c : ℕ) → List ℕ → List ℕ
 part_before c text = take (length text - suffix_len (is_other c) text - 1) text
 
 -- the last component of a path, and the path before it
 abbrev pub last_part : List ℕ → List ℕ
-last_part path = part_behind 0x2f path
+last_part path = part_after 0x2f path
 
 abbrev pub folder_part : List ℕ → List ℕ
 folder_part path = part_before 0x2f path
@@ -50,7 +50,7 @@ in_framework base folder =
 -- a name without the version letter after its last dot: libFoo.A
 abbrev pub unversioned : List ℕ → List ℕ
 unversioned name =
-    if (length (part_behind 0x2e name) == 1) && not (length (part_before 0x2e name) == 0) then part_before 0x2e name
+    if (length (part_after 0x2e name) == 1) && not (length (part_before 0x2e name) == 0) then part_before 0x2e name
     else name
 
 -- a text, or another if it is empty

@@ -95,17 +95,17 @@ mark_words filetype s =
     ++ marked (has_bits 0x8 s.n_desc) (codes "[Thumb] "))))
 
 -- The library that provides a symbol, if the linker recorded one; nothing for the image itself and for a weak lookup.
-abbrev pub giver_said : (is_raw : Bool) → (desc : ℕ) → Result Provider Fault → List ℕ
-giver_said is_raw desc (Ok (of_library ordinal path)) = codes " (from " ++ (name_shown is_raw (short_library_name path) ++ codes ")")
-giver_said is_raw desc (Ok itself) = []
-giver_said is_raw desc (Ok main_executable) = codes " (from executable)"
-giver_said is_raw desc (Ok flat) = codes " (dynamically looked up)"
-giver_said is_raw desc (Ok weak_lookup) = []
-giver_said is_raw desc (Err f) = codes " (from bad library ordinal " ++ (decimal (desc / 256) ++ codes ")")
+abbrev pub provider_words : (is_raw : Bool) → (desc : ℕ) → Result Provider Fault → List ℕ
+provider_words is_raw desc (Ok (of_library ordinal path)) = codes " (from " ++ (name_shown is_raw (short_library_name path) ++ codes ")")
+provider_words is_raw desc (Ok itself) = []
+provider_words is_raw desc (Ok main_executable) = codes " (from executable)"
+provider_words is_raw desc (Ok flat) = codes " (dynamically looked up)"
+provider_words is_raw desc (Ok weak_lookup) = []
+provider_words is_raw desc (Err f) = codes " (from bad library ordinal " ++ (decimal (desc / 256) ++ codes ")")
 
-abbrev pub origin_said : (is_raw : Bool) → (desc : ℕ) → Option (Result Provider Fault) → List ℕ
-origin_said is_raw desc None = []
-origin_said is_raw desc (Some giver) = giver_said is_raw desc giver
+abbrev pub origin_words : (is_raw : Bool) → (desc : ℕ) → Option (Result Provider Fault) → List ℕ
+origin_words is_raw desc None = []
+origin_words is_raw desc (Some giver) = provider_words is_raw desc giver
 
 -- the same, by what the code keeps of it
 abbrev pub origin_text : (is_raw : Bool) → Origin → List ℕ
@@ -121,5 +121,5 @@ symbol_words is_raw section filetype name origin s =
     kind_words is_raw section s
     ++ (marked (is_referenced s) (codes "[referenced dynamically] ") ++ (reach_words s ++ (mark_words filetype s ++ (name_shown is_raw name ++ origin))))
 
-abbrev pub section_seen : Option (Bor Section) → Option Section
-section_seen section = option_map (λ s. s.now) section
+abbrev pub section_option_view : Option (Bor Section) → Option Section
+section_option_view section = option_map (λ s. s.now) section

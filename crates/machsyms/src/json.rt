@@ -10,10 +10,10 @@ ghost use Rattle.mach_cli.specs.Documents.{IsDocument};
 ghost use Rattle.machsyms.specs.JsonSymbols.{AreImageSymbolMembers};
 
 use crate::members::write_members;
-use crate::run::{NAME, keys_of_image};
-use crate::selection::Asked;
+use crate::selection::Request;
+use crate::symbol_view::{NAME, keys_of_image};
 use goblin_mach::{MachO, laws};
-use mach_cli::{Cpu, Failure, Heading, Names, Outcome, Shows, most_items};
+use mach_cli::{Cpu, Heading, ImageView, Names, Outcome, ShowFailure, most_items};
 use std::alloc::Allocator;
 use std::io::{BufWriter, Write};
 
@@ -21,13 +21,13 @@ use std::io::{BufWriter, Write};
 #[derive(Clone, Copy)]
 struct ObjectsOf<'a> {
     file: &'a str,
-    asked: Asked<'a>,
+    request: Request<'a>,
 }
 
-impl Shows for ObjectsOf<'_> {
-    ghost names = { λ asked. names_text (codes "machsyms") asked.file.now };
+impl ImageView for ObjectsOf<'_> {
+    ghost names = { λ request. names_text (codes "machsyms") request.file.now };
 
-    ghost lines = { λ s. AreImageSymbolMembers s.asked };
+    ghost lines = { λ s. AreImageSymbolMembers s.request };
 
     fn names(&self) -> Names<'_> {
         Names {
@@ -43,11 +43,11 @@ impl Shows for ObjectsOf<'_> {
         heading: Heading,
         left: usize,
         out: &mut O,
-    ) -> Result<Outcome, Failure> {
+    ) -> Result<Outcome, ShowFailure> {
         laws::facts_of_image(image);
-        let keys = keys_of_image(alloc.clone()?, self.asked.sorting, &image.symbols)?;
+        let keys = keys_of_image(alloc.clone()?, self.request.sorting, &image.symbols)?;
         write!(out, "{heading}")?;
-        Ok(write_members(&self.asked, &keys, &image.symbols, left, out)?)
+        Ok(write_members(&self.request, &keys, &image.symbols, left, out)?)
     }
 }
 
@@ -57,7 +57,7 @@ impl Shows for ObjectsOf<'_> {
 pub fn run_json<A: Allocator + Clone, W: Write + Drop, B: Allocator, E: Write>(
     alloc: A,
     cpu: Cpu,
-    asked: Asked<'_>,
+    request: Request<'_>,
     limit: usize,
     file: &str,
     bytes: &[u8],
@@ -66,12 +66,12 @@ pub fn run_json<A: Allocator + Clone, W: Write + Drop, B: Allocator, E: Write>(
 ) -> u8
     ensures status { IsStatus result }
     ensures shown { result ≤ 1 → (shown : Shown)
-        × IsDocument cpu (names_text (codes "machsyms") file.now) file.now (AreImageSymbolMembers asked.entry) (most_items limit bytes.now) bytes.now shown
+        × IsDocument cpu (names_text (codes "machsyms") file.now) file.now (AreImageSymbolMembers request.entry) (most_items limit bytes.now) bytes.now shown
         × (result ≡ status_by shown.whole)
         × Writes shown (writer_contents W.contents out.old) (writer_contents W.contents out.new) (E.contents err.old) (E.contents err.new) }
     ensures flushed { result ≤ 1 → writer_buffer out.new ≡ [] }
 {
-    let objects = ObjectsOf { file, asked };
+    let objects = ObjectsOf { file, request };
     let limit = most_items(limit, bytes);
     mach_cli::json::run::run(&objects, file, cpu, limit, &alloc, bytes, out, err)
 }

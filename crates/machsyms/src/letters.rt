@@ -4,8 +4,8 @@ ghost use Rattle.std.specs.Prelude.{◌≡◌, ◌++◌, ◌≤◌, length, take
 ghost use Rattle.mach_base.specs.Items.{read_as};
 ghost use Rattle.mach_parts.specs.SectionItems.{section_read};
 ghost use Rattle.mach_parts.specs.Segment.{segment_view, sections_of};
-ghost use Rattle.goblin_mach.specs.OpenImage.{segments_held};
-ghost use Rattle.machsyms.specs.SymbolWords.{section_seen};
+ghost use Rattle.goblin_mach.specs.OpenImage.{segments_view};
+ghost use Rattle.machsyms.specs.SymbolWords.{section_option_view};
 ghost use Rattle.machsyms.specs.Letters.{section_letter, item_section, named_sections, section_by, symbol_letter, type_letter};
 ghost use Rattle.machsyms.specs.Letters.{is_called, is_name, letter_at, letter_of};
 
@@ -19,7 +19,7 @@ pub fn named_sections<A: Allocator, B: Allocator>(
     alloc: B,
     image: &MachO<'_, A>,
 ) -> Result<Vec<Option<Section>, B>, AllocError>
-    ensures { IfOk result (λ v. v.items ≡ named_sections (segments_held image.now)) }
+    ensures { IfOk result (λ v. v.items ≡ named_sections (segments_view image.now)) }
 {
     sections_held(alloc, image.segments.as_slice())
 }
@@ -91,7 +91,7 @@ fn letter_of(section: &Option<Section>) -> char
 
 /// Returns the section with a number, counted from 1, if it is among these and can be read.
 pub fn section_by(number: usize, sections: &[Option<Section>]) -> Option<&Section>
-    ensures { section_seen result ≡ section_by sections.now number }
+    ensures { section_option_view result ≡ section_by sections.now number }
 {
     match number.checked_sub(1) {
         Some(index) => match sections.get(index) {

@@ -4,13 +4,13 @@ ghost use Rattle.std.specs.Prelude.{◌≡◌, codes, OnOk};
 ghost use Rattle.std.specs.Io.KnownBytes.{Appends};
 ghost use Rattle.mach_parts.specs.SymbolViews.{table_of};
 ghost use Rattle.machsyms.specs.Listed.{lines_left, lines_past, symbol_line_text};
-ghost use Rattle.machsyms.specs.Lines.{asked_lines};
+ghost use Rattle.machsyms.specs.Lines.{selected_lines};
 ghost use Rattle.machsyms.specs.Order.{gone_over};
 ghost use Rattle.machsyms.specs.Setting.{setting_view};
 
-use crate::listed::AskedSymbols;
+use crate::listed::RequestedSymbols;
 use crate::order::SortKey;
-use crate::selection::Asked;
+use crate::selection::Request;
 use crate::setting::Setting;
 use crate::text::SymbolText;
 use goblin_mach::symbols::Symbols;
@@ -22,28 +22,29 @@ use std::io::Write;
 /// The lines of a table's selected symbols, from one on.
 #[derive(Drop)]
 pub struct SymbolLines<'c, 's, 'k, 'b, 'a, A: Allocator> {
-    asked: Asked<'s>,
+    request: Request<'s>,
     setting: &'c Setting<'b, 'a, A>,
-    symbols: AskedSymbols<'s, 'k, 'a>,
+    symbols: RequestedSymbols<'s, 'k, 'a>,
     past: usize,
 }
 
 impl<'c, 's, 'k, 'b, 'a, A: Allocator> SymbolLines<'c, 's, 'k, 'b, 'a, A> {
     /// Returns the lines of a table, in table order or by the keys; `past` more symbols begin past the end of the bytes.
     pub fn of(
-        asked: Asked<'s>,
+        request: Request<'s>,
         setting: &'c Setting<'b, 'a, A>,
         keys: &'k [SortKey<'a>],
         table: &'k Symbols<'a>,
         past: usize,
     ) -> Self
-        ensures lines { lines_left result ≡ asked_lines asked.entry (setting_view setting.now) (gone_over asked.entry.sorting keys.now (table_of table.now)) }
+        ensures lines { lines_left result ≡ selected_lines request.entry (setting_view setting.now) (gone_over request.entry.sorting keys.now
+            (table_of table.now)) }
         ensures past { lines_past result ≡ past }
     {
         SymbolLines {
-            asked,
+            request,
             setting,
-            symbols: AskedSymbols::of(asked, keys, table),
+            symbols: RequestedSymbols::of(request, keys, table),
             past,
         }
     }
@@ -61,10 +62,10 @@ impl<'c, 's, 'k, 'b, 'a, A: Allocator> Listing for SymbolLines<'c, 's, 'k, 'b, '
     ghost past_name = { λ _. codes "symbols" };
 
     fn next_row(&mut self) -> Option<goblin_mach::Result<SymbolText<'c, 's, 'b, 'a, A>>> {
-        let (asked, setting) = (self.asked, self.setting);
+        let (request, setting) = (self.request, self.setting);
         match self.symbols.take_next()? {
             Ok((name, symbol)) => Some(Ok(SymbolText {
-                asked,
+                request,
                 setting,
                 name,
                 symbol,

@@ -6,13 +6,13 @@ ghost use Rattle.std.specs.Iterator.{YieldsFirstBy};
 ghost use Rattle.std.specs.List.{filter};
 ghost use Rattle.mach_base.specs.Items.{read_as};
 ghost use Rattle.mach_parts.specs.SymbolViews.{symbol_read, table_of};
-ghost use Rattle.machsyms.specs.Asked.{takes};
-ghost use Rattle.machsyms.specs.JsonSymbols.{symbol_told};
-ghost use Rattle.machsyms.specs.Listed.{asked_left, keyed_left, symbol_objects_left, source_left, symbol_row_text};
+ghost use Rattle.machsyms.specs.Request.{takes};
+ghost use Rattle.machsyms.specs.JsonSymbols.{symbol_reported};
+ghost use Rattle.machsyms.specs.Listed.{selected_left, keyed_left, symbol_objects_left, source_left, symbol_row_text};
 ghost use Rattle.machsyms.specs.Order.{gone_over};
 
 use crate::order::SortKey;
-use crate::selection::{Asked, Sorting};
+use crate::selection::{Request, Sorting};
 use goblin_mach::symbols::{Nlist, SymbolIterator, Symbols};
 use mach_cli::{JsonString, Listing};
 use std::fmt::{Display, Formatter};
@@ -104,7 +104,7 @@ impl Display for SymbolRow<'_> {
 
 // Returns a symbol with its name, or its error.
 fn row_of<'a>(answer: goblin_mach::Result<(&'a str, Nlist)>) -> goblin_mach::Result<SymbolRow<'a>>
-    ensures { read_as symbol_row_text result ≡ symbol_told (symbol_read answer.entry) }
+    ensures { read_as symbol_row_text result ≡ symbol_reported (symbol_read answer.entry) }
 {
     match answer {
         Ok((name, symbol)) => Ok(SymbolRow { name, symbol }),
@@ -114,28 +114,28 @@ fn row_of<'a>(answer: goblin_mach::Result<(&'a str, Nlist)>) -> goblin_mach::Res
 
 /// The selected symbols of a table, from one on.
 #[derive(Drop)]
-pub struct AskedSymbols<'s, 'k, 'a> {
-    asked: Asked<'s>,
+pub struct RequestedSymbols<'s, 'k, 'a> {
+    request: Request<'s>,
     source: Source<'k, 'a>,
 }
 
-impl<'s, 'k, 'a> AskedSymbols<'s, 'k, 'a> {
+impl<'s, 'k, 'a> RequestedSymbols<'s, 'k, 'a> {
     /// Returns the symbols of a table, in table order or by the keys.
-    pub fn of(asked: Asked<'s>, keys: &'k [SortKey<'a>], table: &'k Symbols<'a>) -> Self
-        ensures { asked_left result ≡ filter (takes asked.entry) (gone_over asked.entry.sorting keys.now (table_of table.now)) }
+    pub fn of(request: Request<'s>, keys: &'k [SortKey<'a>], table: &'k Symbols<'a>) -> Self
+        ensures { selected_left result ≡ filter (takes request.entry) (gone_over request.entry.sorting keys.now (table_of table.now)) }
     {
-        AskedSymbols {
-            asked,
-            source: Source::of(asked.sorting, keys, table),
+        RequestedSymbols {
+            request,
+            source: Source::of(request.sorting, keys, table),
         }
     }
 
     /// Returns the next selected symbol.
     pub fn take_next(&mut self) -> Option<goblin_mach::Result<(&'a str, Nlist)>>
-        ensures { YieldsFirstBy symbol_read asked_left self.old result self.new }
+        ensures { YieldsFirstBy symbol_read selected_left self.old result self.new }
     {
         'symbols: while let Some(answer) = self.source.take_next() {
-            if self.asked.takes(&answer) {
+            if self.request.takes(&answer) {
                 return Some(answer);
             }
         }
@@ -143,7 +143,7 @@ impl<'s, 'k, 'a> AskedSymbols<'s, 'k, 'a> {
     }
 }
 
-impl<'a> Listing for AskedSymbols<'_, '_, 'a> {
+impl<'a> Listing for RequestedSymbols<'_, '_, 'a> {
     type Row = SymbolRow<'a>;
 
     ghost text = { symbol_row_text };

@@ -16,6 +16,7 @@
 #![tactic(auto)]
 
 // Which symbols are selected and shown, and how.
+mod arguments;
 mod json;
 mod laws;
 mod letters;
@@ -25,25 +26,24 @@ mod members;
 mod names;
 mod order;
 mod print;
-mod run;
 mod selection;
 mod setting;
 mod stabs;
+mod symbol_view;
 mod text;
-mod words;
 
 // The words of `nm -m` for a symbol.
 mod nm;
 
+use arguments::{Letters, names_files, selected_of, take_letters};
 use json::run_json;
-use mach_cli::{Call, Cpu, Files, ForTerminal, Misuse, Program, ShowsFile, Titled, take_json};
-use run::{NAME, run};
-use selection::Asked;
+use mach_cli::{Call, Cpu, FileView, Files, ForTerminal, Misuse, Program, Titled, take_json};
+use selection::Request;
 use std::alloc::{Allocator, Global};
 use std::io;
 use std::io::{BufWriter, IsTerminal, Write};
 use std::process::ExitCode;
-use words::{Letters, asked_of, names_files, take_letters};
+use symbol_view::{NAME, run};
 
 const PROGRAM: Program = Program {
     name: NAME,
@@ -111,7 +111,7 @@ struct Symbols {
     is_json: bool,
 }
 
-impl<W: Write + Drop, B: Allocator> ShowsFile<BufWriter<W, B>> for Symbols {
+impl<W: Write + Drop, B: Allocator> FileView<BufWriter<W, B>> for Symbols {
     fn show(&self, rt: &HostRuntime, name: &str, bytes: &[u8], out: &mut BufWriter<W, B>) -> u8 {
         let (alloc, err) = (rt.alloc(), &mut rt.stderr());
         let Symbols {
@@ -121,11 +121,11 @@ impl<W: Write + Drop, B: Allocator> ShowsFile<BufWriter<W, B>> for Symbols {
             limit,
             is_json,
         } = *self;
-        let asked = asked_of(letters, is_raw, name);
+        let request = selected_of(letters, is_raw, name);
         if is_json {
-            run_json(alloc, cpu, asked, limit, name, bytes, out, err)
+            run_json(alloc, cpu, request, limit, name, bytes, out, err)
         } else {
-            run(alloc, cpu, asked, limit, name, bytes, out, err)
+            run(alloc, cpu, request, limit, name, bytes, out, err)
         }
     }
 }

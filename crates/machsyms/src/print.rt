@@ -3,13 +3,13 @@
 ghost use Rattle.std.specs.Prelude.{◌≡◌, Some, codes, option_map, string_bytes, IfOk};
 ghost use Rattle.mach_parts.specs.SymbolViews.{table_of};
 ghost use Rattle.mach_cli.specs.Listings.{WritesFirstLines};
-ghost use Rattle.machsyms.specs.Lines.{asked_lines, past_the_end, symbols_over, unreadable_word};
+ghost use Rattle.machsyms.specs.Lines.{selected_lines, past_the_end, symbols_over, unreadable_word};
 ghost use Rattle.machsyms.specs.Order.{gone_over};
 ghost use Rattle.machsyms.specs.Setting.{setting_view};
 
 use crate::lines::SymbolLines;
 use crate::order::SortKey;
-use crate::selection::Asked;
+use crate::selection::Request;
 use crate::setting::Setting;
 use crate::text::FileText;
 use goblin_mach::symbols::Symbols;
@@ -19,12 +19,15 @@ use std::io;
 use std::io::Write;
 
 /// Returns the word before the error of a symbol that can't be read.
-pub fn unreadable_word<A: Allocator>(alloc: A, asked: &Asked<'_>) -> Result<String<A>, AllocError>
-    ensures { IfOk result (λ word. string_bytes word ≡ unreadable_word asked.now) }
+pub fn unreadable_word<A: Allocator>(
+    alloc: A,
+    request: &Request<'_>,
+) -> Result<String<A>, AllocError>
+    ensures { IfOk result (λ word. string_bytes word ≡ unreadable_word request.now) }
 {
     let file = FileText {
-        file: asked.file,
-        is_raw: asked.is_raw,
+        file: request.file,
+        is_raw: request.is_raw,
     };
     format!(in alloc; "{file}unreadable")
 }
@@ -36,7 +39,7 @@ pub fn unreadable_word<A: Allocator>(alloc: A, asked: &Asked<'_>) -> Result<Stri
 /// records begin past the end. Returns whether there are none of these and all were printed and can be read, and how many lines
 /// are left.
 pub fn print_symbols<A: Allocator, O: Write>(
-    asked: &Asked<'_>,
+    request: &Request<'_>,
     setting: &Setting<'_, '_, A>,
     keys: &[SortKey<'_>],
     table: &Option<Symbols<'_>>,
@@ -46,18 +49,18 @@ pub fn print_symbols<A: Allocator, O: Write>(
     out: &mut O,
 ) -> io::Result<Outcome>
     ensures { IfOk result (λ outcome. WritesFirstLines word.now limit left
-        (asked_lines asked.now (setting_view setting.now) (symbols_over (gone_over asked.now.sorting keys.now) (option_map table_of table.now)))
+        (selected_lines request.now (setting_view setting.now) (symbols_over (gone_over request.now.sorting keys.now) (option_map table_of table.now)))
         (codes "symbols") (past_the_end (option_map table_of table.now)) outcome.whole outcome.left (O.contents out.old) (O.contents out.new)) }
 {
     match table {
-        Some(table) => print_table(asked, setting, keys, table, word, limit, left, out),
+        Some(table) => print_table(request, setting, keys, table, word, limit, left, out),
         None => Ok(Outcome { whole: true, left }),
     }
 }
 
 // Prints the symbols of a table.
 fn print_table<A: Allocator, O: Write>(
-    asked: &Asked<'_>,
+    request: &Request<'_>,
     setting: &Setting<'_, '_, A>,
     keys: &[SortKey<'_>],
     table: &Symbols<'_>,
@@ -67,11 +70,11 @@ fn print_table<A: Allocator, O: Write>(
     out: &mut O,
 ) -> io::Result<Outcome>
     ensures { IfOk result (λ outcome. WritesFirstLines word.now limit left
-        (asked_lines asked.now (setting_view setting.now) (symbols_over (gone_over asked.now.sorting keys.now) (Some (table_of table.now))))
+        (selected_lines request.now (setting_view setting.now) (symbols_over (gone_over request.now.sorting keys.now) (Some (table_of table.now))))
         (codes "symbols") (past_the_end (Some (table_of table.now))) outcome.whole outcome.left (O.contents out.old) (O.contents out.new)) }
 {
-    let begun = table.begun();
-    let past = table.len() - begun.len();
-    let mut lines = SymbolLines::of(*asked, setting, keys, &begun, past);
+    let in_bounds = table.in_bounds();
+    let past = table.len() - in_bounds.len();
+    let mut lines = SymbolLines::of(*request, setting, keys, &in_bounds, past);
     print_listing(&mut lines, word, limit, left, out)
 }

@@ -2,7 +2,7 @@
 
 ghost use Rattle.std.specs.Prelude.{◌≡◌};
 ghost use Rattle.mach_parts.specs.SymbolViews.{symbol_read};
-ghost use Rattle.machsyms.specs.Asked.{is_elsewhere, takes};
+ghost use Rattle.machsyms.specs.Request.{is_elsewhere, takes};
 
 use goblin_mach::symbols::{N_EXT, N_UNDF, Nlist};
 
@@ -38,7 +38,7 @@ pub enum Form {
 
 /// Which symbols of an image are selected, and how they are printed.
 #[derive(Clone, Copy)]
-pub struct Asked<'a> {
+pub struct Request<'a> {
     /// Debugging entries, too.
     pub has_stabs: bool,
     /// Only external symbols.
@@ -56,9 +56,9 @@ pub struct Asked<'a> {
     pub is_raw: bool,
 }
 
-impl Asked<'_> {
+impl Request<'_> {
     /// All symbols in table order, debugging entries included.
-    pub const ALL: Asked<'static> = Asked {
+    pub const ALL: Request<'static> = Request {
         has_stabs: true,
         is_external: false,
         is_undefined: false,

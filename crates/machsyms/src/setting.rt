@@ -1,14 +1,14 @@
 //! What the lines of symbols need of their image.
 
 ghost use Rattle.std.specs.Prelude.{◌≡◌};
-ghost use Rattle.goblin_mach.specs.ImageFacts.{facts_held};
-ghost use Rattle.goblin_mach.specs.OpenImage.{segments_held};
+ghost use Rattle.goblin_mach.specs.ImageFacts.{facts_view};
+ghost use Rattle.goblin_mach.specs.OpenImage.{segments_view};
 ghost use Rattle.machsyms.specs.Letters.{letters_of, named_sections};
 ghost use Rattle.machsyms.specs.Setting.{symbol_described, setting_of, setting_view, words_shown};
 
 use crate::letters::section_by;
+use crate::nm::descriptions::SymbolWords;
 use crate::nm::origin::origin_of;
-use crate::nm::words::SymbolWords;
 use goblin_mach::MachO;
 use goblin_mach::segment::Section;
 use goblin_mach::symbols::Nlist;
@@ -31,8 +31,8 @@ impl<'b, 'a, A: Allocator> Setting<'b, 'a, A> {
         sections: &'b [Option<Section>],
         letters: &'b [char],
     ) -> Self
-        ensures { sections.now ≡ named_sections (segments_held image.now) → letters.now ≡ letters_of (segments_held image.now)
-            → setting_view result ≡ setting_of image.now.is_64 (facts_held image.now) }
+        ensures { sections.now ≡ named_sections (segments_view image.now) → letters.now ≡ letters_of (segments_view image.now)
+            → setting_view result ≡ setting_of image.now.is_64 (facts_view image.now) }
     {
         Setting {
             letters,

@@ -7,7 +7,7 @@ ghost use Rattle.machsyms.specs.ShownNames.{name_shown};
 
 use crate::letters::symbol_letter;
 use crate::names::NameText;
-use crate::selection::{Asked, Form, is_elsewhere};
+use crate::selection::{Form, Request, is_elsewhere};
 use crate::setting::Setting;
 use crate::stabs::stab_name;
 use goblin_mach::symbols::Nlist;
@@ -40,7 +40,7 @@ impl<'a> Display for FileText<'a> {
 /// A symbol as it is printed, in the selected form.
 #[derive(Drop)]
 pub struct SymbolText<'c, 's, 'b, 'a, A: Allocator> {
-    pub asked: Asked<'s>,
+    pub request: Request<'s>,
     pub setting: &'c Setting<'b, 'a, A>,
     pub name: &'a str,
     pub symbol: Nlist,
@@ -49,10 +49,10 @@ pub struct SymbolText<'c, 's, 'b, 'a, A: Allocator> {
 impl<A: Allocator> Display for SymbolText<'_, '_, '_, '_, A> {
     ghost use Rattle.machsyms.specs.Lines.{line_text};
 
-    ghost output = { λ t. Some (line_text t.asked (setting_view t.setting.now) (t.name.now, t.symbol)) };
+    ghost output = { λ t. Some (line_text t.request (setting_view t.setting.now) (t.name.now, t.symbol)) };
 
     fn fmt<W: Write>(&self, f: &mut Formatter<W>) -> fmt::Result {
-        let Asked { file, is_raw, .. } = self.asked;
+        let Request { file, is_raw, .. } = self.request;
         let file = FileText { file, is_raw };
         let form = FormText(self);
         write!(f, "{file}{form}")
@@ -64,11 +64,11 @@ impl<A: Allocator> Display for SymbolText<'_, '_, '_, '_, A> {
 struct FormText<'t, 'c, 's, 'b, 'a, A: Allocator>(&'t SymbolText<'c, 's, 'b, 'a, A>);
 
 impl<A: Allocator> Display for FormText<'_, '_, '_, '_, '_, A> {
-    ghost output = { λ t. Some (form_text t.0.now.asked.form t.0.now.asked.is_raw (setting_view t.0.now.setting.now) t.0.now.name.now t.0.now.symbol) };
+    ghost output = { λ t. Some (form_text t.0.now.request.form t.0.now.request.is_raw (setting_view t.0.now.setting.now) t.0.now.name.now t.0.now.symbol) };
 
     fn fmt<W: Write>(&self, f: &mut Formatter<W>) -> fmt::Result {
         let SymbolText {
-            asked: Asked { form, is_raw, .. },
+            request: Request { form, is_raw, .. },
             setting,
             name: plain,
             symbol,

@@ -4,9 +4,9 @@ ghost use Rattle.std.specs.Prelude.{ℕ};
 ghost use Rattle.mach_base.specs.Text.{texts};
 ghost use Rattle.mach_parts.specs.SectionRecord.{section_holding, section_by_number};
 ghost use Rattle.mach_parts.specs.declared.symbols.nlist.Nlist.{Nlist};
-ghost use Rattle.goblin_mach.specs.ImageSlots.{indirect_symbols_in, indirect_table_held, symbol_table_held, image_slots, image_slot_at, symbol_provider_of};
+ghost use Rattle.goblin_mach.specs.ImageSlots.{indirect_symbols_in, indirect_table_view, symbol_table_view, image_slots, image_slot_at, symbol_provider_of};
 ghost use Rattle.goblin_mach.specs.Modes.{HoldsAs};
-ghost use Rattle.goblin_mach.specs.OpenImage.{ctx_held, segments_held};
+ghost use Rattle.goblin_mach.specs.OpenImage.{ctx_view, segments_view};
 ghost use Rattle.goblin_mach.specs.SlotFacts.{HasIndirectSymbols, HasSymbolSlots, HasSymbolSlotAt, HasProviderOf, HasSectionAt, HasSectionOf};
 
 use crate::macho::MachO;
@@ -14,19 +14,19 @@ use std::alloc::Allocator;
 
 /// The indirect symbols that `MachO::indirect_symbols` returns are those of the bytes.
 pub fn indirect_symbols_of_image<A: Allocator>(image: &MachO<'_, A>)
-    ensures { HoldsAs image.now HasIndirectSymbols (indirect_symbols_in (indirect_table_held image.now)) }
+    ensures { HoldsAs image.now HasIndirectSymbols (indirect_symbols_in (indirect_table_view image.now)) }
 {}
 
 /// The slots that `MachO::symbol_slots` returns are those of the bytes.
 pub fn slots_of_image<A: Allocator>(image: &MachO<'_, A>)
     ensures { HoldsAs image.now HasSymbolSlots
-        (image_slots (ctx_held image.now) (indirect_table_held image.now) (symbol_table_held image.now) (segments_held image.now)) }
+        (image_slots (ctx_view image.now) (indirect_table_view image.now) (symbol_table_view image.now) (segments_view image.now)) }
 {}
 
 /// The slot that `MachO::symbol_slot_at` returns is that of the bytes.
 pub fn slot_at_of_image<A: Allocator>(image: &MachO<'_, A>)
     ensures { (a : ℕ) → HoldsAs image.now (λ bytes o. HasSymbolSlotAt bytes o a)
-        (image_slot_at (ctx_held image.now) (indirect_table_held image.now) (symbol_table_held image.now) (segments_held image.now) a) }
+        (image_slot_at (ctx_view image.now) (indirect_table_view image.now) (symbol_table_view image.now) (segments_view image.now) a) }
 {}
 
 /// The provider that `MachO::symbol_provider` returns is that of the bytes.
@@ -37,10 +37,10 @@ pub fn provider_of_image<A: Allocator>(image: &MachO<'_, A>)
 
 /// The section that `MachO::section_at` returns is that of the bytes.
 pub fn section_at_of_image<A: Allocator>(image: &MachO<'_, A>)
-    ensures { (a : ℕ) → HoldsAs image.now (λ bytes o. HasSectionAt bytes o a) (section_holding (segments_held image.now) a) }
+    ensures { (a : ℕ) → HoldsAs image.now (λ bytes o. HasSectionAt bytes o a) (section_holding (segments_view image.now) a) }
 {}
 
 /// The section that `MachO::section_of` returns is that of the bytes.
 pub fn numbered_section_of_image<A: Allocator>(image: &MachO<'_, A>)
-    ensures { (n : ℕ) → HoldsAs image.now (λ bytes o. HasSectionOf bytes o n) (section_by_number (segments_held image.now) n) }
+    ensures { (n : ℕ) → HoldsAs image.now (λ bytes o. HasSectionOf bytes o n) (section_by_number (segments_view image.now) n) }
 {}

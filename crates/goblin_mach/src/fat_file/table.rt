@@ -2,7 +2,7 @@
 
 ghost use Rattle.std.specs.Prelude.{◌≡◌, ◌<◌, ◌^◌, length};
 ghost use Rattle.mach_base.specs.Answer.{Reads};
-ghost use Rattle.goblin_mach.specs.FatFile.{fat_file_in, archs_in, IsAbout, file_held, archs_left_in};
+ghost use Rattle.goblin_mach.specs.FatFile.{fat_file_in, archs_in, IsAbout, file_view, archs_left_in};
 ghost use Rattle.goblin_mach.specs.FatEntry.{OpensEntry, arch_entry_in};
 
 use crate::fat_file::arches::ArchIterator;
@@ -42,7 +42,7 @@ impl<'a, R: ArchRecord, A: Allocator> FatTable<'a, R, A> {
     /// Returns the fat file in these bytes, which must be at least 8. Its magic is not tested. It keeps the allocator for
     /// the images that it opens.
     pub fn new(alloc: A, bytes: &'a [u8]) -> Result<FatTable<'a, R, A>>
-        ensures { Reads file_held result (fat_file_in bytes.now) }
+        ensures { Reads file_view result (fat_file_in bytes.now) }
     {
         let header = FatHeader::parse(bytes)?;
         Ok(FatTable {
@@ -55,14 +55,14 @@ impl<'a, R: ArchRecord, A: Allocator> FatTable<'a, R, A> {
 
     /// Returns the bytes of the file.
     pub fn bytes(&self) -> &'a [u8]
-        ensures { result.now ≡ (file_held self.now).bytes }
+        ensures { result.now ≡ (file_view self.now).bytes }
     {
         self.bytes
     }
 
     /// Returns the records of all entries in order, each one or its error.
     pub fn iter_arches(&self) -> ArchIterator<'a, R>
-        ensures items { archs_left_in R.arch_form result ≡ archs_in R.arch_form (file_held self.now) }
+        ensures items { archs_left_in R.arch_form result ≡ archs_in R.arch_form (file_view self.now) }
         ensures bounded { length (archs_left_in R.arch_form result) < 2 ^ 64 }
     {
         ArchIterator::new(self.bytes, self.narches)
@@ -72,7 +72,7 @@ impl<'a, R: ArchRecord, A: Allocator> FatTable<'a, R, A> {
 
     /// Finds the first record of a cpu. Returns None if there is none, or the error of an unreadable record before it.
     pub fn find_cputype(&self, cputype: u32) -> Result<Option<R>>
-        ensures { Reads (λ found. found) result (first_arch_of_cpu R.arch_form cputype (archs_in R.arch_form (file_held self.now))) }
+        ensures { Reads (λ found. found) result (first_arch_of_cpu R.arch_form cputype (archs_in R.arch_form (file_view self.now))) }
     {
         'arches: for arch in self.iter_arches() {
             let arch = arch?;
@@ -88,7 +88,7 @@ impl<'a, R: ArchRecord, A: Allocator + Clone> FatTable<'a, R, A> {
     /// Opens the entry at an index. An image is opened strictly. The error is `Malformed` if there is no such entry, or if
     /// it is neither an archive nor an image.
     pub fn get(&self, index: usize) -> Result<SingleArch<'a, A>>
-        ensures { OpensEntry (arch_entry_in R.arch_form (file_held self.now) index) result }
+        ensures { OpensEntry (arch_entry_in R.arch_form (file_view self.now) index) result }
     {
         if index >= self.narches {
             return Err(Error::Malformed("no entry has this index"));
@@ -98,7 +98,7 @@ impl<'a, R: ArchRecord, A: Allocator + Clone> FatTable<'a, R, A> {
     }
 
     ghost use Rattle.std.specs.Prelude.{IfSome, IfNone, ℕ};
-    ghost use Rattle.goblin_mach.specs.FatFile.{IsFirstTaken, NoneTaken, MayAsk, arch_table_in};
+    ghost use Rattle.goblin_mach.specs.FatFile.{IsFirstTaken, NoneTaken, MaySelect, arch_table_in};
 
     /// Opens the first entry for which `f` returns true. `f` is given each record, or the error of reading it, in order.
     /// Returns None if there is none. The closure states the type of that error, an `Error` or one that is made from it, as
@@ -107,10 +107,10 @@ impl<'a, R: ArchRecord, A: Allocator + Clone> FatTable<'a, R, A> {
         &self,
         f: F,
     ) -> Option<Result<SingleArch<'a, A>>>
-        requires { MayAsk R.arch_form E.from_gives (F.pre f) (file_held self.now) }
-        ensures found { IfSome result (λ answer. (i : ℕ) × IsFirstTaken R.arch_form E.from_gives (F.post f) (file_held self.now) i
-            × OpensEntry (arch_entry_in R.arch_form (file_held self.now) i) answer) }
-        ensures none { IfNone result (NoneTaken R.arch_form E.from_gives (F.post f) (file_held self.now)) }
+        requires { MaySelect R.arch_form E.from_gives (F.pre f) (file_view self.now) }
+        ensures found { IfSome result (λ answer. (i : ℕ) × IsFirstTaken R.arch_form E.from_gives (F.post f) (file_view self.now) i
+            × OpensEntry (arch_entry_in R.arch_form (file_view self.now) i) answer) }
+        ensures none { IfNone result (NoneTaken R.arch_form E.from_gives (F.post f) (file_view self.now)) }
     {
         'entries: for index in 0..self.narches {
             if f(about::<R, E>(self.bytes, index)) {
@@ -125,7 +125,7 @@ impl<'a, R: ArchRecord, A: Allocator + Clone> FatTable<'a, R, A> {
     /// Returns the records of all entries, in order. The error is `BufferTooShort` if there are more entries than the bytes
     /// could hold, else that of the first unreadable record.
     pub fn arches(&self) -> Result<Vec<R, A>>
-        ensures { Gives (λ v. v.items) result (arch_table_in R.arch_form (file_held self.now)) }
+        ensures { Gives (λ v. v.items) result (arch_table_in R.arch_form (file_view self.now)) }
     {
         if !has_room_for::<R>(self.bytes, self.narches) {
             return Err(Error::BufferTooShort(self.narches, "arches"));
@@ -145,7 +145,7 @@ impl<'a, 'b, R: ArchRecord, A: Allocator + Clone> IntoIterator for &'b FatTable<
 
     ghost use Rattle.goblin_mach.specs.FatEntry.{entries_in, entries_left_in};
 
-    ghost into_iter_gives = { λ file it. entries_left_in R.arch_form it ≡ entries_in R.arch_form (file_held file.now) };
+    ghost into_iter_gives = { λ file it. entries_left_in R.arch_form it ≡ entries_in R.arch_form (file_view file.now) };
 
     fn into_iter(self) -> EntryIterator<'a, 'b, R, A> {
         EntryIterator {

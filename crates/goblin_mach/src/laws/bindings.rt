@@ -1,6 +1,6 @@
 //! Laws of the fixups and the bindings of an image.
 
-ghost use Rattle.goblin_mach.specs.BindingLaws.{HasOneListOfFixups, HasOneListOfBindings, TellTheSame};
+ghost use Rattle.goblin_mach.specs.BindingLaws.{HasOneListOfFixups, HasOneListOfBindings, ReportTheSame};
 
 /// An image has at most one list of fixups up to the first fault.
 pub fn one_list_of_image_fixups()
@@ -31,7 +31,7 @@ pub fn one_list_of_image_bindings()
 /// The streams of every linker meet them. The condition on addends includes those before the DONE: after `11 71 00 40 00 60
 /// 01 90 00` the stream `11 71 08 40 00 90` gives a binding with the addend 1, and an import with 0.
 pub fn image_bindings_are_imports()
-    ensures { TellTheSame }
+    ensures { ReportTheSame }
 {
     mach_dyld::laws::bindings_are_imports();
 }

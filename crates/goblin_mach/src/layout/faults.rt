@@ -2,8 +2,8 @@
 
 ghost use Rattle.std.specs.Prelude.{◌≡◌, IfOk, OnOk};
 ghost use Rattle.mach_base.specs.Answer.{IsOkUnlessMemory};
-ghost use Rattle.goblin_mach.specs.ImageFacts.{facts_held};
-ghost use Rattle.goblin_mach.specs.Held.{laid_held};
+ghost use Rattle.goblin_mach.specs.ImageFacts.{facts_view};
+ghost use Rattle.goblin_mach.specs.Held.{laid_view};
 ghost use Rattle.goblin_mach.specs.ListFaults.{AreListFaults};
 ghost use Rattle.mach_layout.specs.Claims.{claims_of};
 ghost use Rattle.mach_layout.specs.ClaimsLeft.{claims_left};
@@ -24,7 +24,7 @@ use std::alloc::Allocator;
 /// command, in order. The image must have been opened at the first of its bytes. A part of no bytes claims a range of length
 /// 0. It allocates nothing.
 pub fn claims<'a, 'b, A: Allocator>(image: &'b MachO<'a, A>) -> ClaimIterator<'a, 'b>
-    ensures { claims_left result ≡ claims_of (laid_held image.now) }
+    ensures { claims_left result ≡ claims_of (laid_view image.now) }
 {
     layout_of(image).claims()
 }
@@ -35,7 +35,7 @@ fn add_all_symbols<A: Allocator, B: Allocator>(
     image: &MachO<'_, A>,
     layout: &Layout<'_, '_>,
 ) -> Result<()>
-    ensures told { OnOk result (AddsSymbols (laid_of layout.now) (AreListFaults (facts_held image.now)) faults.old.items faults.new.items) }
+    ensures reported { OnOk result (AddsSymbols (laid_of layout.now) (AreListFaults (facts_view image.now)) faults.old.items faults.new.items) }
     ensures only { IsOkUnlessMemory result }
 {
     add_symbols(faults, layout)?;
@@ -52,7 +52,7 @@ pub fn layout_faults<A: Allocator, B: Allocator + Clone>(
     alloc: B,
     image: &MachO<'_, A>,
 ) -> Result<Vec<LayoutFault, B>>
-    ensures listed { IfOk result (λ v. AreLayoutFaults (laid_held image.now) (AreListFaults (facts_held image.now)) v.items) }
+    ensures listed { IfOk result (λ v. AreLayoutFaults (laid_view image.now) (AreListFaults (facts_view image.now)) v.items) }
     ensures only { IsOkUnlessMemory result }
 {
     let layout = layout_of(image);

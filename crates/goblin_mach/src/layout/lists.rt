@@ -3,7 +3,7 @@
 ghost use Rattle.std.specs.Prelude.{◌≡◌, ◌++◌, List, OnOk, option_to_list};
 ghost use Rattle.mach_base.specs.Answer.{IsOkUnlessMemory};
 ghost use Rattle.mach_dyld.specs.BindingFaults.{has_fault};
-ghost use Rattle.goblin_mach.specs.ImageFacts.{facts_held};
+ghost use Rattle.goblin_mach.specs.ImageFacts.{facts_view};
 ghost use Rattle.goblin_mach.specs.ListFaults as defined;
 ghost use Rattle.goblin_mach.specs.ListFaults.{AreListFaults};
 ghost use Rattle.mach_layout.specs.declared.fault.LayoutFault as listed;
@@ -18,10 +18,10 @@ use mach_load::FunctionStartIterator;
 use std::alloc::Allocator;
 
 // Returns a fault if it occurs.
-fn told_where(stands: bool, fault: LayoutFault) -> Option<LayoutFault>
-    ensures { option_to_list result ≡ defined.told_where stands fault }
+fn reported_where(occurs: bool, fault: LayoutFault) -> Option<LayoutFault>
+    ensures { option_to_list result ≡ defined.reported_where occurs fault }
 {
-    if stands { Some(fault) } else { None }
+    if occurs { Some(fault) } else { None }
 }
 
 // Whether a fault occurs among function starts.
@@ -42,29 +42,30 @@ pub fn list_faults<A: Allocator, B: Allocator>(
     faults: &mut Vec<LayoutFault, B>,
     image: &MachO<'_, A>,
 ) -> Result<()>
-    ensures told { OnOk result ((more : List listed.LayoutFault) × AreListFaults (facts_held image.now) more × (faults.new.items ≡ faults.old.items ++ more)) }
+    ensures reported { OnOk result ((more : List listed.LayoutFault) × AreListFaults (facts_view image.now) more
+        × (faults.new.items ≡ faults.old.items ++ more)) }
     ensures only { IsOkUnlessMemory result }
 {
     let layout = layout_of(image);
     let binds = opcodes_fault(&layout, Rule::Binds, Part::Binds);
     add(
         faults,
-        told_where(image.opcode_bindings().has_fault(), binds),
+        reported_where(image.opcode_bindings().has_fault(), binds),
     )?;
     let rebases = opcodes_fault(&layout, Rule::Rebases, Part::RebaseOpcodes);
     add(
         faults,
-        told_where(image.opcode_rebases().has_fault(), rebases),
+        reported_where(image.opcode_rebases().has_fault(), rebases),
     )?;
     let weak_binds = opcodes_fault(&layout, Rule::WeakBinds, Part::WeakBindOpcodes);
     add(
         faults,
-        told_where(image.weak_binds().has_fault(), weak_binds),
+        reported_where(image.weak_binds().has_fault(), weak_binds),
     )?;
     let starts = function_starts_fault(&layout);
     add(
         faults,
-        told_where(is_start_fault_among(image.function_starts()), starts),
+        reported_where(is_start_fault_among(image.function_starts()), starts),
     )?;
     Ok(())
 }

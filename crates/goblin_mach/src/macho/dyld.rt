@@ -7,9 +7,9 @@ ghost use Rattle.mach_dyld.specs.BindingsLeft as dyld;
 ghost use Rattle.mach_base.specs.Text.{texts};
 ghost use Rattle.goblin_mach.specs.Bindings.{AreOpcodeBindings, AreChainBindings, AreImageBindings};
 ghost use Rattle.goblin_mach.specs.BindingsLeft.{chain_bindings_left, bindings_left};
-ghost use Rattle.goblin_mach.specs.Fixups.{AreImageFixups, base_held, chained_held, chained_place_in, chained_seen};
+ghost use Rattle.goblin_mach.specs.Fixups.{AreImageFixups, base_view, chained_view, chained_place_in, chained_option_view};
 ghost use Rattle.goblin_mach.specs.FixupsLeft.{image_fixups_left};
-ghost use Rattle.goblin_mach.specs.OpenImage.{binds_held, bytes_held, commands_held, ctx_held, trie_held, segments_held};
+ghost use Rattle.goblin_mach.specs.OpenImage.{binds_view, bytes_view, commands_view, ctx_view, trie_view, segments_view};
 
 use crate::bindings::{BindingIterator, ChainBindings};
 use crate::fixups::{FixupIterator, base_of, chained_fixups, chained_place};
@@ -24,14 +24,14 @@ use std::alloc::Allocator;
 impl<'a, A: Allocator> MachO<'a, A> {
     /// Returns the bytes in which the image was opened. The offsets in its records refer to them.
     pub fn bytes(&self) -> &'a [u8]
-        ensures { result.now ≡ bytes_held self.now }
+        ensures { result.now ≡ bytes_view self.now }
     {
         self.bytes
     }
 
     /// Returns the width and the byte order in which its records are read.
     pub fn ctx(&self) -> Ctx
-        ensures { result ≡ ctx_held self.now }
+        ensures { result ≡ ctx_view self.now }
     {
         self.ctx
     }
@@ -39,21 +39,21 @@ impl<'a, A: Allocator> MachO<'a, A> {
     /// Returns the address of the image's first byte in memory, before sliding: the `vmaddr` of the first segment named
     /// `__TEXT` that the image holds, or 0 if there is none. Offsets of chained fixups are counted from it.
     pub fn base(&self) -> u64
-        ensures { result ≡ base_held self.now }
+        ensures { result ≡ base_view self.now }
     {
         base_of(self.segments.as_slice())
     }
 
     /// Returns the export trie that the image holds, if a command names one.
     pub fn export_trie(&self) -> Option<&ExportTrie<'a>>
-        ensures { option_map (λ trie. trie.now) result ≡ trie_held self.now }
+        ensures { option_map (λ trie. trie.now) result ≡ trie_view self.now }
     {
         self.export_trie.as_ref()
     }
 
     /// Returns the ranges of the binds that the image holds, if a command names any.
     pub fn binds(&self) -> Option<&BindInterpreter<'a>>
-        ensures { option_map (λ binds. binds.now) result ≡ binds_held self.now }
+        ensures { option_map (λ binds. binds.now) result ≡ binds_view self.now }
     {
         self.bind_interpreter.as_ref()
     }
@@ -61,7 +61,7 @@ impl<'a, A: Allocator> MachO<'a, A> {
     /// Returns the place and the size of the data of the chained fixups: those of the last `LC_DYLD_CHAINED_FIXUPS` among
     /// the load commands that the image holds, if there is one.
     pub fn chained_place(&self) -> Option<(u32, u32)>
-        ensures { result ≡ chained_place_in (commands_held self.now) }
+        ensures { result ≡ chained_place_in (commands_view self.now) }
     {
         chained_place(self.load_commands.as_slice())
     }
@@ -70,7 +70,7 @@ impl<'a, A: Allocator> MachO<'a, A> {
     /// the load commands that it holds, if there is one. Opening an image tests nothing of them. Fails if their header can't
     /// be read, or has an unknown version or format.
     pub fn chained_fixups(&self) -> Result<Option<ChainedFixups<'a>>>
-        ensures { Reads chained_seen result (chained_held self.now) }
+        ensures { Reads chained_option_view result (chained_view self.now) }
     {
         chained_fixups(self.bytes, self.ctx.le, self.load_commands.as_slice())
     }
@@ -79,7 +79,7 @@ impl<'a, A: Allocator> MachO<'a, A> {
     /// along the chains. The first fault is the last item. There are none if no command names any. If their header can't be
     /// read, its error is the only item. It allocates nothing.
     pub fn fixups<'b>(&'b self) -> FixupIterator<'a, 'b>
-        ensures { AreImageFixups (chained_held self.now) (segments_held self.now) (image_fixups_left result) }
+        ensures { AreImageFixups (chained_view self.now) (segments_view self.now) (image_fixups_left result) }
     {
         let found = match self.chained_fixups() {
             Ok(found) => found,
@@ -95,8 +95,8 @@ impl<'a, A: Allocator> MachO<'a, A> {
     /// segments that it holds: those of the non-lazy stream, then those of the lazy stream. The first fault is the last
     /// item. There are none if no command names binds. It allocates nothing.
     pub fn opcode_bindings<'b>(&'b self) -> OpcodeBindingIterator<'a, 'b>
-        ensures { AreOpcodeBindings (binds_held self.now) (pointer_size (ctx_held self.now).container)
-            (texts self.now.libs.items) (segments_held self.now) (dyld.opcode_bindings_left result) }
+        ensures { AreOpcodeBindings (binds_view self.now) (pointer_size (ctx_view self.now).container)
+            (texts self.now.libs.items) (segments_view self.now) (dyld.opcode_bindings_left result) }
     {
         let Some(binds) = &self.bind_interpreter else {
             return OpcodeBindingIterator::default();
@@ -106,7 +106,7 @@ impl<'a, A: Allocator> MachO<'a, A> {
 
     // Returns the bindings of its chains.
     fn chain_bindings<'b>(&'b self) -> ChainBindings<'a, 'b>
-        ensures { AreChainBindings (chained_held self.now) (texts self.now.libs.items) (segments_held self.now)
+        ensures { AreChainBindings (chained_view self.now) (texts self.now.libs.items) (segments_view self.now)
             (chain_bindings_left result) }
     {
         let found = match self.chained_fixups() {
@@ -125,9 +125,9 @@ impl<'a, A: Allocator> MachO<'a, A> {
     /// item. If the header of the chained fixups can't be read, that error comes instead of their bindings. It allocates
     /// nothing.
     pub fn bindings<'b>(&'b self) -> BindingIterator<'a, 'b>
-        ensures { AreImageBindings (binds_held self.now) (chained_held self.now)
-            (pointer_size (ctx_held self.now).container) (texts self.now.libs.items)
-            (segments_held self.now) (bindings_left result) }
+        ensures { AreImageBindings (binds_view self.now) (chained_view self.now)
+            (pointer_size (ctx_view self.now).container) (texts self.now.libs.items)
+            (segments_view self.now) (bindings_left result) }
     {
         BindingIterator::over(self.opcode_bindings(), self.chain_bindings())
     }

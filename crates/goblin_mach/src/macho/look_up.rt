@@ -1,7 +1,7 @@
 //! The libraries of an image by kind, and the look-up of one name in its export trie.
 
 ghost use Rattle.std.specs.Prelude.{◌≡◌, ℕ, List, Option, Some, None, option_map, IfOk, IfErr};
-ghost use Rattle.mach_base.specs.Answer.{Stands, IsOkUnlessMemory};
+ghost use Rattle.mach_base.specs.Answer.{ErrorMeets, IsOkUnlessMemory};
 ghost use Rattle.mach_dyld.specs.Exports.{info_of};
 ghost use Rattle.mach_base.specs.Text.{texts};
 ghost use Rattle.mach_dyld.specs.LookUp.{IsFirstOf, FaultOnWay};
@@ -9,8 +9,8 @@ ghost use Rattle.mach_dyld.specs.Trie.{Info, Entry};
 ghost use Rattle.mach_dyld.specs.TrieRange.{trie_there};
 ghost use Rattle.goblin_mach.specs.Facts.{HasExports, HasExportOf};
 ghost use Rattle.goblin_mach.specs.Libraries.{libraries_in, libraries_left};
-ghost use Rattle.goblin_mach.specs.LookUp.{StandsInImage, IsListedAs};
-ghost use Rattle.goblin_mach.specs.OpenImage.{trie_held, bytes_held, commands_held, ctx_held};
+ghost use Rattle.goblin_mach.specs.LookUp.{IsAnswerInImage, IsListedAs};
+ghost use Rattle.goblin_mach.specs.OpenImage.{trie_view, bytes_view, commands_view, ctx_view};
 ghost use Rattle.goblin_mach.specs.Subjects.{ListsImageExports, ImageExportsFault, trie_or_empty};
 
 use crate::libraries::LibraryIterator;
@@ -24,7 +24,7 @@ impl<'a, A: Allocator> MachO<'a, A> {
     /// name, and the way it is loaded. In lossy mode a library whose name can't be read is left out, and those after it move
     /// down, as in `libs`. It allocates nothing.
     pub fn libraries<'b>(&'b self) -> LibraryIterator<'a, 'b>
-        ensures { libraries_left result ≡ libraries_in (ctx_held self.now).le (bytes_held self.now) (commands_held self.now) }
+        ensures { libraries_left result ≡ libraries_in (ctx_view self.now).le (bytes_view self.now) (commands_view self.now) }
     {
         LibraryIterator::new(self.bytes, self.ctx.le, self.load_commands.as_slice())
     }
@@ -38,13 +38,13 @@ impl<'a, A: Allocator> MachO<'a, A> {
         alloc: B,
         name: &str,
     ) -> Result<Option<ExportInfo<'a>>>
-        ensures stands { IfOk result (λ o. StandsInImage (trie_held self.now) (texts self.now.libs.items) name.now (option_map info_of o)) }
-        ensures listed { (list : List Entry) → ListsImageExports (trie_held self.now) (texts self.now.libs.items) list
+        ensures occurs { IfOk result (λ o. IsAnswerInImage (trie_view self.now) (texts self.now.libs.items) name.now (option_map info_of o)) }
+        ensures listed { (list : List Entry) → ListsImageExports (trie_view self.now) (texts self.now.libs.items) list
             → IfOk result (λ o. IsFirstOf name.now list (option_map info_of o)) }
-        ensures only { (list : List Entry) → ListsImageExports (trie_held self.now) (texts self.now.libs.items) list → IsOkUnlessMemory result }
-        ensures refused { IfErr result (Stands (ImageExportsFault (trie_held self.now) (texts self.now.libs.items))) }
-        ensures on_way { IfErr result (Stands (FaultOnWay (trie_there (trie_or_empty (trie_held self.now)) (texts self.now.libs.items))
-            (trie_or_empty (trie_held self.now)).from name.now)) }
+        ensures only { (list : List Entry) → ListsImageExports (trie_view self.now) (texts self.now.libs.items) list → IsOkUnlessMemory result }
+        ensures refused { IfErr result (ErrorMeets (ImageExportsFault (trie_view self.now) (texts self.now.libs.items))) }
+        ensures on_way { IfErr result (ErrorMeets (FaultOnWay (trie_there (trie_or_empty (trie_view self.now)) (texts self.now.libs.items))
+            (trie_or_empty (trie_view self.now)).from name.now)) }
     {
         match &self.export_trie {
             Some(trie) => trie.find(alloc, self.libs.as_slice(), name),

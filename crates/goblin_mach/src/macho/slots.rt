@@ -9,8 +9,8 @@ ghost use Rattle.mach_parts.specs.SlotViews.{indirect_left, indirect_table_of, s
 ghost use Rattle.mach_parts.specs.SlotsLeft.{slots_left};
 ghost use Rattle.goblin_mach.specs.ImageSlots.{indirect_place_by, indirect_place_in, indirect_symbols_in, image_slots, image_slot_at};
 ghost use Rattle.goblin_mach.specs.ImageSlots.{names_library, bind_ordinal_of, provider_read, symbol_provider_of};
-ghost use Rattle.goblin_mach.specs.ImageSlots.{indirect_table_at, indirect_table_held, symbol_table_held};
-ghost use Rattle.goblin_mach.specs.OpenImage.{ctx_held, bytes_held, commands_held, segments_held};
+ghost use Rattle.goblin_mach.specs.ImageSlots.{indirect_table_at, indirect_table_view, symbol_table_view};
+ghost use Rattle.goblin_mach.specs.OpenImage.{ctx_view, bytes_view, commands_view, segments_view};
 ghost use Rattle.mach_load.specs.Variants.{command_of};
 
 use crate::fixups::last_readable;
@@ -87,7 +87,7 @@ fn bind_ordinal(ordinal: u16) -> i64
 impl<'a, A: Allocator> MachO<'a, A> {
     // Returns the table of indirect symbols by the commands that the image holds, if one places any.
     fn indirect_table(&self) -> Option<IndirectSymbols<'a>>
-        ensures { option_map indirect_table_of result ≡ indirect_table_held self.now }
+        ensures { option_map indirect_table_of result ≡ indirect_table_view self.now }
     {
         indirect_table(self.bytes, self.ctx, self.load_commands.as_slice())
     }
@@ -95,7 +95,7 @@ impl<'a, A: Allocator> MachO<'a, A> {
     /// Returns the indirect symbols of the image, one after the other: those of the last `LC_DYSYMTAB` among the load
     /// commands that it holds; none if no command places any. An item that can't be read is its error.
     pub fn indirect_symbols(&self) -> IndirectSymbolIterator<'a>
-        ensures { indirect_left result ≡ indirect_symbols_in (indirect_table_held self.now) }
+        ensures { indirect_left result ≡ indirect_symbols_in (indirect_table_view self.now) }
     {
         match self.indirect_table() {
             Some(table) => table.iter(),
@@ -110,7 +110,7 @@ impl<'a, A: Allocator> MachO<'a, A> {
     /// An error takes the place of one slot that can't be read. One error takes the place of a section that can't be read,
     /// or of the rest of a section from the first slot on that has no address or no entry.
     pub fn symbol_slots<'b>(&'b self) -> SlotIterator<'a, 'b>
-        ensures { slots_left result ≡ image_slots (ctx_held self.now) (indirect_table_held self.now) (symbol_table_held self.now) (segments_held self.now) }
+        ensures { slots_left result ≡ image_slots (ctx_view self.now) (indirect_table_view self.now) (symbol_table_view self.now) (segments_view self.now) }
     {
         let Some(indirect) = self.indirect_table() else {
             return SlotIterator::default();
@@ -127,7 +127,7 @@ impl<'a, A: Allocator> MachO<'a, A> {
     /// holds the address. Fails if a slot of that section has no size, or if this slot has no entry or no symbol.
     pub fn symbol_slot_at(&self, address: u64) -> Result<Option<SymbolSlot<'a>>>
         ensures { Reads (option_map slot_view) result
-            (image_slot_at (ctx_held self.now) (indirect_table_held self.now) (symbol_table_held self.now) (segments_held self.now) address) }
+            (image_slot_at (ctx_view self.now) (indirect_table_view self.now) (symbol_table_view self.now) (segments_view self.now) address) }
     {
         let Some(indirect) = self.indirect_table() else {
             return Ok(None);
@@ -156,7 +156,7 @@ impl<'a, A: Allocator> MachO<'a, A> {
     /// Returns the first section, of the segments that the image holds, in which an address lies, if there is one. Sections
     /// that aren't in the bytes are skipped.
     pub fn section_at(&self, address: u64) -> Option<NumberedSection>
-        ensures { result ≡ section_holding (segments_held self.now) address }
+        ensures { result ≡ section_holding (segments_view self.now) address }
     {
         section_holding(self.segments.as_slice(), address)
     }
@@ -164,7 +164,7 @@ impl<'a, A: Allocator> MachO<'a, A> {
     /// Returns the section that a symbol's `n_sect` names, of the segments that the image holds, if there is one. Fails if
     /// it isn't in the bytes.
     pub fn section_of(&self, n_sect: usize) -> Result<Option<NumberedSection>>
-        ensures { Reads (λ found. found) result (section_by_number (segments_held self.now) n_sect) }
+        ensures { Reads (λ found. found) result (section_by_number (segments_view self.now) n_sect) }
     {
         section_of(self.segments.as_slice(), n_sect)
     }

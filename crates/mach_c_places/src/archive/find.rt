@@ -6,7 +6,7 @@ ghost use Rattle.mach_base.specs.Fault.{fault_of};
 ghost use Rattle.mach_archive.specs.ArchiveViews.{archive_of, member_view, members_left};
 ghost use Rattle.mach_archive.specs.MemberNames.{member_name_bytes};
 ghost use Rattle.mach_c_places.specs.ArchiveFinds.{archive_form, first_of_name, found_by_symbol, form_of_kind, has_name};
-ghost use Rattle.mach_c_places.specs.ArchiveFinds.{member_by_name, member_by_symbol, TellsFound};
+ghost use Rattle.mach_c_places.specs.ArchiveFinds.{member_by_name, member_by_symbol, ReportsFound};
 ghost use Rattle.mach_c_places.specs.ArchiveItems.{members_of_view};
 ghost use Rattle.mach_c_places.specs.PlacedItems.{placed_member_view};
 
@@ -58,7 +58,7 @@ fn placed<'a>(
     bytes: &[u8],
     found: Option<Member<'a>>,
 ) -> Option<PlacedMember<'a>>
-    ensures { TellsFound bytes.now (option_map member_view found.entry) (option_map placed_member_view result) }
+    ensures { ReportsFound bytes.now (option_map member_view found.entry) (option_map placed_member_view result) }
 {
     match found {
         Some(member) => {
@@ -79,7 +79,7 @@ fn found_by_symbol<'a>(archive: &Archive<'a>, name: &str) -> Result<Option<Membe
 /// Returns the member that defines a symbol, by the index of the archive in these bytes, like `Archive::find_symbol`.
 pub fn member_of_symbol<'a>(bytes: &'a [u8], name: &str) -> Result<Option<PlacedMember<'a>>>
     ensures { MatchResult result (λ found. (m : _) × (member_by_symbol bytes.now name.now ≡ Ok m)
-        × TellsFound bytes.now m (option_map placed_member_view found)) (λ e. member_by_symbol bytes.now name.now ≡ Err (fault_of e)) }
+        × ReportsFound bytes.now m (option_map placed_member_view found)) (λ e. member_by_symbol bytes.now name.now ≡ Err (fault_of e)) }
 {
     let archive = Archive::parse(bytes)?;
     let found = found_by_symbol(&archive, name)?;
@@ -123,7 +123,7 @@ fn first_of<'a>(archive: &Archive<'a>, name: &[u8]) -> Result<Option<Member<'a>>
 /// Returns the first member of the archive in these bytes with a name. If a header before it has a fault, that is the error.
 pub fn member_named<'a>(bytes: &'a [u8], name: &[u8]) -> Result<Option<PlacedMember<'a>>>
     ensures { MatchResult result (λ found. (m : _) × (member_by_name bytes.now name.now ≡ Ok m)
-        × TellsFound bytes.now m (option_map placed_member_view found)) (λ e. member_by_name bytes.now name.now ≡ Err (fault_of e)) }
+        × ReportsFound bytes.now m (option_map placed_member_view found)) (λ e. member_by_name bytes.now name.now ≡ Err (fault_of e)) }
 {
     let archive = Archive::parse(bytes)?;
     let found = first_of(&archive, name)?;

@@ -21,7 +21,7 @@ pub(crate) fn header_at(bytes: &[u8], place: usize) -> &[u8] {
 }
 
 /// Returns the place after a header.
-pub(crate) fn behind_header(place: usize) -> usize {
+pub(crate) fn after_header(place: usize) -> usize {
     place.saturating_add(HEADER_SIZE)
 }
 
@@ -83,7 +83,7 @@ pub(crate) fn long_names(archive: &Archive<'_>, bytes: &[u8]) -> Option<usize> {
             header = index.start.saturating_add(len).saturating_add(len % 2);
         }
     }
-    Some(behind_header(header))
+    Some(after_header(header))
 }
 
 /// Returns the offset of the index, its length, and whether its numbers have 8 bytes.

@@ -4,9 +4,9 @@ ghost use Rattle.std.specs.Prelude.{◌≡◌};
 ghost use Rattle.mach_base.specs.Items.{read_as};
 ghost use Rattle.mach_archive.specs.ArchiveViews.{member_view};
 ghost use Rattle.mach_archive.specs.MemberNames.{member_name_bytes};
-ghost use Rattle.mach_c_places.specs.ArchivePlaces.{TellsText};
+ghost use Rattle.mach_c_places.specs.ArchivePlaces.{ReportsText};
 
-use crate::archive::hint::{behind_header, header_at, long_name_number, long_names};
+use crate::archive::hint::{after_header, header_at, long_name_number, long_names};
 use crate::archive::substring::place_of;
 use mach_archive::{Archive, Member};
 use mach_base::Result;
@@ -34,7 +34,7 @@ impl<'a> NamePlaces<'a> {
     fn hint(&self, member: &Member<'_>) -> usize {
         let header = header_at(self.bytes, member.offset);
         if header.starts_with(b"#1/") {
-            return behind_header(member.offset);
+            return after_header(member.offset);
         }
         match (long_name_number(header), self.names) {
             (Some(number), Some(names)) => names.saturating_add(number),
@@ -44,7 +44,7 @@ impl<'a> NamePlaces<'a> {
 
     /// Returns the offset of a member's name, and its length. It is refused as by `Member::name_bytes`.
     pub fn of_member(&self, member: &Member<'_>) -> Result<(usize, usize)>
-        ensures { TellsText self.now.bytes.now (member_name_bytes (member_view member.now)) (read_as (λ told. told) result) }
+        ensures { ReportsText self.now.bytes.now (member_name_bytes (member_view member.now)) (read_as (λ reported. reported) result) }
     {
         match member.name_bytes() {
             Ok(name) => place_of(self.bytes, name, self.hint(member)),

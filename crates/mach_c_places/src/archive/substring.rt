@@ -2,13 +2,13 @@
 
 ghost use Rattle.std.specs.Prelude.{◌≡◌, ◌↔◌, ℕ, IsTrue, Ok, MatchOption};
 ghost use Rattle.mach_base.specs.Items.{read_as};
-ghost use Rattle.mach_c_places.specs.ArchivePlaces.{IsTextAt, IsNowhere, TellsText};
+ghost use Rattle.mach_c_places.specs.ArchivePlaces.{IsTextAt, IsNowhere, ReportsText};
 
 use mach_base::{Error, Result};
 
 // Whether these bytes are at a place.
 #[inline(always)]
-fn stands_at(bytes: &[u8], part: &[u8], place: usize) -> bool
+fn occurs_at(bytes: &[u8], part: &[u8], place: usize) -> bool
     ensures { IsTrue result ↔ IsTextAt part.now bytes.now place }
 {
     place <= bytes.len()
@@ -21,7 +21,7 @@ fn first_place(bytes: &[u8], part: &[u8]) -> Option<usize>
     ensures { MatchOption result (IsNowhere part.now bytes.now) (λ place. IsTextAt part.now bytes.now place) }
 {
     for place in 0..bytes.len() + 1 {
-        if stands_at(bytes, part, place) {
+        if occurs_at(bytes, part, place) {
             return Some(place);
         }
     }
@@ -30,9 +30,9 @@ fn first_place(bytes: &[u8], part: &[u8]) -> Option<usize>
 
 /// Returns the offset of a text, and its length. It looks first where the text should be, then everywhere.
 pub(crate) fn place_of(bytes: &[u8], text: &[u8], hint: usize) -> Result<(usize, usize)>
-    ensures { TellsText bytes.now (Ok text.now) (read_as (λ told. told) result) }
+    ensures { ReportsText bytes.now (Ok text.now) (read_as (λ reported. reported) result) }
 {
-    if stands_at(bytes, text, hint) {
+    if occurs_at(bytes, text, hint) {
         return Ok((hint, text.len()));
     }
     match first_place(bytes, text) {

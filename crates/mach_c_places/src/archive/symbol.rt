@@ -2,7 +2,7 @@
 
 ghost use Rattle.std.specs.Prelude.{◌≡◌, Ok};
 ghost use Rattle.mach_base.specs.Items.{read_as};
-ghost use Rattle.mach_c_places.specs.ArchivePlaces.{TellsText};
+ghost use Rattle.mach_c_places.specs.ArchivePlaces.{ReportsText};
 
 use crate::archive::hint::{index_of, number_at};
 use crate::archive::substring::place_of;
@@ -24,15 +24,15 @@ pub struct SymbolPlaces<'a> {
 fn is_whole(bytes: &[u8], (start, len): (usize, usize), is_wide: bool, le: Endian) -> bool {
     let width = if is_wide { 8 } else { 4 };
     let records = number_at(bytes, start, is_wide, le);
-    let behind = records.saturating_add(2 * width);
+    let following = records.saturating_add(2 * width);
     records % (2 * width) == 0
-        && behind <= len
+        && following <= len
         && number_at(
             bytes,
             start.saturating_add(width).saturating_add(records),
             is_wide,
             le,
-        ) <= len.saturating_sub(behind)
+        ) <= len.saturating_sub(following)
 }
 
 impl<'a> SymbolPlaces<'a> {
@@ -94,7 +94,7 @@ impl<'a> SymbolPlaces<'a> {
 
     /// Returns the offset of a symbol's name, and its length. It must be called once for each symbol, in the order of the index.
     pub fn of_next(&mut self, symbol: &ArchiveSymbol<'_>) -> Result<(usize, usize)>
-        ensures told { TellsText self.old.bytes.now (Ok symbol.now.name.now) (read_as (λ told. told) result) }
+        ensures reported { ReportsText self.old.bytes.now (Ok symbol.now.name.now) (read_as (λ reported. reported) result) }
         ensures same { self.new.bytes.now ≡ self.old.bytes.now }
     {
         let hint = self.hint();

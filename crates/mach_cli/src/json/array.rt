@@ -6,8 +6,8 @@ ghost use Rattle.std.specs.Result.{is_ok};
 ghost use Rattle.mach_cli.specs.Listings.{text_answer};
 ghost use Rattle.mach_cli.specs.JsonArrays.{comma_before, lists_end, lists_end_past, row_object, WritesArray, WritesMember, WritesObjects};
 
-use crate::listing::{Listing, Told};
-use crate::shows::Outcome;
+use crate::image_view::Outcome;
+use crate::listing::{ListProgress, Listing};
 use goblin_mach::describe;
 use std::io;
 use std::io::Write;
@@ -18,23 +18,23 @@ pub fn print_member<L: Listing, O: Write>(
     list: &mut L,
     limit: usize,
     out: &mut O,
-) -> io::Result<Told>
+) -> io::Result<ListProgress>
     ensures { IfOk result (WritesMember name.now limit (L.left list.old) (O.contents out.old) (O.contents out.new)) }
 {
     write!(out, "\"{name}\":")?;
-    let told = print_array(list, limit, out)?;
+    let reported = print_array(list, limit, out)?;
     write!(out, ",")?;
-    Ok(told)
+    Ok(reported)
 }
 
 /// Writes an empty array as a member of this name, with a comma after it: the array of a list that isn't printed.
-pub fn print_empty<O: Write>(name: &str, limit: usize, out: &mut O) -> io::Result<Told>
+pub fn print_empty<O: Write>(name: &str, limit: usize, out: &mut O) -> io::Result<ListProgress>
     ensures { IfOk result (WritesMember name.now limit [] (O.contents out.old) (O.contents out.new)) }
 {
     write!(out, "\"{name}\":")?;
     write!(out, "[]")?;
     write!(out, ",")?;
-    Ok(Told {
+    Ok(ListProgress {
         left: limit,
         whole: true,
         more: false,
@@ -42,25 +42,29 @@ pub fn print_empty<O: Write>(name: &str, limit: usize, out: &mut O) -> io::Resul
 }
 
 /// Writes what follows the members of an image's lists, and returns their outcome.
-pub fn print_end<O: Write>(told: Told, out: &mut O) -> io::Result<Outcome>
-    ensures { IfOk result (λ outcome. (outcome.whole ≡ (told.whole && not told.more)) × (outcome.left ≡ told.left)
-        × Appends (O.contents out.old) (O.contents out.new) (lists_end told.more)) }
+pub fn print_end<O: Write>(reported: ListProgress, out: &mut O) -> io::Result<Outcome>
+    ensures { IfOk result (λ outcome. (outcome.whole ≡ (reported.whole && not reported.more)) × (outcome.left ≡ reported.left)
+        × Appends (O.contents out.old) (O.contents out.new) (lists_end reported.more)) }
 {
-    let more = told.more;
+    let more = reported.more;
     write!(out, "\"kind\":\"image\",\"limit_met\":{more}")?;
     Ok(Outcome {
-        whole: told.whole & !told.more,
-        left: told.left,
+        whole: reported.whole & !reported.more,
+        left: reported.left,
     })
 }
 
 /// Writes what follows the members of an image's lists, with how many more items they claim past the end of the bytes, and
 /// returns their outcome.
-pub fn print_end_past<O: Write>(told: Told, past: usize, out: &mut O) -> io::Result<Outcome>
-    ensures { IfOk result (λ outcome. (outcome.whole ≡ ((told.whole && not told.more) && (past == 0))) × (outcome.left ≡ told.left)
-        × Appends (O.contents out.old) (O.contents out.new) (lists_end_past told.more past)) }
+pub fn print_end_past<O: Write>(
+    reported: ListProgress,
+    past: usize,
+    out: &mut O,
+) -> io::Result<Outcome>
+    ensures { IfOk result (λ outcome. (outcome.whole ≡ ((reported.whole && not reported.more) && (past == 0))) × (outcome.left ≡ reported.left)
+        × Appends (O.contents out.old) (O.contents out.new) (lists_end_past reported.more past)) }
 {
-    let outcome = print_end(told, out)?;
+    let outcome = print_end(reported, out)?;
     write!(out, ",\"past_the_end\":{past}")?;
     Ok(Outcome {
         whole: outcome.whole & (past == 0),
@@ -74,17 +78,21 @@ pub fn print_array<L: Listing, O: Write>(
     list: &mut L,
     limit: usize,
     out: &mut O,
-) -> io::Result<Told>
+) -> io::Result<ListProgress>
     ensures { IfOk result (WritesArray limit (L.left list.old) (O.contents out.old) (O.contents out.new)) }
 {
     write!(out, "[")?;
-    let told = print_objects(list, limit, out)?;
+    let reported = print_objects(list, limit, out)?;
     write!(out, "]")?;
-    Ok(told)
+    Ok(reported)
 }
 
 // Writes an object for each of the first rows of a list, up to a limit.
-fn print_objects<L: Listing, O: Write>(list: &mut L, limit: usize, out: &mut O) -> io::Result<Told>
+fn print_objects<L: Listing, O: Write>(
+    list: &mut L,
+    limit: usize,
+    out: &mut O,
+) -> io::Result<ListProgress>
     ensures { IfOk result (WritesObjects limit (L.left list.old) (O.contents out.old) (O.contents out.new)) }
 {
     let mut left = limit;
@@ -92,7 +100,7 @@ fn print_objects<L: Listing, O: Write>(list: &mut L, limit: usize, out: &mut O) 
     let mut is_first = true;
     'rows: while let Some(row) = list.next_row() {
         let Some(rest) = left.checked_sub(1) else {
-            return Ok(Told {
+            return Ok(ListProgress {
                 left: 0,
                 whole,
                 more: true,
@@ -102,7 +110,7 @@ fn print_objects<L: Listing, O: Write>(list: &mut L, limit: usize, out: &mut O) 
         whole &= print_object::<L, O>(&row, is_first, out)?;
         is_first = false;
     }
-    Ok(Told {
+    Ok(ListProgress {
         left,
         whole,
         more: false,
@@ -141,10 +149,10 @@ pub fn comma_before(is_first: bool) -> &'static str
 }
 
 /// Returns the state after two lists, given the state after each; the second started with what the first left.
-pub fn then(first: Told, next: Told) -> Told
+pub fn then(first: ListProgress, next: ListProgress) -> ListProgress
     ensures { (result.left ≡ next.left) × (result.whole ≡ (first.whole && next.whole)) × (result.more ≡ (first.more || next.more)) }
 {
-    Told {
+    ListProgress {
         left: next.left,
         whole: first.whole & next.whole,
         more: first.more | next.more,

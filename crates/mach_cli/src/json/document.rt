@@ -2,10 +2,10 @@
 
 ghost use Rattle.std.specs.Prelude.{◌≡◌, ℕ, List, false, IfOk, IfErr, OnOk};
 ghost use Rattle.std.specs.Io.KnownBytes.{Appends};
-ghost use Rattle.mach_base.specs.Answer.{Stands};
+ghost use Rattle.mach_base.specs.Answer.{ErrorMeets};
 ghost use Rattle.goblin_mach.specs.OpenImage.{IsImage};
 ghost use Rattle.goblin_mach.specs.FatEntry.{entry_at};
-ghost use Rattle.goblin_mach.specs.FatFile.{file_held};
+ghost use Rattle.goblin_mach.specs.FatFile.{file_view};
 ghost use Rattle.goblin_mach.specs.View.{ViewFault};
 ghost use Rattle.mach_cli.specs.Cpus.{misses};
 ghost use Rattle.mach_cli.specs.Shown.{IsFatTable, Shown, Writes};
@@ -13,14 +13,14 @@ ghost use Rattle.mach_cli.specs.Documents.{document_end, AreEntryObjects, EntryO
 ghost use Rattle.mach_cli.specs.Opened.{IsOpenSubject};
 
 use crate::cpu::Cpu;
-use crate::failure::Failure;
+use crate::failure::ShowFailure;
 use crate::heading::Heading;
+use crate::image_view::{ImageView, Outcome};
 use crate::json::array::comma_before;
 use crate::json::refusal::{
     ObjectFront, Refusal, refusal_of, refuse, refuse_entry, refuse_members,
 };
 use crate::json::text::JsonString;
-use crate::shows::{Outcome, Shows};
 use goblin_mach::fat::FatArch;
 use goblin_mach::{Mach, MachO, MultiArch, Result, SingleArch};
 use std::alloc::Allocator;
@@ -37,7 +37,7 @@ enum Subject<'a, A: Allocator> {
 }
 
 /// Writes the object of a file of this name, and returns whether nothing was refused and each image is whole.
-pub fn show<S: Shows, A: Allocator + Clone, O: Write, E: Write>(
+pub fn show<S: ImageView, A: Allocator + Clone, O: Write, E: Write>(
     shows: &S,
     name: &str,
     cpu: Cpu,
@@ -74,7 +74,7 @@ pub fn show<S: Shows, A: Allocator + Clone, O: Write, E: Write>(
 // Opens a file; a fat one with its table.
 fn open<'a, A: Allocator + Clone>(alloc: &A, bytes: &'a [u8]) -> Result<Subject<'a, A>>
     ensures held { IfOk result (IsOpenSubject bytes.now) }
-    ensures refused { IfErr result (Stands (ViewFault bytes.now)) }
+    ensures refused { IfErr result (ErrorMeets (ViewFault bytes.now)) }
 {
     let file = Mach::parse(alloc.clone()?, bytes)?;
     match file {
@@ -87,7 +87,7 @@ fn open<'a, A: Allocator + Clone>(alloc: &A, bytes: &'a [u8]) -> Result<Subject<
 }
 
 // Writes the object of a file that is one image, if it is selected.
-fn show_one<S: Shows, A: Allocator + Clone, O: Write, E: Write>(
+fn show_one<S: ImageView, A: Allocator + Clone, O: Write, E: Write>(
     shows: &S,
     name: &str,
     cpu: Cpu,
@@ -111,7 +111,7 @@ fn show_one<S: Shows, A: Allocator + Clone, O: Write, E: Write>(
 }
 
 // Writes the object of a fat file, if one of its entries is selected.
-fn show_fat<S: Shows, A: Allocator + Clone, O: Write, E: Write>(
+fn show_fat<S: ImageView, A: Allocator + Clone, O: Write, E: Write>(
     shows: &S,
     name: &str,
     cpu: Cpu,
@@ -123,7 +123,7 @@ fn show_fat<S: Shows, A: Allocator + Clone, O: Write, E: Write>(
     out: &mut O,
     err: &mut E,
 ) -> io::Result<bool>
-    ensures { IsFatTable bytes.now (file_held container.now) records.now
+    ensures { IsFatTable bytes.now (file_view container.now) records.now
         → IfOk result (λ whole. (shown : Shown) × IsDocument cpu (S.names shows.now) name.now (S.lines shows.now) limit bytes.now shown
         × (shown.whole ≡ whole) × Writes shown (O.contents out.old) (O.contents out.new) (E.contents err.old) (E.contents err.new)) }
 {
@@ -145,7 +145,7 @@ fn end<O: Write>(kind: &str, name: &str, out: &mut O) -> io::Result<()>
 }
 
 // Writes the objects of the selected entries, and returns whether none is refused and each is whole.
-fn show_entries<S: Shows, A: Allocator + Clone, O: Write, E: Write>(
+fn show_entries<S: ImageView, A: Allocator + Clone, O: Write, E: Write>(
     shows: &S,
     cpu: Cpu,
     limit: usize,
@@ -156,7 +156,7 @@ fn show_entries<S: Shows, A: Allocator + Clone, O: Write, E: Write>(
     err: &mut E,
 ) -> io::Result<bool>
     ensures { IfOk result (λ whole. (shown : EntryObjects)
-        × AreEntryObjects cpu (S.names shows.now) (S.lines shows.now) limit (file_held container.now) records.now shown × (shown.whole ≡ whole)
+        × AreEntryObjects cpu (S.names shows.now) (S.lines shows.now) limit (file_view container.now) records.now shown × (shown.whole ≡ whole)
         × WritesEntries shown (O.contents out.old) (O.contents out.new) (E.contents err.old) (E.contents err.new)) }
 {
     let mut whole = true;
@@ -177,7 +177,7 @@ fn show_entries<S: Shows, A: Allocator + Clone, O: Write, E: Write>(
 }
 
 // Writes the object of an entry, and returns whether it is whole, and how many rows are left.
-fn show_entry<S: Shows, A: Allocator + Clone, O: Write, E: Write>(
+fn show_entry<S: ImageView, A: Allocator + Clone, O: Write, E: Write>(
     shows: &S,
     left: usize,
     alloc: &A,
@@ -187,7 +187,7 @@ fn show_entry<S: Shows, A: Allocator + Clone, O: Write, E: Write>(
     err: &mut E,
 ) -> io::Result<Outcome>
     ensures { IfOk result (λ outcome. (shown : Shown)
-        × IsEntryObject (S.names shows.now) (S.lines shows.now) left index (entry_at (file_held container.now) index) shown
+        × IsEntryObject (S.names shows.now) (S.lines shows.now) left index (entry_at (file_view container.now) index) shown
         × (shown.whole ≡ outcome.whole) × (shown.left ≡ outcome.left)
         × Writes shown (O.contents out.old) (O.contents out.new) (E.contents err.old) (E.contents err.new)) }
 {
@@ -207,7 +207,7 @@ fn show_entry<S: Shows, A: Allocator + Clone, O: Write, E: Write>(
 }
 
 // Writes the object of an image, and returns whether it is whole, and how many rows are left.
-fn show_image<S: Shows, A: Allocator + Clone, O: Write, E: Write>(
+fn show_image<S: ImageView, A: Allocator + Clone, O: Write, E: Write>(
     shows: &S,
     left: usize,
     alloc: &A,
@@ -228,10 +228,10 @@ fn show_image<S: Shows, A: Allocator + Clone, O: Write, E: Write>(
             write!(out, "}}")?;
             Ok(outcome)
         }
-        Err(Failure::Memory) => {
+        Err(ShowFailure::Memory) => {
             refuse_members(shows, out, err)?;
             Ok(Outcome { whole: false, left })
         }
-        Err(Failure::Unwritten(error)) => Err(error),
+        Err(ShowFailure::Unwritten(error)) => Err(error),
     }
 }

@@ -6,15 +6,15 @@ ghost use Rattle.mach_base.specs.Words.{words_of};
 ghost use Rattle.mach_cli.specs.Foreigners.{refused_words};
 ghost use Rattle.mach_cli.specs.Shown.{complaint, entry_complaint};
 ghost use Rattle.mach_cli.specs.declared.heading.Heading.TheVariants as headings;
-ghost use Rattle.mach_cli.specs.Documents.{object_front, refusal_object, told_refusal};
+ghost use Rattle.mach_cli.specs.Documents.{object_front, refusal_object, reported_refusal};
 ghost use Rattle.mach_cli.specs.JsonArrays.{error_end};
 
 use crate::cpu::Cpu;
 use crate::foreign::{Foreign, refused_kind};
 use crate::heading::Heading;
+use crate::image_view::ImageView;
 use crate::json::text::JsonString;
 use crate::names::Names;
-use crate::shows::Shows;
 use goblin_mach::{Description, Error, describe};
 use std::fmt::{Display, Formatter};
 use std::io::Write;
@@ -36,7 +36,7 @@ pub enum Refusal<'a> {
 impl Display for Refusal<'_> {
     ghost use Rattle.std.specs.Prelude.{Some};
 
-    ghost output = { λ refusal. Some (told_refusal refusal) };
+    ghost output = { λ refusal. Some (reported_refusal refusal) };
 
     fn fmt<W: fmt::Write>(&self, f: &mut Formatter<W>) -> fmt::Result {
         match self {
@@ -50,7 +50,7 @@ impl Display for Refusal<'_> {
 
 /// Returns why a file is refused for this error: its kind, if it isn't Mach-O, else the fault.
 pub fn refusal_of<'a>(bytes: &[u8], error: &'a Error) -> Refusal<'a>
-    ensures { told_refusal result ≡ refused_words bytes.now error.now }
+    ensures { reported_refusal result ≡ refused_words bytes.now error.now }
 {
     match refused_kind(bytes, error) {
         Some(kind) => Refusal::Kind(kind),
@@ -76,7 +76,7 @@ impl Display for ObjectFront {
 }
 
 /// Writes the object of a file of this name of which nothing is shown, and reports why; so it is not whole.
-pub fn refuse<S: Shows, O: Write, E: Write>(
+pub fn refuse<S: ImageView, O: Write, E: Write>(
     shows: &S,
     name: &str,
     refusal: Refusal<'_>,
@@ -84,8 +84,8 @@ pub fn refuse<S: Shows, O: Write, E: Write>(
     err: &mut E,
 ) -> io::Result<bool>
     ensures { IfOk result (λ whole. (whole ≡ false)
-        × Appends (O.contents out.old) (O.contents out.new) (refusal_object name.now (told_refusal refusal.entry))
-        × Appends (E.contents err.old) (E.contents err.new) (complaint (S.names shows.now) (told_refusal refusal.entry))) }
+        × Appends (O.contents out.old) (O.contents out.new) (refusal_object name.now (reported_refusal refusal.entry))
+        × Appends (E.contents err.old) (E.contents err.new) (complaint (S.names shows.now) (reported_refusal refusal.entry))) }
 {
     let (names, name) = (shows.names(), JsonString(name));
     writeln!(
@@ -97,13 +97,13 @@ pub fn refuse<S: Shows, O: Write, E: Write>(
 }
 
 /// Writes that memory ran out, instead of the members of an image, and reports it.
-pub fn refuse_members<S: Shows, O: Write, E: Write>(
+pub fn refuse_members<S: ImageView, O: Write, E: Write>(
     shows: &S,
     out: &mut O,
     err: &mut E,
 ) -> io::Result<()>
     ensures text { OnOk result (Appends (O.contents out.old) (O.contents out.new) (error_end (codes "out of memory"))) }
-    ensures said { OnOk result (Appends (E.contents err.old) (E.contents err.new) (complaint (S.names shows.now) (codes "out of memory"))) }
+    ensures message { OnOk result (Appends (E.contents err.old) (E.contents err.new) (complaint (S.names shows.now) (codes "out of memory"))) }
 {
     let names = shows.names();
     write!(out, "\"error\":\"out of memory\"}}")?;
@@ -111,7 +111,7 @@ pub fn refuse_members<S: Shows, O: Write, E: Write>(
 }
 
 /// Writes the object of a refused entry of a fat file, and reports why.
-pub fn refuse_entry<S: Shows, O: Write, E: Write>(
+pub fn refuse_entry<S: ImageView, O: Write, E: Write>(
     shows: &S,
     index: usize,
     error: &Error,
@@ -120,7 +120,7 @@ pub fn refuse_entry<S: Shows, O: Write, E: Write>(
 ) -> io::Result<()>
     ensures text { OnOk result (Appends (O.contents out.old) (O.contents out.new)
         (object_front (headings.Arch index) ++ error_end (words_of error.now))) }
-    ensures said { OnOk result (Appends (E.contents err.old) (E.contents err.new) (entry_complaint (S.names shows.now) index (words_of error.now))) }
+    ensures message { OnOk result (Appends (E.contents err.old) (E.contents err.new) (entry_complaint (S.names shows.now) index (words_of error.now))) }
 {
     let (names, words) = (shows.names(), describe(error));
     let front = ObjectFront(Heading::Arch(index));

@@ -7,9 +7,9 @@ ghost use Rattle.mach_cli.specs.Statuses.{IsStatus, status_by};
 ghost use Rattle.mach_cli.specs.Documents.{IsDocument};
 
 use crate::cpu::Cpu;
+use crate::image_view::ImageView;
 use crate::json::document::show;
 use crate::output::failed;
-use crate::shows::Shows;
 use std::alloc::Allocator;
 use std::io;
 use std::io::{BufWriter, Write};
@@ -22,7 +22,7 @@ use std::io::{BufWriter, Write};
 /// - 2 or 141 if a write fails (`failed`).
 ///
 /// Except after a failed write the buffer is flushed.
-pub fn run<S: Shows, A: Allocator + Clone, W: Write + Drop, B: Allocator, E: Write>(
+pub fn run<S: ImageView, A: Allocator + Clone, W: Write + Drop, B: Allocator, E: Write>(
     shows: &S,
     name: &str,
     cpu: Cpu,
@@ -45,7 +45,7 @@ pub fn run<S: Shows, A: Allocator + Clone, W: Write + Drop, B: Allocator, E: Wri
 }
 
 // Writes the object of a file, and flushes the buffer.
-fn show_all<S: Shows, A: Allocator + Clone, W: Write + Drop, B: Allocator, E: Write>(
+fn show_all<S: ImageView, A: Allocator + Clone, W: Write + Drop, B: Allocator, E: Write>(
     shows: &S,
     name: &str,
     cpu: Cpu,

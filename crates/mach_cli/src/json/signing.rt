@@ -1,7 +1,7 @@
 //! How a pointer is signed, and what a rebase adjusts, as members of an object.
 
 ghost use Rattle.std.specs.Prelude.{◌≡◌, Some};
-ghost use Rattle.mach_parts.specs.PointerSigning.{auth_seen};
+ghost use Rattle.mach_parts.specs.PointerSigning.{auth_option_view};
 ghost use Rattle.mach_cli.specs.Signing.{auth_members, diverse_by, diversity_by, diversity_members, has_auth, key_by, rebase_type, signing_members};
 
 use goblin_mach::RebaseKind;
@@ -11,7 +11,7 @@ use std::fmt::{Display, Formatter, Write};
 
 /// Whether a pointer is signed.
 pub fn has_auth(auth: Option<PointerAuth>) -> bool
-    ensures { result ≡ has_auth (auth_seen auth) }
+    ensures { result ≡ has_auth (auth_option_view auth) }
 {
     match auth {
         Some(_) => true,
@@ -21,7 +21,7 @@ pub fn has_auth(auth: Option<PointerAuth>) -> bool
 
 /// Returns the key of a signed pointer, 0 if it isn't signed.
 pub fn key_by(auth: Option<PointerAuth>) -> u8
-    ensures { result ≡ key_by (auth_seen auth) }
+    ensures { result ≡ key_by (auth_option_view auth) }
 {
     match auth {
         Some(auth) => auth.key,
@@ -31,7 +31,7 @@ pub fn key_by(auth: Option<PointerAuth>) -> u8
 
 // Returns the diversity of a signed pointer, 0 if it isn't signed.
 fn diversity_by(auth: Option<PointerAuth>) -> u16
-    ensures { result ≡ diversity_by (auth_seen auth) }
+    ensures { result ≡ diversity_by (auth_option_view auth) }
 {
     match auth {
         Some(auth) => auth.diversity,
@@ -41,7 +41,7 @@ fn diversity_by(auth: Option<PointerAuth>) -> u16
 
 // Whether the address of a signed pointer is mixed in, too.
 fn diverse_by(auth: Option<PointerAuth>) -> bool
-    ensures { result ≡ diverse_by (auth_seen auth) }
+    ensures { result ≡ diverse_by (auth_option_view auth) }
 {
     match auth {
         Some(auth) => auth.is_address_diverse,
@@ -54,7 +54,7 @@ fn diverse_by(auth: Option<PointerAuth>) -> bool
 pub struct DiversityMembers(pub Option<PointerAuth>);
 
 impl Display for DiversityMembers {
-    ghost output = { λ t. Some (diversity_members (auth_seen t.0)) };
+    ghost output = { λ t. Some (diversity_members (auth_option_view t.0)) };
 
     fn fmt<W: Write>(&self, f: &mut Formatter<W>) -> fmt::Result {
         let diversity = diversity_by(self.0);
@@ -71,7 +71,7 @@ impl Display for DiversityMembers {
 struct SigningMembers(Option<PointerAuth>);
 
 impl Display for SigningMembers {
-    ghost output = { λ t. Some (signing_members (auth_seen t.0)) };
+    ghost output = { λ t. Some (signing_members (auth_option_view t.0)) };
 
     fn fmt<W: Write>(&self, f: &mut Formatter<W>) -> fmt::Result {
         let signed = has_auth(self.0);
@@ -85,7 +85,7 @@ impl Display for SigningMembers {
 pub struct AuthMembers(pub Option<PointerAuth>);
 
 impl Display for AuthMembers {
-    ghost output = { λ t. Some (auth_members (auth_seen t.0)) };
+    ghost output = { λ t. Some (auth_members (auth_option_view t.0)) };
 
     fn fmt<W: Write>(&self, f: &mut Formatter<W>) -> fmt::Result {
         let diversity = DiversityMembers(self.0);

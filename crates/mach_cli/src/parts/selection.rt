@@ -1,16 +1,16 @@
 //! Which parts of a file are selected.
 
 ghost use Rattle.std.specs.Prelude.{◌≡◌};
-ghost use Rattle.mach_cli.specs.Asked.{are_missed, is_part_for};
+ghost use Rattle.mach_cli.specs.Selected.{are_missed, is_part_for};
 ghost use Rattle.mach_cli.specs.PartsOf.{parts_in};
 
 use crate::cpu::Cpu;
 use crate::parts::parts_of;
-use goblin_mach::Place;
+use goblin_mach::ItemPlace;
 use std::alloc::Global;
 
 /// Whether a part is selected by the cpu of its entry. If it has no entry, its image decides.
-pub fn is_for(cpu: Cpu, place: &Place) -> bool
+pub fn is_for(cpu: Cpu, place: &ItemPlace) -> bool
     ensures { result ≡ is_part_for cpu place.now }
 {
     match place.cpu {

@@ -5,7 +5,7 @@ ghost use Rattle.mach_base.specs.Answer.{Gives};
 ghost use Rattle.goblin_mach.specs.Items.{content_view};
 ghost use Rattle.goblin_mach.specs.ItemsLeft.{input_item_read};
 ghost use Rattle.mach_cli.specs.PartNames.{part_name};
-ghost use Rattle.mach_cli.specs.ShownParts.{part_seen, shown_in};
+ghost use Rattle.mach_cli.specs.ShownParts.{shown_part_view, shown_in};
 
 use crate::parts::name::PartName;
 use goblin_mach::{Content, InputItem};
@@ -43,7 +43,7 @@ fn name_of(
 /// Returns what is shown of a part of a file of this name: the file itself, or a part with its own name. The error says why the
 /// part can't be read, or that memory ran out.
 pub fn shown_part<'a>(alloc: Global, file: &str, part: InputItem<'a>) -> Result<ShownPart<'a>>
-    ensures { let x = input_item_read part.entry in Gives part_seen result (shown_in file.now x.place.entry x.content) }
+    ensures { let x = input_item_read part.entry in Gives shown_part_view result (shown_in file.now x.place.entry x.content) }
 {
     let entry = part.place.entry;
     match part.content? {

@@ -8,7 +8,7 @@ ghost use Rattle.mach_dyld.specs.BindingFaults as defined;
 ghost use Rattle.mach_dyld.specs.BindingFaults.{has_fault, offset_at, binding_reads_left};
 ghost use Rattle.mach_dyld.specs.BindingsLeft.{opcode_bindings_left};
 
-use crate::bindings::{Extra, OpcodeBindingIterator};
+use crate::bindings::{BindingSettings, OpcodeBindingIterator};
 use crate::imports::settings::Settings;
 use crate::imports::source::Source;
 use crate::stream_faults::JudgesAll;
@@ -64,7 +64,7 @@ pub fn all_lie(
     none_above(highest, offset, stride, count)
 }
 
-impl<'a> JudgesAll<'a> for Extra {
+impl<'a> JudgesAll<'a> for BindingSettings {
     fn all_make(
         self,
         source: &Source<'a, '_>,

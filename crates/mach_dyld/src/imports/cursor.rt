@@ -5,27 +5,27 @@ ghost use Rattle.std.specs.Iterator.{YieldsFirstBy};
 ghost use Rattle.mach_base.specs.Context.{pointer_size};
 ghost use Rattle.mach_base.specs.Text.{text_at};
 ghost use Rattle.mach_parts.specs.Segment.{segment_view};
-ghost use Rattle.mach_dyld.specs.BindCursors.{special_in, extra_in, state_in, imports_behind, opcode_bindings_behind};
+ghost use Rattle.mach_dyld.specs.BindCursors.{special_in, extra_in, state_in, imports_after, opcode_bindings_after};
 ghost use Rattle.mach_base.specs.Number.{says_yes};
 ghost use Rattle.mach_dyld.specs.BindCursors.{IsOverImports, IsOverBindings, HasEndedImports, HasEndedOpcodeBindings};
-ghost use Rattle.mach_dyld.specs.BindCursors.{placed_read, placed_binding_read, IsPlaced, TextStands};
+ghost use Rattle.mach_dyld.specs.BindCursors.{placed_read, placed_binding_read, IsPlaced, TextIsAt};
 ghost use Rattle.mach_dyld.specs.BindLeft.{imports_left};
 ghost use Rattle.mach_dyld.specs.Machine as machine;
 ghost use Rattle.mach_dyld.specs.Machine.{items_left, items_of, reader_by, start_of, state_of};
 ghost use Rattle.mach_dyld.specs.BindingsLeft.{opcode_bindings_left, first_extra};
 ghost use Rattle.mach_base.specs.Text.{texts};
 ghost use Rattle.mach_dyld.specs.Imports.{input_in};
-ghost use Rattle.mach_dyld.specs.NamePlaces.{NameStands, text_or_none, IsNamed};
-ghost use Rattle.mach_dyld.specs.SiteCursors.{binding_sites_behind, binding_sites_left, import_sites_behind, import_sites_left};
-ghost use Rattle.mach_dyld.specs.SiteCursors.{place_named, site_of, site_seen};
+ghost use Rattle.mach_dyld.specs.NamePlaces.{NameIsSet, text_or_none, IsNamed};
+ghost use Rattle.mach_dyld.specs.SiteCursors.{binding_sites_after, binding_sites_left, import_sites_after, import_sites_left};
+ghost use Rattle.mach_dyld.specs.SiteCursors.{place_named, site_of, site_view};
 ghost use Rattle.mach_dyld.specs.Sites.{Site, site_in, sites_left, sites_of};
 ghost use Rattle.mach_dyld.specs.Streams.{Input, Range};
 
-use crate::bindings::{Extra, OpcodeBindingIterator};
+use crate::bindings::{BindingSettings, OpcodeBindingIterator};
 use crate::imports::settings::Settings;
 use crate::imports::state::State;
-use crate::imports::stream::{Makes, Stream};
-use crate::imports::{BindInterpreter, BindIterator, Import, Plain};
+use crate::imports::stream::{BindRules, Stream};
+use crate::imports::{BindInterpreter, BindIterator, Import, ImportSettings};
 use mach_base::{Ctx, Result, read_text};
 use mach_parts::binding::Binding;
 use mach_parts::segment::Segment;
@@ -109,7 +109,7 @@ fn flags(first: bool, second: bool) -> u8
 // Returns the text at a place, with the place. If there is none, returns an empty text and the last place of 64 bits.
 fn name_at(bytes: &[u8], place: usize) -> (&str, usize)
     ensures text { result.0.now ≡ text_or_none (text_at bytes.now place) }
-    ensures stands { IsNamed bytes.now result.0.now result.1 }
+    ensures occurs { IsNamed bytes.now result.0.now result.1 }
     ensures place { result.1 ≡ place_named (text_at bytes.now place) place }
 {
     match read_text(bytes, place) {
@@ -132,11 +132,11 @@ fn place_in(bytes: &[u8], place: usize) -> usize
 
 impl<'a> State<'a> {
     // Returns the state as numbers.
-    fn cursor(&self, bytes: &[u8], more: Extra) -> BindCursor
-        ensures state { NameStands bytes.now self.now.settings → state_in bytes.now result ≡ state_of self.now }
+    fn cursor(&self, bytes: &[u8], more: BindingSettings) -> BindCursor
+        ensures state { NameIsSet bytes.now self.now.settings → state_in bytes.now result ≡ state_of self.now }
         ensures more { extra_in result ≡ more }
         ensures library { result.library ≡ self.now.settings.library }
-        ensures site { NameStands bytes.now self.now.settings → site_seen bytes.now result ≡ site_in self.now.settings }
+        ensures site { NameIsSet bytes.now self.now.settings → site_view bytes.now result ≡ site_in self.now.settings }
     {
         let settings = &self.settings;
         BindCursor {
@@ -165,8 +165,8 @@ impl<'a> State<'a> {
     // Returns the state with these numbers.
     fn at(bytes: &'a [u8], cursor: &BindCursor) -> State<'a>
         ensures state { state_of result ≡ state_in bytes.now cursor.now }
-        ensures named { NameStands bytes.now result.settings }
-        ensures site { site_in result.settings ≡ site_seen bytes.now cursor.now }
+        ensures named { NameIsSet bytes.now result.settings }
+        ensures site { site_in result.settings ≡ site_view bytes.now cursor.now }
     {
         let (name, name_place) = name_at(bytes, cursor.name_place);
         State {
@@ -193,10 +193,10 @@ impl<'a> State<'a> {
 
 impl BindCursor {
     // Returns the settings of bindings beyond those in `Settings`.
-    fn extra(&self) -> Extra
+    fn extra(&self) -> BindingSettings
         ensures { result ≡ extra_in self.now }
     {
-        Extra {
+        BindingSettings {
             special: self.special(),
             kind: self.kind,
             has_ordinal: self.ordinal & 1 != 0,
@@ -219,7 +219,7 @@ impl BindCursor {
 
 impl<'a> BindInterpreter<'a> {
     // Returns the streams from a cursor on, with these further settings.
-    fn stream_from<'b, M: Makes<'a>>(
+    fn stream_from<'b, M: BindRules<'a>>(
         &self,
         libs: &'b [&'a str],
         segments: &'b [Segment<'a>],
@@ -233,7 +233,7 @@ impl<'a> BindInterpreter<'a> {
         ensures over { machine.IsOver (input_in self.now (pointer_size ctx.container) (texts libs.now) (map segment_view segments.now)) self.now.lazy result }
         ensures sites { sites_left M.rules result ≡ sites_of
             (reader_by M.rules (input_in self.now (pointer_size ctx.container) (texts libs.now) (map segment_view segments.now))) self.now.lazy
-            (site_seen self.now.bytes cursor.now) (state_in self.now.bytes cursor.now) }
+            (site_view self.now.bytes cursor.now) (state_in self.now.bytes cursor.now) }
     {
         Stream {
             source: self.source(libs, segments, ctx),
@@ -253,13 +253,13 @@ impl<'a> BindInterpreter<'a> {
         cursor: &BindCursor,
     ) -> BindIterator<'a, 'b>
         ensures items { imports_left result
-            ≡ imports_behind (input_in self.now (pointer_size ctx.container) (texts libs.now) (map segment_view segments.now)) self.now.lazy cursor.now }
+            ≡ imports_after (input_in self.now (pointer_size ctx.container) (texts libs.now) (map segment_view segments.now)) self.now.lazy cursor.now }
         ensures over { IsOverImports (input_in self.now (pointer_size ctx.container) (texts libs.now) (map segment_view segments.now)) self.now.lazy result }
         ensures sites { import_sites_left result
-            ≡ import_sites_behind (input_in self.now (pointer_size ctx.container) (texts libs.now) (map segment_view segments.now)) self.now.lazy cursor.now }
+            ≡ import_sites_after (input_in self.now (pointer_size ctx.container) (texts libs.now) (map segment_view segments.now)) self.now.lazy cursor.now }
     {
         BindIterator {
-            stream: self.stream_from(libs, segments, ctx, cursor, Plain),
+            stream: self.stream_from(libs, segments, ctx, cursor, ImportSettings),
         }
     }
 
@@ -272,11 +272,11 @@ impl<'a> BindInterpreter<'a> {
         cursor: &BindCursor,
     ) -> OpcodeBindingIterator<'a, 'b>
         ensures items { opcode_bindings_left result
-            ≡ opcode_bindings_behind (input_in self.now (pointer_size ctx.container) (texts libs.now) (map segment_view segments.now))
+            ≡ opcode_bindings_after (input_in self.now (pointer_size ctx.container) (texts libs.now) (map segment_view segments.now))
             self.now.lazy cursor.now }
         ensures over { IsOverBindings (input_in self.now (pointer_size ctx.container) (texts libs.now) (map segment_view segments.now)) self.now.lazy result }
         ensures sites { binding_sites_left result
-            ≡ binding_sites_behind (input_in self.now (pointer_size ctx.container) (texts libs.now) (map segment_view segments.now)) self.now.lazy cursor.now }
+            ≡ binding_sites_after (input_in self.now (pointer_size ctx.container) (texts libs.now) (map segment_view segments.now)) self.now.lazy cursor.now }
     {
         OpcodeBindingIterator {
             stream: self.stream_from(libs, segments, ctx, cursor, cursor.extra()),
@@ -291,7 +291,7 @@ impl<'a> BindInterpreter<'a> {
     {
         State::start(self.from, self.upto, false).cursor(
             self.bytes,
-            <Extra as Makes<'_>>::first(false),
+            <BindingSettings as BindRules<'_>>::first(false),
         )
     }
 }
@@ -299,10 +299,13 @@ impl<'a> BindInterpreter<'a> {
 impl<'a> BindIterator<'a, '_> {
     /// Returns a cursor of the imports that are left.
     pub fn cursor(&self) -> BindCursor
-        ensures items { (x : Input) (lazy : Range) → IsOverImports x lazy self.now → imports_behind x lazy result ≡ imports_left self.now }
-        ensures sites { (x : Input) (lazy : Range) → IsOverImports x lazy self.now → import_sites_behind x lazy result ≡ import_sites_left self.now }
+        ensures items { (x : Input) (lazy : Range) → IsOverImports x lazy self.now → imports_after x lazy result ≡ imports_left self.now }
+        ensures sites { (x : Input) (lazy : Range) → IsOverImports x lazy self.now → import_sites_after x lazy result ≡ import_sites_left self.now }
     {
-        self.stream.state.cursor(self.stream.source.bytes, <Extra as Makes<'_>>::first(false))
+        self.stream.state.cursor(
+            self.stream.source.bytes,
+            <BindingSettings as BindRules<'_>>::first(false),
+        )
     }
 
     /// Returns the next import with its places, or the fault that ends the iterator.
@@ -330,8 +333,8 @@ impl<'a> BindIterator<'a, '_> {
 impl<'a> OpcodeBindingIterator<'a, '_> {
     /// Returns a cursor of the bindings that are left.
     pub fn cursor(&self) -> BindCursor
-        ensures items { (x : Input) (lazy : Range) → IsOverBindings x lazy self.now → opcode_bindings_behind x lazy result ≡ opcode_bindings_left self.now }
-        ensures sites { (x : Input) (lazy : Range) → IsOverBindings x lazy self.now → binding_sites_behind x lazy result ≡ binding_sites_left self.now }
+        ensures items { (x : Input) (lazy : Range) → IsOverBindings x lazy self.now → opcode_bindings_after x lazy result ≡ opcode_bindings_left self.now }
+        ensures sites { (x : Input) (lazy : Range) → IsOverBindings x lazy self.now → binding_sites_after x lazy result ≡ binding_sites_left self.now }
     {
         self.stream
             .state
@@ -346,7 +349,7 @@ impl<'a> OpcodeBindingIterator<'a, '_> {
         ensures fault { IfSome result (λ item. OnErr item (HasEndedOpcodeBindings self.new)) }
         ensures over { (x : Input) (lazy : Range) → IsOverBindings x lazy self.old → IsOverBindings x lazy self.new }
         ensures placed { (x : Input) (lazy : Range) → IsOverBindings x lazy self.old
-            → IfSome result (λ item. IfOk item (λ p. TextStands x.bytes p.name_place p.binding.name.now)) }
+            → IfSome result (λ item. IfOk item (λ p. TextIsAt x.bytes p.name_place p.binding.name.now)) }
         ensures site { IfSome result (λ item. IfOk item (λ p. (library : ℕ)
             × (binding_sites_left self.old ≡ record { name_place = p.name_place; library = library } ∷ binding_sites_left self.new))) }
     {

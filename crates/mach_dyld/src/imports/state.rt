@@ -3,7 +3,7 @@
 ghost use Rattle.std.specs.Prelude.{◌≡◌, ◌+◌, ◌≤◌, ◌%◌, ◌^◌, ℕ, length, Ok, IsErr, false, IfNone, IfSome, MatchOption};
 ghost use Rattle.mach_dyld.specs.Instructions.{nothing, row_at};
 ghost use Rattle.mach_dyld.specs.Machine.{start_of, executed, executed_by, state_of};
-ghost use Rattle.mach_dyld.specs.NamePlaces.{IsUnnamed, NameStands};
+ghost use Rattle.mach_dyld.specs.NamePlaces.{IsUnnamed, NameIsSet};
 ghost use Rattle.mach_dyld.specs.Sites.{no_site, site_by, site_in};
 
 use crate::bind_opcodes::*;
@@ -67,7 +67,7 @@ impl<'a> State<'a> {
         ensures from { self.new.from ≡ self.old.from }
         ensures ended { self.new.ended ≡ self.old.ended }
         ensures is_lazy { self.new.settings.is_lazy ≡ self.old.settings.is_lazy }
-        ensures named { NameStands bytes.now self.old.settings → NameStands bytes.now self.new.settings }
+        ensures named { NameIsSet bytes.now self.old.settings → NameIsSet bytes.now self.new.settings }
         ensures site { IfSome result (λ _. site_by place (row_at pointer bytes.now opcode imm place) (site_in self.old.settings)
             ≡ Ok (site_in self.new.settings)) }
     {

@@ -5,7 +5,7 @@ ghost use Rattle.std.specs.Prelude.{MatchOption, true, false};
 ghost use Rattle.std.specs.Iterator.{YieldsFirstBy};
 ghost use Rattle.mach_base.specs.Fault.{Fault, malformed};
 ghost use Rattle.mach_dyld.specs.Instructions.{byte_at};
-ghost use Rattle.mach_dyld.specs.NamePlaces.{NameStands};
+ghost use Rattle.mach_dyld.specs.NamePlaces.{NameIsSet};
 ghost use Rattle.mach_dyld.specs.Streams.{Range, last_range};
 ghost use Rattle.mach_dyld.specs.Machine.{Rules, ReadsForward, range_of, state_of, bind_of, input_of, executed_by, items_left, opcodes_left};
 ghost use Rattle.mach_dyld.specs.Machine.{items_of, reads_of, start_of};
@@ -19,7 +19,7 @@ use crate::imports::state::State;
 use mach_base::Steps;
 
 /// The settings of such streams beyond those in `Settings`, and the rules by which binds make items.
-pub trait Makes<'a>: Copy {
+pub trait BindRules<'a>: Copy {
     type Item: Drop;
 
     /// Why no item comes.
@@ -60,7 +60,7 @@ pub trait Makes<'a>: Copy {
         ensures from { state.new.from ≡ state.old.from }
         ensures ended { state.new.ended ≡ state.old.ended }
         ensures is_lazy { state.new.settings.is_lazy ≡ state.old.settings.is_lazy }
-        ensures named { NameStands bytes.now state.old.settings → NameStands bytes.now state.new.settings }
+        ensures named { NameIsSet bytes.now state.old.settings → NameIsSet bytes.now state.new.settings }
         ensures site { IfSome result (λ _. site_by (state.old.place + 1) (rules.read (range_of state.old) pointer bytes.now state.old.place)
             (site_in state.old.settings) ≡ Ok (site_in state.new.settings)) };
 
@@ -98,7 +98,7 @@ pub struct Stream<'a, 'b, M> {
     pub more: M,
 }
 
-impl<'a, 'b, M: Makes<'a>> Stream<'a, 'b, M> {
+impl<'a, 'b, M: BindRules<'a>> Stream<'a, 'b, M> {
     /// Returns two streams that have ended.
     #[tactic(auto, unfolding(crate::specs::Machine::items_left, crate::specs::Machine::items_of))]
     pub fn none(more: M) -> Self

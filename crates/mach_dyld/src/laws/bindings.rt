@@ -1,6 +1,6 @@
 //! Laws of bindings: how they follow from the instructions in order, where they lie, and when they agree with the imports.
 
-ghost use Rattle.mach_dyld.specs.BindingLaws.{FindsLastOrdinal, AddsBindings, StreamsHaveOneListOfBindings, BindingLiesIn, BindingsLieIn, StreamsTellTheSame};
+ghost use Rattle.mach_dyld.specs.BindingLaws.{FindsLastOrdinal, AddsBindings, StreamsHaveOneListOfBindings, BindingLiesIn, BindingsLieIn, StreamsReportTheSame};
 
 /// The ordinal of a bind is the one set last before it, by opcode 1, 2 or 3, or 0. No instruction that bindings read is a DONE.
 #[tactic(auto, using(crate::proofs::BindingLaws::finds_last_ordinal_lem))]
@@ -33,5 +33,5 @@ pub fn bindings_lie_in_segments()
 /// If imports and bindings read the streams alike, each binding has what the import at its place has: the name, the
 /// library's name, the places, the addend and both flags.
 pub fn bindings_are_imports()
-    ensures { StreamsTellTheSame }
+    ensures { StreamsReportTheSame }
 {}

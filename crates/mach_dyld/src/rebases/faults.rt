@@ -7,7 +7,7 @@ ghost use Rattle.mach_dyld.specs.RebasesLeft.{highest_rebase, opcode_rebases_lef
 
 use crate::bindings::segment_at;
 use crate::machine::{JudgesAll, Settings, Source, none_above};
-use crate::rebases::run::highest_offset;
+use crate::rebases::rebase_run::highest_offset;
 use crate::rebases::{OpcodeRebaseIterator, RebaseKind, Rebasing};
 use mach_base::Steps;
 

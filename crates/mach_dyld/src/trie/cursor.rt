@@ -6,7 +6,7 @@
 ghost use Rattle.std.specs.Prelude.{◌≡◌, ◌≤◌, ◌<◌, ◌+◌, ◌-◌, ◌^◌, ◌++◌, ◌∷◌, [], ℕ, List, length, take, min, Option, Ok, Some, IfOk, IfNone, IfSome};
 ghost use Rattle.mach_base.specs.Answer.{Reads};
 ghost use Rattle.mach_dyld.specs.CursorState.{below, IsAtChild, HasCome, TurnGives, IsAsBefore, IsStopped, IsFull, cursor_work, work_of};
-ghost use Rattle.mach_dyld.specs.Cursors.{HasGivenTo, NextGives, IsLedTo, IsOwnAt, IsReexportAt, StandsAt, place_at};
+ghost use Rattle.mach_dyld.specs.Cursors.{HasGivenTo, NextGives, IsLedTo, IsOwnAt, IsReexportAt, OccursAt, place_at};
 ghost use Rattle.mach_dyld.specs.Lists.{ListBegins};
 ghost use Rattle.mach_dyld.specs.TrieRange.{TrieRange, trie_there};
 ghost use Rattle.mach_base.specs.Text.{texts};
@@ -16,7 +16,7 @@ ghost use Rattle.mach_dyld.specs.declared.trie.cursor.NextExport.TheVariants as 
 
 use crate::export_info::ExportInfo;
 use crate::exports::ExportTrie;
-use crate::trie::node::{Branch, BranchRun, number, quick_branch, read_behind};
+use crate::trie::node::{Branch, BranchRun, number, quick_branch, read_after};
 use crate::trie::walk::{Open, Source};
 use mach_base::{Error, Result};
 
@@ -73,7 +73,7 @@ fn read_node<'a>(
     ensures few { IfOk result (λ read. read.1.left ≤ length source.now.bytes.now) }
 {
     let (size, place) = number(source.bytes, start)?;
-    read_behind(source, size, place)
+    read_after(source, size, place)
 }
 
 // Reads the ordinal of the re-export of the node at a start, and returns it with the place after it.
@@ -129,7 +129,7 @@ impl TrieCursor {
         ensures depth { self.new.depth ≤ self.old.depth }
         ensures stopped { IsStopped result → ⊥ }
         ensures over { (e : Error) → result ≡ Some (next.Refused e) → 1 < self.new.phase }
-        ensures placed { (bytes : List ℕ) (libs : List (List ℕ)) (from : ℕ) → StandsAt bytes libs from self.new.node result }
+        ensures placed { (bytes : List ℕ) (libs : List (List ℕ)) (from : ℕ) → OccursAt bytes libs from self.new.node result }
     {
         if self.depth == 0 {
             self.phase = OVER;
@@ -205,7 +205,7 @@ impl TrieCursor {
         ensures stopped { IsStopped result → IsAsBefore self.old self.new name.old name.new stack.old stack.new }
         ensures long { (n : ℕ) → result ≡ Some (next.NameTooLong n) → (n ≡ min (rest.name_len + length (branch_of branch.entry).label) (2 ^ 64 - 1))
             × (length name.old < rest.name_len + length (branch_of branch.entry).label) }
-        ensures placed { StandsAt source.now.bytes.now (texts source.now.libs.now) source.now.from self.new.node result }
+        ensures placed { OccursAt source.now.bytes.now (texts source.now.libs.now) source.now.from self.new.node result }
         ensures over { (e : Error) → result ≡ Some (next.Refused e) → 1 < self.new.phase }
         ensures full { result ≡ Some next.StackTooShort → length stack.old ≤ self.old.depth }
         ensures less { IfNone result (work_of (length source.now.bytes.now) self.new stack.new
@@ -258,7 +258,7 @@ impl TrieCursor {
             → TurnGives (trie_range_of source.now) (texts source.now.libs.now) found result self.new name.new stack.new }
         ensures stopped { IsStopped result → IsAsBefore self.old self.new name.old name.new stack.old stack.new }
         ensures full { IsFull source.now.bytes.now source.now.from self.new name.new stack.new result }
-        ensures placed { StandsAt source.now.bytes.now (texts source.now.libs.now) source.now.from self.new.node result }
+        ensures placed { OccursAt source.now.bytes.now (texts source.now.libs.now) source.now.from self.new.node result }
         ensures over { (e : Error) → result ≡ Some (next.Refused e) → 1 < self.new.phase }
         ensures less { IfNone result (work_of (length source.now.bytes.now) self.new stack.new < work_of (length source.now.bytes.now) self.old stack.old) }
         ensures depth { self.new.depth ≤ length stack.new }
@@ -287,7 +287,7 @@ impl TrieCursor {
             → TurnGives (trie_range_of source.now) (texts source.now.libs.now) found result self.new name.new stack.new }
         ensures stopped { IsStopped result → IsAsBefore self.old self.new name.old name.new stack.old stack.new }
         ensures full { IsFull source.now.bytes.now source.now.from self.new name.new stack.new result }
-        ensures placed { StandsAt source.now.bytes.now (texts source.now.libs.now) source.now.from self.new.node result }
+        ensures placed { OccursAt source.now.bytes.now (texts source.now.libs.now) source.now.from self.new.node result }
         ensures over { (e : Error) → result ≡ Some (next.Refused e) → 1 < self.new.phase }
         ensures less { IfNone result (work_of (length source.now.bytes.now) self.new stack.new < work_of (length source.now.bytes.now) self.old stack.old) }
         ensures depth { self.new.depth ≤ length stack.new }
@@ -350,10 +350,10 @@ impl<'a> ExportTrie<'a> {
             → NextGives self.now (texts libs.now) found result cursor.new name.new stack.new }
         ensures leads { (found : List Entry) → HasGivenTo self.now (texts libs.now) cursor.old name.old stack.old found
             → IsLedTo self.now (texts libs.now) found result cursor.new name.new }
-        ensures begun { (found : List Entry) → HasGivenTo self.now (texts libs.now) cursor.old name.old stack.old found
+        ensures started { (found : List Entry) → HasGivenTo self.now (texts libs.now) cursor.old name.old stack.old found
             → ListBegins (trie_there self.now (texts libs.now)) self.now.from [] found }
         ensures full { IsFull self.now.bytes self.now.from cursor.new name.new stack.new (Some result) }
-        ensures placed { StandsAt self.now.bytes (texts libs.now) self.now.from cursor.new.node (Some result) }
+        ensures placed { OccursAt self.now.bytes (texts libs.now) self.now.from cursor.new.node (Some result) }
         ensures refused { (e : Error) → result ≡ next.Refused e → 1 < cursor.new.phase }
         ensures over { 1 < cursor.old.phase → (result ≡ next.End) × IsAsBefore cursor.old cursor.new name.old name.new stack.old stack.new }
         ensures name_len { length name.new ≡ length name.old }
@@ -380,7 +380,7 @@ impl<'a> ExportTrie<'a> {
     }
     /// Returns, for a re-export that a cursor returned last, the ordinal of its library and the place of its name there.
     pub fn reexport_place(&self, cursor: &TrieCursor) -> Option<(u64, usize)>
-        ensures told { (libs : List (List ℕ)) (lib : List ℕ) (name : Option (List ℕ)) (flags : ℕ)
+        ensures reported { (libs : List (List ℕ)) (lib : List ℕ) (name : Option (List ℕ)) (flags : ℕ)
             → IsOwnAt self.now.bytes libs self.now.from cursor.now.node (reexport lib name flags) → IsReexportAt self.now.bytes libs lib name result }
         ensures node { IfSome result (λ found. place_at self.now.bytes cursor.now.node ≡ Ok found) }
     {

@@ -6,7 +6,7 @@
 
 ghost use Rattle.std.specs.Prelude.{◌≡◌, ◌≢◌, ◌≤◌, ◌<◌, ◌+◌, ◌-◌, ◌*◌, ◌++◌, ◌∷◌, [], ℕ, List, length, IfOk, IfErr, IfSome, IfNone, OnOk, Some, None};
 ghost use Rattle.std.specs.Prelude.{IsTrue, IsFalse, ◌⊎◌, option_map, Option, Ok};
-ghost use Rattle.mach_base.specs.Answer.{Reads, Gives, Stands, FailsAs, IsOkUnlessMemory};
+ghost use Rattle.mach_base.specs.Answer.{Reads, Gives, ErrorMeets, FailsAs, IsOkUnlessMemory};
 ghost use Rattle.mach_base.specs.Leb128.{uleb_at};
 ghost use Rattle.mach_dyld.specs.Trie as trie;
 ghost use Rattle.mach_dyld.specs.Trie.{Entry};
@@ -14,16 +14,16 @@ ghost use Rattle.mach_dyld.specs.TrieRange.{trie_there, ListsExports, ExportsFau
 ghost use Rattle.mach_dyld.specs.Exports.{info_of};
 ghost use Rattle.mach_base.specs.Text.{texts};
 ghost use Rattle.mach_dyld.specs.Nodes.{branches_at, children_at};
-ghost use Rattle.mach_dyld.specs.Views.{branch_of, branches_of, IsReadable, source_trie, node_in, own_in, node_of, node_behind};
+ghost use Rattle.mach_dyld.specs.Views.{branch_of, branches_of, IsReadable, source_trie, node_in, own_in, node_of, node_after};
 ghost use Rattle.mach_dyld.specs.Nowhere.{AreBarren, HaveRoom};
 ghost use Rattle.mach_dyld.specs.Finds.{Finds};
-ghost use Rattle.mach_dyld.specs.LookUp.{StandsFor, IsFirstOf, FaultOnWay, LookUpVisits};
+ghost use Rattle.mach_dyld.specs.LookUp.{IsAnswerFor, IsFirstOf, FaultOnWay, LookUpVisits};
 ghost use Rattle.mach_dyld.specs.LookUpState.{OwnEnds, Settles, FirstBranchLeads, Goes, IsPassed, ComesTo, SearchVisits};
 
 use crate::exports::{ExportInfo, ExportTrie};
 use crate::trie::marks::Marks;
 use crate::trie::node::{
-    Branch, BranchRun, own_export, quick_branch, quick_own, read_again, read_behind, read_branches,
+    Branch, BranchRun, own_export, quick_branch, quick_own, read_after, read_again, read_branches,
     read_count, read_own, read_run,
 };
 use crate::trie::runs::Runs;
@@ -33,7 +33,7 @@ use std::alloc::{AllocError, Allocator};
 
 /// Which branches of a node match the rest of a name.
 #[derive(Clone, Copy, Debug)]
-pub enum Way {
+pub enum Branching {
     Nowhere,
     /// One child matches, by a label of `len` bytes.
     One { start: usize, len: usize },
@@ -62,7 +62,7 @@ pub struct Choice {
 
 // Returns what follows the label in the rest, if the rest begins with it.
 #[inline(always)]
-fn behind<'n>(rest: &'n [u8], label: &[u8]) -> Option<&'n [u8]>
+fn following<'n>(rest: &'n [u8], label: &[u8]) -> Option<&'n [u8]>
     ensures some { IfSome result (λ others. rest.now ≡ label.now ++ others.now) }
     ensures none { IfNone result ((others : List ℕ) → rest.now ≡ label.now ++ others → ⊥) }
 {
@@ -75,27 +75,27 @@ fn leads(source: &Source<'_, '_>, rest: &[u8], branch: Branch<'_>) -> bool
     ensures yes { IsTrue result → (branch.entry.start < source.now.upto) × (others : List ℕ) × (rest.now ≡ branch.entry.label.now ++ others) }
     ensures no { IsFalse result → (source.now.upto ≤ branch.entry.start) ⊎ ((others : List ℕ) → rest.now ≡ branch.entry.label.now ++ others → ⊥) }
 {
-    branch.start < source.upto && behind(rest, branch.label.as_bytes()).is_some()
+    branch.start < source.upto && following(rest, branch.label.as_bytes()).is_some()
 }
 
 // Returns which of `count` branches match, if all of them can be read.
 #[inline(always)]
-fn quick_way(source: &Source<'_, '_>, rest: &[u8], count: usize, first: usize) -> Option<Way>
+fn quick_way(source: &Source<'_, '_>, rest: &[u8], count: usize, first: usize) -> Option<Branching>
     ensures { IfSome result (λ way. (bs : List trie.Branch) × (branches_at source.now.bytes.now source.now.from count first ≡ Ok bs)
         × Goes (source_trie source.now) rest.now bs way) }
 {
-    let mut way = Way::Nowhere;
+    let mut way = Branching::Nowhere;
     let mut place = first;
     for _ in 0..count {
         let (branch, after) = quick_branch(source.bytes, source.from, place)?;
         if leads(source, rest, branch) {
             let len = branch.label.len();
             way = match way {
-                Way::Nowhere => Way::One {
+                Branching::Nowhere => Branching::One {
                     start: branch.start,
                     len,
                 },
-                _ => Way::Several,
+                _ => Branching::Several,
             };
         }
         place = after;
@@ -106,7 +106,11 @@ fn quick_way(source: &Source<'_, '_>, rest: &[u8], count: usize, first: usize) -
 // Reads the count of branches, and returns the same with the branches.
 #[tactic(auto, unfolding(crate::specs::Nodes::children_at))]
 #[inline(always)]
-fn quick_branches(source: &Source<'_, '_>, rest: &[u8], place: usize) -> Option<(Way, BranchRun)>
+fn quick_branches(
+    source: &Source<'_, '_>,
+    rest: &[u8],
+    place: usize,
+) -> Option<(Branching, BranchRun)>
     ensures value { IfSome result (λ x. children_at source.now.bytes.now source.now.from place ≡ Ok (branches_of source.now.bytes.now source.now.from x.1)) }
     ensures readable { IfSome result (λ x. IsReadable source.now.bytes.now source.now.from x.1) }
     ensures goes { IfSome result (λ x. Goes (source_trie source.now) rest.now (branches_of source.now.bytes.now source.now.from x.1) x.0) }
@@ -132,7 +136,7 @@ fn rare_branches(source: &Source<'_, '_>, place: usize) -> Result<BranchRun>
 
 // Reads the count and the branches, and returns which match, with the branches.
 #[inline(always)]
-fn read_way(source: &Source<'_, '_>, rest: &[u8], place: usize) -> Result<(Way, BranchRun)>
+fn read_way(source: &Source<'_, '_>, rest: &[u8], place: usize) -> Result<(Branching, BranchRun)>
     ensures value { Reads (λ x. branches_of source.now.bytes.now source.now.from x.1) result (children_at source.now.bytes.now source.now.from place) }
     ensures readable { IfOk result (λ x. IsReadable source.now.bytes.now source.now.from x.1) }
     ensures goes { IfOk result (λ x. Goes (source_trie source.now) rest.now (branches_of source.now.bytes.now source.now.from x.1) x.0) }
@@ -141,14 +145,14 @@ fn read_way(source: &Source<'_, '_>, rest: &[u8], place: usize) -> Result<(Way, 
         return Ok(found);
     }
     let branches = rare_branches(source, place)?;
-    Ok((Way::Several, branches))
+    Ok((Branching::Several, branches))
 }
 
 // The exact reader of an own export, for those that the quick reader doesn't read.
 #[cold]
 #[inline(never)]
 fn rare_place(source: &Source<'_, '_>, size: u64, place: usize) -> Result<usize>
-    ensures behind { IfOk result (λ after. (info : trie.Info) × (own_in source.now size place ≡ Ok (info, after))) }
+    ensures following { IfOk result (λ after. (info : trie.Info) × (own_in source.now size place ≡ Ok (info, after))) }
     ensures refused { IfErr result (λ e. FailsAs e (own_in source.now size place)) }
 {
     let (_, after) = read_own(source.bytes, source.libs, size, place)?;
@@ -157,8 +161,8 @@ fn rare_place(source: &Source<'_, '_>, size: u64, place: usize) -> Result<usize>
 
 // Returns the place after a node's own export of `size` bytes, if there is one.
 #[inline(always)]
-fn place_behind(source: &Source<'_, '_>, size: u64, place: usize) -> Result<usize>
-    ensures behind { IfOk result (λ after. (own : Option trie.Info) × OwnEnds source.now size place own after) }
+fn place_following(source: &Source<'_, '_>, size: u64, place: usize) -> Result<usize>
+    ensures following { IfOk result (λ after. (own : Option trie.Info) × OwnEnds source.now size place own after) }
     ensures refused { IfErr result (λ e. (size ≢ 0) × FailsAs e (own_in source.now size place)) }
 {
     if size == 0 {
@@ -177,10 +181,10 @@ fn whole_node<'a>(
     size: u64,
     place: usize,
 ) -> Result<(Option<ExportInfo<'a>>, BranchRun)>
-    ensures node { Reads (node_of source.now.bytes.now source.now.from) result (node_behind source.now size place) }
+    ensures node { Reads (node_of source.now.bytes.now source.now.from) result (node_after source.now size place) }
     ensures readable { IfOk result (λ read. IsReadable source.now.bytes.now source.now.from read.1) }
 {
-    read_behind(source, size, place)
+    read_after(source, size, place)
 }
 
 // Visits the node at a start. `rest` is the rest of the name.
@@ -203,17 +207,17 @@ fn turn<'a>(
             None => Outcome::Open(branches),
         });
     }
-    let after = place_behind(source, size, place)?;
+    let after = place_following(source, size, place)?;
     let (way, branches) = read_way(source, rest, after)?;
     match way {
-        Way::Nowhere => Ok(Outcome::Ends),
-        Way::One { start: child, len } => {
+        Branching::Nowhere => Ok(Outcome::Ends),
+        Branching::One { start: child, len } => {
             if child > start {
                 return Ok(Outcome::Child { start: child, len });
             }
             Ok(Outcome::Open(branches))
         }
-        Way::Several => Ok(Outcome::Open(branches)),
+        Branching::Several => Ok(Outcome::Open(branches)),
     }
 }
 
@@ -358,7 +362,7 @@ fn search<'a, A: Allocator + Clone>(
     requires inside { root < source.now.upto }
     requires passed { IsPassed source.now root name.now (λ bs. branches_at source.now.bytes.now source.now.from branches.left branches.place ≡ Ok bs) }
     ensures found { IfOk result (λ o. Finds (source_trie source.now) root name.now (option_map info_of o)) }
-    ensures refused { IfErr result (Stands (FaultOnWay (source_trie source.now) root name.now)) }
+    ensures refused { IfErr result (ErrorMeets (FaultOnWay (source_trie source.now) root name.now)) }
     ensures visits { SearchVisits (source_trie source.now) root name.now steps.old steps.new }
 {
     let from = source.from;
@@ -411,7 +415,7 @@ fn look_up<'a, A: Allocator + Clone>(
     steps: &mut Steps,
 ) -> Result<Option<ExportInfo<'a>>>
     ensures found { IfOk result (λ o. Finds (source_trie source.now) source.now.from name.now (option_map info_of o)) }
-    ensures refused { IfErr result (Stands (FaultOnWay (source_trie source.now) source.now.from name.now)) }
+    ensures refused { IfErr result (ErrorMeets (FaultOnWay (source_trie source.now) source.now.from name.now)) }
     ensures visits { LookUpVisits (source_trie source.now) source.now.from name.now steps.old steps.new }
     ensures few_visits { steps.new ≤ steps.old + 2 * (source.now.upto - source.now.from) }
 {
@@ -446,11 +450,11 @@ impl<'a> ExportTrie<'a> {
         libs: &[&'a str],
         name: &str,
     ) -> Result<Option<ExportInfo<'a>>>
-        ensures stands { IfOk result (λ o. StandsFor (trie_there self.now (texts libs.now)) self.now.from name.now (option_map info_of o)) }
+        ensures occurs { IfOk result (λ o. IsAnswerFor (trie_there self.now (texts libs.now)) self.now.from name.now (option_map info_of o)) }
         ensures listed { (list : List Entry) → ListsExports self.now (texts libs.now) list → IfOk result (λ o. IsFirstOf name.now list (option_map info_of o)) }
         ensures only { (list : List Entry) → ListsExports self.now (texts libs.now) list → IsOkUnlessMemory result }
-        ensures refused { IfErr result (Stands (ExportsFault self.now (texts libs.now))) }
-        ensures on_way { IfErr result (Stands (FaultOnWay (trie_there self.now (texts libs.now)) self.now.from name.now)) }
+        ensures refused { IfErr result (ErrorMeets (ExportsFault self.now (texts libs.now))) }
+        ensures on_way { IfErr result (ErrorMeets (FaultOnWay (trie_there self.now (texts libs.now)) self.now.from name.now)) }
     {
         self.find_counted(alloc, libs, name, &mut Steps::new())
     }
@@ -464,11 +468,11 @@ impl<'a> ExportTrie<'a> {
         name: &str,
         steps: &mut Steps,
     ) -> Result<Option<ExportInfo<'a>>>
-        ensures stands { IfOk result (λ o. StandsFor (trie_there self.now (texts libs.now)) self.now.from name.now (option_map info_of o)) }
+        ensures occurs { IfOk result (λ o. IsAnswerFor (trie_there self.now (texts libs.now)) self.now.from name.now (option_map info_of o)) }
         ensures listed { (list : List Entry) → ListsExports self.now (texts libs.now) list → IfOk result (λ o. IsFirstOf name.now list (option_map info_of o)) }
         ensures only { (list : List Entry) → ListsExports self.now (texts libs.now) list → IsOkUnlessMemory result }
-        ensures refused { IfErr result (Stands (ExportsFault self.now (texts libs.now))) }
-        ensures on_way { IfErr result (Stands (FaultOnWay (trie_there self.now (texts libs.now)) self.now.from name.now)) }
+        ensures refused { IfErr result (ErrorMeets (ExportsFault self.now (texts libs.now))) }
+        ensures on_way { IfErr result (ErrorMeets (FaultOnWay (trie_there self.now (texts libs.now)) self.now.from name.now)) }
         ensures visits { LookUpVisits (trie_there self.now (texts libs.now)) self.now.from name.now steps.old steps.new }
         ensures few_visits { steps.new ≤ steps.old + 2 * (self.now.upto - self.now.from) }
     {

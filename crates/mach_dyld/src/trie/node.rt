@@ -10,7 +10,7 @@ ghost use Rattle.mach_dyld.specs.Nodes.{a_regular, info_kind, branch_at, branche
 ghost use Rattle.mach_base.specs.Sums.{sum_of};
 ghost use Rattle.mach_dyld.specs.Exports.{info_of};
 ghost use Rattle.mach_base.specs.Text.{texts};
-ghost use Rattle.mach_dyld.specs.Views.{branch_of, those_read, branches_of, IsReadable, branches_in, own_in, node_of, node_behind};
+ghost use Rattle.mach_dyld.specs.Views.{branch_of, those_read, branches_of, IsReadable, branches_in, own_in, node_of, node_after};
 
 use crate::export_info::{
     EXPORT_SYMBOL_FLAGS_REEXPORT, EXPORT_SYMBOL_FLAGS_STUB_AND_RESOLVER, ExportInfo,
@@ -33,11 +33,11 @@ pub struct BranchRun {
 }
 
 /// Branches that can be read, with the first one decoded. A walk takes that branch at once, so its label is read only once.
-/// That is why a walk has a reader of its own, beside `read_behind` for the cursor and the look-up.
+/// That is why a walk has a reader of its own, beside `read_after` for the cursor and the look-up.
 #[derive(Clone, Copy, Debug)]
 pub struct Branches<'a> {
     pub first: Branch<'a>,
-    pub behind: BranchRun,
+    pub following: BranchRun,
 }
 
 // The exact reader of a number, for those that the quick reader doesn't read.
@@ -146,16 +146,16 @@ fn quick_branches(bytes: &[u8], from: usize, count: usize, place: usize) -> Opti
     requires { 0 < count }
     ensures value { MatchOption result (IsErr (branches_at bytes.now from count place))
         (λ b. branches_at bytes.now from count place ≡ Ok (branches_in bytes.now from (Some b))) }
-    ensures readable { IfSome result (λ b. IsReadable bytes.now from b.behind) }
-    ensures count { IfSome result (λ b. b.behind.left + 1 ≡ count) }
+    ensures readable { IfSome result (λ b. IsReadable bytes.now from b.following) }
+    ensures count { IfSome result (λ b. b.following.left + 1 ≡ count) }
 {
     let Some((first, place)) = quick_branch(bytes, from, place) else {
         return None;
     };
     let left = count - 1;
     if quick_test(bytes, from, left, place) {
-        let behind = BranchRun { left, place };
-        Some(Branches { first, behind })
+        let following = BranchRun { left, place };
+        Some(Branches { first, following })
     } else {
         None
     }
@@ -180,8 +180,8 @@ pub fn read_count(bytes: &[u8], place: usize) -> Result<BranchRun>
 pub fn read_branches(bytes: &[u8], from: usize, list: BranchRun) -> Result<Branches<'_>>
     requires some { 0 < list.left }
     ensures value { Reads (λ b. branches_in bytes.now from (Some b)) result (branches_at bytes.now from list.left list.place) }
-    ensures readable { IfOk result (λ b. IsReadable bytes.now from b.behind) }
-    ensures count { IfOk result (λ b. b.behind.left + 1 ≡ list.left) }
+    ensures readable { IfOk result (λ b. IsReadable bytes.now from b.following) }
+    ensures count { IfOk result (λ b. b.following.left + 1 ≡ list.left) }
 {
     match quick_branches(bytes, from, list.left, list.place) {
         Some(branches) => Ok(branches),
@@ -275,12 +275,12 @@ pub fn own_export<'a>(
 /// Reads a node after its size: its own export, if it has one, and its branches.
 #[tactic(auto, unfolding(crate::specs::Nodes::inner_at, crate::specs::Nodes::terminal_at))]
 #[inline(always)]
-pub fn read_behind<'a>(
+pub fn read_after<'a>(
     source: &Source<'a, '_>,
     size: u64,
     place: usize,
 ) -> Result<(Option<ExportInfo<'a>>, BranchRun)>
-    ensures node { Reads (node_of source.now.bytes.now source.now.from) result (node_behind source.now size place) }
+    ensures node { Reads (node_of source.now.bytes.now source.now.from) result (node_after source.now size place) }
     ensures readable { IfOk result (λ read. IsReadable source.now.bytes.now source.now.from read.1) }
     ensures few { IfOk result (λ read. read.1.left ≤ length source.now.bytes.now) }
 {

@@ -4,7 +4,7 @@ ghost use Rattle.std.specs.Prelude.{◌≡◌, ◌≤◌, ◌<◌, ◌+◌, ◌-
 ghost use Rattle.std.specs.Prelude.{[], length, reverse, IfOk, IfErr, IfSome, IfNone, OnOk, IsNone, true, false};
 ghost use Rattle.std.specs.Prelude.{◌⊎◌, Ok, Some, get_or};
 ghost use Rattle.std.specs.Str.{IsUtf8};
-ghost use Rattle.mach_base.specs.Answer.{Reads, FailsAs, Stands};
+ghost use Rattle.mach_base.specs.Answer.{Reads, FailsAs, ErrorMeets};
 ghost use Rattle.mach_base.specs.Leb128.{uleb_at};
 ghost use Rattle.mach_dyld.specs.Trie.{Entry, entry, own_entries};
 ghost use Rattle.mach_dyld.specs.Nodes.{branches_at, children_at};
@@ -79,10 +79,10 @@ fn all_lead_nowhere(source: &Source, branches: BranchRun) -> bool
 // Whether none of a list's branches leads to a node. For most lists the first branch decides.
 #[inline(always)]
 pub(crate) fn is_barren(source: &Source<'_, '_>, list: Branches<'_>) -> bool
-    requires { IsReadable source.now.bytes.now source.now.from list.behind }
+    requires { IsReadable source.now.bytes.now source.now.from list.following }
     ensures { result ≡ lead_nowhere source.now.upto (branches_in source.now.bytes.now source.now.from (Some list.entry)) }
 {
-    list.first.start >= source.upto && all_lead_nowhere(source, list.behind)
+    list.first.start >= source.upto && all_lead_nowhere(source, list.following)
 }
 
 // Reads the branches of a list after its count. This is the one read that is counted.
@@ -95,8 +95,8 @@ fn read_list<'a>(
     requires some { 0 < list.left }
     ensures value { Reads (λ b. branches_in source.now.bytes.now source.now.from (Some b)) result
         (branches_at source.now.bytes.now source.now.from list.left list.place) }
-    ensures readable { IfOk result (λ b. IsReadable source.now.bytes.now source.now.from b.behind) }
-    ensures few { IfOk result (λ b. b.behind.left + 1 ≡ list.left) }
+    ensures readable { IfOk result (λ b. IsReadable source.now.bytes.now source.now.from b.following) }
+    ensures few { IfOk result (λ b. b.following.left + 1 ≡ list.left) }
     ensures count { lists.new ≡ lists.old + 1 }
 {
     lists.tick();
@@ -116,8 +116,8 @@ fn open_list<'a, A: Allocator>(
     requires room { HaveRoom source.now barren.old }
     ensures opened { IfOk result (OpensList source.now place) }
     ensures fault { IfErr result (λ e. FailsAs e (children_at source.now.bytes.now source.now.from place)) }
-    ensures readable { IfOk result (λ found. IfSome found (λ b. IsReadable source.now.bytes.now source.now.from b.behind)) }
-    ensures few { IfOk result (λ found. IfSome found (λ b. b.behind.left + 1 ≤ length source.now.bytes.now)) }
+    ensures readable { IfOk result (λ found. IfSome found (λ b. IsReadable source.now.bytes.now source.now.from b.following)) }
+    ensures few { IfOk result (λ found. IfSome found (λ b. b.following.left + 1 ≤ length source.now.bytes.now)) }
     ensures barren { OnOk result (AreBarren source.now barren.new) }
     ensures room { OnOk result (HaveRoom source.now barren.new) }
     ensures kept { OnOk result (AreKept barren.old barren.new) }
@@ -150,8 +150,8 @@ fn read_node<'a, A: Allocator>(
     ensures visits { steps.new ≡ steps.old + 1 }
     ensures opened { IfOk result (OpensNode source.now start) }
     ensures fault { IfErr result (λ e. FailsAs e (node_in source.now start)) }
-    ensures readable { IfOk result (λ read. IfSome read.1 (λ b. IsReadable source.now.bytes.now source.now.from b.behind)) }
-    ensures few { IfOk result (λ read. IfSome read.1 (λ b. b.behind.left + 1 ≤ length source.now.bytes.now)) }
+    ensures readable { IfOk result (λ read. IfSome read.1 (λ b. IsReadable source.now.bytes.now source.now.from b.following)) }
+    ensures few { IfOk result (λ read. IfSome read.1 (λ b. b.following.left + 1 ≤ length source.now.bytes.now)) }
     ensures barren { OnOk result (AreBarren source.now barren.new) }
     ensures room { OnOk result (HaveRoom source.now barren.new) }
     ensures kept { OnOk result (AreKept barren.old barren.new) }
@@ -208,7 +208,7 @@ impl<'a, 'b, A: Allocator> Walker<'a, 'b, A> {
         ensures source { IfOk result (λ w. w.source ≡ source.now) }
         ensures start { IfOk result (λ w. HasFound [] 0 w) }
         ensures left { IfOk result (λ w. unmarked w.marks ≤ source.now.upto - source.now.from) }
-        ensures err { IfErr result (λ e. Stands (λ _. ⊥) e) }
+        ensures err { IfErr result (λ e. ErrorMeets (λ _. ⊥) e) }
     {
         let len = source.upto.saturating_sub(source.from);
         Ok(Walker {
@@ -301,8 +301,8 @@ impl<'a, 'b, A: Allocator> Walker<'a, 'b, A> {
         keep_below(&mut self.stack, self.top)?;
         let name_len = self.name.len();
         self.top = Open {
-            left: branches.behind.left,
-            place: branches.behind.place,
+            left: branches.following.left,
+            place: branches.following.place,
             name_len,
         };
         self.next = branches.first;
@@ -364,7 +364,7 @@ pub fn list_all<'a, A: Allocator + Clone>(
     ensures few_exports { IfOk result (λ v. length v.items ≤ source.now.upto - source.now.from) }
     ensures visits { Visits (source_trie source.now) source.now.from steps.old steps.new result }
     ensures few_visits { steps.new ≤ steps.old + (source.now.upto - source.now.from) }
-    ensures refused { IfErr result (Stands (fault_in source.now)) }
+    ensures refused { IfErr result (ErrorMeets (fault_in source.now)) }
 {
     let mut walk = Walker::start(alloc, source)?;
     let mut found = Vec::new(alloc.clone()?);

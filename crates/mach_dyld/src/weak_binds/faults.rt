@@ -6,10 +6,10 @@ ghost use Rattle.mach_dyld.specs.WeakBindsLeft.{weak_binds_left, weak_reads_left
 
 use crate::bindings::all_lie;
 use crate::machine::{JudgesAll, Settings, Source};
-use crate::weak_binds::{WeakBindIterator, WeakExtra};
+use crate::weak_binds::{WeakBindIterator, WeakBindSettings};
 use mach_base::Steps;
 
-impl<'a> JudgesAll<'a> for WeakExtra {
+impl<'a> JudgesAll<'a> for WeakBindSettings {
     fn all_make(
         self,
         source: &Source<'a, '_>,

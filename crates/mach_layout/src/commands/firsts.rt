@@ -88,11 +88,11 @@ fn once_more(command: &LoadCommand, first: Owner) -> LayoutFault
 }
 
 /// Adds a fault for each command with an earlier one of its set.
-pub fn tell_again<A: Allocator>(
+pub fn report_again<A: Allocator>(
     faults: &mut Vec<LayoutFault, A>,
     commands: &[LoadCommand],
 ) -> Result<()>
-    ensures told { OnOk result (faults.new.items ≡ faults.old.items ++ defined.commands_again [] (map command_of commands.now)) }
+    ensures reported { OnOk result (faults.new.items ≡ faults.old.items ++ defined.commands_again [] (map command_of commands.now)) }
     ensures only { IsOkUnlessMemory result }
 {
     let mut firsts: [Option<Owner>; SETS] = [None; SETS];

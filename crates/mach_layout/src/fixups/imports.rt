@@ -10,7 +10,7 @@ ghost use Rattle.mach_layout.specs.FixupViews.{data_view};
 use crate::fault::{LayoutFault, Owner, Part, Rule};
 use crate::fixups::{FixupData, Front, import_bytes};
 use crate::layout::Layout;
-use crate::rules::{Judges, Numbers, Seen, measured, owner_at, sound, tell_over};
+use crate::rules::{Judges, Numbers, RuleOutcome, measured, owner_at, report_over, sound};
 use crate::symbols::{library_count, texts_end};
 use mach_base::{Endian, Result, bytes_at, read_u32};
 use mach_chained::ChainedFixupsHeader;
@@ -120,7 +120,7 @@ impl Judges<u32> for Imports<'_> {
         owner_at(Part::Imports, self.chained.place, u64::from(*k))
     }
 
-    fn see(&self, rule: Rule, k: &u32) -> Seen {
+    fn see(&self, rule: Rule, k: &u32) -> RuleOutcome {
         let Some(row) = row_in(&self.chained, &self.header, *k) else {
             return sound();
         };
@@ -146,7 +146,7 @@ pub fn import_faults<A: Allocator>(
     chained: &FixupData<'_>,
     front: &Front,
 ) -> Result<()>
-    ensures told { OnOk result (faults.new.items ≡ faults.old.items ++ defined.import_faults (laid_of layout.now) (data_view chained.now) front.now) }
+    ensures reported { OnOk result (faults.new.items ≡ faults.old.items ++ defined.import_faults (laid_of layout.now) (data_view chained.now) front.now) }
     ensures only { IsOkUnlessMemory result }
 {
     let header = front.header;
@@ -158,6 +158,6 @@ pub fn import_faults<A: Allocator>(
     };
     let rules = [Rule::ImportLibrary, Rule::ImportName];
     let numbers = Numbers::of(header.imports_count);
-    tell_over(faults, &judge, &rules, &numbers)?;
+    report_over(faults, &judge, &rules, &numbers)?;
     Ok(())
 }

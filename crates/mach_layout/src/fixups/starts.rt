@@ -12,13 +12,13 @@ use crate::fault::{LayoutFault, Rule};
 use crate::fixups::{FixupData, Front};
 use crate::layout::Layout;
 use crate::placed_sections::PlacedSegment;
-use crate::rules::{Seen, measured, sound, told};
+use crate::rules::{RuleOutcome, measured, reported, sound};
 use mach_base::{Record, Result, read_u32};
 use mach_chained::ChainedStartsInSegment;
 use std::alloc::Allocator;
 
 // Checks the pages and the pointers of some starts.
-fn page_seen(chained: &FixupData<'_>, place: u64, starts: &ChainedStartsInSegment) -> Seen
+fn page_outcome(chained: &FixupData<'_>, place: u64, starts: &ChainedStartsInSegment) -> RuleOutcome
     requires { place < 2 ^ 33 }
     ensures { result ≡ defined.page_sees (data_view chained.now) place starts.now }
 {
@@ -48,7 +48,11 @@ fn last_page(starts: &ChainedStartsInSegment) -> u64
 }
 
 // Checks where a segment begins, and its number of pages.
-fn extent_seen(text: u64, segment: &PlacedSegment, starts: &ChainedStartsInSegment) -> Seen
+fn extent_outcome(
+    text: u64,
+    segment: &PlacedSegment,
+    starts: &ChainedStartsInSegment,
+) -> RuleOutcome
     ensures { result ≡ defined.extent_sees text segment.now starts.now }
 {
     let (address, size) = (segment.command.vmaddr, segment.command.vmsize);
@@ -64,14 +68,19 @@ fn extent_seen(text: u64, segment: &PlacedSegment, starts: &ChainedStartsInSegme
 }
 
 // Checks the starts at a place, which are those of a segment.
-fn record_seen(chained: &FixupData<'_>, text: u64, place: u64, segment: &PlacedSegment) -> Seen
+fn record_outcome(
+    chained: &FixupData<'_>,
+    text: u64,
+    place: u64,
+    segment: &PlacedSegment,
+) -> RuleOutcome
     requires { place < 2 ^ 33 }
     ensures { result ≡ defined.record_sees (data_view chained.now) text place segment.now
         (record_at chained.now.le starts_fields chained.now.payload.now place) }
 {
     match ChainedStartsInSegment::read(chained.payload, place as usize, chained.le) {
         Ok(starts) => {
-            page_seen(chained, place, &starts).then(extent_seen(text, segment, &starts))
+            page_outcome(chained, place, &starts).then(extent_outcome(text, segment, &starts))
         }
         Err(_) => measured(false, place + 22, chained.size()),
     }
@@ -84,26 +93,26 @@ fn segment_seen(
     starts: u32,
     info: u32,
     segment: Option<PlacedSegment>,
-) -> Seen
+) -> RuleOutcome
     ensures { result ≡ defined.segment_starts_sees (data_view chained.now) text starts info segment }
 {
     match segment {
         Some(segment) => {
             let place = u64::from(starts) + u64::from(info);
-            record_seen(chained, text, place, &segment)
+            record_outcome(chained, text, place, &segment)
         }
         None => measured(false, u64::from(info), 0),
     }
 }
 
 // Checks starts k.
-fn starts_seen(
+fn starts_option_view(
     chained: &FixupData<'_>,
     front: &Front,
     text: u64,
     k: u32,
     segment: Option<PlacedSegment>,
-) -> Seen
+) -> RuleOutcome
     ensures { result ≡ defined.starts_sees (data_view chained.now) front.now text k segment }
 {
     let first = front.header.starts_offset;
@@ -124,8 +133,8 @@ fn starts_fault(
 ) -> Option<LayoutFault>
     ensures { result ≡ defined.starts_fault (data_view chained.now) front.now text k segment }
 {
-    let seen = starts_seen(chained, front, text, k, segment);
-    told(Rule::ChainedFixups, chained.owner(k), seen)
+    let outcome = starts_option_view(chained, front, text, k, segment);
+    reported(Rule::ChainedFixups, chained.owner(k), outcome)
 }
 
 // Whether a segment's name is `__TEXT`, whatever follows its first zero byte.
@@ -154,7 +163,7 @@ pub fn starts_faults<A: Allocator>(
     chained: &FixupData<'_>,
     front: &Front,
 ) -> Result<()>
-    ensures told { OnOk result (faults.new.items ≡ faults.old.items ++ defined.starts_faults (laid_of layout.now) (data_view chained.now) front.now) }
+    ensures reported { OnOk result (faults.new.items ≡ faults.old.items ++ defined.starts_faults (laid_of layout.now) (data_view chained.now) front.now) }
     ensures only { IsOkUnlessMemory result }
 {
     let text = text_address(layout);

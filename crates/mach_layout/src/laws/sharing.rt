@@ -12,11 +12,12 @@ ghost use Rattle.mach_layout.specs.declared.fault.LayoutFault.{LayoutFault};
 /// Each fault of ranges that share a place is one of two of these ranges.
 #[tactic(auto, using(crate::proofs::Sharing::shared_are_ranges))]
 pub fn shared_are_ranges()
-    ensures { (rule : Rule) (ranges : List Claim) (told : List LayoutFault) → AreShared rule ranges told → All (IsOfTwo rule ranges) told }
+    ensures { (rule : Rule) (ranges : List Claim) (reported : List LayoutFault) → AreShared rule ranges reported → All (IsOfTwo rule ranges) reported }
 {}
 
 /// Each fault of claims of an image that may not share a place is one of two of its claims.
 #[tactic(auto, using(crate::proofs::Sharing::shared_are_claims))]
 pub fn shared_are_claims()
-    ensures { (laid : Laid) (rule : Rule) (told : List LayoutFault) → AreShared rule (lone_claims laid) told → All (IsOfTwo rule (claims_of laid)) told }
+    ensures { (laid : Laid) (rule : Rule) (reported : List LayoutFault) → AreShared rule (lone_claims laid) reported
+        → All (IsOfTwo rule (claims_of laid)) reported }
 {}

@@ -8,7 +8,9 @@ ghost use Rattle.mach_layout.specs.Symbols as defined;
 use crate::fault::{LayoutFault, Owner, Part, Rule};
 use crate::layout::{Layout, ends_past, range_end};
 use crate::placed_sections::PlacedSection;
-use crate::rules::{Judges, Numbers, Seen, measured, owner_at, sound, tell_each, tell_over};
+use crate::rules::{
+    Judges, Numbers, RuleOutcome, measured, owner_at, report_each, report_over, sound,
+};
 use crate::sections::section_owner;
 use crate::symbols::{PlacedDysymtab, PlacedSymtab, SymbolRange};
 use mach_base::{Container, Ctx, Result, read_u32};
@@ -78,7 +80,7 @@ impl Judges<SymbolRange> for Ranges {
         owner_at(Part::SymbolRanges, self.place, range.number)
     }
 
-    fn see(&self, _rule: Rule, range: &SymbolRange) -> Seen {
+    fn see(&self, _rule: Rule, range: &SymbolRange) -> RuleOutcome {
         let end = u64::from(range.first) + u64::from(range.count);
         let holds = !is_range_out(self.nsyms, range);
         measured(holds, end, u64::from(self.nsyms))
@@ -91,7 +93,7 @@ pub fn symbol_range_faults<A: Allocator>(
     table: Option<PlacedSymtab>,
     dynamic: Option<PlacedDysymtab>,
 ) -> Result<()>
-    ensures told { OnOk result (faults.new.items ≡ faults.old.items ++ defined.symbol_range_faults table dynamic) }
+    ensures reported { OnOk result (faults.new.items ≡ faults.old.items ++ defined.symbol_range_faults table dynamic) }
     ensures only { IsOkUnlessMemory result }
 {
     let (Some(symbols), Some(table)) = (table, dynamic) else {
@@ -102,7 +104,7 @@ pub fn symbol_range_faults<A: Allocator>(
         nsyms: symbols.command.nsyms,
     };
     let ranges = ranges_of(&table.command);
-    tell_each(faults, &judge, &[Rule::SymbolRange], &ranges)?;
+    report_each(faults, &judge, &[Rule::SymbolRange], &ranges)?;
     Ok(())
 }
 
@@ -156,7 +158,11 @@ fn entry_size(width: Container, section: &PlacedSection) -> u64
 }
 
 // Checks a section with indirect symbols.
-fn section_seen(width: Container, table: &PlacedDysymtab, section: &PlacedSection) -> Seen
+fn section_option_view(
+    width: Container,
+    table: &PlacedDysymtab,
+    section: &PlacedSection,
+) -> RuleOutcome
     ensures { result ≡ defined.indirect_section_sees width table.now section.now }
 {
     let size = section.section.size;
@@ -196,7 +202,7 @@ impl Judges<u32> for Indirect<'_> {
         owner_at(Part::IndirectSymbols, self.table.place, u64::from(*k))
     }
 
-    fn see(&self, _rule: Rule, k: &u32) -> Seen {
+    fn see(&self, _rule: Rule, k: &u32) -> RuleOutcome {
         let place = self.table.command.indirectsymoff as usize + *k as usize * 4;
         match read_u32(self.bytes, place, self.ctx.le) {
             Ok(entry) => {
@@ -220,8 +226,8 @@ impl Judges<PlacedSection> for Indirect<'_> {
         section_owner(section)
     }
 
-    fn see(&self, _rule: Rule, section: &PlacedSection) -> Seen {
-        section_seen(self.ctx.container, &self.table, section)
+    fn see(&self, _rule: Rule, section: &PlacedSection) -> RuleOutcome {
+        section_option_view(self.ctx.container, &self.table, section)
     }
 }
 
@@ -232,7 +238,7 @@ pub fn indirect_faults<A: Allocator>(
     symbols: Option<PlacedSymtab>,
     dynamic: Option<PlacedDysymtab>,
 ) -> Result<()>
-    ensures told { OnOk result (faults.new.items ≡ faults.old.items ++ defined.indirect_faults (laid_of layout.now) symbols dynamic) }
+    ensures reported { OnOk result (faults.new.items ≡ faults.old.items ++ defined.indirect_faults (laid_of layout.now) symbols dynamic) }
     ensures only { IsOkUnlessMemory result }
 {
     let Some(table) = dynamic else {
@@ -245,7 +251,7 @@ pub fn indirect_faults<A: Allocator>(
         nsyms: symbol_count(symbols),
     };
     let numbers = Numbers::of(indirect_count(layout, &table));
-    tell_over(faults, &judge, &[Rule::IndirectSymbol], &numbers)?;
-    tell_over(faults, &judge, &[Rule::IndirectSection], &layout.sections())?;
+    report_over(faults, &judge, &[Rule::IndirectSymbol], &numbers)?;
+    report_over(faults, &judge, &[Rule::IndirectSection], &layout.sections())?;
     Ok(())
 }

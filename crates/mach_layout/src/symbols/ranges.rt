@@ -7,7 +7,7 @@ ghost use Rattle.mach_layout.specs.Symbols as defined;
 
 use crate::fault::{LayoutFault, Part, Rule};
 use crate::layout::Layout;
-use crate::rules::{add, measured, owner_at, told};
+use crate::rules::{add, measured, owner_at, reported};
 use crate::symbols::indirect::{is_range_out, ranges_of};
 use crate::symbols::{
     PlacedDysymtab, PlacedSymtab, SymbolRange, fault_at, is_stab, symbol_in, symbols_there,
@@ -53,8 +53,8 @@ fn symbol_kind(
 {
     let symbol = symbol_in(layout.bytes, layout.ctx, table, k)?;
     let owner = owner_at(Part::Symbols, table.place, u64::from(k));
-    let seen = measured(is_of_range(number, &symbol), symbol.n_type as u64, 0);
-    told(Rule::SymbolRangeKind, owner, seen)
+    let outcome = measured(is_of_range(number, &symbol), symbol.n_type as u64, 0);
+    reported(Rule::SymbolRangeKind, owner, outcome)
 }
 
 // Returns the fault of the first symbol of a range that isn't of its kind.
@@ -82,7 +82,7 @@ pub fn symbol_kind_faults<A: Allocator>(
     table: Option<PlacedSymtab>,
     dynamic: Option<PlacedDysymtab>,
 ) -> Result<()>
-    ensures told { OnOk result (faults.new.items ≡ faults.old.items ++ defined.symbol_kind_faults (laid_of layout.now) table dynamic) }
+    ensures reported { OnOk result (faults.new.items ≡ faults.old.items ++ defined.symbol_kind_faults (laid_of layout.now) table dynamic) }
     ensures only { IsOkUnlessMemory result }
 {
     let (Some(symbols), Some(table)) = (table, dynamic) else {
@@ -147,7 +147,7 @@ pub fn symbol_order_faults<A: Allocator>(
     table: Option<PlacedSymtab>,
     dynamic: Option<PlacedDysymtab>,
 ) -> Result<()>
-    ensures told { OnOk result (faults.new.items ≡ faults.old.items ++ defined.symbol_order_faults table dynamic) }
+    ensures reported { OnOk result (faults.new.items ≡ faults.old.items ++ defined.symbol_order_faults table dynamic) }
     ensures only { IsOkUnlessMemory result }
 {
     let (Some(symbols), Some(table)) = (table, dynamic) else {

@@ -26,8 +26,8 @@ pub fn slots_lie_in_their_section()
 /// A lookup of any address inside a slot finds that slot, unless an earlier section has slots and also holds the address.
 #[tactic(auto, using(crate::proofs::SlotLaws::found_at_its_address))]
 pub fn slots_are_found_at_their_addresses()
-    ensures { (t : SlotTables) (ss : List SegmentView) (before : List NumberedSection) (n : NumberedSection) (behind : List NumberedSection)
-        (k : ℕ) (s : Slot) (a : ℕ) → readable_sections ss ≡ before ++ n ∷ behind → All (λ m. holds_slots_at a m ≡ false) before
+    ensures { (t : SlotTables) (ss : List SegmentView) (before : List NumberedSection) (n : NumberedSection) (following : List NumberedSection)
+        (k : ℕ) (s : Slot) (a : ℕ) → readable_sections ss ≡ before ++ n ∷ following → All (λ m. holds_slots_at a m ≡ false) before
         → slice_get (read_slots t n) k ≡ Some (Ok s) → s.address ≤ a → a < s.address + s.len → slot_of_address t ss a ≡ Ok (Some s) }
 {}
 

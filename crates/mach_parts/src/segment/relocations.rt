@@ -5,7 +5,7 @@ ghost use Rattle.mach_base.specs.Answer.{Reads};
 ghost use Rattle.mach_parts.specs.Relocation.{relocation_at};
 
 use crate::relocation::{RelocationInfo, SIZEOF_RELOCATION_INFO};
-use mach_base::{Endian, Record, Result, records_begun};
+use mach_base::{Endian, Record, Result, records_in_bounds};
 
 /// An iterator over the relocations of a section. It has exactly as many items as the
 /// section claims. Each is the relocation at its own place, or the error of that read.
@@ -19,7 +19,7 @@ pub struct RelocationIterator<'a> {
 }
 
 impl<'a> RelocationIterator<'a> {
-    ghost use Rattle.mach_base.specs.Items.{begun_items};
+    ghost use Rattle.mach_base.specs.Items.{items_in_bounds};
     ghost use Rattle.mach_parts.specs.Relocation.{relocations_at};
     ghost use Rattle.mach_parts.specs.RelocationItems.{relocations_left};
 
@@ -37,12 +37,12 @@ impl<'a> RelocationIterator<'a> {
     }
 
     /// Returns the same iterator restricted to the relocations whose record begins within the bytes. No byte of any later relocation can be read.
-    pub fn begun(&self) -> Self
-        ensures { relocations_left result ≡ begun_items (relocations_left self.now) }
+    pub fn in_bounds(&self) -> Self
+        ensures { relocations_left result ≡ items_in_bounds (relocations_left self.now) }
     {
-        let begun = records_begun(self.bytes, self.reloff as usize, SIZEOF_RELOCATION_INFO);
+        let in_bounds = records_in_bounds(self.bytes, self.reloff as usize, SIZEOF_RELOCATION_INFO);
         RelocationIterator {
-            count: (self.count as usize).min(begun) as u32,
+            count: (self.count as usize).min(in_bounds) as u32,
             ..*self
         }
     }

@@ -6,7 +6,7 @@ ghost use Rattle.mach_parts.specs.Section.{section_place, section_with_data};
 
 use crate::segment::conversions::command_len;
 use crate::segment::section::{Section, SectionData};
-use mach_base::{Ctx, Result, SizeWith, records_begun};
+use mach_base::{Ctx, Result, SizeWith, records_in_bounds};
 
 /// An iterator over the sections of a segment with their data. It has exactly as many items
 /// as the segment claims. Each is the section at its own place, or the error of that read.
@@ -23,8 +23,8 @@ pub struct SectionIterator<'a> {
 pub fn place_of(ctx: Ctx, offset: usize, number: u32) -> usize
     ensures { result ≡ section_place ctx.container offset number }
 {
-    let behind = command_len(ctx.container) + number as usize * Section::size_with(&ctx);
-    offset.saturating_add(behind)
+    let following = command_len(ctx.container) + number as usize * Section::size_with(&ctx);
+    offset.saturating_add(following)
 }
 
 // Reads the section at `place`, with its data.
@@ -37,7 +37,7 @@ fn read_at<'a>(bytes: &'a [u8], place: usize, ctx: Ctx) -> Result<(Section, Sect
 }
 
 impl<'a> SectionIterator<'a> {
-    ghost use Rattle.mach_base.specs.Items.{begun_items};
+    ghost use Rattle.mach_base.specs.Items.{items_in_bounds};
     ghost use Rattle.mach_parts.specs.Section.{sections_at};
     ghost use Rattle.mach_parts.specs.SectionItems.{sections_left};
 
@@ -55,13 +55,13 @@ impl<'a> SectionIterator<'a> {
     }
 
     /// Returns the same iterator restricted to the sections whose record begins within the bytes. No byte of any later section can be read.
-    pub fn begun(&self) -> Self
-        ensures { sections_left result ≡ begun_items (sections_left self.now) }
+    pub fn in_bounds(&self) -> Self
+        ensures { sections_left result ≡ items_in_bounds (sections_left self.now) }
     {
         let first = place_of(self.ctx, self.offset, 0);
-        let begun = records_begun(self.bytes, first, Section::size_with(&self.ctx));
+        let in_bounds = records_in_bounds(self.bytes, first, Section::size_with(&self.ctx));
         SectionIterator {
-            count: (self.count as usize).min(begun) as u32,
+            count: (self.count as usize).min(in_bounds) as u32,
             ..*self
         }
     }

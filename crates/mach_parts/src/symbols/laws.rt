@@ -2,7 +2,7 @@
 
 ghost use Rattle.std.specs.Prelude.{◌≡◌, ◌<◌, ◌≤◌, ◌^◌, ℕ, Some, false, length, slice_get};
 ghost use Rattle.std.specs.Result.{is_ok};
-ghost use Rattle.mach_parts.specs.Symbols.{SymbolTable, begun_of, symbols_of, symbol_at};
+ghost use Rattle.mach_parts.specs.Symbols.{SymbolTable, table_in_bounds, symbols_of, symbol_at};
 ghost use Rattle.mach_parts.specs.SymbolViews.{table_of};
 
 use crate::symbols::Symbols;
@@ -23,5 +23,5 @@ pub fn symbols_counted(symbols: &Symbols<'_>) -> usize
 
 /// A symbol whose record begins past the end of the bytes cannot be read.
 pub fn symbols_past_the_end()
-    ensures { (t : SymbolTable) (k : ℕ) → length t.bytes < 2 ^ 64 → (begun_of t).nsyms ≤ k → k < t.nsyms → is_ok (symbol_at t k) ≡ false }
+    ensures { (t : SymbolTable) (k : ℕ) → length t.bytes < 2 ^ 64 → (table_in_bounds t).nsyms ≤ k → k < t.nsyms → is_ok (symbol_at t k) ≡ false }
 {}

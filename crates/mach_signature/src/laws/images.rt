@@ -3,7 +3,7 @@
 ghost use Rattle.std.specs.Prelude.{◌≡◌, ◌↔◌, [], ℕ, Bool, IsTrue, List, Some, Ok, Err};
 ghost use Rattle.mach_base.specs.Fault.{Fault};
 ghost use Rattle.goblin_mach.specs.Modes.{HoldsAs, InBothModes};
-ghost use Rattle.goblin_mach.specs.OpenImage.{bytes_held, commands_held, segments_held};
+ghost use Rattle.goblin_mach.specs.OpenImage.{bytes_view, commands_view, segments_view};
 ghost use Rattle.mach_load.specs.Command.{Command};
 ghost use Rattle.mach_parts.specs.Segment.{SegmentView};
 ghost use Rattle.mach_signature.specs.SignedFacts.{HasSignature, HasCodeDirectory, HasSignatureFaults, HoldsAsSigned};
@@ -14,17 +14,17 @@ use std::alloc::Allocator;
 
 /// `code_signature` answers what the bytes say.
 pub fn signature_of_image<A: Allocator>(image: &MachO<'_, A>)
-    ensures { HoldsAs image.now HasSignature (image_signature (bytes_held image.now) (commands_held image.now)) }
+    ensures { HoldsAs image.now HasSignature (image_signature (bytes_view image.now) (commands_view image.now)) }
 {}
 
 /// `code_directory` answers what the bytes say.
 pub fn directory_of_image<A: Allocator>(image: &MachO<'_, A>)
-    ensures { HoldsAs image.now HasCodeDirectory (image_directory (bytes_held image.now) (commands_held image.now)) }
+    ensures { HoldsAs image.now HasCodeDirectory (image_directory (bytes_view image.now) (commands_view image.now)) }
 {}
 
 /// `signature_faults` answers what the bytes say.
 pub fn signature_faults_of_image<A: Allocator>(image: &MachO<'_, A>)
-    ensures { HoldsAs image.now HasSignatureFaults (image_faults (bytes_held image.now) (commands_held image.now) (segments_held image.now)) }
+    ensures { HoldsAs image.now HasSignatureFaults (image_faults (bytes_view image.now) (commands_view image.now) (segments_view image.now)) }
 {}
 
 /// An image has a signature without a fault exactly when it is as it was signed.
@@ -36,8 +36,8 @@ pub fn image_as_signed()
 /// `is_as_signed` answers what the bytes say: whether the image is as it was signed, or why its signature can't be read.
 pub fn as_signed_of_image<A: Allocator>(image: &MachO<'_, A>)
     ensures said { InBothModes image.now (λ bytes o. (is : Bool)
-        → is_as_signed (image_faults (bytes_held image.now) (commands_held image.now) (segments_held image.now)) ≡ Ok is → IsTrue is ↔ HoldsAsSigned bytes o) }
+        → is_as_signed (image_faults (bytes_view image.now) (commands_view image.now) (segments_view image.now)) ≡ Ok is → IsTrue is ↔ HoldsAsSigned bytes o) }
     ensures refused { InBothModes image.now (λ bytes o. (f : Fault)
-        → is_as_signed (image_faults (bytes_held image.now) (commands_held image.now) (segments_held image.now)) ≡ Err f
+        → is_as_signed (image_faults (bytes_view image.now) (commands_view image.now) (segments_view image.now)) ≡ Err f
         → HasSignatureFaults bytes o (Err f)) }
 {}

@@ -6,14 +6,14 @@ ghost use Rattle.mach_base.specs.declared.error.Error.{Error};
 ghost use Rattle.mach_archive.specs.ArchiveViews.{archive_of, member_read, member_view};
 ghost use Rattle.mach_cli.specs.Listings.{text_answer};
 ghost use Rattle.machfat.specs.MemberLines.{member_faults, member_front, member_item, member_line, member_name_end, member_numbers_text};
-ghost use Rattle.machfat.specs.MemberLines.{member_place_text, number_or_dash, octal_or_dash, is_whole_member, AreMemberLines, MemberTold};
+ghost use Rattle.machfat.specs.MemberLines.{member_place_text, number_or_dash, octal_or_dash, is_whole_member, AreMemberLines, MemberReported};
 ghost use Rattle.machfat.specs.Written.{WritesAs};
 
 use crate::archive::kind::entry_kind;
 use crate::archive::{print_name_end, print_refused};
 use mach_archive::{Archive, Member};
 use mach_base::{Result, describe};
-use mach_cli::Told;
+use mach_cli::ListProgress;
 use std::fmt::{Display, Formatter, Write};
 use std::{fmt, io};
 
@@ -114,8 +114,8 @@ fn print_name<O: io::Write>(name: &Result<&str>, out: &mut O) -> io::Result<()>
 
 // Prints the line of the member with a number. Returns whether it has no fault.
 fn print_member<O: io::Write>(number: usize, member: Member<'_>, out: &mut O) -> io::Result<bool>
-    ensures { IfOk result (λ whole. (told : MemberTold Error) × (member_faults told ≡ member_item number (Ok (member_view member.entry)))
-        × (whole ≡ is_whole_member (member_faults told)) × Appends (O.contents out.old) (O.contents out.new) (member_line told)) }
+    ensures { IfOk result (λ whole. (reported : MemberReported Error) × (member_faults reported ≡ member_item number (Ok (member_view member.entry)))
+        × (whole ≡ is_whole_member (member_faults reported)) × Appends (O.contents out.old) (O.contents out.new) (member_line reported)) }
 {
     let name = member.name();
     let text = MemberText { number, member };
@@ -130,8 +130,8 @@ fn print_answer<O: io::Write>(
     answer: Result<Member<'_>>,
     out: &mut O,
 ) -> io::Result<bool>
-    ensures { IfOk result (λ whole. (told : MemberTold Error) × (member_faults told ≡ member_item number (member_read answer.entry))
-        × (whole ≡ is_whole_member (member_faults told)) × Appends (O.contents out.old) (O.contents out.new) (member_line told)) }
+    ensures { IfOk result (λ whole. (reported : MemberReported Error) × (member_faults reported ≡ member_item number (member_read answer.entry))
+        × (whole ≡ is_whole_member (member_faults reported)) × Appends (O.contents out.old) (O.contents out.new) (member_line reported)) }
 {
     match answer {
         Ok(member) => print_member(number, member, out),
@@ -145,14 +145,14 @@ pub fn print_members<O: io::Write>(
     archive: &Archive<'_>,
     left: usize,
     out: &mut O,
-) -> io::Result<Told>
+) -> io::Result<ListProgress>
     ensures { IfOk result (λ t. WritesAs (AreMemberLines (archive_of archive.now) left) t (O.contents out.old) (O.contents out.new)) }
 {
     let mut whole = true;
     let mut number = 0;
     'members: for answer in archive.members() {
         if number == left {
-            return Ok(Told {
+            return Ok(ListProgress {
                 left: 0,
                 whole,
                 more: true,
@@ -161,7 +161,7 @@ pub fn print_members<O: io::Write>(
         whole &= print_answer(number, answer, out)?;
         number += 1;
     }
-    Ok(Told {
+    Ok(ListProgress {
         left: left - number,
         whole,
         more: false,

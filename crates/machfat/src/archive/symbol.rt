@@ -8,14 +8,14 @@ ghost use Rattle.mach_archive.specs.Archives.{archive_member_at};
 ghost use Rattle.mach_archive.specs.ArchiveViews.{archive_of, archive_symbol_read, archive_symbol_view, archive_symbols_left};
 ghost use Rattle.mach_archive.specs.IndexSymbols.{AreIndexSymbols};
 ghost use Rattle.mach_archive.specs.MemberNames.{text_or_fault};
-ghost use Rattle.machfat.specs.SymbolLines.{item_of_member, symbol_at_text, told_symbol_faults, symbol_item, symbol_line, is_whole_symbol};
-ghost use Rattle.machfat.specs.SymbolLines.{AreIndexLines, SymbolTold};
+ghost use Rattle.machfat.specs.SymbolLines.{item_of_member, symbol_at_text, reported_symbol_faults, symbol_item, symbol_line, is_whole_symbol};
+ghost use Rattle.machfat.specs.SymbolLines.{AreIndexLines, SymbolReported};
 ghost use Rattle.machfat.specs.Written.{AreItemLines, WritesAs};
 
 use crate::archive::{print_name_end, print_refused};
 use mach_archive::{Archive, ArchiveSymbol, ArchiveSymbols};
 use mach_base::{Error, Result, ScrollError, describe};
-use mach_cli::Told;
+use mach_cli::ListProgress;
 use std::fmt::{Display, Formatter, Write};
 use std::{fmt, io};
 
@@ -52,9 +52,9 @@ fn print_named<O: io::Write>(
     name: &str,
     out: &mut O,
 ) -> io::Result<bool>
-    ensures { IfOk result (λ whole. (told : SymbolTold Error)
-        × (told_symbol_faults told ≡ item_of_member place name.now (archive_member_at (archive_of archive.now) place))
-        × (whole ≡ is_whole_symbol (told_symbol_faults told)) × Appends (O.contents out.old) (O.contents out.new) (symbol_line told)) }
+    ensures { IfOk result (λ whole. (reported : SymbolReported Error)
+        × (reported_symbol_faults reported ≡ item_of_member place name.now (archive_member_at (archive_of archive.now) place))
+        × (whole ≡ is_whole_symbol (reported_symbol_faults reported)) × Appends (O.contents out.old) (O.contents out.new) (symbol_line reported)) }
 {
     let at = PlaceText(place);
     match archive.member_at(place as usize) {
@@ -78,9 +78,9 @@ fn print_symbol<O: io::Write>(
     symbol: &ArchiveSymbol<'_>,
     out: &mut O,
 ) -> io::Result<bool>
-    ensures { IfOk result (λ whole. (told : SymbolTold Error)
-        × (told_symbol_faults told ≡ symbol_item (archive_of archive.now) (Ok (archive_symbol_view symbol.now)))
-        × (whole ≡ is_whole_symbol (told_symbol_faults told)) × Appends (O.contents out.old) (O.contents out.new) (symbol_line told)) }
+    ensures { IfOk result (λ whole. (reported : SymbolReported Error)
+        × (reported_symbol_faults reported ≡ symbol_item (archive_of archive.now) (Ok (archive_symbol_view symbol.now)))
+        × (whole ≡ is_whole_symbol (reported_symbol_faults reported)) × Appends (O.contents out.old) (O.contents out.new) (symbol_line reported)) }
 {
     match name_of(symbol.name) {
         Ok(name) => print_named(archive, symbol.member, name, out),
@@ -99,9 +99,9 @@ fn print_answer<O: io::Write>(
     answer: Result<ArchiveSymbol<'_>>,
     out: &mut O,
 ) -> io::Result<bool>
-    ensures { IfOk result (λ whole. (told : SymbolTold Error)
-        × (told_symbol_faults told ≡ symbol_item (archive_of archive.now) (archive_symbol_read answer.entry))
-        × (whole ≡ is_whole_symbol (told_symbol_faults told)) × Appends (O.contents out.old) (O.contents out.new) (symbol_line told)) }
+    ensures { IfOk result (λ whole. (reported : SymbolReported Error)
+        × (reported_symbol_faults reported ≡ symbol_item (archive_of archive.now) (archive_symbol_read answer.entry))
+        × (whole ≡ is_whole_symbol (reported_symbol_faults reported)) × Appends (O.contents out.old) (O.contents out.new) (symbol_line reported)) }
 {
     match answer {
         Ok(symbol) => print_symbol(archive, &symbol, out),
@@ -116,15 +116,15 @@ fn print_items<O: io::Write>(
     symbols: ArchiveSymbols<'_>,
     left: usize,
     out: &mut O,
-) -> io::Result<Told>
-    ensures { IfOk result (λ t. WritesAs (λ text t. AreItemLines told_symbol_faults symbol_line is_whole_symbol left
+) -> io::Result<ListProgress>
+    ensures { IfOk result (λ t. WritesAs (λ text t. AreItemLines reported_symbol_faults symbol_line is_whole_symbol left
         (map (symbol_item (archive_of archive.now)) (archive_symbols_left symbols.entry)) text t) t (O.contents out.old) (O.contents out.new)) }
 {
     let mut whole = true;
     let mut number = 0;
     'symbols: for answer in symbols {
         if number == left {
-            return Ok(Told {
+            return Ok(ListProgress {
                 left: 0,
                 whole,
                 more: true,
@@ -133,7 +133,7 @@ fn print_items<O: io::Write>(
         whole &= print_answer(archive, answer, out)?;
         number += 1;
     }
-    Ok(Told {
+    Ok(ListProgress {
         left: left - number,
         whole,
         more: false,
@@ -147,7 +147,7 @@ pub fn print_symbols<O: io::Write>(
     archive: &Archive<'_>,
     left: usize,
     out: &mut O,
-) -> io::Result<Told>
+) -> io::Result<ListProgress>
     ensures { IfOk result (λ t. WritesAs (AreIndexLines (archive_of archive.now) left) t (O.contents out.old) (O.contents out.new)) }
 {
     let whole = match archive.symbols() {
@@ -155,7 +155,7 @@ pub fn print_symbols<O: io::Write>(
         Ok(None) => true,
         Err(error) => print_refused("symbols refused", &error, out)?,
     };
-    Ok(Told {
+    Ok(ListProgress {
         left,
         whole,
         more: false,

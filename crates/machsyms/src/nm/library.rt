@@ -29,7 +29,7 @@ fn folder_of(path: &str) -> &str
 
 // Returns the parts of a name before and after its last dot.
 fn around_dot(name: &str) -> (&str, &str)
-    ensures { (result.0.now ≡ defined.part_before 0x2e name.now) × (result.1.now ≡ defined.part_behind 0x2e name.now) }
+    ensures { (result.0.now ≡ defined.part_before 0x2e name.now) × (result.1.now ≡ defined.part_after 0x2e name.now) }
 {
     match name.rsplit_once('.') {
         Some(parts) => parts,

@@ -3,7 +3,7 @@
 ghost use Rattle.std.specs.Prelude.{◌≡◌, Bool, option_map, Some};
 ghost use Rattle.mach_base.specs.Items.{read_as};
 ghost use Rattle.mach_parts.specs.Bindings.{provider_view};
-ghost use Rattle.machsyms.specs.SymbolWords.{origin_said, origin_text};
+ghost use Rattle.machsyms.specs.SymbolWords.{origin_words, origin_text};
 
 use crate::names::NameText;
 use crate::nm::library::short_name;
@@ -30,7 +30,7 @@ pub enum Origin<'a> {
 
 /// Returns the origin of a symbol with this provider, if the linker recorded one.
 pub fn origin_of<'a>(symbol: &Nlist, provider: Option<Result<Provider<'a>>>) -> Origin<'a>
-    ensures { (is_raw : Bool) → origin_text is_raw result ≡ origin_said is_raw symbol.now.n_desc (option_map (read_as provider_view) provider.entry) }
+    ensures { (is_raw : Bool) → origin_text is_raw result ≡ origin_words is_raw symbol.now.n_desc (option_map (read_as provider_view) provider.entry) }
 {
     match provider {
         None => Origin::Unsaid,

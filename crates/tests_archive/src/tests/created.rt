@@ -26,11 +26,11 @@ fn images(rt: HostRuntime) -> Result<(), Fail> {
         &rt,
         alloc,
         &X86_64[..24],
-        "28 bytes are wanted and 24 are left",
+        "28 bytes are needed and 24 are left",
     )?;
     test_created(&rt, alloc, &X86_64[..28], "0x1000007, 0x3, 2^12, 28 bytes")?;
     test_created(&rt, alloc, &[], "offset 0 is past the end")?;
-    test_created(&rt, alloc, b"abc", "4 bytes are wanted and 3 are left")?;
+    test_created(&rt, alloc, b"abc", "4 bytes are needed and 3 are left")?;
     test_created(&rt, alloc, b"!<thin>\n", "bad magic 0x213c7468")?;
     test_created(&rt, alloc, b"!<arch>", "bad magic 0x213c6172")
 }
@@ -66,13 +66,13 @@ fn archives(rt: HostRuntime) -> Result<(), Fail> {
         &rt,
         alloc,
         cut.as_slice(),
-        "28 bytes are wanted and 24 are left",
+        "28 bytes are needed and 24 are left",
     )?;
     test_created(
         &rt,
         alloc,
         front(one.as_slice(), 99),
-        "32 bytes are wanted and 31 are left",
+        "32 bytes are needed and 31 are left",
     )
 }
 

@@ -13,7 +13,7 @@ fn magics(rt: HostRuntime) -> Result<(), Fail> {
     for (bytes, want) in [
         ("!<arch>\n", ""),
         ("", "refused: offset 0 is past the end; "),
-        ("!<arch>", "refused: 8 bytes are wanted and 7 are left; "),
+        ("!<arch>", "refused: 8 bytes are needed and 7 are left; "),
         (
             "!<thin>\n",
             "refused: malformed: an archive holds its members; ",
@@ -21,7 +21,7 @@ fn magics(rt: HostRuntime) -> Result<(), Fail> {
         ("\x7fELF\0\0\0\0", "refused: bad magic 0x7f454c46; "),
         (
             "!<arch>\nx",
-            "refused: 60 bytes are wanted and 1 are left; ",
+            "refused: 60 bytes are needed and 1 are left; ",
         ),
     ] {
         let text = members_text(alloc, bytes.as_bytes())?;
@@ -51,7 +51,7 @@ fn sizes(rt: HostRuntime) -> Result<(), Fail> {
         ("+3", "xyz", no_number),
         ("9999999999", "", "refused: offset 68 is past the end; "),
         ("0000000002", "xy", "a.o at 68, 2 bytes; "),
-        ("3", "xy", "refused: 3 bytes are wanted and 2 are left; "),
+        ("3", "xy", "refused: 3 bytes are needed and 2 are left; "),
         ("3", "xyz", "a.o at 68, 3 bytes; "),
     ] {
         let bytes = made(alloc, &[Piece::Header("a.o/", size), Piece::Text(text)])?;
@@ -69,7 +69,7 @@ fn a_header_cut_or_with_another_end(rt: HostRuntime) -> Result<(), Fail> {
     let text = members_text(alloc, bytes.as_slice())?;
     assert_eq!(rt;
         text.as_str(),
-        "refused: 60 bytes are wanted and 59 are left; "
+        "refused: 60 bytes are needed and 59 are left; "
     );
     bytes.push(b'x')?;
     let text = members_text(alloc, bytes.as_slice())?;

@@ -184,7 +184,7 @@ fn with_faults_of_their_own(rt: HostRuntime) -> Result<(), Fail> {
     test_symbols(&rt, alloc, &[Piece::Header("__.SYMDEF", "0")], none)?;
     let records = "symbols refused: malformed: an index has whole records; ";
     let one = "symbols refused: 1 symbols do not fit the file; ";
-    let names = "symbols refused: 1 bytes are wanted and 0 are left; ";
+    let names = "symbols refused: 1 bytes are needed and 0 are left; ";
     let name = "malformed: a symbol's name ends with a zero; ";
     for (size, numbers, text, want) in [
         ("12", [7, 0, 0].as_slice(), "", records),

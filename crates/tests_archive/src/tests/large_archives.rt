@@ -132,7 +132,7 @@ fn numbers_at_their_largest(rt: HostRuntime) -> Result<(), Fail> {
         (
             ("__.SYMDEF_64", "16"),
             Piece::LittleWide(&[0, u64::MAX]),
-            "symbols refused: 18446744073709551615 bytes are wanted and 0 are left; ",
+            "symbols refused: 18446744073709551615 bytes are needed and 0 are left; ",
         ),
     ] {
         test_index(&rt, alloc, index, numbers, want)?;

@@ -49,13 +49,13 @@ fn cut_later(rt: HostRuntime) -> Result<(), Fail> {
             Piece::Header("b.o/", "3"),
             Piece::Text("xy"),
         ],
-        "a.o at 68, 2 bytes; 3 bytes are wanted and 2 are left; ",
+        "a.o at 68, 2 bytes; 3 bytes are needed and 2 are left; ",
     )?;
     test_members(
         &rt,
         alloc,
         &[two, Piece::Text("xy\n")],
-        "a.o at 68, 2 bytes; 60 bytes are wanted and 1 are left; ",
+        "a.o at 68, 2 bytes; 60 bytes are needed and 1 are left; ",
     )
 }
 

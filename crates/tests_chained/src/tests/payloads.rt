@@ -18,7 +18,7 @@ pub const PAYLOAD: [u8; 72] = [
 pub const DATA: [u8; 16] = [0, 0, 0, 5, 0, 0, 0x10, 0x80, 0, 0x10, 0, 0, 0, 0, 0, 0];
 
 // A rebase to 0x1000, and 8 bytes after it a bind of import 0 with addend 5, the last.
-pub const BIND_BEHIND: [u8; 16] = [0, 0x10, 0, 0, 0, 0, 0x10, 0, 0, 0, 0, 5, 0, 0, 0, 0x80];
+pub const BIND_AFTER: [u8; 16] = [0, 0x10, 0, 0, 0, 0, 0x10, 0, 0, 0, 0, 5, 0, 0, 0, 0x80];
 
 // The same as the first, except that the import has an addend of 64 bits, 7.
 pub const WIDE_IMPORT: [u8; 84] = [

@@ -26,7 +26,7 @@ fn refused_at_once(rt: HostRuntime) -> Result<(), Fail> {
         (20, 0, "malformed: imports are of one of three formats; "),
         (20, 4, "malformed: imports are of one of three formats; "),
         (4, 72, "offset 72 is past the end; "),
-        (4, 70, "4 bytes are wanted and 2 are left; "),
+        (4, 70, "4 bytes are needed and 2 are left; "),
     ] {
         let mut payload = PAYLOAD;
         payload[place] = byte;
@@ -70,7 +70,7 @@ fn read_otherwise(rt: HostRuntime) -> Result<(), Fail> {
     let alloc = rt.alloc();
     for (place, byte, bindings) in [
         (8, 72, "offset 72 is past the end; "),
-        (8, 70, "4 bytes are wanted and 2 are left; "),
+        (8, 70, "4 bytes are needed and 2 are left; "),
         (12, 72, "offset 72 is past the end; "),
         (12, 71, "library 1 L  0x4000 0x100000000 5; "),
         (64, 0, "itself _a 0x4000 0x100000000 5; "),
@@ -107,8 +107,8 @@ fn read_otherwise(rt: HostRuntime) -> Result<(), Fail> {
         (
             32,
             2,
-            "0 0x0 0x100000000 bind 0 5; 0 0x8 0x100000008 rebase 0x1000; 22 bytes are wanted and 16 are left; \
-            | library 1 L _a 0x4000 0x100000000 5; 22 bytes are wanted and 16 are left; ",
+            "0 0x0 0x100000000 bind 0 5; 0 0x8 0x100000008 rebase 0x1000; 22 bytes are needed and 16 are left; \
+            | library 1 L _a 0x4000 0x100000000 5; 22 bytes are needed and 16 are left; ",
         ),
     ] {
         let mut payload = PAYLOAD;

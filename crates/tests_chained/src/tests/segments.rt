@@ -1,6 +1,6 @@
 //! Several segments, and sums above 64 bits.
 
-use crate::tests::payloads::{BIND_BEHIND, DATA, PAYLOAD, TWO_SEGMENTS, WIDE_IMPORT};
+use crate::tests::payloads::{BIND_AFTER, DATA, PAYLOAD, TWO_SEGMENTS, WIDE_IMPORT};
 use crate::tests::text::{BASE, segment_at, text_of, text_of_one};
 use std::test::Fail;
 
@@ -46,8 +46,8 @@ fn starts_over_each_other(rt: HostRuntime) -> Result<(), Fail> {
     let text = text_of(rt.alloc(), &payload, &segments, BASE)?;
     assert_eq!(rt;
         text.as_str(),
-        "0 0x0 0x100000000 bind 0 5; 0 0x8 0x100000008 rebase 0x1000; malformed: starts lie behind those before them; \
-        | library 1 L _a 0x4000 0x100000000 5; malformed: starts lie behind those before them; "
+        "0 0x0 0x100000000 bind 0 5; 0 0x8 0x100000008 rebase 0x1000; malformed: starts lie before the end of earlier ones; \
+        | library 1 L _a 0x4000 0x100000000 5; malformed: starts lie before the end of earlier ones; "
     );
     Ok(())
 }
@@ -92,7 +92,7 @@ fn addresses_past_64_bits(rt: HostRuntime) -> Result<(), Fail> {
 
 #[test]
 fn places_past_64_bits(rt: HostRuntime) -> Result<(), Fail> {
-    let segments = [segment_at(0xffff_ffff_ffff_fff8, BASE, &BIND_BEHIND)];
+    let segments = [segment_at(0xffff_ffff_ffff_fff8, BASE, &BIND_AFTER)];
     let text = text_of(rt.alloc(), &PAYLOAD, &segments, BASE)?;
     assert_eq!(rt;
         text.as_str(),

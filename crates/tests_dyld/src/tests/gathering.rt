@@ -1,7 +1,7 @@
-//! A loop over a walk that keeps what it has seen, with a contract of its own, as in docs/RATTLE.md.
+//! A loop over a walk that keeps what it has seen, as docs/RATTLE.md shows it: with a contract of its own.
 
 ghost use Rattle.std.specs.Prelude.{◌≡◌, ◌≤◌, ◌+◌, ◌-◌, ◌++◌, ◌∷◌, [], ℕ, List, IfOk, IfErr, OnOk};
-ghost use Rattle.mach_base.specs.Answer.{Stands};
+ghost use Rattle.mach_base.specs.Answer.{ErrorMeets};
 ghost use Rattle.mach_dyld.specs.Exports.{entries, info_of};
 ghost use Rattle.mach_dyld.specs.Trie.{entry};
 ghost use Rattle.mach_dyld.specs.TrieRange.{TrieRange, ListsExports, ExportsFault};
@@ -32,7 +32,7 @@ fn gather<'a>(alloc: Global, mut walk: ExportWalk<'a, '_>) -> Result<Vec<Export<
     ensures listed { (t : TrieRange) (libs : List (List ℕ)) → HasGiven t libs [] walk.entry
         → IfOk result (λ v. ListsExports t libs (entries v.items)) }
     ensures refused { (t : TrieRange) (libs : List (List ℕ)) → HasGiven t libs [] walk.entry
-        → IfErr result (Stands (ExportsFault t libs)) }
+        → IfErr result (ErrorMeets (ExportsFault t libs)) }
 {
     let mut found = Vec::new(alloc);
     'exports: while let Some(export) = walk.next() {

@@ -65,7 +65,7 @@ fn lists_to_nothing(rt: HostRuntime) -> std::result::Result<(), Fail> {
 
 // The list is after the end of the trie: first of no node of the range but the root, then of two.
 #[test]
-fn lists_behind_the_end(rt: HostRuntime) -> std::result::Result<(), Fail> {
+fn lists_after_the_end(rt: HostRuntime) -> std::result::Result<(), Fail> {
     let bytes = made(&rt, 7, 5, false)?;
     let upto = 4 + 7 * 6;
     assert_eq!(rt;

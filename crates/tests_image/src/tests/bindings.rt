@@ -185,8 +185,8 @@ fn opcodes_or_chains(rt: HostRuntime) -> Result<(), Fail> {
     let without_opcodes = changed(&[(208, 0x7f)]);
     three_times(&rt, alloc, "chains", &without_opcodes, chains.as_str())?;
     let done = changed(&[(288, 0)]);
-    let behind_done = format!(in alloc; "{FIXUPS}| _c flat 0x148 0x100004008 0; {BY_CHAINS}")?;
-    three_times(&rt, alloc, "DONE at once", &done, behind_done.as_str())?;
+    let following_done = format!(in alloc; "{FIXUPS}| _c flat 0x148 0x100004008 0; {BY_CHAINS}")?;
+    three_times(&rt, alloc, "DONE at once", &done, following_done.as_str())?;
     Ok(())
 }
 
@@ -258,8 +258,12 @@ fn bases(rt: HostRuntime) -> Result<(), Fail> {
     same(&rt, MachO::parse(alloc, &other, 0)?.base(), 0);
     let longer = changed(&[(46, b'x')]);
     same(&rt, MachO::parse(alloc, &longer, 0)?.base(), 0);
-    let behind = changed(&[(47, b'x'), (55, 1)]);
-    same(&rt, MachO::parse(alloc, &behind, 0)?.base(), 0x1_0000_0000);
+    let following = changed(&[(47, b'x'), (55, 1)]);
+    same(
+        &rt,
+        MachO::parse(alloc, &following, 0)?.base(),
+        0x1_0000_0000,
+    );
     Ok(())
 }
 

@@ -13,7 +13,7 @@ ghost use Rattle.goblin_mach.specs.Facts.{IsExportedAt, IsNotExported};
 ghost use Rattle.goblin_mach.specs.BindingsLeft.{bindings_left};
 ghost use Rattle.goblin_mach.specs.FixupsLeft.{image_fixups_left};
 ghost use Rattle.goblin_mach.specs.FatEntry.{FatEntry, entries_of, OpensEntry};
-ghost use Rattle.goblin_mach.specs.FatFile.{file_held};
+ghost use Rattle.goblin_mach.specs.FatFile.{file_view};
 ghost use Rattle.goblin_mach.specs.Libraries.{libraries_left};
 ghost use Rattle.goblin_mach.specs.OpenImage.{IsImage, IsLossyImage};
 
@@ -101,7 +101,7 @@ fn exported_as<'a>(alloc: Global, bytes: &'a [u8], name: &str) -> Result<Option<
 // Returns the entry with an index, which is the one at that place among all entries.
 fn entry<'a>(container: &MultiArch<'a>, index: usize) -> Result<SingleArch<'a>>
     requires { index < container.now.narches }
-    ensures { (found : Result FatEntry Fault) × (slice_get (entries_of (file_held container.now)) index ≡ Some found) × OpensEntry found result }
+    ensures { (found : Result FatEntry Fault) × (slice_get (entries_of (file_view container.now)) index ≡ Some found) × OpensEntry found result }
 {
     laws::entries_by_number();
     container.get(index)

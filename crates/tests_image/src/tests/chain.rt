@@ -96,7 +96,7 @@ fn rows(rt: HostRuntime) -> Result<(), Fail> {
 }
 
 #[test]
-fn an_image_behind_other_bytes(rt: HostRuntime) -> Result<(), Fail> {
+fn an_image_after_other_bytes(rt: HostRuntime) -> Result<(), Fail> {
     let mut bytes = [0; 72];
     bytes[16..].copy_from_slice(&FILE_A);
     let image = MachO::parse(rt.alloc(), &bytes, 16)?;

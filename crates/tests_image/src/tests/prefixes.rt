@@ -143,9 +143,17 @@ impl Want {
         match (self, answer) {
             (Gives(want), Ok(text)) => Ok(text.as_str() == want),
             (Fault(want), Err(error)) => Ok(tests_texts::error(alloc, error)?.as_str() == want),
-            (Cut { size, place }, Err(Error::Scroll(ScrollError::TooBig { size: asked, len }))) => {
-                Ok(*asked == size && n == place.saturating_add(*len))
-            }
+            (
+                Cut { size, place },
+                Err(
+                    Error::Scroll(
+                        ScrollError::TooBig {
+                            size: selected,
+                            len,
+                        },
+                    ),
+                ),
+            ) => { Ok(*selected == size && n == place.saturating_add(*len)) }
             (Refused, Err(error)) => Ok(!matches!(error, Error::Memory(_))),
             _ => Ok(false),
         }

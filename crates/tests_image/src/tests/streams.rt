@@ -86,8 +86,8 @@ fn opcodes_first(rt: HostRuntime) -> Result<(), Fail> {
     let alloc = rt.alloc();
     let bytes = with_streams(alloc)?;
     let image = MachO::parse(alloc, bytes.as_slice(), 0)?;
-    let behind = chained(alloc, &image)?;
-    let want = format!(in alloc; "0x100004008 0x8000000005000000; {}", behind.as_str())?;
+    let following = chained(alloc, &image)?;
+    let want = format!(in alloc; "0x100004008 0x8000000005000000; {}", following.as_str())?;
     let got = rebases(alloc, &image)?;
     assert_eq!(rt; got.as_str(), want.as_str());
     let weak = weak_binds(alloc, &image)?;

@@ -373,7 +373,7 @@ const RULES: &[Rule] = &[
 ];
 
 // Returns the faults that these rules report of an image.
-fn told(alloc: Global, bytes: &[u8]) -> Result<Vec<LayoutFault>, goblin_mach::Error> {
+fn reported(alloc: Global, bytes: &[u8]) -> Result<Vec<LayoutFault>, goblin_mach::Error> {
     let image = MachO::parse_lossy(alloc, bytes, 0)?;
     let mut faults = Vec::new(alloc);
     for fault in &layout_faults(alloc, &image)? {
@@ -387,7 +387,7 @@ fn told(alloc: Global, bytes: &[u8]) -> Result<Vec<LayoutFault>, goblin_mach::Er
 fn rows_hold(alloc: Global, words: &[u32], rows: &[Row]) -> Result<(), Fail> {
     for row in rows {
         let bytes = changed(alloc, words, row.changes)?;
-        let faults = told(alloc, bytes.as_slice())?;
+        let faults = reported(alloc, bytes.as_slice())?;
         let got = line(alloc, faults.as_slice())?;
         if got.as_str() != row.want {
             return Err(Fail::from(format!(in alloc; "{:?}: {got}", row.changes)?));
@@ -434,10 +434,10 @@ fn of_numbers(alloc: Global, count: u32) -> Result<Vec<u8>, AllocError> {
 }
 
 #[test]
-fn each_number_behind_the_first_is_one_too_many(rt: HostRuntime) -> Result<(), Fail> {
+fn each_number_after_the_first_is_one_too_many(rt: HostRuntime) -> Result<(), Fail> {
     let alloc = rt.alloc();
     let bytes = of_numbers(alloc, 5000)?;
-    let faults = told(alloc, bytes.as_slice())?;
+    let faults = reported(alloc, bytes.as_slice())?;
     let is_again = |fault: &LayoutFault| fault.other.is_some_and(|first| first.command == 32);
     if faults.len() != 4999 || !faults.iter().all(is_again) {
         return Err(Fail::from("not a fault for each"));

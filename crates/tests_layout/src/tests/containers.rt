@@ -223,7 +223,7 @@ fn changed(alloc: Global, words: &[u32], changes: &[(usize, u32)]) -> Result<Vec
 }
 
 // Asserts the faults of each row of a table of words, by records of a form.
-fn tell_rows<R: ArchRecord>(alloc: Global, words: &[u32], rows: &[Row]) -> Result<(), Fail> {
+fn report_rows<R: ArchRecord>(alloc: Global, words: &[u32], rows: &[Row]) -> Result<(), Fail> {
     for row in rows {
         let words = words.get(..row.words).unwrap_or(&[]);
         let bytes = changed(alloc, words, row.changes)?;
@@ -238,12 +238,12 @@ fn tell_rows<R: ArchRecord>(alloc: Global, words: &[u32], rows: &[Row]) -> Resul
 
 #[test]
 fn faults_of_a_fat_file(rt: HostRuntime) -> Result<(), Fail> {
-    tell_rows::<FatArch>(rt.alloc(), &TWO_IMAGES, ROWS)
+    report_rows::<FatArch>(rt.alloc(), &TWO_IMAGES, ROWS)
 }
 
 #[test]
 fn faults_of_a_fat_file_of_64_bits(rt: HostRuntime) -> Result<(), Fail> {
-    tell_rows::<FatArch64>(rt.alloc(), &TWO_IMAGES_64, ROWS_64)
+    report_rows::<FatArch64>(rt.alloc(), &TWO_IMAGES_64, ROWS_64)
 }
 
 // 2000 slices without bytes, at 0 and for one cpu: each is reported for having no bytes and for where it begins, and all but the

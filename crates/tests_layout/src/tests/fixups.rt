@@ -153,7 +153,7 @@ const ROWS: &[Row<'static>] = &[
 const RULES: &[Rule] = &[Rule::ChainedFixups, Rule::ImportLibrary, Rule::ImportName];
 
 // Returns the faults that these rules report of an image.
-fn told(alloc: Global, bytes: &[u8]) -> Result<Vec<LayoutFault>, Fail> {
+fn reported(alloc: Global, bytes: &[u8]) -> Result<Vec<LayoutFault>, Fail> {
     let image = MachO::parse(alloc, bytes, 0)?;
     let mut faults = Vec::new(alloc);
     for fault in &layout_faults(alloc, &image)? {
@@ -171,7 +171,7 @@ fn rows_of_fixups(rt: HostRuntime) -> Result<(), Fail> {
         let mut bytes = Vec::new(alloc);
         bytes.extend_from_slice(&CHAINED)?;
         put(&mut bytes, *place, others);
-        let faults = told(alloc, &bytes)?;
+        let faults = reported(alloc, &bytes)?;
         if !are(&faults, wanted) {
             return Err(Fail::from(*name));
         }
@@ -186,13 +186,13 @@ fn names_without_an_end(rt: HostRuntime) -> Result<(), Fail> {
     bytes.extend_from_slice(&CHAINED)?;
     // the last two bytes of the names
     put(&mut bytes, 306, &[0x62, 0x63]);
-    let faults = told(alloc, &bytes)?;
+    let faults = reported(alloc, &bytes)?;
     if !are(&faults, &[(Rule::ImportName, 1, 80, 84)]) {
         return Err(Fail::from("another answer of names"));
     }
     // there are no compressed names
     put(&mut bytes, 248, &[1]);
-    let faults = told(alloc, &bytes)?;
+    let faults = reported(alloc, &bytes)?;
     if !faults.is_empty() {
         return Err(Fail::from("faults of compressed names"));
     }
@@ -213,7 +213,7 @@ fn many_imports(rt: HostRuntime) -> Result<(), Fail> {
     put(&mut bytes, 232, &84u32.to_le_bytes());
     put(&mut bytes, 236, &20_084u32.to_le_bytes());
     put(&mut bytes, 240, &5_000u32.to_le_bytes());
-    let faults = told(alloc, &bytes)?;
+    let faults = reported(alloc, &bytes)?;
     if faults.len() != 5_000 || faults.iter().any(|f| f.rule != Rule::ImportLibrary) {
         return Err(Fail::from("not one fault of each import"));
     }

@@ -11,16 +11,16 @@ use std::test::Fail;
 type Change<'r> = (usize, &'r [u8]);
 
 // The rule of a fault, with the index and the numbers.
-type Told = (Rule, u64, u64, u64);
+type Reported = (Rule, u64, u64, u64);
 
 // A change, and the faults that are reported then.
-type Row<'r> = (&'r str, &'r [Change<'r>], &'r [Told]);
+type Row<'r> = (&'r str, &'r [Change<'r>], &'r [Reported]);
 
-const REBASES: &[Told] = &[(Rule::Rebases, 0, 0, 0)];
+const REBASES: &[Reported] = &[(Rule::Rebases, 0, 0, 0)];
 
-const WEAK_BINDS: &[Told] = &[(Rule::WeakBinds, 0, 0, 0)];
+const WEAK_BINDS: &[Reported] = &[(Rule::WeakBinds, 0, 0, 0)];
 
-const STARTS: &[Told] = &[(Rule::FunctionStarts, 0, 0, 0)];
+const STARTS: &[Reported] = &[(Rule::FunctionStarts, 0, 0, 0)];
 
 // 32 bytes in __TEXT, as the range of the rebases; and as that of the weak binds.
 const MORE_REBASES: Change<'static> = (576, &[0, 4, 0, 0, 32, 0, 0, 0]);
@@ -157,7 +157,7 @@ const RULES: &[Rule] = &[
 ];
 
 // Returns the faults that these rules report of an image.
-fn told(alloc: Global, bytes: &[u8]) -> Result<Vec<LayoutFault>, Fail> {
+fn reported(alloc: Global, bytes: &[u8]) -> Result<Vec<LayoutFault>, Fail> {
     let image = MachO::parse_lossy(alloc, bytes, 0)?;
     let mut faults = Vec::new(alloc);
     for fault in &layout_faults(alloc, &image)? {
@@ -176,7 +176,7 @@ fn rows_of_lists(rt: HostRuntime) -> Result<(), Fail> {
         for (place, others) in *changes {
             put(&mut bytes, *place, others);
         }
-        if !are(&told(alloc, &bytes)?, wanted) {
+        if !are(&reported(alloc, &bytes)?, wanted) {
             return Err(Fail::from(*name));
         }
     }

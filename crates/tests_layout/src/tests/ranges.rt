@@ -8,10 +8,10 @@ use std::alloc::{AllocError, Global};
 use std::test::Fail;
 
 // A fault of an image: rule, the offset of the command, number, found and limit.
-type Told = (Rule, u64, u64, u64, u64);
+type Reported = (Rule, u64, u64, u64, u64);
 
 // A change: a name, the place, the new bytes there, and all faults.
-type Row<'r> = (&'r str, usize, &'r [u8], &'r [Told]);
+type Row<'r> = (&'r str, usize, &'r [u8], &'r [Reported]);
 
 const ROWS: &[Row<'static>] = &[
     ("sound", 0, &[0xcf], &[]),
@@ -70,7 +70,7 @@ const ROWS: &[Row<'static>] = &[
 ];
 
 // Whether these faults are reported.
-fn are(faults: &[LayoutFault], wanted: &[Told]) -> bool {
+fn are(faults: &[LayoutFault], wanted: &[Reported]) -> bool {
     faults.len() == wanted.len()
         && faults.iter().zip(wanted).all(|(f, w)| (
             f.rule,

@@ -268,7 +268,7 @@ const RULES: &[Rule] = &[
 ];
 
 // Returns the faults that these rules report of an image.
-fn told(alloc: Global, bytes: &[u8]) -> Result<Vec<LayoutFault>, goblin_mach::Error> {
+fn reported(alloc: Global, bytes: &[u8]) -> Result<Vec<LayoutFault>, goblin_mach::Error> {
     let image = MachO::parse_lossy(alloc, bytes, 0)?;
     let mut faults = Vec::new(alloc);
     for fault in &layout_faults(alloc, &image)? {
@@ -282,7 +282,7 @@ fn told(alloc: Global, bytes: &[u8]) -> Result<Vec<LayoutFault>, goblin_mach::Er
 fn rows_hold(alloc: Global, rows: &[Row]) -> Result<(), Fail> {
     for row in rows {
         let bytes = changed(alloc, row.changes)?;
-        let faults = told(alloc, bytes.as_slice())?;
+        let faults = reported(alloc, bytes.as_slice())?;
         let got = line(alloc, faults.as_slice())?;
         if got.as_str() != row.want {
             return Err(Fail::from(format!(in alloc; "{:?}: {got}", row.changes)?));
@@ -328,10 +328,10 @@ fn of_segments(alloc: Global, count: u32, sections: u32) -> Result<Vec<u8>, Allo
 }
 
 #[test]
-fn each_segment_behind_the_first_has_its_name(rt: HostRuntime) -> Result<(), Fail> {
+fn each_segment_after_the_first_has_its_name(rt: HostRuntime) -> Result<(), Fail> {
     let alloc = rt.alloc();
     let bytes = of_segments(alloc, 3000, 0)?;
-    let faults = told(alloc, bytes.as_slice())?;
+    let faults = reported(alloc, bytes.as_slice())?;
     let is_again = |fault: &&LayoutFault| {
         fault.rule == Rule::SegmentNameAgain && fault.other.is_some_and(|first| first.command == 32)
     };

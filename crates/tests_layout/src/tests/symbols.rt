@@ -221,7 +221,7 @@ const RULES: &[Rule] = &[
 ];
 
 // Returns the faults that these rules report of an image.
-fn told(alloc: Global, bytes: &[u8]) -> Result<Vec<LayoutFault>, Fail> {
+fn reported(alloc: Global, bytes: &[u8]) -> Result<Vec<LayoutFault>, Fail> {
     let image = MachO::parse(alloc, bytes, 0)?;
     let mut faults = Vec::new(alloc);
     for fault in &layout_faults(alloc, &image)? {
@@ -238,7 +238,7 @@ fn rows_of_symbols(rt: HostRuntime) -> Result<(), Fail> {
     for (name, place, others, wanted) in ROWS {
         let mut bytes = library(alloc)?;
         put(&mut bytes, *place, others);
-        let faults = told(alloc, &bytes)?;
+        let faults = reported(alloc, &bytes)?;
         if !are(&faults, wanted) {
             return Err(Fail::from(*name));
         }
@@ -255,7 +255,7 @@ fn sections_of_entries(rt: HostRuntime) -> Result<(), Fail> {
     for kind in (0x20..=0xff).step_by(2) {
         let mut bytes = library(alloc)?;
         put(&mut bytes, 8252, &[kind, 5]);
-        let faults = told(alloc, &bytes)?;
+        let faults = reported(alloc, &bytes)?;
         let wanted: &[(Rule, u64, u64, u64)] = if NUMBERING.contains(&kind) {
             &[(Rule::SymbolSection, 0, 5, 4)]
         } else {
@@ -283,7 +283,7 @@ fn many_symbols(rt: HostRuntime) -> Result<(), Fail> {
     put(&mut bytes, 628, &[0xff; 4]);
     put(&mut bytes, 632, &8352u32.to_le_bytes());
     put(&mut bytes, 640, &[0x7f]);
-    let faults = told(alloc, &bytes)?;
+    let faults = reported(alloc, &bytes)?;
     if faults.len() != 5_000 || faults.iter().any(|f| f.rule != Rule::SymbolSection) {
         return Err(Fail::from("not one fault of each symbol"));
     }
@@ -310,11 +310,11 @@ const BINDS: [(&[u8], bool); 12] = [
 #[test]
 fn rows_of_binds(rt: HostRuntime) -> Result<(), Fail> {
     let alloc = rt.alloc();
-    for (opcodes, is_told) in &BINDS {
+    for (opcodes, is_reported) in &BINDS {
         let mut bytes = library(alloc)?;
         put(&mut bytes, 8200, opcodes);
-        let faults = told(alloc, &bytes)?;
-        let wanted: &[(Rule, u64, u64, u64)] = if *is_told {
+        let faults = reported(alloc, &bytes)?;
+        let wanted: &[(Rule, u64, u64, u64)] = if *is_reported {
             &[(Rule::Binds, 0, 0, 0)]
         } else {
             &[]
@@ -455,9 +455,9 @@ fn with_turns(alloc: Global, is_vast: bool, turns: &[u8]) -> Result<Vec<u8>, All
 #[test]
 fn rows_of_turns(rt: HostRuntime) -> Result<(), Fail> {
     let alloc = rt.alloc();
-    for (name, is_vast, turns, is_told) in TURNS {
+    for (name, is_vast, turns, is_reported) in TURNS {
         let bytes = with_turns(alloc, *is_vast, turns)?;
-        if told(alloc, &bytes)?.is_empty() == *is_told {
+        if reported(alloc, &bytes)?.is_empty() == *is_reported {
             return Err(Fail::from(*name));
         }
     }

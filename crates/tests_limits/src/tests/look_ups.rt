@@ -37,7 +37,7 @@ fn memory(rt: HostRuntime) -> Result<(), Fail> {
             "{name}"
         );
     }
-    assert_eq!(rt; heap.asked(), 0);
+    assert_eq!(rt; heap.selected(), 0);
     assert!(rt;
         matches!(
             trie(&TWO_FIT).find(&heap, &[], "abc"),
@@ -103,6 +103,6 @@ fn thousands(rt: HostRuntime) -> Result<(), Fail> {
         let found = address_of(&heap, bytes.as_slice(), name.as_str());
         assert_eq!(rt; found, Some(u64::from(leaf)), "{leaf}");
     }
-    assert_eq!(rt; heap.asked(), 0);
+    assert_eq!(rt; heap.selected(), 0);
     Ok(())
 }

@@ -10,7 +10,7 @@ use std::cell::Cell;
 #[derive(Drop)]
 pub struct Refusing<A> {
     inner: A,
-    asked: Cell<u64>,
+    selected: Cell<u64>,
     first: Cell<u64>,
     last: Cell<u64>,
 }
@@ -20,7 +20,7 @@ impl<A> Refusing<A> {
     fn between(inner: A, first: u64, last: u64) -> Refusing<A> {
         Refusing {
             inner,
-            asked: Cell::new(0),
+            selected: Cell::new(0),
             first: Cell::new(first),
             last: Cell::new(last),
         }
@@ -42,13 +42,13 @@ impl<A> Refusing<A> {
     }
 
     /// Returns how many growths were requested.
-    pub fn asked(&self) -> u64 {
-        self.asked.get()
+    pub fn selected(&self) -> u64 {
+        self.selected.get()
     }
 
     /// Whether it has refused one.
     pub fn refused(&self) -> bool {
-        self.asked.get() >= self.first.get()
+        self.selected.get() >= self.first.get()
     }
 
     /// Refuses everything from now on.
@@ -61,8 +61,8 @@ impl<A> Refusing<A> {
     fn giver(&self) -> Option<&A>
         ensures { IfSome result (λ giver. giver.now ≡ self.now.inner) }
     {
-        let number = self.asked.get().saturating_add(1);
-        self.asked.set(number);
+        let number = self.selected.get().saturating_add(1);
+        self.selected.set(number);
         if self.first.get() <= number && number <= self.last.get() {
             None
         } else {

@@ -171,7 +171,7 @@ fn lists_of_segments(rt: HostRuntime) -> Result<(), Fail> {
     let mut list = Segments::new(&heap, Ctx::default());
     list.push(segment_of_b()?)?;
     heap.refuse_all();
-    let asked = heap.asked();
+    let selected = heap.selected();
     let mut none = Segments::new(&heap, Ctx::default());
     assert!(rt; none.get_mut(0).is_none());
     same(&rt, list.as_slice().len(), 1);
@@ -179,7 +179,7 @@ fn lists_of_segments(rt: HostRuntime) -> Result<(), Fail> {
     assert!(rt; (&list).into_iter().next().is_some());
     assert!(rt; list.sections().next().is_some());
     assert!(rt; list.get_mut(0).is_some());
-    same(&rt, heap.asked(), asked);
+    same(&rt, heap.selected(), selected);
     Ok(())
 }
 
@@ -225,7 +225,7 @@ fn tries_and_binds(rt: HostRuntime) -> Result<(), Fail> {
     assert!(rt; matches!(items.next(), Some(Ok(_))));
     assert!(rt; items.next().is_none());
     let _ = Steps::new();
-    same(&rt, heap.asked(), 0);
+    same(&rt, heap.selected(), 0);
     Ok(())
 }
 
@@ -234,7 +234,7 @@ fn images(rt: HostRuntime) -> Result<(), Fail> {
     let heap = Refusing::none(rt.alloc());
     let image = MachO::parse(&heap, &FILE_B, 0)?;
     heap.refuse_all();
-    let asked = heap.asked();
+    let selected = heap.selected();
     assert!(rt; peek(&FILE_B, 0).is_ok());
     assert!(rt; parse_magic_and_ctx(&FILE_B, 0).is_ok());
     assert!(rt; !image.is_object_file());
@@ -250,7 +250,7 @@ fn images(rt: HostRuntime) -> Result<(), Fail> {
     assert!(rt; items.next().is_none());
     assert!(rt; matches!(image.find_export(&heap, "a"), Ok(Some(_))));
     assert!(rt; matches!(image.find_export(&heap, "b"), Ok(None)));
-    same(&rt, heap.asked(), asked);
+    same(&rt, heap.selected(), selected);
     Ok(())
 }
 
@@ -264,7 +264,7 @@ fn fat_files(rt: HostRuntime) -> Result<(), Fail> {
     assert!(rt; peek_bytes(front).is_ok());
     assert!(rt; matches!(Mach::parse(&heap, &fat), Ok(Mach::Fat(_))));
     assert!(rt; matches!(Mach::parse_lossy(&heap, &fat), Ok(Mach::Fat(_))));
-    same(&rt, heap.asked(), 0);
+    same(&rt, heap.selected(), 0);
     Ok(())
 }
 
@@ -278,7 +278,7 @@ fn records_of_fat_files(rt: HostRuntime) -> Result<(), Fail> {
     assert!(rt; matches!(records.next(), Some(Ok(_))));
     assert!(rt; records.next().is_none());
     assert!(rt; matches!(container.find_cputype(0x0100_000c), Ok(Some(_))));
-    same(&rt, heap.asked(), 0);
+    same(&rt, heap.selected(), 0);
     let entry = container.get(0);
     assert!(rt;
         matches!(entry, Err(Error::Memory(AllocError))),
@@ -292,7 +292,7 @@ fn what_dyld_binds(rt: HostRuntime) -> Result<(), Fail> {
     let heap = Refusing::none(rt.alloc());
     let image = MachO::parse(&heap, &FILE_D, 0)?;
     heap.refuse_all();
-    let asked = heap.asked();
+    let selected = heap.selected();
     same(&rt, image.base(), 0x1_0000_0000);
     let Some(chained) = image.chained_fixups()? else {
         return Err(Fail::from("chained fixups"));
@@ -312,6 +312,6 @@ fn what_dyld_binds(rt: HostRuntime) -> Result<(), Fail> {
         assert!(rt; matches!(items.next(), Some(Ok(_))));
     }
     assert!(rt; items.next().is_none());
-    same(&rt, heap.asked(), asked);
+    same(&rt, heap.selected(), selected);
     Ok(())
 }

@@ -105,10 +105,10 @@ pub fn made(
 }
 
 /// Returns a command of these numbers, with bytes after them.
-pub fn command(alloc: Global, numbers: &[u32], behind: &[u8]) -> Result<Vec<u8>, AllocError> {
+pub fn command(alloc: Global, numbers: &[u32], following: &[u8]) -> Result<Vec<u8>, AllocError> {
     let mut bytes = Vec::new(alloc);
     push_numbers(&mut bytes, numbers)?;
-    bytes.extend_from_slice(behind)?;
+    bytes.extend_from_slice(following)?;
     Ok(bytes)
 }
 

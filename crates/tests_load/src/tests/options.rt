@@ -30,8 +30,8 @@ const ROWS: &[((u32, u32), &[u8], &str)] = &[
 #[test]
 fn rows(rt: HostRuntime) -> Result<(), Fail> {
     let alloc = rt.alloc();
-    for &((size, count), behind, want) in ROWS {
-        let options = command(alloc, &[0x2d, size, count], behind)?;
+    for &((size, count), following, want) in ROWS {
+        let options = command(alloc, &[0x2d, size, count], following)?;
         let bytes = made(alloc, (1, options.as_slice()), &[])?;
         let text = options_text(alloc, bytes.as_slice())?;
         assert_eq!(rt; text.as_str(), want);

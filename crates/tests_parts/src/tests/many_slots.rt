@@ -8,7 +8,7 @@ use std::alloc::{AllocError, Global};
 use std::test::Fail;
 
 // Reads all tables of a prefix.
-fn ask(alloc: Global, prefix: &[u8]) -> Result<(), AllocError> {
+fn select(alloc: Global, prefix: &[u8]) -> Result<(), AllocError> {
     let _ = slots_text(alloc, prefix)?;
     let _ = indirect_text(alloc, prefix)?;
     let _ = providers_text(alloc, prefix)?;
@@ -23,12 +23,12 @@ fn prefixes(rt: HostRuntime) -> Result<(), Fail> {
     same(&rt, bytes.len(), LEN);
     for len in 0..=1100 {
         if let Some(prefix) = bytes.as_slice().get(..len) {
-            ask(alloc, prefix)?;
+            select(alloc, prefix)?;
         }
     }
     for len in 0x1ff0..LEN {
         if let Some(prefix) = bytes.as_slice().get(..len) {
-            ask(alloc, prefix)?;
+            select(alloc, prefix)?;
         }
     }
     Ok(())

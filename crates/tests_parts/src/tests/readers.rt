@@ -323,7 +323,7 @@ fn errors_in_words(rt: HostRuntime) -> Result<()> {
         ),
         (
             Error::from(ScrollError::TooBig { size: 24, len: 8 }),
-            "24 bytes are wanted and 8 are left",
+            "24 bytes are needed and 8 are left",
         ),
         (
             Error::from(ScrollError::BadInput {

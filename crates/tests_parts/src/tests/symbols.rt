@@ -161,7 +161,7 @@ fn tables(rt: HostRuntime) -> std::result::Result<(), Fail> {
         strtab: 16,
         ctx: Ctx::default(),
     };
-    let behind: Symbols = pread_with(&FILE_B, 352, ctx)?;
-    same(&rt, behind.get(0)?.0, "_main");
+    let following: Symbols = pread_with(&FILE_B, 352, ctx)?;
+    same(&rt, following.get(0)?.0, "_main");
     Ok(())
 }

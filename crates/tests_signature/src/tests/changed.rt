@@ -2,7 +2,7 @@
 //! it.
 
 use crate::tests::same::same;
-use crate::tests::signer::{PLAN, Plan, changed, signed, told_at};
+use crate::tests::signer::{PLAN, Plan, changed, reported_at, signed};
 use std::test::Fail;
 
 // An image of four pages of 16 bytes each.
@@ -54,11 +54,11 @@ fn each_byte(rt: HostRuntime) -> Result<(), Fail> {
     };
     let image = signed(alloc, &plan)?;
     same(&rt, image.len(), CODE_LEN + 239);
-    let sound = told_at(alloc, image.as_slice(), CODE_LEN, 239, None)?;
+    let sound = reported_at(alloc, image.as_slice(), CODE_LEN, 239, None)?;
     same(&rt, sound.as_str(), "");
     for (place, byte) in image.as_slice().iter().enumerate() {
         let other = changed(alloc, image.as_slice(), place, &[*byte ^ 1])?;
-        let text = told_at(alloc, other.as_slice(), CODE_LEN, 239, None)?;
+        let text = reported_at(alloc, other.as_slice(), CODE_LEN, 239, None)?;
         let Some(page) = page_of(place) else {
             same(&rt, (place, text.is_empty()), (place, is_free(place)));
             continue;

@@ -3,7 +3,7 @@
 use crate::tests::rows::{E, R};
 use crate::tests::same::same;
 use crate::tests::signer::{
-    PLAN, Plan, changed, signature_of, signed, super_blob, told, with_signature,
+    PLAN, Plan, changed, reported, signature_of, signed, super_blob, with_signature,
 };
 use mach_signature::{CodeDirectory, CodeFault, HashType};
 use std::test::Fail;
@@ -60,7 +60,11 @@ fn names_of_a_directory(rt: HostRuntime) -> Result<(), Fail> {
         ..PLAN
     };
     let image = signed(rt.alloc(), &plan)?;
-    same(&rt, told(rt.alloc(), image.as_slice(), None)?.as_str(), "");
+    same(
+        &rt,
+        reported(rt.alloc(), image.as_slice(), None)?.as_str(),
+        "",
+    );
     let directory = signature_of(image.as_slice())?.directory()?;
     same(&rt, directory.team()?, Some("ABCDE12345"));
     Ok(())
@@ -132,7 +136,7 @@ fn one_directory_many_times(rt: HostRuntime) -> Result<(), Fail> {
     }
     let all = with_signature(alloc, pointing.as_slice())?;
     let want = "code directory: malformed: two code directories of one hash";
-    same(&rt, told(alloc, all.as_slice(), None)?.as_str(), want);
+    same(&rt, reported(alloc, all.as_slice(), None)?.as_str(), want);
     Ok(())
 }
 
@@ -145,7 +149,7 @@ fn many_pages(rt: HostRuntime) -> Result<(), Fail> {
         ..PLAN
     };
     let image = signed(alloc, &plan)?;
-    same(&rt, told(alloc, image.as_slice(), None)?.as_str(), "");
+    same(&rt, reported(alloc, image.as_slice(), None)?.as_str(), "");
     let zeros = vec![in alloc; 0xffu8; 0x1200]?;
     let directory: CodeDirectory<'_> = signature_of(image.as_slice())?.directory()?;
     same(&rt, directory.page_count(), 288);

@@ -411,7 +411,7 @@ fn image_of(alloc: Global, len: usize, runs: &[(usize, &[u8])]) -> Result<Vec<u8
 }
 
 // Returns the faults of the signature at an offset, in words.
-fn told_at(alloc: Global, image: &[u8], dataoff: u32) -> Result<String, Fail> {
+fn reported_at(alloc: Global, image: &[u8], dataoff: u32) -> Result<String, Fail> {
     let mut text = String::new(alloc);
     for fault in signature_faults(image, dataoff, 224, None)? {
         write!(text, "{fault};")?;
@@ -436,7 +436,11 @@ fn linked(rt: HostRuntime) -> Result<(), Fail> {
     ];
     for (len, dataoff, runs, name, cdhash) in rows {
         let image = image_of(alloc, len, runs)?;
-        same(&rt, told_at(alloc, image.as_slice(), dataoff)?.as_str(), "");
+        same(
+            &rt,
+            reported_at(alloc, image.as_slice(), dataoff)?.as_str(),
+            "",
+        );
         let directory = code_signature(image.as_slice(), dataoff, 224)?.directory()?;
         same(&rt, directory.identifier()?, Some(name));
         same(&rt, directory.head.flags, 0x20002);
@@ -446,7 +450,7 @@ fn linked(rt: HostRuntime) -> Result<(), Fail> {
         let want = "page 1: 0x1000..0x2000 is not what was signed;";
         same(
             &rt,
-            told_at(alloc, other.as_slice(), dataoff)?.as_str(),
+            reported_at(alloc, other.as_slice(), dataoff)?.as_str(),
             want,
         );
     }

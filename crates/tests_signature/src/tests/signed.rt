@@ -13,7 +13,7 @@ use std::process::Abort;
 use std::test::Fail;
 
 // Returns the faults of an image's signature, in words, each with a semicolon after it.
-fn told(alloc: Global, image: &MachO<'_>) -> Result<String, AllocError> {
+fn reported(alloc: Global, image: &MachO<'_>) -> Result<String, AllocError> {
     let mut text = String::new(alloc);
     match signature_faults(image) {
         Err(e) => write!(text, "refused: {};", describe(&e))?,
@@ -28,9 +28,9 @@ fn told(alloc: Global, image: &MachO<'_>) -> Result<String, AllocError> {
 }
 
 // Asserts the faults of an image.
-fn is_told(rt: &impl Abort, alloc: Global, bytes: &[u8], want: &str) -> Result<(), Fail> {
+fn is_reported(rt: &impl Abort, alloc: Global, bytes: &[u8], want: &str) -> Result<(), Fail> {
     let image = MachO::parse(alloc, bytes, 0)?;
-    same(rt, told(alloc, &image)?.as_str(), want);
+    same(rt, reported(alloc, &image)?.as_str(), want);
     Ok(())
 }
 
@@ -64,13 +64,13 @@ fn sealed(rt: HostRuntime) -> Result<(), Fail> {
         (&[(0xb8, b"\x1e")], "none;"),
         (
             &[(0xc4, b"\xe8\x03")],
-            "refused: 1000 bytes are wanted and 175 are left;",
+            "refused: 1000 bytes are needed and 175 are left;",
         ),
         (&[(0xc4, b"\0")], "refused: offset 0 is past the end;"),
     ];
     for (changes, want) in rows {
         let bytes = image_of(alloc, 431, SEALED, changes)?;
-        is_told(&rt, alloc, bytes.as_slice(), want)?;
+        is_reported(&rt, alloc, bytes.as_slice(), want)?;
     }
     Ok(())
 }
@@ -84,7 +84,7 @@ fn unsealed(rt: HostRuntime) -> Result<(), Fail> {
     ];
     for (changes, want) in rows {
         let bytes = image_of(alloc, 431, UNSEALED, changes)?;
-        is_told(&rt, alloc, bytes.as_slice(), want)?;
+        is_reported(&rt, alloc, bytes.as_slice(), want)?;
     }
     Ok(())
 }
@@ -104,7 +104,7 @@ fn the_first_command_counts(rt: HostRuntime) -> Result<(), Fail> {
     ];
     for (first, second, want) in rows {
         let bytes = image_of(alloc, 64, &[header, (32, first), (48, second)], &[])?;
-        is_told(&rt, alloc, bytes.as_slice(), want)?;
+        is_reported(&rt, alloc, bytes.as_slice(), want)?;
     }
     Ok(())
 }

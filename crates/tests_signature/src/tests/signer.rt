@@ -31,7 +31,7 @@ pub struct Plan<'a> {
     /// The hash of an alternate directory; 0 for none.
     pub alternate: u8,
     /// The number of bytes of the command's range after the signature.
-    pub behind: u8,
+    pub following: u8,
 }
 
 /// The plan of the rows.
@@ -47,7 +47,7 @@ pub const PLAN: Plan<'static> = Plan {
     special: &[],
     blobs: &[],
     alternate: 0,
-    behind: 0,
+    following: 0,
 };
 
 // Returns a length of less than 65,536 bytes.
@@ -155,14 +155,14 @@ fn directory(
     push_u32(&mut out, plan.code_limit)?;
     out.extend_from_slice(&[hash_len(hash_type), hash_type, 0, plan.page_size])?;
     let team = if team_len == 0 { 0 } else { fields + 3 };
-    let mut behind = Vec::new(alloc);
+    let mut following = Vec::new(alloc);
     for n in [0, plan.scatter, team, 0] {
-        push_u32(&mut behind, n)?;
+        push_u32(&mut following, n)?;
     }
-    behind.extend_from_slice(&plan.code_limit64.to_be_bytes())?;
-    behind.extend_from_slice(&[0; 32])?;
+    following.extend_from_slice(&plan.code_limit64.to_be_bytes())?;
+    following.extend_from_slice(&[0; 32])?;
     let more_len = (fields as usize).saturating_sub(40);
-    let more = behind.as_slice().get(..more_len).unwrap_or(&[]);
+    let more = following.as_slice().get(..more_len).unwrap_or(&[]);
     out.extend_from_slice(more)?;
     out.extend_from_slice(b"id\0")?;
     if team_len != 0 {
@@ -243,11 +243,11 @@ pub fn with_signature(alloc: Global, signature: &[u8]) -> Result<Vec<u8>, AllocE
 /// Returns an image that is signed by a plan.
 pub fn signed(alloc: Global, plan: &Plan<'_>) -> Result<Vec<u8>, AllocError> {
     let draft = signature(alloc, unsigned(alloc, plan.code_len, 0)?.as_slice(), plan)?;
-    let len = short(draft.len()) + u32::from(plan.behind);
+    let len = short(draft.len()) + u32::from(plan.following);
     let mut image = unsigned(alloc, plan.code_len, len)?;
     let signature = signature(alloc, image.as_slice(), plan)?;
     image.extend_from_slice(signature.as_slice())?;
-    image.extend_from_slice(vec![in alloc; 1u8; usize::from(plan.behind)]?.as_slice())?;
+    image.extend_from_slice(vec![in alloc; 1u8; usize::from(plan.following)]?.as_slice())?;
     Ok(image)
 }
 
@@ -276,7 +276,7 @@ fn datasize(image: &[u8]) -> u32 {
 }
 
 /// Returns the faults of the signature at an offset, of so many bytes, in words, one after the other.
-pub fn told_at(
+pub fn reported_at(
     alloc: Global,
     image: &[u8],
     dataoff: usize,
@@ -299,8 +299,8 @@ pub fn told_at(
 }
 
 /// Returns the faults of the signature of an image of the rows.
-pub fn told(alloc: Global, image: &[u8], plist: Option<&[u8]>) -> Result<String, AllocError> {
-    told_at(alloc, image, CODE_LEN, datasize(image), plist)
+pub fn reported(alloc: Global, image: &[u8], plist: Option<&[u8]>) -> Result<String, AllocError> {
+    reported_at(alloc, image, CODE_LEN, datasize(image), plist)
 }
 
 /// Returns the signature of an image.

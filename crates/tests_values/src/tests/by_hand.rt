@@ -54,12 +54,12 @@ fn tries(rt: HostRuntime) -> Result<(), Fail> {
     let far = [
         0, 1, 0x61, 0, 255, 255, 255, 255, 255, 255, 255, 255, 255, 1,
     ];
-    let mut behind = [0; 15];
-    behind[1..].copy_from_slice(&far);
+    let mut following = [0; 15];
+    following[1..].copy_from_slice(&far);
     let long = [255, 255, 255, 255, 255, 255, 255, 255, 255, 1, 0, 0, 0];
     let rows: [(&[u8], u32, &str); 3] = [
         (&far, 0, ""),
-        (&behind, 1, "malformed"),
+        (&following, 1, "malformed"),
         (&long, 0, "malformed"),
     ];
     for (bytes, export_off, want) in rows {

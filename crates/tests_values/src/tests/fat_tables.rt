@@ -35,7 +35,7 @@ fn records(rt: HostRuntime) -> Result<(), Fail> {
         ),
         (
             [front, Piece::Bytes(&[0; 31]), Piece::Bytes(&[])],
-            "32 bytes are wanted and 31 are left; ",
+            "32 bytes are needed and 31 are left; ",
         ),
         (
             [Piece::Front64(2), record, Piece::Bytes(&[])],
@@ -55,7 +55,7 @@ fn records(rt: HostRuntime) -> Result<(), Fail> {
                 Piece::Bytes(&[]),
                 Piece::Bytes(&[]),
             ],
-            "8 bytes are wanted and 7 are left",
+            "8 bytes are needed and 7 are left",
         ),
     ] {
         let bytes = made(alloc, &pieces)?;

@@ -14,7 +14,7 @@ fn rows(rt: HostRuntime) -> Result<(), Fail> {
         ([Piece::Bytes(LIBRARY), none, none], "archive of 1"),
         (
             [Piece::Bytes(b"!<arch>\nx"), none, none],
-            "60 bytes are wanted and 1 are left",
+            "60 bytes are needed and 1 are left",
         ),
         (
             [Piece::Bytes(b"!<thin>\n"), none, none],
@@ -23,7 +23,7 @@ fn rows(rt: HostRuntime) -> Result<(), Fail> {
         ([Piece::Front64(0), none, none], "fat of 0 by 64 bits: "),
         (
             [Piece::Bytes(b"\xca\xfe\xba\xbf"), none, none],
-            "8 bytes are wanted and 4 are left",
+            "8 bytes are needed and 4 are left",
         ),
         (
             [
@@ -71,7 +71,7 @@ fn as_images_and_fat_files_do(rt: HostRuntime) -> Result<(), Fail> {
         (b"\x7fELF", "bad magic 0x7f454c46"),
         (&X86_64, "image 0x1000007"),
         (&X86_64[..31], "malformed: a header is 32 bytes"),
-        (b"\xca\xfe\xba\xbe", "8 bytes are wanted and 4 are left"),
+        (b"\xca\xfe\xba\xbe", "8 bytes are needed and 4 are left"),
         (b"\xca\xfe\xba\xbe\0\0\0\0", "fat of 0: "),
         (
             b"\xca\xfe\xba\xbe\0\0\0\x01",

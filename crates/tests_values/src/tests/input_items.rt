@@ -29,11 +29,11 @@ fn of_one_file(rt: HostRuntime) -> Result<(), Fail> {
         ),
         (
             [magic, image[0], image[1], Piece::Bytes(CUT)],
-            "at 0: i.o at 68, 32 bytes, image 0x1000007; at 0: 9 bytes are wanted and 2 are left; ",
+            "at 0: i.o at 68, 32 bytes, image 0x1000007; at 0: 9 bytes are needed and 2 are left; ",
         ),
         (
             [magic, Piece::Bytes(CUT), none, none],
-            "9 bytes are wanted and 2 are left",
+            "9 bytes are needed and 2 are left",
         ),
     ] {
         let bytes = made(alloc, &pieces)?;
@@ -66,10 +66,10 @@ fn of_a_fat_file(rt: HostRuntime) -> Result<(), Fail> {
     assert_eq!(rt;
         text.as_str(),
         "entry 0 of 0x7, 0x3 at 200: no member; \
-         entry 1 of 0x1000007, 0x3 at 208: a.o at 68, 2 bytes, 4 bytes are wanted and 2 are left; \
+         entry 1 of 0x1000007, 0x3 at 208: a.o at 68, 2 bytes, 4 bytes are needed and 2 are left; \
          entry 2 of 0x100000c, 0x0 at 278: 32 bytes, image 0x1000007; \
          entry 3 of 0xc, 0x9 at 400: 0 bytes, offset 0 is past the end; \
-         entry 4 of 0x12, 0x0 at 208: 60 bytes are wanted and 1 are left; \
+         entry 4 of 0x12, 0x0 at 208: 60 bytes are needed and 1 are left; \
          entry 5 of 0x100000c, 0x2 at 310: 4 bytes, bad magic 0x74657874; "
     );
     Ok(())
@@ -92,7 +92,7 @@ fn of_tables_cut(rt: HostRuntime) -> Result<(), Fail> {
                 Piece::Bytes(&[0; 24]),
             ],
             "entry 0 of 0x7, 0x3 at 0: 0 bytes, offset 0 is past the end; \
-             entry 1 at 0: 32 bytes are wanted and 24 are left; ",
+             entry 1 at 0: 32 bytes are needed and 24 are left; ",
         ),
         (
             [Piece::Bytes(b"\xca\xfe\xba\xbe\0\0\0\x34"), none, none],

@@ -2,7 +2,7 @@ use Rattle.std.proofs.Common.{[], ◌∷◌, List, Result, Ok, IsOk, refl}
 use Rattle.std.proofs.lemmas.Result.{IfOk-weaker}
 use Rattle.mach_base.specs.Fault.{Fault}
 use Rattle.goblin_mach.specs.FatEntry.{FatEntry, entries_of, image}
-use Rattle.goblin_mach.specs.FatFile.{arches_in, file_held}
+use Rattle.goblin_mach.specs.FatFile.{arches_in, file_view}
 use Rattle.goblin_mach.specs.View.{HasEntries, ViewFault, of_table, fat_table, AreViewItems}
 use Rattle.goblin_mach.proofs.WholeFiles.{entries_of_image}
 use Rattle.goblin_mach.proofs.Exits.{exit_failed}
@@ -10,7 +10,7 @@ use Rattle.goblin_mach.proofs.view.file_items.Goals as goal
 
 pub returns-in_err-arches-in-Fat-clause-refused : goal.returns-in_err-arches-in-Fat-clause-refused
 returns-in_err-arches-in-Fat-clause-refused g c = λ bytes is.
-    let file = file_held c.in-Fat.container in
+    let file = file_view c.in-Fat.container in
     let fat = rw c.in-Fat.is at is in
     exit_failed (ViewFault bytes) _ _ c.from_residual-in_err-arches-in-Fat.ensures.1 (arches_in file)
     (λ f bad. of_table file f fat.magic fat.file bad) c.in_err-arches-in-Fat.ensures
@@ -24,7 +24,7 @@ returns-in_ok-push-in-Binary-clause-viewed g c = λ bytes is.
 
 pub returns-in_ok-arches-in-Fat-clause-viewed : goal.returns-in_ok-arches-in-Fat-clause-viewed
 returns-in_ok-arches-in-Fat-clause-viewed g c = λ bytes is.
-    let file = file_held c.in-Fat.container in
+    let file = file_view c.in-Fat.container in
     let fat = rw c.in-Fat.is at is in
     let table : IsOk (arches_in file) = rw c.in_ok-arches-in-Fat.ensures refl in
     IfOk-weaker c.entry_items.result (λ v. AreViewItems (entries_of file) v.items)

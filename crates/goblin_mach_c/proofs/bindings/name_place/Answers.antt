@@ -6,24 +6,24 @@ use Rattle.mach_chained.specs.PointerViews.{kind_view}
 use Rattle.mach_chained.specs.Views.{fixups_view}
 use Rattle.mach_chained.specs.WalkViews.{fixup_view, fixup_input_in}
 use Rattle.goblin_mach_c.specs.BindingPlaces.{place_in_data, with_name_place}
-use Rattle.goblin_mach_c.specs.BindingRows.{NameStandsAt}
-use Rattle.goblin_mach_c.proofs.BoundNames.{bound_name, part_stands, text_stands}
+use Rattle.goblin_mach_c.specs.BindingRows.{NameIsAt}
+use Rattle.goblin_mach_c.proofs.BoundNames.{bound_name, part_occurs, text_occurs}
 use Rattle.goblin_mach_c.proofs.bindings.name_place.Goals as goal
 
-pub returns-in-Ok-clause-stands : goal.returns-in-Ok-clause-stands
-returns-in-Ok-clause-stands c = λ bytes size short payload segments base libs b is.
+pub returns-in-Ok-clause-occurs : goal.returns-in-Ok-clause-occurs
+returns-in-Ok-clause-occurs c = λ bytes size short payload segments base libs b is.
     let f = fixup_view c.args.fixup.now in
     let chained = c.args.chained.now in
     let kind : f.kind ≡ bind c.in-Bind.import c.in-Bind.addend = ap kind_view c.in-Bind.is in
     let found = bound_name (fixup_input_in chained segments base) libs f c.in-Bind.import c.in-Bind.addend b kind is in
     let text = c.in-Ok.ensures.place found.0 found.1 in
     let place = c.in-Ok.place in
-    let stands = part_stands size bytes c.args.chains_at chained.payload.now place found.0.name payload
-    (text_stands chained.payload.now place found.0.name text) in
-    let within = stands.within in
+    let occurs = part_occurs size bytes c.args.chains_at chained.payload.now place found.0.name payload
+    (text_occurs chained.payload.now place found.0.name text) in
+    let within = occurs.within in
     let same : c.args.chains_at + place ≡ c.saturating_add.result =
     sym (c.saturating_add.ensures ∙ min-eq_left (omega (arith, within, short))) in
-    subst (NameStandsAt bytes c.saturating_add.result) (sym found.2) (subst (λ (n : ℕ). NameStandsAt bytes n found.0.name) same stands)
+    subst (NameIsAt bytes c.saturating_add.result) (sym found.2) (subst (λ (n : ℕ). NameIsAt bytes n found.0.name) same occurs)
 
 pub returns-in-Ok-clause-own : goal.returns-in-Ok-clause-own
 returns-in-Ok-clause-own c = λ bytes size short payload segments base libs b is rest.
@@ -34,15 +34,15 @@ returns-in-Ok-clause-own c = λ bytes size short payload segments base libs b is
     let found = bound_name (fixup_input_in chained segments base) libs f c.in-Bind.import c.in-Bind.addend b kind is in
     let text = c.in-Ok.ensures.place found.0 found.1 in
     let place = c.in-Ok.place in
-    let stands = part_stands size bytes at chained.payload.now place found.0.name payload (text_stands chained.payload.now place found.0.name text) in
-    let within = stands.within in
+    let occurs = part_occurs size bytes at chained.payload.now place found.0.name payload (text_occurs chained.payload.now place found.0.name text) in
+    let within = occurs.within in
     let same : at + place ≡ c.saturating_add.result = sym (c.saturating_add.ensures ∙ min-eq_left (omega (arith, within, short))) in
     ap (λ (k : KindOfFixup). with_name_place at (fixups_view chained) k rest) kind
     ∙ ap (λ (p : Result ℕ Fault). place_in_data at p ∷ rest) c.in-Ok.ensures.value
     ∙ ap (λ (n : ℕ). n ∷ rest) same
 
-pub returns-in-Err-clause-stands : goal.returns-in-Err-clause-stands
-returns-in-Err-clause-stands c = λ bytes size short payload segments base libs b is.
+pub returns-in-Err-clause-occurs : goal.returns-in-Err-clause-occurs
+returns-in-Err-clause-occurs c = λ bytes size short payload segments base libs b is.
     let f = fixup_view c.args.fixup.now in
     let kind : f.kind ≡ bind c.in-Bind.import c.in-Bind.addend = ap kind_view c.in-Bind.is in
     let found = bound_name (fixup_input_in c.args.chained.now segments base) libs f c.in-Bind.import c.in-Bind.addend b kind is in

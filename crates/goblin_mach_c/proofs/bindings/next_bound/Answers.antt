@@ -12,5 +12,5 @@ returns-in-Some-Ok-binding-clause-placed c = λ bytes size short payload.
     let there : slice_at size bytes c.args.chains_at ≡ Ok (fixups_view chained).payload =
     payload ∙ ap (λ (v : ChainedFixups). Ok (fixups_view v).payload) (sym c.fixups.invariant.chained) in
     let found = c.in-Some-Ok-binding in
-    inr (c.name_place-name_place.ensures.stands bytes size short there c.args.segments.now c.args.base (texts c.args.libs.now) (binding_view found.binding)
+    inr (c.name_place-name_place.ensures.occurs bytes size short there c.args.segments.now c.args.base (texts c.args.libs.now) (binding_view found.binding)
     (found.ensures ∙ ap (λ r. Some (binding_read r)) found.field-0-is))

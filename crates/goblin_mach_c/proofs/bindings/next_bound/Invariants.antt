@@ -3,7 +3,7 @@ use Rattle.mach_chained.specs.FixupCursors.{IsOverFixups}
 use Rattle.mach_chained.specs.Fixups.{FixupInput}
 use Rattle.mach_chained.specs.FixupsLeft.{fixups_left}
 use Rattle.mach_base.specs.Text.{texts}
-use Rattle.goblin_mach_c.specs.BindingsBehind.{bound_left, bound_places}
+use Rattle.goblin_mach_c.specs.BindingsAfter.{bound_left, bound_places}
 use Rattle.goblin_mach_c.proofs.bindings.next_bound.Given as goal
 
 abbrev pub invariant-fixups : goal.invariant-fixups

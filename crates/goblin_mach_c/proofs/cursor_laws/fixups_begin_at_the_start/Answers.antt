@@ -1,7 +1,7 @@
 use Rattle.std.proofs.Common.{sym, subst}
 use Rattle.goblin_mach.specs.Fixups.{chained_in}
 use Rattle.goblin_mach.specs.Subjects.{lossy_segments_in}
-use Rattle.goblin_mach_c.specs.FixupsBehind.{AreFixupsAtStage}
+use Rattle.goblin_mach_c.specs.FixupsAfter.{AreFixupsAtStage}
 use Rattle.goblin_mach_c.specs.Stage.{stage_of}
 use Rattle.goblin_mach_c.proofs.cursor_laws.fixups_begin_at_the_start.Goals as goal
 

@@ -1,5 +1,5 @@
 use Rattle.std.proofs.Common.{ℕ, sym, subst}
-use Rattle.goblin_mach_c.specs.ImportsBehind.{AreImportsAtStage, binds_there}
+use Rattle.goblin_mach_c.specs.ImportsAfter.{AreImportsAtStage, binds_there}
 use Rattle.goblin_mach_c.specs.Stage.{stage_of}
 use Rattle.goblin_mach_c.proofs.cursor_laws.imports_begin_at_the_start.Goals as goal
 

@@ -1,8 +1,8 @@
 use Rattle.std.proofs.Common.{ℕ, sym, subst}
 use Rattle.goblin_mach.specs.Fixups.{chained_in}
 use Rattle.goblin_mach.specs.Subjects.{lossy_segments_in}
-use Rattle.goblin_mach_c.specs.FixupsBehind.{AreFixupsAtStage}
-use Rattle.goblin_mach_c.specs.RebasesBehind.{AreRebasesAtStage, rebase_source_there}
+use Rattle.goblin_mach_c.specs.FixupsAfter.{AreFixupsAtStage}
+use Rattle.goblin_mach_c.specs.RebasesAfter.{AreRebasesAtStage, rebase_source_there}
 use Rattle.goblin_mach_c.specs.Stage.{stage_of}
 use Rattle.goblin_mach_c.proofs.cursor_laws.rebases_begin_at_the_start.Goals as goal
 

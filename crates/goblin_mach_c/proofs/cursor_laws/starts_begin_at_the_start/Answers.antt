@@ -3,7 +3,7 @@ use Rattle.goblin_mach.specs.Fixups.{base_of}
 use Rattle.goblin_mach.specs.Subjects.{lossy_segments_in}
 use Rattle.goblin_mach.specs.Tables.{starts_place_in}
 use Rattle.goblin_mach_c.specs.Stage.{stage_of}
-use Rattle.goblin_mach_c.specs.StartsBehind.{AreStartsAtStage}
+use Rattle.goblin_mach_c.specs.StartsAfter.{AreStartsAtStage}
 use Rattle.goblin_mach_c.proofs.cursor_laws.starts_begin_at_the_start.Goals as goal
 
 pub returns : goal.returns

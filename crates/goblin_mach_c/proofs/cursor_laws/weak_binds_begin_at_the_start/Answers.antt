@@ -1,6 +1,6 @@
 use Rattle.std.proofs.Common.{ℕ, sym, subst}
 use Rattle.goblin_mach_c.specs.Stage.{stage_of}
-use Rattle.goblin_mach_c.specs.WeakBindsBehind.{AreWeakBindsAtStage, weak_source_there}
+use Rattle.goblin_mach_c.specs.WeakBindsAfter.{AreWeakBindsAtStage, weak_source_there}
 use Rattle.goblin_mach_c.proofs.cursor_laws.weak_binds_begin_at_the_start.Goals as goal
 
 pub returns : goal.returns

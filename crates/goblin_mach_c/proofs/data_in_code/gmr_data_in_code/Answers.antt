@@ -5,7 +5,7 @@ use Rattle.mach_base.specs.Items.{items_from}
 use Rattle.mach_load.specs.DataInCode.{data_in_code_item}
 use Rattle.goblin_mach.specs.Tables.{data_in_code_there}
 use Rattle.goblin_mach_c.specs.Fill.{Fills}
-use Rattle.goblin_mach_c.specs.Seen.{ctx_seen}
+use Rattle.goblin_mach_c.specs.CViews.{gm_ctx_view}
 use Rattle.goblin_mach_c.specs.TableRows.{data_in_code_row}
 use Rattle.goblin_mach_c.proofs.ItemRowsMade.{rows_of_items}
 use Rattle.goblin_mach_c.proofs.data_in_code.gmr_data_in_code.Goals as goal
@@ -13,7 +13,7 @@ use Rattle.goblin_mach_c.proofs.data_in_code.gmr_data_in_code.Goals as goal
 pub returns : goal.returns
 returns c =
     let bytes = c.args.bytes.now in
-    let le = (ctx_seen c.args.image.now).le in
+    let le = (gm_ctx_view c.args.image.now).le in
     let place = c.in-Some.command.dataoff in
     let many = c.in-Some.command.datasize / 8 in
     let same = ap (λ (x : Ctx). x.le) c.ctx_of.ensures in

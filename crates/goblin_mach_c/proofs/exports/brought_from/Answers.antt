@@ -13,7 +13,7 @@ returns-in-Some c = λ libs.
     subst (λ (i : ExportInfo). IsOwnAt t.bytes libs t.from c.args.cursor.now.node (info_of i)
     → IsBrought t.bytes (IsNumbered libs) c.args.cursor.now.node (info_of i) c.in-Some.ordinal c.in-Some.place) (sym info.is)
     (λ own. brought_by t.bytes libs c.args.cursor.now.node info.lib.now (text_in info.lib_symbol_name) info.flags (c.in-Some.ordinal, c.in-Some.place)
-    c.in-Some.ensures.node (c.in-Some.ensures.told libs info.lib.now (text_in info.lib_symbol_name) info.flags own))
+    c.in-Some.ensures.node (c.in-Some.ensures.reported libs info.lib.now (text_in info.lib_symbol_name) info.flags own))
 
 pub returns-in-None : goal.returns-in-None
 returns-in-None c = λ libs.
@@ -21,4 +21,4 @@ returns-in-None c = λ libs.
     let info = c.in-Reexport in
     subst (λ (i : ExportInfo). IsOwnAt t.bytes libs t.from c.args.cursor.now.node (info_of i)
     → IsBrought t.bytes (IsNumbered libs) c.args.cursor.now.node (info_of i) 0 0)
-    (sym info.is) (λ own. absurd (c.in-None.ensures.told libs info.lib.now (text_in info.lib_symbol_name) info.flags own))
+    (sym info.is) (λ own. absurd (c.in-None.ensures.reported libs info.lib.now (text_in info.lib_symbol_name) info.flags own))

@@ -14,7 +14,7 @@ returns-clause-written c =
     let is = c.end_of-end.ensures.end ∙ ap (λ k. end_number k (length c.write_exports-count.new.names) (length c.write_exports-count.new.name) e) lens.3
     ∙ ap (λ r. end_number rows r (length c.write_exports-count.new.name) e) lens.1 ∙ ap (λ n. end_number rows room n e) lens.0 in (
       wrote.0,
-      walk_written (λ found h. c.begin.ensures.same _ _ _ found h) c.begin.ensures.begun (c.begin.ensures.code ∙ c.requires.ready) wrote.1,
-      goes_along rows room longest c.end_of-end.result.0 e (λ found h. c.begin.ensures.same _ _ _ found h) c.begin.ensures.begun
-          (c.begin.ensures.code ∙ c.requires.ready) wrote.2 refl is c.told-walk.ensures.code (c.told-walk.ensures.good rows room longest),
+      walk_written (λ found h. c.begin.ensures.same _ _ _ found h) c.begin.ensures.started (c.begin.ensures.code ∙ c.requires.ready) wrote.1,
+      goes_along rows room longest c.end_of-end.result.0 e (λ found h. c.begin.ensures.same _ _ _ found h) c.begin.ensures.started
+          (c.begin.ensures.code ∙ c.requires.ready) wrote.2 refl is c.reported-walk.ensures.code (c.reported-walk.ensures.good rows room longest),
     )

@@ -1,6 +1,6 @@
 use Rattle.std.proofs.Common.{◌-◌, ◌<◌, ◌^◌, ◌≡◌, ◌∙◌, ◌++◌, ℕ, Some, length, refl, sym, subst, arith, length-set, length-take}
 use Rattle.mach_dyld.specs.CursorState.{IsFull}
-use Rattle.mach_dyld.specs.Cursors.{HasGivenTo, NextGives, StandsAt}
+use Rattle.mach_dyld.specs.Cursors.{HasGivenTo, NextGives, OccursAt}
 use Rattle.mach_base.specs.Text.{texts}
 use Rattle.mach_dyld.specs.declared.trie.cursor.NextExport.{NextExport}
 use Rattle.goblin_mach_c.specs.ExportWalk.{AreWritten, IsNodeOf, IsNumbered}
@@ -34,7 +34,7 @@ loop-k-preserved c =
     let fits = inv.fits in
     let put = c.put_name-len.ensures in
     let own =
-    subst (λ (x : NextExport). StandsAt c.args.trie.now.bytes (texts c.args.libs.now) c.args.trie.now.from c.next_export.new.cursor.node (Some x))
+    subst (λ (x : NextExport). OccursAt c.args.trie.now.bytes (texts c.args.libs.now) c.args.trie.now.from c.next_export.new.cursor.node (Some x))
     (sym c.in-Ok.ensures) c.next_export.ensures.placed in
     let count = put.count in
     let len = put.len in

@@ -10,4 +10,4 @@ pub returns : goal.returns
 returns c =
     let rows = λ (count : ℕ). drop c.args.first (items_from (λ k. fat_row (arch_at c.args.bytes.now k)) 0 count) in
     subst (λ (l : List gm_fat_entry). Fills l c.args.out.now c.fill.new.out c.fill.result)
-    (c.rows_from-rows.ensures ∙ ap rows c.told_of.ensures) c.fill.ensures.filled
+    (c.rows_from-rows.ensures ∙ ap rows c.reported_of.ensures) c.fill.ensures.filled

@@ -1,6 +1,6 @@
 use Rattle.std.proofs.Common.{◌⊎◌, ℕ, List, inl, inr, refl, subst}
-use Rattle.mach_base.proofs.Faults.{Stands-in}
-use Rattle.mach_base.specs.Answer.{Stands}
+use Rattle.mach_base.proofs.Faults.{ErrorMeets-in}
+use Rattle.mach_base.specs.Answer.{ErrorMeets}
 use Rattle.mach_base.specs.Fault.{Fault, malformed}
 use Rattle.goblin_mach_c.specs.ExportRows.{FindFault, HasNameFault}
 use Rattle.goblin_mach_c.specs.Opened.{FaultIn, lossy_mode}
@@ -10,7 +10,7 @@ use Rattle.goblin_mach_c.proofs.find.gmr_find_export.Goals as goal
 
 pub returns-in_default-clause-refused : goal.returns-in_default-clause-refused
 returns-in_default-clause-refused c = λ _.
-    record { fault = malformed; is_code = c.refuse.ensures.code; stands = inr (inr (refl, c.in_default.ensures.cases.0)) }
+    record { fault = malformed; is_code = c.refuse.ensures.code; occurs = inr (inr (refl, c.in_default.ensures.cases.0)) }
 
 pub returns-in-Err-clause-refused : goal.returns-in-Err-clause-refused
 returns-in-Err-clause-refused c = λ _.
@@ -21,8 +21,8 @@ returns-in-Err-clause-refused c = λ _.
     let there : List ℕ → Fault → Type 0 = λ n f. FaultIn lossy bytes image.offset f ⊎ HasNameFault bytes image.offset n f in
     let found = FindFault lossy bytes image.offset name in
     refusal_of found c.in-Err.why c.refuse-in-Err.result c.refuse-in-Err.ensures.code
-    (Stands-in (there name) found c.in-Err.why (λ f h. inl h)
-    (subst (λ (n : List ℕ). Stands (there n) c.in-Err.why) c.in-Ok.ensures.cases.0 c.in-Err.ensures.refused))
+    (ErrorMeets-in (there name) found c.in-Err.why (λ f h. inl h)
+    (subst (λ (n : List ℕ). ErrorMeets (there n) c.in-Err.why) c.in-Ok.ensures.cases.0 c.in-Err.ensures.refused))
 
 pub returns-in-Err-clause-only : goal.returns-in-Err-clause-only
 returns-in-Err-clause-only c = λ utf8 opens list exports.

@@ -4,7 +4,7 @@ use Rattle.mach_base.specs.Items.{items_from}
 use Rattle.mach_parts.specs.IndirectSymbols.{IndirectTable, indirect_symbol_at}
 use Rattle.goblin_mach.specs.ImageSlots.{indirect_symbols_in, indirect_table_at}
 use Rattle.goblin_mach_c.specs.Fill.{Fills}
-use Rattle.goblin_mach_c.specs.Seen.{ctx_seen}
+use Rattle.goblin_mach_c.specs.CViews.{gm_ctx_view}
 use Rattle.goblin_mach_c.specs.TableRows.{indirect_row}
 use Rattle.goblin_mach_c.proofs.ItemRowsMade.{rows_of_items}
 use Rattle.goblin_mach_c.proofs.indirect.gmr_indirect_symbols.Goals as goal
@@ -12,7 +12,7 @@ use Rattle.goblin_mach_c.proofs.indirect.gmr_indirect_symbols.Goals as goal
 pub returns : goal.returns
 returns c =
     let bytes = c.args.bytes.now in
-    let ctx = ctx_seen c.args.image.now in
+    let ctx = gm_ctx_view c.args.image.now in
     let place = c.in-Some.command.indirectsymoff in
     let many = c.in-Some.command.nindirectsyms in
     let table : IndirectTable = record { bytes = bytes; start = place; count = many; le = ctx.le } in

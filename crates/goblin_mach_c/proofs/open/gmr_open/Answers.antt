@@ -8,4 +8,4 @@ returns-in-Ok-clause-opened c = λ _. opened_of c.args.bytes.now c.args.offset c
 
 pub returns-then-mode-gt-GM_LOSSY-clause-refused : goal.returns-then-mode-gt-GM_LOSSY-clause-refused
 returns-then-mode-gt-GM_LOSSY-clause-refused c = λ _.
-    record { fault = malformed; is_code = c.refuse.ensures.code; stands = inr (inr (c.if-mode-gt-GM_LOSSY.true, refl)) }
+    record { fault = malformed; is_code = c.refuse.ensures.code; occurs = inr (inr (c.if-mode-gt-GM_LOSSY.true, refl)) }

@@ -2,7 +2,7 @@ use Rattle.std.proofs.Common.{◌≡◌, length}
 use Rattle.mach_chained.specs.FixupCursors.{IsOverFixups}
 use Rattle.mach_chained.specs.Fixups.{FixupInput}
 use Rattle.mach_chained.specs.FixupsLeft.{fixups_left}
-use Rattle.goblin_mach_c.specs.RebasesBehind.{rebased_left}
+use Rattle.goblin_mach_c.specs.RebasesAfter.{rebased_left}
 use Rattle.goblin_mach_c.proofs.rebases.next_rebased.Given as goal
 
 abbrev pub invariant-fixups : goal.invariant-fixups

@@ -1,6 +1,6 @@
 use Rattle.std.proofs.Common.{◌∙◌, sym, ap, subst}
 use Rattle.mach_dyld.specs.Cut.{cut_input, cut_range}
-use Rattle.goblin_mach_c.specs.RebasesBehind.{IsOverOpcodes, opcodes_left_by, opcodes_rebased}
+use Rattle.goblin_mach_c.specs.RebasesAfter.{IsOverOpcodes, opcodes_left_by, opcodes_rebased}
 use Rattle.goblin_mach_c.proofs.rebases.opcode_cursor.Goals as goal
 
 pub returns-in-Some : goal.returns-in-Some

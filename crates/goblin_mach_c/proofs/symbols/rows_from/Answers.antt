@@ -1,7 +1,7 @@
 use Rattle.std.proofs.Common.{◌-◌, ◌∙◌, sym, ap}
 use Rattle.mach_base.specs.Items.{items_from}
-use Rattle.goblin_mach_c.specs.SymbolRows.{symbol_row, table_seen}
-use Rattle.goblin_mach_c.proofs.Filled.{items_behind}
+use Rattle.goblin_mach_c.specs.SymbolRows.{symbol_row, gm_table_view}
+use Rattle.goblin_mach_c.proofs.Filled.{items_after}
 use Rattle.goblin_mach_c.proofs.symbols.rows_from.Goals as goal
 
 pub returns : goal.returns
@@ -10,4 +10,4 @@ returns c =
     let image = c.args.image.now in
     ap (λ x. items_from (symbol_row (record { bytes = bytes; start = image.symbols_at; nsyms = image.symbols; strtab = image.names_at; ctx = x }))
     c.args.first (image.symbols - c.args.first))
-    c.ctx_of.ensures ∙ sym (items_behind (symbol_row (table_seen bytes image)) image.symbols c.args.first)
+    c.ctx_of.ensures ∙ sym (items_after (symbol_row (gm_table_view bytes image)) image.symbols c.args.first)

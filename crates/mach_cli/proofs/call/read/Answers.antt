@@ -4,7 +4,7 @@ use Rattle.mach_cli.specs.CallWords.{word_text}
 use Rattle.mach_cli.specs.Calls.{call_view, kind_at, AddsWord, TakesWord}
 use Rattle.mach_cli.specs.declared.call.Kind.{Kind}
 use Rattle.mach_cli.specs.declared.call.Kind.TheVariants as kinds
-use Rattle.mach_cli.proofs.CallsRead.{IsNoCall, kind_of-word, option_open, same_over, asks_none}
+use Rattle.mach_cli.proofs.CallsRead.{IsNoCall, kind_of-word, option_open, same_over, selects_none}
 use Rattle.mach_cli.proofs.CallsRead.{nul_step, option_step, other_made, other_step, plain_step, untaken_all}
 use Rattle.mach_cli.proofs.CallsRead.{valued_made, valued_step, words_more, not_plain}
 use Rattle.mach_cli.proofs.call.read.Goals as goal
@@ -50,7 +50,7 @@ returns-in-Unknown-clause-untaken g c =
     let before = rw (c.in_default.is, words_more ws l.word-index w c.words-test.true c.word-item.is) at l.invariant.0 in
     let kind = kind_of-word l.is_plain c.args.options w c.as_str.result.now c.kind_at.result kinds.Unknown c.as_str.ensures c.kind_at.ensures c.in-Unknown.is in
     let none : IsNoCall kinds.Unknown = cc in
-    λ new all. asks_none c.args.options w (drop (l.word-index + 1) ws) (call_view l.call) l.is_plain kinds.Unknown kind none new (before.0 new all)
+    λ new all. selects_none c.args.options w (drop (l.word-index + 1) ws) (call_view l.call) l.is_plain kinds.Unknown kind none new (before.0 new all)
 
 pub words-preserved : goal.words-preserved
 words-preserved g c =

@@ -1,9 +1,9 @@
 use Rattle.std.proofs.Common.{◌≡◌, true, None, drop}
-use Rattle.mach_cli.specs.Calls.{AsksFor, call_view}
+use Rattle.mach_cli.specs.Calls.{Selects, call_view}
 use Rattle.mach_cli.proofs.CallsRead.{GoesOn, Same}
 use Rattle.mach_cli.proofs.call.read.Given as goal
 
 abbrev pub invariant-words : goal.invariant-words
 invariant-words g l =
-    Same (AsksFor l.options None (call_view l.fn.call) l.words) (GoesOn l.options l.before l.is_plain (call_view l.call) (drop l.word-index l.words))
+    Same (Selects l.options None (call_view l.fn.call) l.words) (GoesOn l.options l.before l.is_plain (call_view l.call) (drop l.word-index l.words))
     × (l.is_plain ≡ true → l.before ≡ None)

@@ -3,7 +3,7 @@ use Rattle.std.proofs.lemmas.Grind.{common_steps}
 use Rattle.std.proofs.lemmas.Str.{IsCharBoundary-start}
 use Rattle.std.proofs.Output.{has_written_append, has_written_of_eq}
 use Rattle.mach_cli.specs.Escapes.{escape_len, escape_of}
-use Rattle.mach_cli.proofs.Written.{escape_behind, escape_here, escape_within, from_on, so_far-end, so_far-escaped, so_far-init, so_far-kept, so_far-passed}
+use Rattle.mach_cli.proofs.Written.{escape_after, escape_here, escape_within, from_on, so_far-end, so_far-escaped, so_far-init, so_far-kept, so_far-passed}
 use Rattle.mach_cli.proofs.escaped.write_escaped.Goals as goal
 use Rattle.mach_cli.proofs.escaped.write_escaped.Goals.{then-start-at+then-len-ne0+in_ok-write_str+in_ok-write_escape, then-start-at+else-len-ne0}
 use Rattle.mach_cli.proofs.escaped.write_escaped.Goals.{else-start-at}
@@ -42,7 +42,7 @@ bytes-preserved g c =
           let some : 0 < escape_len style (drop l.at s) = omega (arith, len) in
           let text = done ++ (take (l.at - l.start) (drop l.start s) ++ escape_of style (drop l.at s)) in
           rw (w.start-is, w.f-is, len) (
-            escape_behind style s l.at within c.utf8.text some,
+            escape_after style s l.at within c.utf8.text some,
             text,
             so_far-escaped style s done l.start l.at low within some so_far,
             λ plain.

@@ -8,12 +8,12 @@ pub returns-then-is_clear : goal.returns-then-is_clear
 returns-then-is_clear g c = record {
   text = [];
   written = Appends-none (g.O.Write.contents c.args.out.now);
-  stands = λ words. word_absent c.args.left.is_first (flag_named c.args.flag.now) words c.args.left.rest (sym c.is_clear.ensures ∙ c.if-is_clear.true);
+  occurs = λ words. word_absent c.args.left.is_first (flag_named c.args.flag.now) words c.args.left.rest (sym c.is_clear.ensures ∙ c.if-is_clear.true);
 }
 
 pub returns : goal.returns
 returns g c = record {
   text = before_text c.args.left.is_first ++ c.args.flag.now.1.now;
   written = Appends-both _ _ _ (before_text c.args.left.is_first) c.args.flag.now.1.now c.in_ok-print_before.ensures c.in_ok-write.ensures.bytes;
-  stands = λ words. word_there c.args.left.is_first (flag_named c.args.flag.now) words c.args.left.rest (sym c.is_clear.ensures ∙ c.if-is_clear.false);
+  occurs = λ words. word_there c.args.left.is_first (flag_named c.args.flag.now) words c.args.left.rest (sym c.is_clear.ensures ∙ c.if-is_clear.false);
 }

@@ -17,7 +17,7 @@ words-preserved g c =
     let one = c.in_ok-left.ensures in (
       before.0 ++ one.text,
       Appends-both _ _ _ before.0 one.text before.1 one.written,
-      words_more _ before.0 one.text _ _ _ _ c.args.words.now c.words.flag-index _ c.words-test.true before.2 one.stands,
+      words_more _ before.0 one.text _ _ _ _ c.args.words.now c.words.flag-index _ c.words-test.true before.2 one.occurs,
     )
 
 pub returns : goal.returns

@@ -10,7 +10,7 @@ returns-in-Some-clause-first c =
     let list = c.args.list.now in
     let end = c.args.end in
     name_on end list c.in-Some.at (subst (IsFirstByte (is_byte end) list) c.in-Some.is c.memchr.ensures)
-    ∙ ap (λ behind. take c.in-Some.at list ∷ listed_names end behind) (sym (take_rest list (c.in-Some.at + 1)))
+    ∙ ap (λ following. take c.in-Some.at list ∷ listed_names end following) (sym (take_rest list (c.in-Some.at + 1)))
 
 pub returns-in-None-clause-last : goal.returns-in-None-clause-last
 returns-in-None-clause-last c =

@@ -1,7 +1,7 @@
 use Rattle.std.proofs.Common.{[], false, sym, subst}
 use Rattle.std.proofs.lemmas.Result.{IfOk-weaker}
 use Rattle.mach_base.proofs.Written.{Appends-none}
-use Rattle.goblin_mach.specs.FatFile.{file_held}
+use Rattle.goblin_mach.specs.FatFile.{file_view}
 use Rattle.mach_cli.specs.Foreigners.{refused_words}
 use Rattle.mach_cli.specs.Shown.{IsFatTable, complaint, fat_file, refused_file}
 use Rattle.mach_cli.proofs.show.show.Goals as goal
@@ -13,19 +13,19 @@ pub returns-in-Ok-Fat : goal.returns-in-Ok-Fat
 returns-in-Ok-Fat g c =
     let arm = c.in-Ok-Fat in
     let table = rw (arm.is, arm.field-0-is) at c.open.ensures.held in
-    let held = subst (IsFatTable c.args.bytes.now (file_held arm.container)) (sym c.as_slice.ensures.value) table in
+    let held = subst (IsFatTable c.args.bytes.now (file_view arm.container)) (sym c.as_slice.ensures.value) table in
     IfOk-weaker c.show_fat.result _ _
-    (λ whole shown. (shown.0, fat_file (file_held arm.container) c.as_slice.result.now shown.0 held shown.1, shown.2, shown.3))
+    (λ whole shown. (shown.0, fat_file (file_view arm.container) c.as_slice.result.now shown.0 held shown.1, shown.2, shown.3))
     c.show_fat.ensures
 
 pub returns-in-Err : goal.returns-in-Err
 returns-in-Err g c =
     let e = c.in-Err.error in
     IfOk-weaker c.refuse_file.result _ _
-    (λ whole told. (
-      record { text = []; said = complaint (g.S.Shows.names c.args.shows.now) (refused_words c.args.bytes.now e); whole = false; left = c.args.limit },
+    (λ whole reported. (
+      record { text = []; message = complaint (g.S.ImageView.names c.args.shows.now) (refused_words c.args.bytes.now e); whole = false; left = c.args.limit },
       refused_file e c.in-Err.ensures.refused,
-      sym told.0,
-      record { text = Appends-none _; said = told.1 },
+      sym reported.0,
+      record { text = Appends-none _; message = reported.1 },
     ))
     c.refuse_file.ensures

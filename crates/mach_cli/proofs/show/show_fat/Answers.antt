@@ -8,10 +8,10 @@ use Rattle.mach_cli.proofs.show.show_fat.Goals as goal
 pub returns-then-misses : goal.returns-then-misses
 returns-then-misses g c =
     IfOk-weaker c.refuse_all.result _ _
-    (λ whole told. (
-      record { text = []; said = complaint (g.S.Shows.names c.args.shows.now) (no_entry_words c.args.cpu); whole = false; left = c.args.limit },
+    (λ whole reported. (
+      record { text = []; message = complaint (g.S.ImageView.names c.args.shows.now) (no_entry_words c.args.cpu); whole = false; left = c.args.limit },
       no_entry (sym c.misses.ensures ∙ c.if-misses.true),
-      sym told.0,
-      record { text = Appends-none _; said = told.1 },
+      sym reported.0,
+      record { text = Appends-none _; message = reported.1 },
     ))
     c.refuse_all.ensures

@@ -11,32 +11,32 @@ use Rattle.mach_cli.proofs.show.show_image.Goals as goal
 pub returns-then-not-takes : goal.returns-then-not-takes
 returns-then-not-takes g c = λ bytes opened.
     IfOk-weaker c.refuse_other.result _ _
-    (λ whole told. (
-      record { text = []; said = complaint (g.S.Shows.names c.args.shows.now) (other_words c.args.cpu); whole = false; left = c.args.limit },
+    (λ whole reported. (
+      record { text = []; message = complaint (g.S.ImageView.names c.args.shows.now) (other_words c.args.cpu); whole = false; left = c.args.limit },
       other_image (taken_of c.args.cpu bytes _ false opened (sym c.takes.ensures ∙ c.if-not-takes.true)),
-      sym told.0,
-      record { text = Appends-none _; said = told.1 },
+      sym reported.0,
+      record { text = Appends-none _; message = reported.1 },
     ))
     c.refuse_other.ensures
 
 pub returns-in-Ok : goal.returns-in-Ok
 returns-in-Ok g c = λ bytes opened.
-    let told = c.in-Ok.ensures.shown bytes opened in (
-      record { text = told.0; said = []; whole = c.in-Ok.outcome.whole; left = c.in-Ok.outcome.left },
-      one_image told.0 c.in-Ok.outcome.whole c.in-Ok.outcome.left
-          (taken_of c.args.cpu bytes _ true opened (sym c.takes.ensures ∙ c.if-not-takes.false)) told.1,
+    let reported = c.in-Ok.ensures.shown bytes opened in (
+      record { text = reported.0; message = []; whole = c.in-Ok.outcome.whole; left = c.in-Ok.outcome.left },
+      one_image reported.0 c.in-Ok.outcome.whole c.in-Ok.outcome.left
+          (taken_of c.args.cpu bytes _ true opened (sym c.takes.ensures ∙ c.if-not-takes.false)) reported.1,
       refl,
-      record { text = told.2; said = Appends-none _ },
+      record { text = reported.2; message = Appends-none _ },
     )
 
 pub returns-in-Err-Memory : goal.returns-in-Err-Memory
 returns-in-Err-Memory g c = λ bytes opened.
     let kept = rw (c.in-Err-Memory.is, c.in-Err-Memory.field-0-is) at c.show.ensures.memory in
     IfOk-weaker c.refuse.result _ _
-    (λ whole told. (
-      record { text = []; said = complaint (g.S.Shows.names c.args.shows.now) (codes "out of memory"); whole = false; left = c.args.limit },
+    (λ whole reported. (
+      record { text = []; message = complaint (g.S.ImageView.names c.args.shows.now) (codes "out of memory"); whole = false; left = c.args.limit },
       refused_file (errors.Memory alloc_error) tt,
-      sym told.0,
-      record { text = kept; said = told.1 },
+      sym reported.0,
+      record { text = kept; message = reported.1 },
     ))
     c.refuse.ensures

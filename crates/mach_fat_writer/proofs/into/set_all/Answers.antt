@@ -2,20 +2,20 @@ use Rattle.std.proofs.Common.{sym, ap, ◌∙◌, arith}
 use Rattle.mach_fat_writer.specs.Entries.{entry_views, fat_entry_view}
 use Rattle.mach_fat_writer.specs.FatForms.{fat_front}
 use Rattle.std.proofs.lemmas.List.{length-map}
-use Rattle.mach_fat_writer.proofs.Places.{ends_behind}
+use Rattle.mach_fat_writer.proofs.Places.{ends_following}
 use Rattle.mach_fat_writer.proofs.Set.{all_set, table_is}
 use Rattle.mach_fat_writer.proofs.into.set_all.Goals as goal
 
 pub set_front-table-requires-clause-room : goal.set_front-table-requires-clause-room
 set_front-table-requires-clause-room g c =
-    let later = ends_behind c.args.from (entry_views c.args.entries.now) in
+    let later = ends_following c.args.from (entry_views c.args.entries.now) in
     let table = c.requires.table in
     let room = c.requires.room in
     omega (arith, later, table, room)
 
 pub set_records-requires-clause-room : goal.set_records-requires-clause-room
 set_records-requires-clause-room g c =
-    let later = ends_behind c.args.from (entry_views c.args.entries.now) in
+    let later = ends_following c.args.from (entry_views c.args.entries.now) in
     let table = table_is g.R.FatRecord.form g.R.Record.SIZE g.R.Record.fields c.args.entries.now c.args.from
     g.met.R.Record.lawful.sized g.met.R.FatRecord.has_form.0 c.requires.table in
     let room = c.requires.room in

@@ -11,6 +11,6 @@ abbrev pub invariant-loop-command : goal.invariant-loop-command
 invariant-loop-command g l =
     record {
       met : (q : List ℕ) → place_met l.met q ≡ place_of (named_among q (before l.commands l.command-index));
-      told : l.initial.faults.items ++ names_again [] (filter_map placed_segment_of (map command_of l.commands))
+      reported : l.initial.faults.items ++ names_again [] (filter_map placed_segment_of (map command_of l.commands))
           ≡ l.faults.items ++ names_again (before l.commands l.command-index) (from_on l.commands l.command-index);
     }

@@ -1,38 +1,38 @@
 use Rattle.goblin_mach.specs.FatEntry.{entry_at}
-use Rattle.goblin_mach.specs.FatFile.{file_held}
+use Rattle.goblin_mach.specs.FatFile.{file_view}
 use Rattle.goblin_mach.proofs.ImageFacts.{strict-lossy}
 use Rattle.machaudit.proofs.Entries.{entry_judged, no_entry_judged}
-use Rattle.machaudit.proofs.Reports.{archive_told, entry_told, entry_refused, refused_faulty}
+use Rattle.machaudit.proofs.Reports.{archive_reported, entry_reported, entry_refused, refused_faulty}
 use Rattle.machaudit.specs.Verdicts.{verdict_of_parts}
 use Rattle.machaudit.proofs.audit.audit_entry.Goals as goal
 
-pub returns-in-Ok-Archive-clause-told : goal.returns-in-Ok-Archive-clause-told
-returns-in-Ok-Archive-clause-told g c = λ here.
+pub returns-in-Ok-Archive-clause-reported : goal.returns-in-Ok-Archive-clause-reported
+returns-in-Ok-Archive-clause-reported g c = λ here.
     let opened = rw c.in-Ok-Archive.field-0-is at c.in-Ok-Archive.ensures.opened in
-    archive_told _ _ c.args.limit (entry_at (file_held c.args.container.now) c.args.index) opened.0 _ opened.1 opened.2
+    archive_reported _ _ c.args.limit (entry_at (file_view c.args.container.now) c.args.index) opened.0 _ opened.1 opened.2
 
-pub returns-in_ok-parts-in-Ok-MachO-clause-told : goal.returns-in_ok-parts-in-Ok-MachO-clause-told
-returns-in_ok-parts-in-Ok-MachO-clause-told g c = λ here.
+pub returns-in_ok-parts-in-Ok-MachO-clause-reported : goal.returns-in_ok-parts-in-Ok-MachO-clause-reported
+returns-in_ok-parts-in-Ok-MachO-clause-reported g c = λ here.
     let m = c.in-Ok-MachO.image in
     let opened = rw c.in-Ok-MachO.field-0-is at c.in-Ok-MachO.ensures.opened in
-    entry_told c.args.limit (entry_at (file_held c.args.container.now) c.args.index) opened.0 m c.in_ok-parts-in-Ok-MachO.parts opened.1 opened.2
-    (λ bytes image. rw c.in_ok-parts-in-Ok-MachO.was at (c.audit_parts.ensures.told bytes (strict-lossy bytes 0 m image)))
+    entry_reported c.args.limit (entry_at (file_view c.args.container.now) c.args.index) opened.0 m c.in_ok-parts-in-Ok-MachO.parts opened.1 opened.2
+    (λ bytes image. rw c.in_ok-parts-in-Ok-MachO.was at (c.audit_parts.ensures.reported bytes (strict-lossy bytes 0 m image)))
 
 pub returns-in_ok-parts-in-Ok-MachO-clause-judged : goal.returns-in_ok-parts-in-Ok-MachO-clause-judged
 returns-in_ok-parts-in-Ok-MachO-clause-judged g c =
     let m = c.in-Ok-MachO.image in
     let opened = rw c.in-Ok-MachO.field-0-is at c.in-Ok-MachO.ensures.opened in
-    entry_judged c.args.limit (entry_at (file_held c.args.container.now) c.args.index) opened.0 m (verdict_of_parts c.in_ok-parts-in-Ok-MachO.parts)
+    entry_judged c.args.limit (entry_at (file_view c.args.container.now) c.args.index) opened.0 m (verdict_of_parts c.in_ok-parts-in-Ok-MachO.parts)
     opened.1 opened.2 (λ slice image. rw c.in_ok-parts-in-Ok-MachO.was at (c.audit_parts.ensures.judged slice image))
 
-pub returns-in_ok-image-in-Err-clause-told : goal.returns-in_ok-image-in-Err-clause-told
-returns-in_ok-image-in-Err-clause-told g c = λ here.
+pub returns-in_ok-image-in-Err-clause-reported : goal.returns-in_ok-image-in-Err-clause-reported
+returns-in_ok-image-in-Err-clause-reported g c = λ here.
     let reason = c.in_ok-image-in-Err.ensures.reason in
-    entry_refused c.args.limit c.args.bytes.now (entry_at (file_held c.args.container.now) c.args.index) c.in-Err.error c.in_ok-image-in-Err.image
-    here reason.0 reason.1 c.in-Err.ensures.refused c.in_ok-image-in-Err.ensures.told
+    entry_refused c.args.limit c.args.bytes.now (entry_at (file_view c.args.container.now) c.args.index) c.in-Err.error c.in_ok-image-in-Err.image
+    here reason.0 reason.1 c.in-Err.ensures.refused c.in_ok-image-in-Err.ensures.reported
 
 pub returns-in_ok-image-in-Err-clause-judged : goal.returns-in_ok-image-in-Err-clause-judged
 returns-in_ok-image-in-Err-clause-judged g c =
     let reason = c.in_ok-image-in-Err.ensures.reason in
     rw (refused_faulty c.in-Err.error c.in_ok-image-in-Err.image reason.0)
-    (no_entry_judged (entry_at (file_held c.args.container.now) c.args.index) c.in-Err.error (λ opens. rw c.in-Err.is at (c.get.ensures.only opens)) reason.1)
+    (no_entry_judged (entry_at (file_view c.args.container.now) c.args.index) c.in-Err.error (λ opens. rw c.in-Err.is at (c.get.ensures.only opens)) reason.1)

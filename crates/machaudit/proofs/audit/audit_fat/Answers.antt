@@ -2,7 +2,7 @@ use Rattle.std.proofs.Common.{◌≡◌, ◌<◌, ◌∙◌, ◌∷◌, [], ℕ,
 use Rattle.std.proofs.lemmas.List.{length-append}
 use Rattle.mach_parts.specs.declared.fat.FatArch.{FatArch}
 use Rattle.goblin_mach.specs.FatEntry.{entry_at, fat_entry_of}
-use Rattle.goblin_mach.specs.FatFile.{FatFile, file_held}
+use Rattle.goblin_mach.specs.FatFile.{FatFile, file_view}
 use Rattle.mach_parts.specs.ArchForms.{arch_form_32}
 use Rattle.mach_layout.specs.Containers.{AreContainerFaults}
 use Rattle.mach_layout.proofs.OneListOfSlices.{one_table}
@@ -19,11 +19,11 @@ use Rattle.machaudit.proofs.audit.audit_fat.Goals as goal
 
 pub returns-in-Err-clause-judged : goal.returns-in-Err-clause-judged
 returns-in-Err-clause-judged g c =
-    let told = c.in_ok-no_memory-in-Err.ensures.told in
-    refused_table_judged _ (file_held c.args.container.now) c.in-Err.error c.in-Err.ensures (rw told.0 at told.1)
+    let reported = c.in_ok-no_memory-in-Err.ensures.reported in
+    refused_table_judged _ (file_view c.args.container.now) c.in-Err.error c.in-Err.ensures (rw reported.0 at reported.1)
 
 pub loop-index-init : goal.loop-index-init
-loop-index-init g c = rw c.new-entries.ensures.items ((λ _. tt), no_entries_judged c.args.limit (file_held c.args.container.now), refl)
+loop-index-init g c = rw c.new-entries.ensures.items ((λ _. tt), no_entries_judged c.args.limit (file_view c.args.container.now), refl)
 
 -- the entries that are audited, by the file's own bytes and records
 gone_over : (file : FatFile) (limit most : ℕ) (bytes : List ℕ) (archs xs : List FatArch) → bytes ≡ file.bytes → archs ≡ xs
@@ -33,7 +33,7 @@ gone_over file limit most bytes archs xs same_bytes same gone =
 
 pub loop-index-preserved : goal.loop-index-preserved
 loop-index-preserved g c =
-    let file = file_held c.args.container.now in
+    let file = file_view c.args.container.now in
     let k = c.loop-index.index in
     let xs = c.in-Ok.arches.items in
     let gone = gone_over file c.args.limit c.entries_within-most.result _ _ xs c.bytes.ensures c.as_slice.ensures.value c.entries_within-most.ensures in
@@ -45,7 +45,7 @@ loop-index-preserved g c =
     ∙ named_entry file k xs inside c.in-Ok.ensures in
     rw c.in_ok-push.ensures.items (
       (λ same. one_entry_more (IsEntryReport c.args.limit) (entry_at file) c.loop-index.index c.loop-index.entries.items c.in_ok-audit_entry.field-0
-          (c.loop-index.invariant.0 same) (rw c.in_ok-audit_entry.was at (c.audit_entry.ensures.told (here same)))),
+          (c.loop-index.invariant.0 same) (rw c.in_ok-audit_entry.was at (c.audit_entry.ensures.reported (here same)))),
       entries_more c.args.limit file c.loop-index.index c.loop-index.entries.items c.in_ok-audit_entry.field-0 c.loop-index.invariant.1
           c.in_ok-audit_entry.ensures.judged,
       omega (arith, c.loop-index.invariant.2, length-append c.loop-index.entries.items (c.in_ok-audit_entry.field-0 ∷ [])),
@@ -53,7 +53,7 @@ loop-index-preserved g c =
 
 pub returns-clause-judged : goal.returns-clause-judged
 returns-clause-judged g c =
-    let file = file_held c.args.container.now in
+    let file = file_view c.args.container.now in
     let limit = c.args.limit in
     let xs = c.in-Ok.arches.items in
     let most = c.entries_within-most.result in
@@ -63,12 +63,13 @@ returns-clause-judged g c =
     refl (rw all at c.loop-index.invariant.1) in
     let bytes = c.args.bytes.now in
     let faults = c.in_ok-container_faults.container_faults in
-    let layout = layout_judged (AreContainerFaults arch_form_32 bytes) faults.items c.in_ok-container_faults.ensures.told (one_table _ arch_form_32 bytes) in
+    let layout = layout_judged (AreContainerFaults arch_form_32 bytes) faults.items c.in_ok-container_faults.ensures.reported
+    (one_table _ arch_form_32 bytes) in
     beside (both_judged _ _ layout judged)
 
-pub returns-clause-told : goal.returns-clause-told
-returns-clause-told g c =
-    let file = file_held c.args.container.now in
+pub returns-clause-reported : goal.returns-clause-reported
+returns-clause-reported g c =
+    let file = file_view c.args.container.now in
     let limit = c.args.limit in
     let xs = c.in-Ok.arches.items in
     let most = c.entries_within-most.result in
@@ -79,17 +80,24 @@ returns-clause-told g c =
       count = refl;
       table = record {
         readable = rw c.in-Ok.ensures refl;
-        container = c.in_ok-container_faults.ensures.told;
+        container = c.in_ok-container_faults.ensures.reported;
         gone_over = (xs, c.in-Ok.ensures, rw all (subst (λ (x : List ℕ). AreGoneOver Any limit x xs most) same gone));
         entries = rw c.loop-index.invariant.2 (c.loop-index.invariant.0 same);
         cut = rw all refl;
       };
     }
 
-pub returns-in-Err-clause-told : goal.returns-in-Err-clause-told
-returns-in-Err-clause-told g c =
-    let told = c.in_ok-no_memory-in-Err.ensures.told in
+pub returns-in-Err-clause-reported : goal.returns-in-Err-clause-reported
+returns-in-Err-clause-reported g c =
+    let reported = c.in_ok-no_memory-in-Err.ensures.reported in
     λ same. record {
       count = refl;
-      table = rw told.0 (record { told = rw told.0 at told.1; fails = c.in-Err.ensures; container = search rules; entries = search rules; cut = refl });
+      table = rw reported.0 (record {
+        reported = rw reported.0 at reported.1;
+        fails = c.in-Err.ensures;
+        container = search rules;
+        entries = search
+            rules;
+        cut = refl;
+      });
     }

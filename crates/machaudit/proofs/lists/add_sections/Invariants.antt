@@ -1,7 +1,7 @@
 use Rattle.std.proofs.Common.{ℕ, List, Option}
 use Rattle.mach_parts.specs.SectionItems.{sections_left}
-use Rattle.machaudit.specs.Told.{FaultAt, HasMet}
-use Rattle.machaudit.specs.declared.report.Place.TheVariants as places
+use Rattle.machaudit.specs.Reported.{FaultAt, HasMet}
+use Rattle.machaudit.specs.declared.report.FaultPlace.TheVariants as places
 use Rattle.machaudit.proofs.Goes.{Goes}
 use Rattle.machaudit.proofs.lists.add_sections.Given as goal
 

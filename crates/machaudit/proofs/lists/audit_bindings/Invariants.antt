@@ -1,7 +1,7 @@
 use Rattle.std.proofs.Common.{[]}
 use Rattle.goblin_mach.specs.BindingsLeft.{bindings_left}
 use Rattle.machaudit.proofs.Goes.{Goes}
-use Rattle.machaudit.specs.declared.report.Place.TheVariants as places
+use Rattle.machaudit.specs.declared.report.FaultPlace.TheVariants as places
 use Rattle.machaudit.proofs.lists.audit_bindings.Given as goal
 
 abbrev pub invariant-bindings : goal.invariant-bindings

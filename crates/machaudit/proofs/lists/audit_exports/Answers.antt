@@ -5,41 +5,41 @@ use Rattle.mach_base.specs.Text.{texts}
 use Rattle.mach_dyld.specs.Exports.{info_of}
 use Rattle.mach_dyld.specs.Trie.{Entry, entry}
 use Rattle.mach_dyld.specs.TrieRange.{ExportsFault, ExportsEnd}
-use Rattle.goblin_mach.specs.OpenImage.{trie_held}
+use Rattle.goblin_mach.specs.OpenImage.{trie_view}
 use Rattle.goblin_mach.specs.Subjects.{trie_or_empty}
-use Rattle.machaudit.proofs.Goes.{entries_ok, ok_more, export_more, export_small, export_long, given_more, next_number, stands_of}
+use Rattle.machaudit.proofs.Goes.{entries_ok, ok_more, export_more, export_small, export_long, given_more, next_number, error_meets}
 use Rattle.machaudit.specs.Sound.{all_exports, up_to_fault}
-use Rattle.machaudit.specs.Told.{HasMet, faults_from}
-use Rattle.machaudit.specs.declared.report.Place.TheVariants as places
+use Rattle.machaudit.specs.Reported.{HasMet, faults_from}
+use Rattle.machaudit.specs.declared.report.FaultPlace.TheVariants as places
 use Rattle.machaudit.proofs.lists.audit_exports.Goals as goal
 
 pub exports-init : goal.exports-init
 exports-init g c = ([], c.in-Ok.ensures.given, c.new-tally.ensures, refl)
 
-pub returns-in-Err-clause-told : goal.returns-in-Err-clause-told
-returns-in-Err-clause-told g c =
+pub returns-in-Err-clause-reported : goal.returns-in-Err-clause-reported
+returns-in-Err-clause-reported g c =
     let image = c.args.image.now in
-    let t = trie_or_empty (trie_held image) in
+    let t = trie_or_empty (trie_view image) in
     let libs = texts image.libs.items in
     let found = c.exports.invariant in
-    let told = c.in_ok-no_memory-in-Err.ensures.told in
+    let reported = c.in_ok-no_memory-in-Err.ensures.reported in
     let f = fault_of c.in-Err.error in
     let says = rw (c.in-Some.is ∙ ap Some c.in-Err.is) at (c.next.ensures.says t libs found.0 found.1) in
-    let stands = stands_of (ExportsFault t libs) c.in-Err.error (rw told.0 at told.1) says in
+    let occurs = error_meets (ExportsFault t libs) c.in-Err.error (rw reported.0 at reported.1) says in
     let cut = rw (c.in-Some.is ∙ ap Some c.in-Err.is) at (c.next.ensures.cut t libs found.0 found.1) in
-    let ends = stands_of (ExportsEnd t libs found.0) c.in-Err.error (rw told.0 at told.1) cut in
+    let ends = error_meets (ExportsEnd t libs found.0) c.in-Err.error (rw reported.0 at reported.1) cut in
     let met = export_more c.args.limit c.exports.index found.0 (Err f) (Some (places.Export c.exports.index, f)) c.exports.tally c.take.new.self
-    found.2 found.3 refl (rw told.0 at c.in_ok-take-in-Err.ensures.met) in
+    found.2 found.3 refl (rw reported.0 at c.in_ok-take-in-Err.ensures.met) in
     rw c.part.ensures (record {
       items = entries_ok found.0 ++ Err f ∷ [];
-      met = up_to_fault found.0 f ends stands;
-      tells = met.tells;
+      met = up_to_fault found.0 f ends occurs;
+      reports = met.reports;
     })
 
-pub returns-then-not-branch-clause-told : goal.returns-then-not-branch-clause-told
-returns-then-not-branch-clause-told g c =
+pub returns-then-not-branch-clause-reported : goal.returns-then-not-branch-clause-reported
+returns-then-not-branch-clause-reported g c =
     let image = c.args.image.now in
-    let t = trie_or_empty (trie_held image) in
+    let t = trie_or_empty (trie_view image) in
     let libs = texts image.libs.items in
     let found = c.exports.invariant in
     let export = c.in-Ok-export.field-0 in
@@ -55,7 +55,7 @@ returns-then-not-branch-clause-told g c =
       items = entries_ok all;
       met = given_more c.args.limit t libs all c.next.follows.lender-at-none (goes.1 t libs found.0 found.1)
           (export_long c.args.limit all tally met (c.in_ok-take-in-Ok-export.ensures.over c.if-not-branch.true));
-      tells = met.tells;
+      reports = met.reports;
     })
 
 pub exports-preserved : goal.exports-preserved
@@ -71,17 +71,17 @@ exports-preserved g c =
     let small = export_small c.args.limit n found.0 c.exports.tally found.2 found.3 (c.in_ok-take-in-Ok-export.ensures.on c.if-not-branch.false) in
     let next = next_number n c.saturating_add-index.result small c.saturating_add-index.ensures in (
       found.0 ++ one ∷ [],
-      goes.1 (trie_or_empty (trie_held image)) (texts image.libs.items) found.0 found.1,
+      goes.1 (trie_or_empty (trie_view image)) (texts image.libs.items) found.0 found.1,
       subst (λ (items : List (Result Entry Fault)). HasMet c.args.limit (faults_from places.Export 0 items) tally) (sym (ok_more found.0 one)) met,
       omega (arith, next, found.3, length-append found.0 (one ∷ [])),
     )
 
-pub returns-clause-told : goal.returns-clause-told
-returns-clause-told g c =
+pub returns-clause-reported : goal.returns-clause-reported
+returns-clause-reported g c =
     let image = c.args.image.now in
     let found = c.exports.invariant in
     rw c.part-2.ensures (record {
       items = entries_ok found.0;
-      met = all_exports found.0 (c.in_default-next.ensures.says (trie_or_empty (trie_held image)) (texts image.libs.items) found.0 found.1);
-      tells = found.2.tells;
+      met = all_exports found.0 (c.in_default-next.ensures.says (trie_or_empty (trie_view image)) (texts image.libs.items) found.0 found.1);
+      reports = found.2.reports;
     })

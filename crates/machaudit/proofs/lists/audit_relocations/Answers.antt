@@ -4,7 +4,7 @@ use Rattle.std.specs.List.{sum_by}
 use Rattle.mach_parts.specs.SectionItems.{sections_left}
 use Rattle.mach_parts.specs.Segment.{SegmentView, segment_view, sections_of}
 use Rattle.machaudit.proofs.Goes.{one_part_more, next_number, one_past_more, past_over}
-use Rattle.machaudit.specs.Told.{FaultAt, HasMet, begun_relocations, relocation_faults, relocation_faults_by, relocations_past, relocations_past_of}
+use Rattle.machaudit.specs.Reported.{FaultAt, HasMet, relocations_in_bounds, relocation_faults, relocation_faults_by, relocations_past, relocations_past_of}
 use Rattle.machaudit.proofs.lists.audit_relocations.Goals as goal
 
 pub loop-segment-preserved : goal.loop-segment-preserved
@@ -14,10 +14,10 @@ loop-segment-preserved g c =
     let before = c.loop-segment.invariant in
     let ctx = c.args.ctx in
     let bytes = c.args.bytes.now in
-    let part : ℕ → SegmentView → List (Option FaultAt) = λ n s. relocation_faults_by (begun_relocations ctx bytes) n (sections_of s) in
+    let part : ℕ → SegmentView → List (Option FaultAt) = λ n s. relocation_faults_by (relocations_in_bounds ctx bytes) n (sections_of s) in
     let past : SegmentView → ℕ = λ s. sum_by (relocations_past_of ctx bytes) (sections_of s) in
     let met = relocation_faults ctx bytes (map segment_view (take i segments)) in
-    let added = c.in_ok-add_relocations.ensures.told c.args.limit met before.0 in
+    let added = c.in_ok-add_relocations.ensures.reported c.args.limit met before.0 in
     let here = rw (c.into_iter-in-loop-segment.ensures.into_iter_gives, before.1) at added in
     let counted : c.saturating_add-past.result
     ≡ min (c.loop-segment.past + sum_by (relocations_past_of ctx bytes) (sections_left c.into_iter.result)) (2 ^ 64 - 1) =
@@ -31,14 +31,14 @@ loop-segment-preserved g c =
       omega (arith, c.saturating_add-past.type_inv),
     )
 
-pub returns-clause-told : goal.returns-clause-told
-returns-clause-told g c =
+pub returns-clause-reported : goal.returns-clause-reported
+returns-clause-reported g c =
     let segments = c.args.segments.now in
     let i = c.loop-segment.segment-index in
     let before = c.loop-segment.invariant in
     let past : SegmentView → ℕ = λ s. sum_by (relocations_past_of c.args.ctx c.args.bytes.now) (sections_of s) in
     let all = relocations_past c.args.ctx c.args.bytes.now (map segment_view segments) in
     let none = at_drop_all (map segment_view) segments i (omega (arith, c.loop-segment-test.false)) in record {
-      begun = rw c.part-begun.ensures (rw (take_all i segments (omega (arith, c.loop-segment-test.false))) at before.0.tells);
+      in_bounds = rw c.part-in_bounds.ensures (rw (take_all i segments (omega (arith, c.loop-segment-test.false))) at before.0.reports);
       past = past_over past (map segment_view (drop i segments)) c.loop-segment.past all none before.3 before.2;
     }

@@ -1,6 +1,6 @@
 use Rattle.std.proofs.Common.{◌≡◌, ◌<◌, ◌+◌, ◌-◌, ◌^◌, drop, map, min, take}
 use Rattle.mach_parts.specs.Segment.{segment_view}
-use Rattle.machaudit.specs.Told.{HasMet, relocation_faults, relocations_past}
+use Rattle.machaudit.specs.Reported.{HasMet, relocation_faults, relocations_past}
 use Rattle.machaudit.proofs.lists.audit_relocations.Given as goal
 
 abbrev pub invariant-loop-segment : goal.invariant-loop-segment

@@ -2,7 +2,7 @@ use Rattle.std.proofs.Common.{ap, arith}
 use Rattle.std.specs.List.{sum_by}
 use Rattle.mach_parts.specs.SectionItems.{sections_left, section_read}
 use Rattle.machaudit.proofs.Goes.{past_more, past_over}
-use Rattle.machaudit.specs.Told.{relocations_past_of}
+use Rattle.machaudit.specs.Reported.{relocations_past_of}
 use Rattle.machaudit.proofs.lists.relocations_past.Goals as goal
 
 pub sections-init : goal.sections-init

@@ -1,7 +1,7 @@
 use Rattle.std.proofs.Common.{◌≡◌, ◌<◌, ◌+◌, ◌-◌, ◌^◌, min}
 use Rattle.std.specs.List.{sum_by}
 use Rattle.mach_parts.specs.SectionItems.{sections_left}
-use Rattle.machaudit.specs.Told.{relocations_past_of}
+use Rattle.machaudit.specs.Reported.{relocations_past_of}
 use Rattle.machaudit.proofs.lists.relocations_past.Given as goal
 
 abbrev pub invariant-sections : goal.invariant-sections

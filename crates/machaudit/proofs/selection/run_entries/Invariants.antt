@@ -1,4 +1,4 @@
-use Rattle.machaudit.proofs.AskedEntries.{GoesOver}
+use Rattle.machaudit.proofs.SelectedEntries.{GoesOver}
 use Rattle.machaudit.proofs.selection.run_entries.Given as goal
 
 abbrev pub invariant-archs : goal.invariant-archs

@@ -2,46 +2,46 @@ use Rattle.std.proofs.Common.{◌≡◌, ◌∙◌, ◌⊎◌, List, true, false
 use Rattle.std.proofs.lemmas.Result.{IfOk-weaker}
 use Rattle.mach_parts.specs.declared.fat.FatArch.{FatArch}
 use Rattle.mach_cli.specs.Cpus.{misses}
-use Rattle.machaudit.specs.Asked.{EntriesFail, EntriesSound, sound_file, sound_entries, failing_file, failing_entry, overlaid_entries, no_entry, other_image}
+use Rattle.machaudit.specs.Selected.{EntriesFail, EntriesSound, sound_file, sound_entries, failing_file, failing_entry, overlaid_entries, no_entry, other_image}
 use Rattle.machaudit.specs.Overlaid.{AreOverlaid}
 use Rattle.machaudit.proofs.selection.run_for.Goals as goal
 
 pub returns-in-Whole-clause-sound : goal.returns-in-Whole-clause-sound
 returns-in-Whole-clause-sound g c =
-    let asks = rw c.in-Whole.is at c.in_ok-asked_of.ensures in
-    IfOk-weaker c.run.result _ _ (λ status told zero. sound_file asks (told zero)) c.run.ensures.sound
+    let selects = rw c.in-Whole.is at c.in_ok-selected_of.ensures in
+    IfOk-weaker c.run.result _ _ (λ status reported zero. sound_file selects (reported zero)) c.run.ensures.sound
 
 pub returns-in-Whole-clause-faulty : goal.returns-in-Whole-clause-faulty
 returns-in-Whole-clause-faulty g c =
-    let asks = rw c.in-Whole.is at c.in_ok-asked_of.ensures in
-    IfOk-weaker c.run.result _ _ (λ status told one. inl (failing_file asks (told one))) c.run.ensures.faulty
+    let selects = rw c.in-Whole.is at c.in_ok-selected_of.ensures in
+    IfOk-weaker c.run.result _ _ (λ status reported one. inl (failing_file selects (reported one))) c.run.ensures.faulty
 
 pub returns-in-Other-clause-faulty : goal.returns-in-Other-clause-faulty
-returns-in-Other-clause-faulty g c = λ one. inr (other_image (rw c.in-Other.is at c.in_ok-asked_of.ensures))
+returns-in-Other-clause-faulty g c = λ one. inr (other_image (rw c.in-Other.is at c.in_ok-selected_of.ensures))
 
 pub returns-then-misses-clause-faulty : goal.returns-then-misses-clause-faulty
 returns-then-misses-clause-faulty g c = λ one.
-    let has = rw c.in-Entries.is at c.in_ok-asked_of.ensures in
+    let has = rw c.in-Entries.is at c.in_ok-selected_of.ensures in
     inr (no_entry has.0 c.in-Entries.archs.items has.1
     (subst (λ (archs : List FatArch). misses c.args.cpu archs ≡ true) c.deref.ensures.value (sym c.misses.ensures ∙ c.if-misses.true)))
 
 pub returns-else-misses-clause-sound : goal.returns-else-misses-clause-sound
 returns-else-misses-clause-sound g c =
-    let has = rw c.in-Entries.is at c.in_ok-asked_of.ensures in
+    let has = rw c.in-Entries.is at c.in_ok-selected_of.ensures in
     let some = subst (λ (archs : List FatArch). misses c.args.cpu archs ≡ false) c.deref.ensures.value (sym c.misses.ensures ∙ c.if-misses.false) in
     IfOk-weaker c.run_within.result _ _
-    (λ status told zero. sound_entries has.0 c.in-Entries.archs.items has.1 some
-    (subst (EntriesSound c.args.cpu c.args.bytes.now) c.deref-in-Entries.ensures.value (told zero)))
+    (λ status reported zero. sound_entries has.0 c.in-Entries.archs.items has.1 some
+    (subst (EntriesSound c.args.cpu c.args.bytes.now) c.deref-in-Entries.ensures.value (reported zero)))
     c.run_within.ensures.sound
 
 pub returns-else-misses-clause-faulty : goal.returns-else-misses-clause-faulty
 returns-else-misses-clause-faulty g c =
-    let has = rw c.in-Entries.is at c.in_ok-asked_of.ensures in
+    let has = rw c.in-Entries.is at c.in_ok-selected_of.ensures in
     let archs = c.in-Entries.archs.items in
     let fails = EntriesFail c.args.cpu c.args.call.options.limit c.args.bytes.now in
     let overlaid = AreOverlaid c.args.cpu c.args.bytes.now in
     IfOk-weaker c.run_within.result _ _
-    (λ status told one. elim (subst (λ (xs : List FatArch). fails xs ⊎ overlaid xs) c.deref-in-Entries.ensures.value (told one)) [
+    (λ status reported one. elim (subst (λ (xs : List FatArch). fails xs ⊎ overlaid xs) c.deref-in-Entries.ensures.value (reported one)) [
       | inl failing ↦ inl (failing_entry has.0 archs has.1 failing)
       | inr over ↦ inl (overlaid_entries has.0 archs has.1 over)
     ]) c.run_within.ensures.faulty

@@ -17,11 +17,11 @@ returns-then-begins_image g c = record {
 pub returns-in-Ok : goal.returns-in-Ok
 returns-in-Ok g c =
     IfOk-weaker c.print_archive.result _ _
-    (λ outcome told. record {
-      text = told.text;
-      are_lines = an_archive c.in-Some.entry.now told.text (archive_of c.in-Ok.archive) outcome (sym c.in-Some.ensures)
-          (sym c.begins_image.ensures ∙ c.if-begins_image.false) c.in-Ok.ensures told.are_lines;
-      written = told.written;
+    (λ outcome reported. record {
+      text = reported.text;
+      are_lines = an_archive c.in-Some.entry.now reported.text (archive_of c.in-Ok.archive) outcome (sym c.in-Some.ensures)
+          (sym c.begins_image.ensures ∙ c.if-begins_image.false) c.in-Ok.ensures reported.are_lines;
+      written = reported.written;
     })
     c.print_archive.ensures
 

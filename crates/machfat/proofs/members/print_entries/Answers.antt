@@ -4,11 +4,11 @@ use Rattle.std.proofs.lemmas.List.{length-take-le, take_more}
 use Rattle.mach_fat_writer.specs.declared.entry_record.EntryRecord.{EntryRecord}
 use Rattle.machfat.specs.Members.{AreEntryLines, stays}
 use Rattle.machfat.specs.Written.{WritesAs}
-use Rattle.machfat.proofs.Told.{entry_more, no_entries_told}
+use Rattle.machfat.proofs.Reported.{entry_more, no_entries_reported}
 use Rattle.machfat.proofs.members.print_entries.Goals as goal
 
 pub records-init : goal.records-init
-records-init g c = no_entries_told c.args.limit c.args.bytes.now (g.O.Write.contents c.args.out.now)
+records-init g c = no_entries_reported c.args.limit c.args.bytes.now (g.O.Write.contents c.args.out.now)
 
 pub records-preserved : goal.records-preserved
 records-preserved g c =

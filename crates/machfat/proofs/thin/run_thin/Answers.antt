@@ -5,5 +5,5 @@ use Rattle.machfat.proofs.thin.run_thin.Goals as goal
 
 pub returns-clause-refused : goal.returns-clause-refused
 returns-clause-refused g c = λ one.
-    let told = c.status.ensures.refused one in
-    (told.0, IfErr-at_err (IsRefusal (RefusesPlainly (thin_entry_in c.args.bytes.now c.args.cputype))) told.1 c.thin.ensures.refused, told.2)
+    let reported = c.status.ensures.refused one in
+    (reported.0, IfErr-at_err (IsRefusal (RefusesPlainly (thin_entry_in c.args.bytes.now c.args.cputype))) reported.1 c.thin.ensures.refused, reported.2)

@@ -13,8 +13,8 @@ none_is : (faults : List LayoutFault) → (length faults == 0) ≡ is_faultless 
 none_is [] = refl
 none_is (fault ∷ faults) = ne_eqb (length (fault ∷ faults)) 0 (λ none. omega (arith, none))
 
-pub returns-clause-told : goal.returns-clause-told
-returns-clause-told g c =
+pub returns-clause-reported : goal.returns-clause-reported
+returns-clause-reported g c =
     let faults = c.in_ok-faults.faults.items in
     let limit = c.args.limit in
     let out = g.O.Write.contents in
@@ -28,6 +28,6 @@ returns-clause-told g c =
       c.is_empty.ensures ∙ ap (λ n. n == 0) ok ∙ none_is faults,
       record {
         has = c.in_ok-faults.ensures.faults;
-        told = Appends-both _ _ _ (fault_lines (take limit faults)) (cut_line limit (nat_lt limit (length faults))) lines cut;
+        reported = Appends-both _ _ _ (fault_lines (take limit faults)) (cut_line limit (nat_lt limit (length faults))) lines cut;
       },
     )

@@ -1,8 +1,8 @@
 use Rattle.std.proofs.Common.{subst, sym}
-use Rattle.mach_base.proofs.Faults.{Stands-reported}
+use Rattle.mach_base.proofs.Faults.{ErrorMeets-reported}
 use Rattle.mach_base.specs.Fault.{fault_of}
 use Rattle.machfat.specs.Refusals.{FatFault, RefusesFaults, in_header}
-use Rattle.machfat.proofs.Told.{refuses_faults}
+use Rattle.machfat.proofs.Reported.{refuses_faults}
 use Rattle.machfat.proofs.verify.wide_faults.Goals as goal
 
 pub returns-in-Err-clause-refused : goal.returns-in-Err-clause-refused
@@ -11,4 +11,4 @@ returns-in-Err-clause-refused c =
     let e = c.in-Err.error in
     subst (λ refusal. RefusesFaults bytes refusal) (sym c.refused_by.ensures)
     (refuses_faults bytes c.refused_kind.result e
-    (Stands-reported (FatFault bytes) e (in_header (fault_of e) c.requires c.in-Err.ensures)) (sym c.refused_kind.ensures))
+    (ErrorMeets-reported (FatFault bytes) e (in_header (fault_of e) c.requires c.in-Err.ensures)) (sym c.refused_kind.ensures))

@@ -3,7 +3,7 @@ use Rattle.std.proofs.lemmas.List.Sorted.{IsPartitionPoint-from_clause, IsPartit
 use Rattle.std.specs.Prelude.{nat_le}
 use Rattle.std.specs.List.Sorted.{IsPartitionPoint}
 use Rattle.machfixups.specs.declared.stretches.Change.{Change}
-use Rattle.machfixups.proofs.Changes.{point_up_to, point_tells}
+use Rattle.machfixups.proofs.Changes.{point_up_to, point_reports}
 use Rattle.machfixups.proofs.stretches.passed_at.Goals as goal
 
 point : (c : goal.After-partition_point) → IsPartitionPoint (λ (x : Change). nat_le x.start c.args.address ≡ true) (λ x. nat_le x.start c.args.address ≡ false)
@@ -14,5 +14,5 @@ point c = IsPartitionPoint-from_clause (λ (x : Change). nat_le x.start c.args.a
 pub returns-clause-up_to : goal.returns-clause-up_to
 returns-clause-up_to c = point_up_to c.args.changes.now c.partition_point.result c.args.address (point c)
 
-pub returns-clause-told : goal.returns-clause-told
-returns-clause-told c = point_tells c.args.changes.now c.partition_point.result c.args.address (point c)
+pub returns-clause-reported : goal.returns-clause-reported
+returns-clause-reported c = point_reports c.args.changes.now c.partition_point.result c.args.address (point c)

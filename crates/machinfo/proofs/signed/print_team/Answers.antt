@@ -10,5 +10,5 @@ pub returns : goal.returns
 returns g c =
     subst
     (λ (name : Result (Option (List ℕ)) Fault).
-    OnOk c.print_said.result (Appends (g.O.Write.contents c.args.out.now) (g.O.Write.contents c.print_said.new.out) (said_name (codes "team") name)))
-    (read_as-Reads _ _ _ c.team.ensures) c.print_said.ensures
+    OnOk c.print_facts.result (Appends (g.O.Write.contents c.args.out.now) (g.O.Write.contents c.print_facts.new.out) (said_name (codes "team") name)))
+    (read_as-Reads _ _ _ c.team.ensures) c.print_facts.ensures

@@ -1,9 +1,10 @@
 use Rattle.std.proofs.Common.{◌≡◌, map, drop}
 use Rattle.machresolve.specs.Note.{all_noted}
-use Rattle.machresolve.specs.Seen.{note_seen}
+use Rattle.machresolve.specs.ResolveViews.{note_view_of}
 use Rattle.machresolve.proofs.note.note_all.Given as goal
 
 -- adding the notes that are left gives the same as adding all
 abbrev pub invariant-notes : goal.invariant-notes
 invariant-notes g l =
-    all_noted (map note_seen l.noted.keys) (map note_seen (drop l.note-index l.notes)) ≡ all_noted (map note_seen l.fn.noted.keys) (map note_seen l.notes)
+    all_noted (map note_view_of l.noted.keys) (map note_view_of (drop l.note-index l.notes))
+    ≡ all_noted (map note_view_of l.fn.noted.keys) (map note_view_of l.notes)

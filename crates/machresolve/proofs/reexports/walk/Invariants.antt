@@ -1,13 +1,13 @@
 use Rattle.std.proofs.Common.{◌+◌, ◌-◌, ◌*◌, ◌^◌, length, map, reverse}
 use Rattle.std.specs.Prelude.{option_map}
-use Rattle.machresolve.specs.Seen.{files_seen, edge_seen}
+use Rattle.machresolve.specs.ResolveViews.{input_views, edge_view}
 use Rattle.machresolve.proofs.Walks.{Holds}
 use Rattle.machresolve.proofs.reexports.walk.Given as goal
 
 abbrev pub invariant-edges : goal.invariant-edges
 invariant-edges g l =
-    Holds (files_seen l.files) (reverse (map edge_seen l.fn.starts.items)) (reverse (map edge_seen l.left.items))
-    (record { places = l.places.items; gap = option_map edge_seen l.gap }) l.is_met.items
+    Holds (input_views l.files) (reverse (map edge_view l.fn.starts.items)) (reverse (map edge_view l.left.items))
+    (record { places = l.places.items; gap = option_map edge_view l.gap }) l.is_met.items
 
 abbrev pub decreases-edges : goal.decreases-edges
 decreases-edges g l = 2 ^ 64 * (2 ^ 64 - length l.places.items) + length l.left.items

@@ -6,19 +6,19 @@ use Rattle.machresolve.specs.Files.{TrieFaultAt}
 use Rattle.machresolve.specs.Answers.{IsAnswer, AreAnswers}
 use Rattle.machresolve.specs.Failures.{IsFailure}
 use Rattle.machresolve.specs.Resolved.{HoldsItems, AnswerFault, of_bindings, of_trie}
-use Rattle.machresolve.specs.Seen.{files_seen, program_seen, answer_seen}
+use Rattle.machresolve.specs.ResolveViews.{input_views, program_view, answer_view}
 use Rattle.machresolve.proofs.Firsts.{first_cut}
 use Rattle.machresolve.proofs.Found.{all_zip_push}
-use Rattle.mach_base.proofs.Faults.{Stands-reported}
+use Rattle.mach_base.proofs.Faults.{ErrorMeets-reported}
 use Rattle.machresolve.proofs.Notes.{fails_more}
-use Rattle.machresolve.proofs.Steps.{told}
+use Rattle.machresolve.proofs.Steps.{reported}
 use Rattle.machresolve.proofs.resolve.answer_all.Goals as goal
 
 pub bindings-preserved : goal.bindings-preserved
 bindings-preserved g c =
     let before = c.bindings.invariant in
-    let fs = files_seen c.args.files.now in
-    let p = program_seen c.args.program.now in
+    let fs = input_views c.args.files.now in
+    let p = program_view c.args.program.now in
     let b = binding_view c.in-Ok.binding in
     let bs = before.2 in
     let left = bindings_left c.next.new.self in
@@ -30,11 +30,11 @@ bindings-preserved g c =
       bs ++ b ∷ [],
       before.3 ∙ (ap (λ rest. front ++ rest) (c.in-Some.ensures.steps ∙ ap (λ item. binding_read item ∷ left) c.in-Ok.is)
           ∙ (sym (append_assoc front (Ok b ∷ []) left) ∙ ap (λ xs. xs ++ left) (sym (map_push (λ (x : Binding). Ok x) bs b)))),
-      λ met behind same.
+      λ met following same.
           subst (λ qs. AreAnswers fs p (bs ++ b ∷ []) qs)
-          (sym (ap (map answer_seen) c.in_ok-push-in-Ok-answer_for.ensures.items ∙ map_push answer_seen answers a))
-          (all_zip_push (IsAnswer fs p) bs (map answer_seen answers) b (answer_seen a) (before.4 met behind same)
-          (c.in-Ok-answer_for.ensures.answered met behind same)),
+          (sym (ap (map answer_view) c.in_ok-push-in-Ok-answer_for.ensures.items ∙ map_push answer_view answers a))
+          (all_zip_push (IsAnswer fs p) bs (map answer_view answers) b (answer_view a) (before.4 met following same)
+          (c.in-Ok-answer_for.ensures.answered met following same)),
       omega (
         arith,
         before.5,
@@ -46,24 +46,24 @@ bindings-preserved g c =
     )
 
 pub returns-then-len-limit-clause-answered : goal.returns-then-len-limit-clause-answered
-returns-then-len-limit-clause-answered g c = λ met behind same.
+returns-then-len-limit-clause-answered g c = λ met following same.
     let before = c.bindings.invariant in (
       before.2,
       first_cut c.args.limit c.args.image.now before.0 (bindings_left c.bindings.item-iterator) (bindings_left c.next.new.self) (binding_read c.in-Some.item)
           before.2 before.1 before.3 c.in-Some.ensures.steps before.6 (omega (arith, before.5, c.if-len-limit.true, c.len.ensures)),
-      before.4 met behind same,
+      before.4 met following same,
     )
 
 pub returns-in-Err-answer_for-clause-refused : goal.returns-in-Err-answer_for-clause-refused
 returns-in-Err-answer_for-clause-refused g c =
-    let fs = files_seen c.args.files.now in
+    let fs = input_views c.args.files.now in
     fails_more (TrieFaultAt fs) (AnswerFault c.args.limit fs c.args.image.now) c.in-Err-answer_for.failure
-    (λ n f stands. of_trie stands) c.in-Err-answer_for.ensures.refused
+    (λ n f occurs. of_trie occurs) c.in-Err-answer_for.ensures.refused
 
 pub returns-in-Err-clause-refused : goal.returns-in-Err-clause-refused
 returns-in-Err-clause-refused g c =
     let before = c.bindings.invariant in
-    let fs = files_seen c.args.files.now in
+    let fs = input_views c.args.files.now in
     let m = c.args.image.now in
     let e = c.in-Err.error in
     let left = bindings_left c.next.new.self in
@@ -71,5 +71,5 @@ returns-in-Err-clause-refused g c =
     (c.in-Some.ensures.steps ∙ ap (λ item. binding_read item ∷ left) c.in-Err.is) in
     let Faults = AnswerFault c.args.limit fs m in
     subst (IsFailure Faults) (sym c.refused.ensures)
-    (told Faults 0 e (Stands-reported (Faults 0) e (of_bindings before.2 left (subst (HoldsItems m) all before.1)
+    (reported Faults 0 e (ErrorMeets-reported (Faults 0) e (of_bindings before.2 left (subst (HoldsItems m) all before.1)
     (omega (arith, before.5, c.if-len-limit.false, c.len.ensures)))))

@@ -1,49 +1,49 @@
 use Rattle.std.proofs.Common.{map, refl, sym, subst}
 use Rattle.goblin_mach.specs.Image.{ImageFault}
 use Rattle.goblin_mach.specs.Libraries.{libraries_in}
-use Rattle.goblin_mach.specs.OpenImage.{bytes_held, commands_held, ctx_held}
+use Rattle.goblin_mach.specs.OpenImage.{bytes_view, commands_view, ctx_view}
 use Rattle.mach_dyld.specs.Exports.{text_in}
 use Rattle.machresolve.specs.Failures.{IsFailure}
 use Rattle.machresolve.specs.Answers.{Program}
 use Rattle.machresolve.specs.Given.{FaultFor, unopened, opened}
 use Rattle.machresolve.specs.Resolved.{AnswerFault, ResolveFault, of_file}
-use Rattle.machresolve.specs.Seen.{files_seen, gathered_seen, met_seen}
-use Rattle.machresolve.specs.Opened.{given_seen}
+use Rattle.machresolve.specs.ResolveViews.{input_views, gathered_view, met_view}
+use Rattle.machresolve.specs.Opened.{given_view}
 use Rattle.machresolve.proofs.Cpus.{of_cpu}
-use Rattle.mach_base.proofs.Faults.{Stands-in}
+use Rattle.mach_base.proofs.Faults.{ErrorMeets-in}
 use Rattle.machresolve.proofs.Notes.{fails_more, memory_fails}
 use Rattle.machresolve.proofs.Opened.{is_program, more_faults}
-use Rattle.machresolve.proofs.Steps.{told, given_name}
+use Rattle.machresolve.proofs.Steps.{reported, given_name}
 use Rattle.machresolve.proofs.resolve.resolve.Goals as goal
 
 pub returns-in-Err-clause-refused : goal.returns-in-Err-clause-refused
 returns-in-Err-clause-refused g c =
-    let p = given_seen c.args.program in
-    let ls = map given_seen c.args.libraries.now in
+    let p = given_view c.args.program in
+    let ls = map given_view c.args.libraries.now in
     subst (IsFailure (ResolveFault c.args.limit p ls)) (sym c.refused.ensures)
-    (told (ResolveFault c.args.limit p ls) 0 c.in-Err.error
-    (Stands-in (ImageFault p.bytes 0) (ResolveFault c.args.limit p ls 0) c.in-Err.error
-    (λ f stands. of_file (unopened refl stands)) c.in-Err.ensures.refused))
+    (reported (ResolveFault c.args.limit p ls) 0 c.in-Err.error
+    (ErrorMeets-in (ImageFault p.bytes 0) (ResolveFault c.args.limit p ls 0) c.in-Err.error
+    (λ f occurs. of_file (unopened refl occurs)) c.in-Err.ensures.refused))
 
 pub returns-in-Err-gather-clause-refused : goal.returns-in-Err-gather-clause-refused
 returns-in-Err-gather-clause-refused g c =
-    let p = given_seen c.args.program in
-    let ls = map given_seen c.args.libraries.now in
+    let p = given_view c.args.program in
+    let ls = map given_view c.args.libraries.now in
     let cpu = c.in-Ok.image.header.cputype in
     fails_more (FaultFor cpu p ls) (ResolveFault c.args.limit p ls) c.in-Err-gather.failure
-    (λ n f stands. of_file (opened cpu (of_cpu p.bytes c.in-Ok.image c.in-Ok.ensures.opened) stands)) c.in-Err-gather.ensures.refused
+    (λ n f occurs. of_file (opened cpu (of_cpu p.bytes c.in-Ok.image c.in-Ok.ensures.opened) occurs)) c.in-Err-gather.ensures.refused
 
 pub returns-in-Ok-answer_all-clause-resolved : goal.returns-in-Ok-answer_all-clause-resolved
 returns-in-Ok-answer_all-clause-resolved g c =
-    let p = given_seen c.args.program in
+    let p = given_view c.args.program in
     let m = c.in-Ok.image in
     let is = c.in-Ok.ensures.opened in
     let known : Program = record { name = c.unwrap_or.result.now; may_be_absent = c.in_ok-absences_of.field-0.items } in
-    let libraries = libraries_in (ctx_held m).le (bytes_held m) (commands_held m) in
-    let answered = c.in-Ok-answer_all.ensures.answered (met_seen c.in_ok-all.all) c.in_ok-all.ensures (sym c.as_slice.ensures.value) in
+    let libraries = libraries_in (ctx_view m).le (bytes_view m) (commands_view m) in
+    let answered = c.in-Ok-answer_all.ensures.answered (met_view c.in_ok-all.all) c.in_ok-all.ensures (sym c.as_slice.ensures.value) in
     let first = answered.1 in
     record {
-      files = files_seen c.in-Ok-gather.gathered.files;
+      files = input_views c.in-Ok-gather.gathered.files;
       gathered = (m.header.cputype, of_cpu p.bytes m is, c.in-Ok-gather.ensures.gathered);
       known = known;
       items = first.items;
@@ -61,11 +61,11 @@ returns-in-Ok-answer_all-clause-resolved g c =
 
 pub returns-clause-refused : goal.returns-clause-refused
 returns-clause-refused g c =
-    let p = given_seen c.args.program in
-    let ls = map given_seen c.args.libraries.now in
+    let p = given_view c.args.program in
+    let ls = map given_view c.args.libraries.now in
     let m = c.in-Ok.image in
     let is = c.in-Ok.ensures.opened in
-    let all = gathered_seen c.in-Ok-gather.gathered in
+    let all = gathered_view c.in-Ok-gather.gathered in
     let files = all.files in
     fails_more (AnswerFault c.args.limit files m) (ResolveFault c.args.limit p ls) c.in-Err-answer_all.failure
     (more_faults c.args.limit p ls m all (m.header.cputype, of_cpu p.bytes m is, c.in-Ok-gather.ensures.gathered)
@@ -74,9 +74,9 @@ returns-clause-refused g c =
 
 pub returns-in_err-all-clause-refused : goal.returns-in_err-all-clause-refused
 returns-in_err-all-clause-refused g c =
-    memory_fails (ResolveFault c.args.limit (given_seen c.args.program) (map given_seen c.args.libraries.now)) c.from_residual.result c.from_residual.ensures.1
+    memory_fails (ResolveFault c.args.limit (given_view c.args.program) (map given_view c.args.libraries.now)) c.from_residual.result c.from_residual.ensures.1
 
 pub returns-in_err-absences_of-clause-refused : goal.returns-in_err-absences_of-clause-refused
 returns-in_err-absences_of-clause-refused g c =
-    memory_fails (ResolveFault c.args.limit (given_seen c.args.program) (map given_seen c.args.libraries.now)) c.from_residual-in_err-absences_of.result
+    memory_fails (ResolveFault c.args.limit (given_view c.args.program) (map given_view c.args.libraries.now)) c.from_residual-in_err-absences_of.result
     c.from_residual-in_err-absences_of.ensures.1

@@ -5,44 +5,44 @@ use Rattle.std.proofs.lemmas.List.Elements.{All-more}
 use Rattle.machresolve.specs.Files as files
 use Rattle.machresolve.specs.Follow.{FollowsTo}
 use Rattle.machresolve.specs.Special.{IsInMain, none, first}
-use Rattle.machresolve.specs.Seen.{file_seen, files_seen, place_seen}
+use Rattle.machresolve.specs.ResolveViews.{input_view, input_views, place_view_of}
 use Rattle.machresolve.proofs.Found.{file_at, ok_more}
 use Rattle.machresolve.proofs.special.in_main.Goals as goal
 
-pub returns-then-file-clause-sought : goal.returns-then-file-clause-sought
-returns-then-file-clause-sought g c =
-    let fs = files_seen c.args.files.now in
+pub returns-then-file-clause-target : goal.returns-then-file-clause-target
+returns-then-file-clause-target g c =
+    let fs = input_views c.args.files.now in
     let f = c.file-item.result in
     let i = c.loop-file.file-index in
     let listed = file_at c.args.files.now.items.items c.deref-file-items.result.now i f c.deref-file-items.ensures.value c.loop-file-test.true c.file-item.is in
-    ok_more (λ place. FollowsTo fs [] (record { library = f.name.now; name = c.args.name.now }) (place_seen place))
-    (λ place. IsInMain fs c.args.name.now (place_seen place))
-    c.follow.result (λ place way. first i (file_seen f) (place_seen place)
+    ok_more (λ place. FollowsTo fs [] (record { library = f.name.now; name = c.args.name.now }) (place_view_of place))
+    (λ place. IsInMain fs c.args.name.now (place_view_of place))
+    c.follow.result (λ place way. first i (input_view f) (place_view_of place)
     (record { listed = listed; is_main = c.if-file.true; before = c.loop-file.invariant }) way)
     c.follow.ensures.followed
 
 pub loop-file-preserved : goal.loop-file-preserved
 loop-file-preserved g c =
-    let fs = files_seen c.args.files.now in
+    let fs = input_views c.args.files.now in
     let items = c.args.files.now.items.items in
     let xs = c.deref-file-items.result.now in
     let f = c.file-item.result in
     let i = c.loop-file.file-index in
     let same : xs ≡ items = c.deref-file-items.ensures.value in
     let within : i < length items = omega (arith, c.loop-file-test.true, ap length same) in
-    let at : get_or fs i (file_seen f) ≡ file_seen f =
-    get_or-map file_seen items i f (file_seen f) within ∙ ap file_seen (sym (c.file-item.is ∙ ap (λ ys. get_or ys i f) same)) in
-    All-more (λ (x : files.File). IsFalse x.is_main) fs i (file_seen f) (omega (arith, within, length-map items file_seen)) c.loop-file.invariant
+    let at : get_or fs i (input_view f) ≡ input_view f =
+    get_or-map input_view items i f (input_view f) within ∙ ap input_view (sym (c.file-item.is ∙ ap (λ ys. get_or ys i f) same)) in
+    All-more (λ (x : files.File). IsFalse x.is_main) fs i (input_view f) (omega (arith, within, length-map items input_view)) c.loop-file.invariant
     (subst (λ (x : files.File). IsFalse x.is_main) (sym at) c.if-file.false)
 
-pub returns-clause-sought : goal.returns-clause-sought
-returns-clause-sought g c =
-    let fs = files_seen c.args.files.now in
+pub returns-clause-target : goal.returns-clause-target
+returns-clause-target g c =
+    let fs = input_views c.args.files.now in
     let items = c.args.files.now.items.items in
     let all : length fs ≤ c.loop-file.file-index = omega (
       arith,
       c.loop-file-test.false,
       ap length c.deref-file-items.ensures.value,
-      length-map items file_seen,
+      length-map items input_view,
     ) in
     none (subst (All (λ (x : files.File). IsFalse x.is_main)) (take_all c.loop-file.file-index fs all) c.loop-file.invariant)

@@ -1,6 +1,6 @@
 use Rattle.std.proofs.Common.{List, Some, None, inr, sym, subst}
 use Rattle.std.proofs.lemmas.Result.{err_from_is_err_and}
-use Rattle.mach_base.proofs.Faults.{Stands-in}
+use Rattle.mach_base.proofs.Faults.{ErrorMeets-in}
 use Rattle.goblin_mach.specs.Items.{ItemView}
 use Rattle.goblin_mach.specs.ItemsLeft.{input_item_read, input_items_left}
 use Rattle.machsign.specs.Entitlements.{EntitlesItems, first_entitles, later_entitles, none_entitles}
@@ -37,7 +37,7 @@ returns-in_err-found-clause-refused g c =
     let rest = input_items_left c.next.new.self in
     let p = err_from_is_err_and c.from_residual-in_err-found.result c.from_residual-in_err-found.ensures.1 in
     rw (p.1, p.2)
-    (Stands-in (RefusesItem x) (EntitlementFault c.args.cpu c.args.bytes.now) c.in_err-found.field-0.0
+    (ErrorMeets-in (RefusesItem x) (EntitlementFault c.args.cpu c.args.bytes.now) c.in_err-found.field-0.0
     (λ f here. inr (c.items.invariant.refused f
     (subst (λ (xs : List ItemView). RefusesItems c.args.cpu xs f) (sym c.in-Some.ensures.steps) (first_refuses x rest f here))))
     c.in_err-found.ensures.refused)

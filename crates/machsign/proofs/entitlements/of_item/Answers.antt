@@ -4,7 +4,7 @@ use Rattle.std.specs.Prelude.{not}
 use Rattle.std.proofs.lemmas.Result.{IfOk-weaker}
 use Rattle.mach_base.specs.Fault.{Fault, fault_of}
 use Rattle.mach_base.specs.Items.{read_as}
-use Rattle.mach_base.proofs.Faults.{Stands-reported}
+use Rattle.mach_base.proofs.Faults.{ErrorMeets-reported}
 use Rattle.goblin_mach.specs.Items.{ItemView, content_view}
 use Rattle.goblin_mach.specs.ItemsLeft.{input_item_read}
 use Rattle.mach_cli.specs.declared.cpu.Cpu.{Cpu}
@@ -27,7 +27,7 @@ no_entry (Some n) e = absurd (cc)
 
 pub returns-then-is_none-clause-refused : goal.returns-then-is_none-clause-refused
 returns-then-is_none-clause-refused g c =
-    Stands-reported (RefusesItem (input_item_read c.args.item)) c.in-Err.error
+    ErrorMeets-reported (RefusesItem (input_item_read c.args.item)) c.in-Err.error
     (ap (read_as content_view) c.in-Err.is, no_entry c.args.item.place.entry (c.is_none.ensures ∙ ap not c.if-is_none.true))
 
 entry_fault : (cpu : Cpu) (x : ItemView) (f : Fault) (entry : Option ℕ) → x.place.entry ≡ entry → is_some entry ≡ true → x.content ≡ Err f

@@ -5,14 +5,14 @@ use Rattle.mach_cli.specs.Shown.{complaint}
 use Rattle.machsign.specs.Entitlements.{none_has_some, file_is_refused}
 use Rattle.machsign.proofs.entitlements.run_entitlements.Goals as goal
 
-pub returns-in-Ok-None-clause-told : goal.returns-in-Ok-None-clause-told
-returns-in-Ok-None-clause-told g c = λ one.
+pub returns-in-Ok-None-clause-reported : goal.returns-in-Ok-None-clause-reported
+returns-in-Ok-None-clause-reported g c = λ one.
     let none = rw c.in-Ok-None.field-0-is at c.in-Ok-None.ensures.found in
-    (complaint (names_text (codes "machsign") c.args.file.now) (codes "no entitlements"), none_has_some none, c.none_there.ensures.told one)
+    (complaint (names_text (codes "machsign") c.args.file.now) (codes "no entitlements"), none_has_some none, c.none_there.ensures.reported one)
 
-pub returns-clause-told : goal.returns-clause-told
-returns-clause-told g c = λ one. (
+pub returns-clause-reported : goal.returns-clause-reported
+returns-clause-reported g c = λ one. (
   complaint (names_text (codes "machsign") c.args.file.now) (refused_words c.args.bytes.now c.in-Err.error),
   file_is_refused c.in-Err.error c.in-Err.ensures.refused,
-  c.refused.ensures.told one,
+  c.refused.ensures.reported one,
 )

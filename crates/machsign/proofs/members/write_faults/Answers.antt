@@ -8,10 +8,10 @@ use Rattle.mach_cli.specs.JsonArrays.{with_commas}
 use Rattle.mach_signature.specs.FaultViews.{signature_faults_left}
 use Rattle.mach_signature.specs.declared.fault.SignatureFault.{SignatureFault}
 use Rattle.machsign.specs.Faults.{fault_string, has_none}
-use Rattle.machsign.proofs.Told.{none_passed, one_passed}
+use Rattle.machsign.proofs.ListProgress.{none_passed, one_passed}
 use Rattle.machsign.proofs.members.write_faults.Goals as goal
 
-as_many : (told : List SignatureFault) → has_none told ≡ arrays.has_none (map fault_string told)
+as_many : (reported : List SignatureFault) → has_none reported ≡ arrays.has_none (map fault_string reported)
 as_many [] = refl
 as_many (x ∷ xs) = refl
 

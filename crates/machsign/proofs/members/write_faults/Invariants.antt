@@ -3,7 +3,7 @@ use Rattle.std.specs.Io.KnownBytes.{Appends}
 use Rattle.mach_signature.specs.FaultViews.{signature_faults_left}
 use Rattle.mach_signature.specs.declared.fault.SignatureFault.{SignatureFault}
 use Rattle.machsign.specs.Faults.{fault_strings}
-use Rattle.machsign.proofs.Told.{Passes}
+use Rattle.machsign.proofs.ListProgress.{Passes}
 use Rattle.machsign.proofs.members.write_faults.Given as goal
 
 abbrev pub invariant-faults : goal.invariant-faults

@@ -7,7 +7,7 @@ use Rattle.mach_base.specs.Fault.{Fault}
 use Rattle.mach_base.specs.Words.{words_of}
 use Rattle.mach_signature.specs.AsSigned.{SignedImage}
 use Rattle.mach_signature.specs.FaultViews.{signed_view}
-use Rattle.goblin_mach.specs.OpenImage.{bytes_held, commands_held, segments_held}
+use Rattle.goblin_mach.specs.OpenImage.{bytes_view, commands_view, segments_view}
 use Rattle.goblin_mach.specs.declared.macho.MachO.{MachO}
 use Rattle.machsign.specs.ImageLines.{image_signed}
 use Rattle.machsign.specs.JsonSignature.{refused_object, IsSignatureObject, unsigned_object, unreadable_object, signed_object, WritesSignatureMembers}
@@ -16,8 +16,8 @@ use Rattle.machsign.proofs.members.write_members.Goals as goal
 abbrev front : List ℕ
 front = codes "\"kind\":\"image\",\"signature\":"
 
-abbrev held_there : {A : Type 0} → MachO A → Result (Option SignedImage) Fault
-held_there m = image_signed (bytes_held m) (commands_held m) (segments_held m)
+abbrev view_there : {A : Type 0} → MachO A → Result (Option SignedImage) Fault
+view_there m = image_signed (bytes_view m) (commands_view m) (segments_view m)
 
 of_object : (left : ℕ) (there : Result (Option SignedImage) Fault) (object : List ℕ) (whole : Bool) (rest : ℕ) (old middle new : Option (List ℕ))
     → IsSignatureObject left there object whole rest → Appends old middle front → Appends middle new object
@@ -33,34 +33,34 @@ returns-in-Ok-Some g c =
     let is = rw c.in-Ok-Some.field-0-is at c.in-Ok-Some.ensures in
     let left = c.args.left in
     IfOk-weaker c.write_signed.result _ _
-    (λ outcome told. of_object left (held_there c.args.image.now) told.text outcome.whole outcome.left _ _ _
-    (subst (λ (there : Result (Option SignedImage) Fault). IsSignatureObject left there told.text outcome.whole outcome.left) (sym is)
-    (signed_object (signed_view c.in-Ok-Some.signed) told.text outcome.whole outcome.left told.object)) c.in_ok-write.ensures.bytes told.written)
+    (λ outcome reported. of_object left (view_there c.args.image.now) reported.text outcome.whole outcome.left _ _ _
+    (subst (λ (there : Result (Option SignedImage) Fault). IsSignatureObject left there reported.text outcome.whole outcome.left) (sym is)
+    (signed_object (signed_view c.in-Ok-Some.signed) reported.text outcome.whole outcome.left reported.object)) c.in_ok-write.ensures.bytes reported.written)
     c.write_signed.ensures
 
 pub returns-in-Ok-None : goal.returns-in-Ok-None
 returns-in-Ok-None g c =
     let is = rw c.in-Ok-None.field-0-is at c.in-Ok-None.ensures in
-    let there = held_there c.args.image.now in
+    let there = view_there c.args.image.now in
     let left = c.args.left in
     IfOk-weaker c.write_unsigned.result _ _
-    (λ outcome told. of_object left there (codes "null") outcome.whole outcome.left _ _ _
-    (subst (λ (n : ℕ). IsSignatureObject left there (codes "null") outcome.whole n) (sym told.1)
-    (subst (λ (w : Bool). IsSignatureObject left there (codes "null") w left) (sym told.0)
+    (λ outcome reported. of_object left there (codes "null") outcome.whole outcome.left _ _ _
+    (subst (λ (n : ℕ). IsSignatureObject left there (codes "null") outcome.whole n) (sym reported.1)
+    (subst (λ (w : Bool). IsSignatureObject left there (codes "null") w left) (sym reported.0)
     (subst (λ (x : Result (Option SignedImage) Fault). IsSignatureObject left x (codes "null") false left) (sym is) unsigned_object)))
-    c.in_ok-write.ensures.bytes told.2)
+    c.in_ok-write.ensures.bytes reported.2)
     c.write_unsigned.ensures
 
 pub returns-in-Err : goal.returns-in-Err
 returns-in-Err g c =
     let object = refused_object (words_of c.in-Err.error) in
-    let there = held_there c.args.image.now in
+    let there = view_there c.args.image.now in
     let left = c.args.left in
     IfOk-weaker c.write_refused.result _ _
-    (λ outcome told. of_object left there object outcome.whole outcome.left _ _ _
-    (subst (λ (n : ℕ). IsSignatureObject left there object outcome.whole n) (sym told.1)
-    (subst (λ (w : Bool). IsSignatureObject left there object w left) (sym told.0)
+    (λ outcome reported. of_object left there object outcome.whole outcome.left _ _ _
+    (subst (λ (n : ℕ). IsSignatureObject left there object outcome.whole n) (sym reported.1)
+    (subst (λ (w : Bool). IsSignatureObject left there object w left) (sym reported.0)
     (subst (λ (x : Result (Option SignedImage) Fault). IsSignatureObject left x object false left) (sym c.in-Err.ensures)
     (unreadable_object c.in-Err.error))))
-    c.in_ok-write.ensures.bytes told.2)
+    c.in_ok-write.ensures.bytes reported.2)
     c.write_refused.ensures

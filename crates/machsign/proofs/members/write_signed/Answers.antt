@@ -3,14 +3,14 @@ use Rattle.std.specs.Io.KnownBytes.{Appends}
 use Rattle.std.specs.Prelude.{codes}
 use Rattle.mach_base.proofs.ItemLists.{read_as-Reads}
 use Rattle.mach_base.proofs.Written.{Appends-both}
-use Rattle.mach_signature.specs.AsSigned.{SignatureFaultSeen, signature_faults_of}
+use Rattle.mach_signature.specs.AsSigned.{SignatureFaultView, signature_faults_of}
 use Rattle.mach_signature.specs.FaultViews.{signed_view}
 use Rattle.machsign.specs.Blobs.{blobs_array, other_blobs_of}
-use Rattle.machsign.specs.Faults.{fault_strings, TellsFaults, WritesFaults}
+use Rattle.machsign.specs.Faults.{fault_strings, ReportsFaults, WritesFaults}
 use Rattle.machsign.specs.JsonSignature.{before_faults, after_faults}
 use Rattle.machsign.specs.Signatures.{is_cut}
 use Rattle.machsign.proofs.Limited.{blobs_arrayed}
-use Rattle.machsign.proofs.Told.{counted}
+use Rattle.machsign.proofs.ListProgress.{counted}
 use Rattle.machsign.proofs.Written.{three}
 use Rattle.machsign.proofs.members.write_signed.Goals as goal
 
@@ -22,29 +22,29 @@ returns g c =
     let seen = signature_faults_of x in
     let directory = c.directory-directory.result in
     let before = c.in_ok-blobs.blobs in
-    let behind = c.in_ok-faults.faults in
+    let following = c.in_ok-faults.faults in
     let rows = blobs_arrayed c.of-rows.result blobs left _ _ before c.of-rows.ensures.blobs c.of-rows.ensures.form c.in_ok-blobs.ensures in
-    let told = subst
-    (λ (faults : List SignatureFaultSeen).
-    WritesFaults fault_strings before.left faults (g.O.Write.contents c.write_before.new.out) (g.O.Write.contents c.write_faults.new.out) behind)
+    let reported = subst
+    (λ (faults : List SignatureFaultView).
+    WritesFaults fault_strings before.left faults (g.O.Write.contents c.write_before.new.out) (g.O.Write.contents c.write_faults.new.out) following)
     c.faults.ensures c.in_ok-faults.ensures in
-    let count = counted left (length blobs) seen before.left before.more behind rows.1 rows.2 told.counts in
+    let count = counted left (length blobs) seen before.left before.more following rows.1 rows.2 reported.counts in
     let last = subst
     (λ (more : Bool).
     Appends (g.O.Write.contents c.write_faults.new.out) (g.O.Write.contents c.write_after.new.out) (after_faults x more directory))
     count.0 c.in_ok-write_after.ensures in
     let front = codes "{\"blobs\":" ++ blobs_array left x.signature in
-    let back = before_faults directory ++ (told.text ++ after_faults x (is_cut left x) directory) in record {
+    let back = before_faults directory ++ (reported.text ++ after_faults x (is_cut left x) directory) in record {
       text = front ++ back;
       object = record {
         directory = directory;
         is_directory = read_as-Reads _ _ _ c.directory-directory.ensures.value;
-        faults = told.text;
-        are_faults = subst (λ (n : ℕ). TellsFaults fault_strings n seen told.text) rows.1 told.tells;
+        faults = reported.text;
+        are_faults = subst (λ (n : ℕ). ReportsFaults fault_strings n seen reported.text) rows.1 reported.reports;
         is_text = refl;
         is_whole = count.1;
         is_rest = count.2;
       };
       written = Appends-both _ _ _ front back (Appends-both _ _ _ _ _ c.in_ok-write.ensures.bytes rows.0)
-          (three _ _ _ _ _ _ _ c.in_ok-write_before.ensures told.written last);
+          (three _ _ _ _ _ _ _ c.in_ok-write_before.ensures reported.written last);
     }

@@ -7,7 +7,7 @@ use Rattle.mach_base.specs.Fault.{Fault}
 use Rattle.mach_cli.specs.JsonArrays.{with_commas, IsArrayOf}
 use Rattle.mach_signature.specs.DirectoryViews.{directory_view}
 use Rattle.mach_signature.specs.FaultViews.{signed_view}
-use Rattle.machsign.specs.Special.{SlotSeen, shown_slots, slot_told, slots_array}
+use Rattle.machsign.specs.Special.{SlotView, shown_slots, slot_reported, slots_array}
 use Rattle.machsign.specs.declared.form.Form.TheVariants.{Objects}
 use Rattle.std.proofs.Common.{take}
 use Rattle.machsign.proofs.Rows.{rows_array}
@@ -22,8 +22,8 @@ returns g c =
     let array = c.in_ok-print_array.ensures in
     let is = subst (λ (rows : List (Result (List ℕ) Fault)). IsArrayOf (take 11 rows) array.text)
     (slot_rows_are c.of-slots.result Objects slots c.of-slots.ensures.slots c.of-slots.ensures.form) array.array in
-    let text = rows_array (slot_told Objects) 11 slots array.text is
-    ∙ ap (λ (shown : List SlotSeen). codes "[" ++ (with_commas (map (slot_told Objects) shown) ++ codes "]")) (all_slots x d) in
+    let text = rows_array (slot_reported Objects) 11 slots array.text is
+    ∙ ap (λ (shown : List SlotView). codes "[" ++ (with_commas (map (slot_reported Objects) shown) ++ codes "]")) (all_slots x d) in
     on_ok_weaker c.write.result
     (λ last. Appends-both _ _ _ (slots_array x d) _
     (subst (λ (t : List ℕ). Appends (g.O.Write.contents c.args.out.now) (g.O.Write.contents c.print_array.new.out) t) text array.written) last)

@@ -1,7 +1,7 @@
 use Rattle.std.proofs.Common.{[], ◌∷◌, ◌++◌, refl}
 use Rattle.mach_signature.specs.FaultViews.{signature_faults_left}
 use Rattle.machsign.specs.Faults.{fault_line}
-use Rattle.machsign.proofs.Told.{none_passed, one_passed}
+use Rattle.machsign.proofs.ListProgress.{none_passed, one_passed}
 use Rattle.machsign.proofs.Written.{no_parts, part_more}
 use Rattle.machsign.proofs.print.print_faults.Goals as goal
 

@@ -1,13 +1,13 @@
 use Rattle.std.proofs.Common.{◌++◌, ℕ, List, Bool, length, refl, subst}
 use Rattle.std.specs.Io.KnownBytes.{Appends}
 use Rattle.mach_cli.specs.Listings.{cut_line}
-use Rattle.mach_signature.specs.AsSigned.{SignatureFaultSeen, signature_faults_of}
+use Rattle.mach_signature.specs.AsSigned.{SignatureFaultView, signature_faults_of}
 use Rattle.mach_signature.specs.FaultViews.{signed_view}
 use Rattle.machsign.specs.Blobs.{blobs_lines, other_blobs_of}
-use Rattle.machsign.specs.Faults.{signature_fault_lines, TellsFaults, WritesFaults}
+use Rattle.machsign.specs.Faults.{signature_fault_lines, ReportsFaults, WritesFaults}
 use Rattle.machsign.specs.Signatures.{directories_lines, is_cut}
 use Rattle.machsign.proofs.Limited.{blobs_written}
-use Rattle.machsign.proofs.Told.{counted}
+use Rattle.machsign.proofs.ListProgress.{counted}
 use Rattle.machsign.proofs.Written.{four}
 use Rattle.machsign.proofs.print.print_signed.Goals as goal
 
@@ -19,24 +19,24 @@ returns g c =
     let blobs = other_blobs_of x.signature in
     let seen = signature_faults_of x in
     let before = c.in_ok-blobs.blobs in
-    let behind = c.in_ok-faults.faults in
+    let following = c.in_ok-faults.faults in
     let rows = blobs_written c.of-rows.result blobs left _ _ before c.of-rows.ensures.blobs c.of-rows.ensures.form c.in_ok-blobs.ensures in
-    let told = subst
-    (λ (faults : List SignatureFaultSeen).
-    WritesFaults signature_fault_lines before.left faults (g.O.Write.contents c.print_rows.new.out) (g.O.Write.contents c.print_faults.new.out) behind)
+    let reported = subst
+    (λ (faults : List SignatureFaultView).
+    WritesFaults signature_fault_lines before.left faults (g.O.Write.contents c.print_rows.new.out) (g.O.Write.contents c.print_faults.new.out) following)
     c.faults.ensures c.in_ok-faults.ensures in
-    let count = counted left (length blobs) seen before.left before.more behind rows.1 rows.2 told.counts in
+    let count = counted left (length blobs) seen before.left before.more following rows.1 rows.2 reported.counts in
     let cut = subst
     (λ (more : Bool). Appends (g.O.Write.contents c.print_faults.new.out) (g.O.Write.contents c.print_cut.new.out) (cut_line limit more))
     count.0 c.in_ok-print_cut.ensures in record {
-      text = directories_lines x ++ (blobs_lines left x.signature ++ (told.text ++ cut_line limit (is_cut left x)));
+      text = directories_lines x ++ (blobs_lines left x.signature ++ (reported.text ++ cut_line limit (is_cut left x)));
       lines = record {
-        faults = told.text;
-        are_faults = subst (λ (n : ℕ). TellsFaults signature_fault_lines n seen told.text) rows.1 told.tells;
+        faults = reported.text;
+        are_faults = subst (λ (n : ℕ). ReportsFaults signature_fault_lines n seen reported.text) rows.1 reported.reports;
         is_text = refl;
         is_whole = count.1;
         is_rest = count.2;
       };
-      written = four _ _ _ _ _ (directories_lines x) (blobs_lines left x.signature) told.text (cut_line limit (is_cut left x))
-          c.in_ok-print_directories.ensures rows.0 told.written cut;
+      written = four _ _ _ _ _ (directories_lines x) (blobs_lines left x.signature) reported.text (cut_line limit (is_cut left x))
+          c.in_ok-print_directories.ensures rows.0 reported.written cut;
     }

@@ -8,4 +8,4 @@ pub returns : goal.returns
 returns g c =
     let list : NamedRows = record { name = codes "symbols"; rows = [] } in
     ok_more _ _ c.print_end_past.result (λ outcome end.
-    list_and_past c.args.left list 0 c.in_ok-told.told outcome.whole outcome.left _ _ _ c.in_ok-told.ensures end) c.print_end_past.ensures
+    list_and_past c.args.left list 0 c.in_ok-reported.reported outcome.whole outcome.left _ _ _ c.in_ok-reported.ensures end) c.print_end_past.ensures

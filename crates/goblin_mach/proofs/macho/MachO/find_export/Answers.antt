@@ -1,8 +1,8 @@
 use Rattle.goblin_mach.proofs.macho.MachO.find_export.Goals as goal
 
-pub returns-in-Some-clause-stands : goal.returns-in-Some-clause-stands
-returns-in-Some-clause-stands g c =
-    rw c.in-Some.is (rw c.as_slice.ensures.value at c.find.ensures.stands)
+pub returns-in-Some-clause-occurs : goal.returns-in-Some-clause-occurs
+returns-in-Some-clause-occurs g c =
+    rw c.in-Some.is (rw c.as_slice.ensures.value at c.find.ensures.occurs)
 
 pub returns-in-Some-clause-listed : goal.returns-in-Some-clause-listed
 returns-in-Some-clause-listed g c =

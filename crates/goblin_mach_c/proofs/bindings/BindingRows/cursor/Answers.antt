@@ -3,8 +3,8 @@ use Rattle.mach_base.specs.Fault.{Fault}
 use Rattle.mach_dyld.specs.Bindings.{upto_fault}
 use Rattle.mach_parts.specs.Bindings.{Binding}
 use Rattle.mach_base.specs.Text.{texts}
-use Rattle.goblin_mach_c.specs.BindingsBehind.{opcode_rows_left}
-use Rattle.goblin_mach_c.specs.FixupsBehind.{fixup_rows_left}
+use Rattle.goblin_mach_c.specs.BindingsAfter.{opcode_rows_left}
+use Rattle.goblin_mach_c.specs.FixupsAfter.{fixup_rows_left}
 use Rattle.goblin_mach_c.proofs.BoundChains.{same_chains}
 use Rattle.goblin_mach_c.proofs.PlacedBindings.{whole}
 use Rattle.goblin_mach_c.proofs.bindings.BindingRows.cursor.Goals as goal

@@ -1,6 +1,6 @@
 use Rattle.std.proofs.Common.{None, sym, subst}
 use Rattle.mach_dyld.specs.Imports.{input_in}
-use Rattle.goblin_mach_c.specs.BindingsBehind.{AreBindingRowsOver, AreOverOpcodes}
+use Rattle.goblin_mach_c.specs.BindingsAfter.{AreBindingRowsOver, AreOverOpcodes}
 use Rattle.goblin_mach_c.specs.declared.bindings.BindingRows.{BindingRows}
 use Rattle.goblin_mach_c.proofs.BoundNames.{opcode_placed}
 use Rattle.goblin_mach_c.proofs.PlacedBindings.{over_chains}

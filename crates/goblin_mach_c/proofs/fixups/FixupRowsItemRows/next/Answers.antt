@@ -2,17 +2,17 @@ use Rattle.std.proofs.Common.{◌≡◌, ◌∙◌, ◌∷◌, Option, Some, Non
 use Rattle.mach_base.specs.Fault.{fault_of}
 use Rattle.mach_base.specs.declared.error.Error.{Error}
 use Rattle.mach_chained.specs.Fixups.{Fixup}
-use Rattle.goblin_mach.specs.FixupsLeft.{told_first}
-use Rattle.goblin_mach_c.specs.FixupsBehind.{fixup_rows_left}
+use Rattle.goblin_mach.specs.FixupsLeft.{reported_first}
+use Rattle.goblin_mach_c.specs.FixupsAfter.{fixup_rows_left}
 use Rattle.goblin_mach_c.proofs.fixups.FixupRowsItemRows.next.Goals as goal
 
 pub returns-in_ok-why-in-Unread-clause-says : goal.returns-in_ok-why-in-Unread-clause-says
 returns-in_ok-why-in-Unread-clause-says c = λ x over.
     let why = c.in_ok-why-in-Unread.why in
-    let told : c.in-Unread.told ≡ Some why = cc (c.in_ok-why-in-Unread.ensures.value) in
+    let reported : c.in-Unread.reported ≡ Some why = cc (c.in_ok-why-in-Unread.ensures.value) in
     let after : c.take.new.self ≡ None = c.in_ok-why-in-Unread.ensures.after in (
       Err (fault_of why),
-      ap fixup_rows_left c.in-Unread.is ∙ ap (λ (o : Option Error). told_first {A = Fixup} o) told
-          ∙ ap (λ (o : Option Error). Err (fault_of why) ∷ told_first {A = Fixup} o) (sym after),
+      ap fixup_rows_left c.in-Unread.is ∙ ap (λ (o : Option Error). reported_first {A = Fixup} o) reported
+          ∙ ap (λ (o : Option Error). Err (fault_of why) ∷ reported_first {A = Fixup} o) (sym after),
       c.refused_row.ensures,
     )

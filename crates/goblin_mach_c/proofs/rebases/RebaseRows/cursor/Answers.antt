@@ -1,6 +1,6 @@
 use Rattle.std.proofs.Common.{refl}
-use Rattle.goblin_mach_c.specs.FixupsBehind.{fixup_rows_left}
-use Rattle.goblin_mach_c.specs.RebasesBehind.{opcodes_left_by}
+use Rattle.goblin_mach_c.specs.FixupsAfter.{fixup_rows_left}
+use Rattle.goblin_mach_c.specs.RebasesAfter.{opcodes_left_by}
 use Rattle.goblin_mach_c.proofs.rebases.RebaseRows.cursor.Goals as goal
 
 pub returns : goal.returns

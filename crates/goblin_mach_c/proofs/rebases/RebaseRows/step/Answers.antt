@@ -1,5 +1,5 @@
 use Rattle.std.proofs.Common.{None, sym, subst}
-use Rattle.goblin_mach_c.specs.RebasesBehind.{AreRebaseRowsOver}
+use Rattle.goblin_mach_c.specs.RebasesAfter.{AreRebaseRowsOver}
 use Rattle.goblin_mach_c.specs.declared.rebases.RebaseRows.{RebaseRows}
 use Rattle.goblin_mach_c.proofs.rebases.RebaseRows.step.Goals.{in-Some+in_default-next_rebase, in_default}
 use Rattle.goblin_mach_c.proofs.rebases.RebaseRows.step.Goals as goal

@@ -3,7 +3,7 @@ use Rattle.mach_base.specs.Fault.{Fault, fault_of}
 use Rattle.mach_dyld.specs.Bindings.{upto_fault}
 use Rattle.mach_dyld.specs.Rebases.{Rebase}
 use Rattle.mach_dyld.specs.RebasesLeft.{rebase_view}
-use Rattle.goblin_mach_c.specs.RebasesBehind.{RebaseFirst, all_rebase_rows_left}
+use Rattle.goblin_mach_c.specs.RebasesAfter.{RebaseFirst, all_rebase_rows_left}
 use Rattle.goblin_mach_c.proofs.rebases.RebaseRowsItemRows.next.Goals as goal
 
 pub returns-in-Ok-clause-says : goal.returns-in-Ok-clause-says

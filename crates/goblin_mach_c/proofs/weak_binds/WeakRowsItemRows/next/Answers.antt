@@ -1,7 +1,7 @@
 use Rattle.std.proofs.Common.{◌∙◌, ◌∷◌, ℕ, List, Option, Ok, Err, IfOk, ap, sym, subst}
 use Rattle.std.specs.Prelude.{Result}
 use Rattle.mach_base.specs.Fault.{Fault, fault_of}
-use Rattle.mach_dyld.specs.BindCursors.{TextStands}
+use Rattle.mach_dyld.specs.BindCursors.{TextIsAt}
 use Rattle.mach_dyld.specs.Sites.{Site}
 use Rattle.mach_dyld.specs.Cut.{cut_range}
 use Rattle.mach_dyld.specs.WeakBinds.{WeakBind}
@@ -10,8 +10,8 @@ use Rattle.mach_c_places.specs.WeakCursors.{name_of_weak, placed_weak_read, weak
 use Rattle.mach_c_places.specs.declared.weak_binds.WeakBindWalk.{WeakBindWalk}
 use Rattle.goblin_mach_c.specs.BindingPlaces.{places_of}
 use Rattle.goblin_mach_c.specs.Sited.{placed}
-use Rattle.goblin_mach_c.specs.WeakBindsBehind.{IsOverWeak, weak_input, weak_left_by, weak_sites_by}
-use Rattle.goblin_mach_c.proofs.FrontStreams.{weak_stands}
+use Rattle.goblin_mach_c.specs.WeakBindsAfter.{IsOverWeak, weak_input, weak_left_by, weak_sites_by}
+use Rattle.goblin_mach_c.proofs.FrontStreams.{weak_occurs}
 use Rattle.goblin_mach_c.proofs.weak_binds.WeakRowsItemRows.next.Goals as goal
 
 abbrev with_places : Option WeakBindWalk → List (Result (WeakBind × ℕ) Fault)
@@ -24,8 +24,8 @@ returns-in-Ok-clause-says c = λ x over.
     let found = c.in_ok-placed-in-Some in
     let new = c.next_placed.new.self in
     let p = c.in-Ok.placed in
-    let text : TextStands o.0.bytes p.name_place (name_of_weak p.row) =
-    subst (λ f. IfOk f (λ q. TextStands o.0.bytes q.name_place (name_of_weak q.row))) c.in-Ok.is (found.ensures.placed input (cut_range o.0) o.4) in
+    let text : TextIsAt o.0.bytes p.name_place (name_of_weak p.row) =
+    subst (λ f. IfOk f (λ q. TextIsAt o.0.bytes q.name_place (name_of_weak q.row))) c.in-Ok.is (found.ensures.placed input (cut_range o.0) o.4) in
     let items = found.ensures.items ∙ ap (λ f. placed_weak_read f ∷ weak_walk_left new) c.in-Ok.is in
     let site = rw c.in-Ok.is at found.ensures.site in (
       Ok (weak_bind_view p.row, p.name_place),
@@ -34,7 +34,7 @@ returns-in-Ok-clause-says c = λ x over.
           ∙ ap (λ (l : List Site). placed (Ok (weak_bind_view p.row) ∷ weak_walk_left new) (places_of l)) site.1,
       record {
         numbers = c.row_of.ensures.numbers;
-        name = c.row_of.ensures.name x.bytes (weak_stands o.1 x.bytes o.0.bytes p.row p.name_place o.3 text);
+        name = c.row_of.ensures.name x.bytes (weak_occurs o.1 x.bytes o.0.bytes p.row p.name_place o.3 text);
       },
     )
 

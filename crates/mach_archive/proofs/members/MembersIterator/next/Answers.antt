@@ -4,7 +4,7 @@ use Rattle.mach_archive.specs.ArchiveViews.{header_view, member_view, names_view
 use Rattle.mach_archive.specs.MemberHeaders.{next_header}
 use Rattle.mach_archive.specs.Members.{MemberView, members_from}
 use Rattle.mach_archive.proofs.MembersRead.{none_left, first_left, fault_left}
-use Rattle.mach_archive.proofs.SymbolsRead.{fewer_behind}
+use Rattle.mach_archive.proofs.SymbolsRead.{fewer_after}
 use Rattle.mach_archive.proofs.members.MembersIterator.next.Goals as goal
 
 pub returns-then-self-clause-steps : goal.returns-then-self-clause-steps
@@ -26,7 +26,7 @@ returns-in-Ok-clause-steps c =
 pub returns-in-Ok-clause-goes : goal.returns-in-Ok-clause-goes
 returns-in-Ok-clause-goes c =
     record {
-      on = λ _. (tt, tt, fewer_behind _ _ _ (returns-in-Ok-clause-steps c));
+      on = λ _. (tt, tt, fewer_after _ _ _ (returns-in-Ok-clause-steps c));
       keeps = tt;
       rests = λ _. tt;
     }
@@ -39,7 +39,7 @@ returns-in-Err-clause-steps c =
 pub returns-in-Err-clause-goes : goal.returns-in-Err-clause-goes
 returns-in-Err-clause-goes c =
     record {
-      on = λ _. (tt, tt, fewer_behind _ _ _ (returns-in-Err-clause-steps c));
+      on = λ _. (tt, tt, fewer_after _ _ _ (returns-in-Err-clause-steps c));
       keeps = tt;
       rests = λ _. tt;
     }

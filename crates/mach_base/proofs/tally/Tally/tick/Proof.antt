@@ -73,13 +73,13 @@ module _ {M : Type 1} {𝓤 : Ura M} (𝓛 : Logic 𝓤) (𝓜 : Model 𝓤 𝓛
     abbrev args : Fml
     args = owns (types_at ended.signature.params z.0.0) z.0.3 passed
 
-    abbrev asked : SProp 𝓤
-    asked = (held z.0.0 z.0.3).requires z.1
+    abbrev selected : SProp 𝓤
+    selected = (held z.0.0 z.0.3).requires z.1
 
     walks : Goes passed
     walks =
         let r = z.0.3.0 in let a' : A.Denot = record { marker = a.marker; count = a.count + 1 } in
-        qed 𝓛 (((‵ (flft z.0.0.0 z.0.1.0) ⊛ ‵ ftrue) ⊛ ‵ args) ∷ raw asked ∷ []) ∵ split ! $ split ! $ move ! (1 ∷ []) $
+        qed 𝓛 (((‵ (flft z.0.0.0 z.0.1.0) ⊛ ‵ ftrue) ⊛ ‵ args) ∷ raw selected ∷ []) ∵ split ! $ split ! $ move ! (1 ∷ []) $
         move ! (2 ∷ []) $ fsplit ! $ fsplit3 ! $ drop ! $ keep ! (0 ∷ 1 ∷ 4 ∷ []) $
         enter ! 𝓣.C 𝓣.Λ function (u ∷ []) _ $ alloc_all ! (λ l. pass_all ! refl ((tt, tt), tt) $
         opens ! tt A r.ref_ptr.0 r.ref_ptr.1 (λ cs. closes ! tt A a' cs r.ref_ptr.0 r.ref_ptr.1 $
@@ -97,7 +97,7 @@ module _ {M : Type 1} {𝓤 : Ura M} (𝓛 : Logic 𝓤) (𝓜 : Model 𝓤 𝓛
       (λ z. let a = z.0.3 in let vss = z.0.4 in let Rs : List RattleType = types_at ended.signature.params z.0.0 in
       let On : SProp 𝓤 = on_entry 𝓛 ended.signature z.0.0 z.0.1 a vss in
       fact_use 𝓤 (Are Rs (Ises Rs) a vss)
-      (via 𝓤 (sem 𝓛 (owns Rs a vss)) (via 𝓤 On (fst∗ 𝓤 On (asked z)) (snd∗ 𝓤 (alive 𝓛 ended.signature z.0.0 z.0.1) (sem 𝓛 (owns Rs a vss))))
+      (via 𝓤 (sem 𝓛 (owns Rs a vss)) (via 𝓤 On (fst∗ 𝓤 On (selected z)) (snd∗ 𝓤 (alive 𝓛 ended.signature z.0.0 z.0.1) (sem 𝓛 (owns Rs a vss))))
       (owns_show 𝓛 Rs (Ises Rs) (showss 𝓛 Rs) a vss)) (λ are.
       subst (Goes z) (λ i. (sym are.0.0 i, tt)) (walks z)))
 

@@ -6,7 +6,7 @@ use Rattle.mach_dyld.specs.Cut.{cut_input, cut_range}
 use Rattle.mach_dyld.specs.WeakBinds.{weak_binds_in}
 use Rattle.mach_dyld.specs.WeakBindsLeft.{first_weak, weak_rules}
 use Rattle.mach_dyld.specs.StreamsMove.{weak_reads}
-use Rattle.mach_dyld.specs.declared.weak_binds.WeakExtra.{WeakExtra}
+use Rattle.mach_dyld.specs.declared.weak_binds.WeakBindSettings.{WeakBindSettings}
 use Rattle.mach_dyld.proofs.WeakRun.{weak_at_start}
 use Rattle.mach_c_places.specs.Ranges.{range_view}
 use Rattle.mach_c_places.specs.WeakCursors.{AreWeakSites}
@@ -19,7 +19,7 @@ returns-clause-items c =
     let x = cut_input s (pointer_size c.args.ctx.container) (map segment_view c.args.segments.now) in
     let r = cut_range s in
     let items = c.stream.ensures.items ∙ ap (λ (t : State). items_of weak_rules x r c.first-first.result t) c.start-state.ensures.state
-    ∙ ap (λ (m : WeakExtra). items_of weak_rules x r m (start_of r)) c.first-first.ensures in
+    ∙ ap (λ (m : WeakBindSettings). items_of weak_rules x r m (start_of r)) c.first-first.ensures in
     let found = starts_alone weak_rules weak_reads x r r refl first_weak (weak_binds_in x r) (weak_at_start x r) _
     (reads_of weak_rules x r (start_of r)) items refl in
     (found.0, found.1)

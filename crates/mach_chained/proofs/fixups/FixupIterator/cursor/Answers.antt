@@ -1,6 +1,6 @@
 use Rattle.std.proofs.Common.{◌∙◌, sym, ap, Bool}
 use Rattle.mach_chained.specs.Fixups.{FixupInput, Span}
-use Rattle.mach_chained.specs.FixupCursors.{fixups_behind, next_place_said}
+use Rattle.mach_chained.specs.FixupCursors.{fixups_after, next_place_said}
 use Rattle.mach_base.specs.Number.{says_yes}
 use Rattle.mach_chained.specs.FixupsLeft.{fixups_left, fixups_unless_ended}
 use Rattle.mach_chained.specs.WalkViews.{fixup_input_of, span_view}
@@ -28,7 +28,7 @@ returns c = λ x over.
       ended = c.flag-2.result;
     } in
     let span = known_span y it.opened (span_view it.span) c.flag.result c.flag.ensures over.known in
-    ap (λ (i : FixupInput). fixups_behind i k) (sym over.source)
+    ap (λ (i : FixupInput). fixups_after i k) (sym over.source)
     ∙ ap (λ (s : Span). fixups_unless_ended (says_yes k.ended) y s (next_place_said n.0 n.1 n.2 n.3) it.page it.next_page it.segment) span
     ∙ ap (λ (b : Bool). fixups_unless_ended b y (span_view it.span) (next_place_said n.0 n.1 n.2 n.3) it.page it.next_page it.segment) c.flag-2.ensures
     ∙ ap (λ (p : NextPlace). fixups_unless_ended it.ended y (span_view it.span) p it.page it.next_page it.segment) c.numbers_of-next.ensures

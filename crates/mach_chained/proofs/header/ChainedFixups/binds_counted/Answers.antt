@@ -5,7 +5,7 @@ use Rattle.mach_chained.specs.Bindings.{AreBindingItems}
 use Rattle.mach_chained.specs.WalkViews.{fixup_input_in}
 use Rattle.mach_parts.specs.Bindings.{binding_read}
 use Rattle.mach_base.specs.Text.{texts}
-use Rattle.mach_chained.specs.BindingViews.{bindings_seen, chained_bindings_left}
+use Rattle.mach_chained.specs.BindingViews.{bindings_view, chained_bindings_left}
 use Rattle.mach_chained.proofs.Chained.{one_list}
 use Rattle.mach_chained.proofs.BindingLists.{oks, listed, refuses, has_none}
 use Rattle.mach_chained.proofs.header.ChainedFixups.binds_counted.Goals as goal
@@ -19,7 +19,7 @@ returns-in-Some-Err-clause-only g c = λ list l.
     let rest = chained_bindings_left c.step.new.self in
     let there : chained_bindings_left c.binds.left ≡ Err (fault_of c.in-Some-Err.e) ∷ rest =
     c.in-Some-Err.ensures.items ∙ ap (λ r. binding_read r ∷ rest) c.in-Some-Err.field-0-is in
-    absurd (has_none x libs (chained_bindings_left c.start_bindings-left.result) are (bindings_seen c.binds.found.items)
+    absurd (has_none x libs (chained_bindings_left c.start_bindings-left.result) are (bindings_view c.binds.found.items)
     (chained_bindings_left c.binds.left) rest c.binds.invariant.items c.in-Some-Err.e there list l)
 
 pub returns-in-Some-Err-clause-refused : goal.returns-in-Some-Err-clause-refused
@@ -31,7 +31,7 @@ returns-in-Some-Err-clause-refused g c =
     let rest = chained_bindings_left c.step.new.self in
     let there : chained_bindings_left c.binds.left ≡ Err (fault_of c.in-Some-Err.e) ∷ rest =
     c.in-Some-Err.ensures.items ∙ ap (λ r. binding_read r ∷ rest) c.in-Some-Err.field-0-is in
-    refuses x libs (chained_bindings_left c.start_bindings-left.result) are (bindings_seen c.binds.found.items)
+    refuses x libs (chained_bindings_left c.start_bindings-left.result) are (bindings_view c.binds.found.items)
     (chained_bindings_left c.binds.left) rest c.binds.invariant.items c.in-Some-Err.e there
 
 pub returns-in-Some-Err-clause-bounded : goal.returns-in-Some-Err-clause-bounded
@@ -45,7 +45,7 @@ returns-clause-listed g c =
     let libs = texts c.args.libs.now in
     let it = c.start_bindings-left.ensures in
     let are : AreBindingItems x libs (chained_bindings_left c.start_bindings-left.result) = (fixup_items it.0 it.1, (it.0, it.1, it.2, refl), it.3) in
-    let list = bindings_seen c.binds.found.items in
+    let list = bindings_view c.binds.found.items in
     let whole : chained_bindings_left c.start_bindings-left.result ≡ oks list =
     c.binds.invariant.items ∙ ap (λ m. oks list ++ m) c.in-None.ensures.items.0 ∙ append-nil _ in
     listed x libs (chained_bindings_left c.start_bindings-left.result) list are whole
@@ -56,7 +56,7 @@ returns-clause-reads g c =
     let libs = texts c.args.libs.now in
     let it = c.start_bindings-left.ensures in
     let are : AreBindingItems x libs (chained_bindings_left c.start_bindings-left.result) = (fixup_items it.0 it.1, (it.0, it.1, it.2, refl), it.3) in
-    let list = bindings_seen c.binds.found.items in
+    let list = bindings_view c.binds.found.items in
     let whole : chained_bindings_left c.start_bindings-left.result ≡ oks list =
     c.binds.invariant.items ∙ ap (λ m. oks list ++ m) c.in-None.ensures.items.0 ∙ append-nil _ in
     let all = listed x libs (chained_bindings_left c.start_bindings-left.result) list are whole in

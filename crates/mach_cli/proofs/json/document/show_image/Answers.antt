@@ -9,15 +9,15 @@ use Rattle.mach_cli.proofs.json.document.show_image.Goals as goal
 
 pub returns-in_ok-write-in-Ok : goal.returns-in_ok-write-in-Ok
 returns-in_ok-write-in-Ok g c = λ bytes opened.
-    let told = c.in-Ok.ensures.shown bytes opened in
+    let reported = c.in-Ok.ensures.shown bytes opened in
     let outcome = c.in-Ok.outcome in (
-      record { text = object_front c.args.heading ++ (told.0 ++ codes "}"); said = []; whole = outcome.whole; left = outcome.left },
-      of_members told.0 outcome.whole outcome.left told.1,
+      record { text = object_front c.args.heading ++ (reported.0 ++ codes "}"); message = []; whole = outcome.whole; left = outcome.left },
+      of_members reported.0 outcome.whole outcome.left reported.1,
       refl,
       refl,
       record {
-        text = three _ _ _ _ (object_front c.args.heading) told.0 (codes "}") c.in_ok-write.ensures.bytes told.2 c.in_ok-write-in-Ok.ensures.bytes;
-        said = Appends-none _;
+        text = three _ _ _ _ (object_front c.args.heading) reported.0 (codes "}") c.in_ok-write.ensures.bytes reported.2 c.in_ok-write-in-Ok.ensures.bytes;
+        message = Appends-none _;
       },
     )
 
@@ -26,13 +26,13 @@ returns-in_ok-refuse_members-in-Err-Memory g c = λ bytes opened.
     let kept = rw (c.in-Err-Memory.is, c.in-Err-Memory.field-0-is) at c.show.ensures.memory in
     let front = object_front c.args.heading in
     let last = error_end (codes "out of memory") in (
-      record { text = front ++ last; said = complaint (g.S.Shows.names c.args.shows.now) (codes "out of memory"); whole = false; left = c.args.left },
+      record { text = front ++ last; message = complaint (g.S.ImageView.names c.args.shows.now) (codes "out of memory"); whole = false; left = c.args.left },
       without_memory,
       refl,
       refl,
       record {
         text = Appends-both _ _ _ front last (Appends-nothing _ _ _ front c.in_ok-write.ensures.bytes kept)
             c.in_ok-refuse_members-in-Err-Memory.ensures.text;
-        said = c.in_ok-refuse_members-in-Err-Memory.ensures.said;
+        message = c.in_ok-refuse_members-in-Err-Memory.ensures.message;
       },
     )

@@ -9,28 +9,28 @@ use Rattle.mach_cli.proofs.json.document.show_one.Goals as goal
 pub returns-then-not-takes : goal.returns-then-not-takes
 returns-then-not-takes g c = λ bytes opened.
     IfOk-weaker c.refuse.result _ _
-    (λ whole told. (
-      refused_for (g.S.Shows.names c.args.shows.now) c.args.name.now (other_words c.args.cpu) c.args.limit,
+    (λ whole reported. (
+      refused_for (g.S.ImageView.names c.args.shows.now) c.args.name.now (other_words c.args.cpu) c.args.limit,
       of_other_image (taken_of c.args.cpu bytes _ false opened (sym c.takes.ensures ∙ c.if-not-takes.true)),
-      sym told.0,
-      record { text = told.1; said = told.2 },
+      sym reported.0,
+      record { text = reported.1; message = reported.2 },
     ))
     c.refuse.ensures
 
 pub returns : goal.returns
 returns g c = λ bytes opened.
-    let told = c.in_ok-outcome.ensures bytes opened in
-    let shown = told.0 in (
+    let reported = c.in_ok-outcome.ensures bytes opened in
+    let shown = reported.0 in (
       record {
         text = document_of (codes "image") c.args.name.now (shown.text ∷ []);
-        said = shown.said;
+        message = shown.message;
         whole = shown.whole;
         left = shown.left;
       },
-      of_one_image shown (taken_of c.args.cpu bytes _ true opened (sym c.takes.ensures ∙ c.if-not-takes.false)) told.1,
-      told.2,
+      of_one_image shown (taken_of c.args.cpu bytes _ true opened (sym c.takes.ensures ∙ c.if-not-takes.false)) reported.1,
+      reported.2,
       record {
-        text = one_object _ _ _ _ (codes "image") c.args.name.now shown.text c.in_ok-write.ensures.bytes told.4.text c.in_ok-end.ensures;
-        said = told.4.said;
+        text = one_object _ _ _ _ (codes "image") c.args.name.now shown.text c.in_ok-write.ensures.bytes reported.4.text c.in_ok-end.ensures;
+        message = reported.4.message;
       },
     )

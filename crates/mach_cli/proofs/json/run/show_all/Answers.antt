@@ -7,5 +7,5 @@ returns-clause-shown g c =
       shown.0,
       shown.1,
       shown.2,
-      record { text = Appends-kept _ _ _ shown.0.text shown.3.text c.in_ok-flush.ensures.bytes; said = shown.3.said },
+      record { text = Appends-kept _ _ _ shown.0.text shown.3.text c.in_ok-flush.ensures.bytes; message = shown.3.message },
     )

@@ -1,6 +1,6 @@
 use Rattle.std.proofs.Common.{◌≡◌}
 use Rattle.mach_cli.proofs.Missed.{missed_from}
-use Rattle.mach_cli.specs.Asked.{are_missed}
+use Rattle.mach_cli.specs.Selected.{are_missed}
 use Rattle.mach_cli.specs.PartsOf.{parts_in, parts_left}
 use Rattle.mach_cli.proofs.parts.selection.is_missed.Given as goal
 

@@ -1,6 +1,6 @@
 use Rattle.mach_dyld.proofs.TrieNames.{◌∙◌, ◌++◌, ◌∷◌, [], refl, sym, ap, subst, arith, ℕ, List, entry, Source, source_trie, HasFound}
 use Rattle.mach_dyld.specs.Exports.{info_of}
-use Rattle.mach_dyld.proofs.TrieBegins.{found_begins, listed_there, fault_there, end_there, begun_there}
+use Rattle.mach_dyld.proofs.TrieBegins.{found_begins, listed_there, fault_there, end_there, started_there}
 use Rattle.mach_dyld.proofs.export_walk.ExportWalk.next_counted.Goals as goal
 
 pub returns-in-None : goal.returns-in-None
@@ -10,7 +10,7 @@ returns-in-None g c =
       record {
         says = λ t libs found h. listed_there w.source t libs h.0 h.1 (c.in-None.ensures.found found h.2 h.3).1;
         cut = λ t libs found h. tt;
-        begun = λ t libs found h. begun_there w.source t libs h.0 h.1 (found_begins found w h.3);
+        started = λ t libs found h. started_there w.source t libs h.0 h.1 (found_begins found w h.3);
         over = λ _. refl;
         goes_on = tt;
       },
@@ -26,7 +26,7 @@ returns-in-Some-Err g c =
       record {
         says = λ t libs found h. fault_there w.source t libs h.0 h.1 c.in-Some-Err.e (given found h.2 h.3).fault;
         cut = λ t libs found h. end_there w.source t libs h.0 h.1 found c.in-Some-Err.e (given found h.2 h.3).ends;
-        begun = λ t libs found h. begun_there w.source t libs h.0 h.1 (found_begins found w h.3);
+        started = λ t libs found h. started_there w.source t libs h.0 h.1 (found_begins found w h.3);
         over = λ off. c.in-Some-Err.ensures.over off;
         goes_on = tt;
       },
@@ -59,7 +59,7 @@ returns-in-Some-Ok g c =
       record {
         says = λ t libs found h. tt;
         cut = λ t libs found h. tt;
-        begun = λ t libs found h. begun_there w.source t libs h.0 h.1 (found_begins found w h.3);
+        started = λ t libs found h. started_there w.source t libs h.0 h.1 (found_begins found w h.3);
         over = λ off. c.in-Some-Ok.ensures.over off;
         goes_on = tt;
       },

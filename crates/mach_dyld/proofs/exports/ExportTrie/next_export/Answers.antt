@@ -17,11 +17,11 @@ returns-then-cursor-self-clause-gives c = λ found given.
     let upto = ap (λ (t : TrieRange). t.upto) c.self.view_is in
     absurd (too_far (omega arith) (omega (arith, c.if-cursor-self.true)) given)
 
-pub returns-then-cursor-stack-clause-begun : goal.returns-then-cursor-stack-clause-begun
-returns-then-cursor-stack-clause-begun c = λ found given. begins_there given
+pub returns-then-cursor-stack-clause-started : goal.returns-then-cursor-stack-clause-started
+returns-then-cursor-stack-clause-started c = λ found given. begins_there given
 
-pub returns-then-cursor-self-clause-begun : goal.returns-then-cursor-self-clause-begun
-returns-then-cursor-self-clause-begun c = λ found given. begins_there given
+pub returns-then-cursor-self-clause-started : goal.returns-then-cursor-self-clause-started
+returns-then-cursor-self-clause-started c = λ found given. begins_there given
 
 pub turns-init : goal.turns-init
 turns-init c = record {
@@ -51,8 +51,8 @@ returns-in-Some-clause-leads c = λ found given info is.
     let gives = turn (c.turns.invariant.gives found given) in
     (subst (λ (x : NextExport). TurnGives c.args.self.now (texts c.args.libs.now) found (Some x) c.turn.new.self c.turn.new.name c.turn.new.stack) is gives).1
 
-pub returns-in-Some-clause-begun : goal.returns-in-Some-clause-begun
-returns-in-Some-clause-begun c = λ found given. begins_there given
+pub returns-in-Some-clause-started : goal.returns-in-Some-clause-started
+returns-in-Some-clause-started c = λ found given. begins_there given
 
 pub turns-preserved : goal.turns-preserved
 turns-preserved c = record {
@@ -70,8 +70,8 @@ turns-preserved c = record {
 pub returns-clause-gives : goal.returns-clause-gives
 returns-clause-gives c = λ found given. over_gives c.turns-test.false (c.turns.invariant.gives found given)
 
-pub returns-clause-begun : goal.returns-clause-begun
-returns-clause-begun c = λ found given. begins_there given
+pub returns-clause-started : goal.returns-clause-started
+returns-clause-started c = λ found given. begins_there given
 
 pub returns-in-Some-clause-full : goal.returns-in-Some-clause-full
 returns-in-Some-clause-full c =

@@ -10,7 +10,7 @@ use Rattle.mach_dyld.proofs.imports.BindInterpreter.stream.Goals as goal
 pub returns-clause-items : goal.returns-clause-items
 unfolding items_left
 returns-clause-items g c =
-    let u = g.M.Makes.rules in
+    let u = g.M.BindRules.rules in
     let x = input_in c.args.self.now (pointer_size c.args.ctx.container) (texts c.args.libs.now) (map segment_view c.args.segments.now) in
     let lazy : Range = record { from = c.self.inside.lazy_from; upto = c.self.inside.lazy_upto; is_lazy = true } in
     ap (λ (i : Input). items_of u i lazy c.first.result (state_of c.start.result)) c.source.ensures.input
@@ -21,7 +21,7 @@ returns-clause-items g c =
 pub returns-clause-reads : goal.returns-clause-reads
 unfolding opcodes_left
 returns-clause-reads g c =
-    let u = g.M.Makes.rules in
+    let u = g.M.BindRules.rules in
     let x = input_in c.args.self.now (pointer_size c.args.ctx.container) (texts c.args.libs.now) (map segment_view c.args.segments.now) in
     let lazy : Range = record { from = c.self.inside.lazy_from; upto = c.self.inside.lazy_upto; is_lazy = true } in
     ap (λ (i : Input). reads_of u i lazy (state_of c.start.result)) c.source.ensures.input
@@ -31,7 +31,7 @@ returns-clause-reads g c =
 pub returns-clause-sites : goal.returns-clause-sites
 unfolding sites_left
 returns-clause-sites g c =
-    let u = g.M.Makes.rules in
+    let u = g.M.BindRules.rules in
     let x = input_in c.args.self.now (pointer_size c.args.ctx.container) (texts c.args.libs.now) (map segment_view c.args.segments.now) in
     let lazy : Range = record { from = c.self.inside.lazy_from; upto = c.self.inside.lazy_upto; is_lazy = true } in
     ap (λ (i : Input). sites_of (reader_by u i) lazy (site_in c.start.result.settings) (state_of c.start.result)) c.source.ensures.input

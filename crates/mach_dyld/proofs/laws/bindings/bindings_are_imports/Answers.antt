@@ -1,5 +1,5 @@
-use Rattle.mach_dyld.proofs.BindingImports.{tell_the_same}
+use Rattle.mach_dyld.proofs.BindingImports.{report_the_same}
 use Rattle.mach_dyld.proofs.laws.bindings.bindings_are_imports.Goals as goal
 
 pub returns : goal.returns
-returns c = tell_the_same
+returns c = report_the_same

@@ -29,8 +29,8 @@ rounds-preserved c =
     let same = c.shorter-short.ensures.same limit in
     let above : limit ≤ short.first = let test = c.if-short-limit.false in omega (arith, test) in
     let small : limit < short.step = let test = c.if-short-limit-2.false in omega (arith, test) in
-    let behind = c.behind_starts-turns.ensures.same limit above small in
+    let following = c.after_starts-turns.ensures.same limit above small in
     record {
-      ring = c.behind_starts-turns.ensures.ring;
-      same = (λ h. c.rounds.invariant.same.0 (same.0 (behind.0 h)), λ h. behind.1 (same.1 (c.rounds.invariant.same.1 h)));
+      ring = c.after_starts-turns.ensures.ring;
+      same = (λ h. c.rounds.invariant.same.0 (same.0 (following.0 h)), λ h. following.1 (same.1 (c.rounds.invariant.same.1 h)));
     }

@@ -1,7 +1,7 @@
 use Rattle.std.proofs.Common.{refl, subst, arith}
 use Rattle.std.proofs.lemmas.Result.{err_from_is_err_and}
 use Rattle.std.specs.Prelude.{option_map}
-use Rattle.mach_base.proofs.Faults.{Stands-failed}
+use Rattle.mach_base.proofs.Faults.{ErrorMeets-failed}
 use Rattle.mach_dyld.specs.LookUp.{FaultOnWay, at_node_on_way}
 use Rattle.mach_dyld.specs.Exports.{info_of}
 use Rattle.mach_dyld.specs.Finds.{here, below}
@@ -9,7 +9,7 @@ use Rattle.mach_dyld.specs.LookUpState.{ComesTo}
 use Rattle.mach_dyld.specs.Views.{source_trie, node_in}
 use Rattle.mach_dyld.proofs.LookUps.{ok_in}
 use Rattle.mach_dyld.proofs.LookUpFollows as follow
-use Rattle.mach_dyld.proofs.LookUpPaths.{stands_behind}
+use Rattle.mach_dyld.proofs.LookUpPaths.{occurs_after}
 use Rattle.mach_dyld.proofs.trie.look_up.look_up.Goals as goal
 
 pub returns-then-start-source-clause-found : goal.returns-then-start-source-clause-found
@@ -24,7 +24,7 @@ pub returns-in_err-info-clause-refused : goal.returns-in_err-info-clause-refused
 returns-in_err-info-clause-refused g c =
     let p = err_from_is_err_and c.from_residual.result c.from_residual.ensures.1 in
     let h = c.turns.invariant in
-    rw (p.1, p.2) (Stands-failed (FaultOnWay (source_trie c.args.source.now) c.args.source.now.from c.args.name.now) c.in_err-info.field-0.0
+    rw (p.1, p.2) (ErrorMeets-failed (FaultOnWay (source_trie c.args.source.now) c.args.source.now.from c.args.name.now) c.in_err-info.field-0.0
     (node_in c.args.source.now c.turns.start)
     (λ f e. at_node_on_way f h.path c.turns.start ((c.turns.start, h.leads, h.inside), c.turns.rest.now, h.spelled) h.leads e) c.in_err-info.ensures.err)
 
@@ -102,7 +102,7 @@ returns-in-Open-clause-found g c =
 pub returns-in-Open-clause-refused : goal.returns-in-Open-clause-refused
 returns-in-Open-clause-refused g c =
     let h = c.turns.invariant in
-    stands_behind (source_trie c.args.source.now) h.path c.args.source.now.from c.turns.start c.args.name.now c.turns.rest.now c.search.result h.leads
+    occurs_after (source_trie c.args.source.now) h.path c.args.source.now.from c.turns.start c.args.name.now c.turns.rest.now c.search.result h.leads
     h.spelled c.search.ensures.refused
 
 pub returns-in-Open-clause-visits : goal.returns-in-Open-clause-visits

@@ -2,7 +2,7 @@ use Rattle.mach_dyld.proofs.TrieNames.{◌≢◌, refl, arith, err_from_is_err_a
 use Rattle.mach_dyld.specs.Exports.{info_of}
 use Rattle.mach_dyld.specs.Views.{own_in}
 use Rattle.mach_base.proofs.Faults.{FailsAs-read}
-use Rattle.mach_dyld.proofs.LookUpNodes.{size_fails, behind_size, own_fails}
+use Rattle.mach_dyld.proofs.LookUpNodes.{size_fails, after_size, own_fails}
 use Rattle.mach_dyld.proofs.Nowhere.{node_there, list_fails}
 use Rattle.mach_dyld.proofs.trie.look_up.read_node.Goals as goal
 
@@ -29,7 +29,7 @@ returns-in_err-own-clause-value g c =
     let s = c.args.source.now in
     let e = c.in_err-own.field-0.0 in
     let some : c.in_ok-size.size ≢ 0 = λ z. absurd (omega arith) in
-    rw (p.1, p.2) (rw (behind_size s c.args.start c.in_ok-size.size c.in_ok-size.place c.in_ok-size.ensures.value)
+    rw (p.1, p.2) (rw (after_size s c.args.start c.in_ok-size.size c.in_ok-size.place c.in_ok-size.ensures.value)
     (own_fails s c.in_ok-size.size c.in_ok-size.place e some (FailsAs-read e (own_in s c.in_ok-size.size c.in_ok-size.place) c.in_err-own.ensures)))
 
 pub returns-in_err-branches-clause-value : goal.returns-in_err-branches-clause-value

@@ -3,7 +3,7 @@ use Rattle.std.proofs.Common.{subst, ◌∙◌, arith, length-append}
 use Rattle.std.proofs.lemmas.Bool.{cases_eq}
 use Rattle.std.proofs.lemmas.List.{nil_from_length}
 use Rattle.std.proofs.lemmas.Result.{err_from_is_err_and}
-use Rattle.mach_base.proofs.Faults.{Stands-failed}
+use Rattle.mach_base.proofs.Faults.{ErrorMeets-failed}
 use Rattle.mach_dyld.specs.LookUp.{FaultOnWay}
 use Rattle.mach_dyld.specs.Exports.{info_of}
 use Rattle.mach_dyld.specs.Views.{node_of}
@@ -119,7 +119,7 @@ settle-others-requires-clause-readable g c =
 pub returns-in_err-own-clause-refused : goal.returns-in_err-own-clause-refused
 returns-in_err-own-clause-refused g c =
     let p = err_from_is_err_and c.from_residual-in_err-own.result c.from_residual-in_err-own.ensures.1 in
-    rw (p.1, p.2) (Stands-failed (FaultOnWay (source_trie c.args.source.now) c.args.root c.args.name.now) c.in_err-own.field-0.0
+    rw (p.1, p.2) (ErrorMeets-failed (FaultOnWay (source_trie c.args.source.now) c.args.root c.args.name.now) c.in_err-own.field-0.0
     (node_in c.args.source.now c.read_again-start.result.0.start)
     (λ f e. turn.child_fault _ _ _
     (turn.takes _ _ _ c.rest_at-rest.ensures c.turns.invariant.0 c.settle-branches.ensures.readable c.settle-branches.ensures.settles

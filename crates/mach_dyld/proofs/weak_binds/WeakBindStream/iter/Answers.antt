@@ -8,7 +8,7 @@ use Rattle.mach_dyld.specs.CutViews.{cut_view}
 use Rattle.mach_dyld.specs.WeakBinds.{AreWeakBinds, weak_binds_in}
 use Rattle.mach_dyld.specs.WeakBindsLeft.{first_weak, weak_rules}
 use Rattle.mach_dyld.specs.StreamsMove.{weak_reads}
-use Rattle.mach_dyld.specs.declared.weak_binds.WeakExtra.{WeakExtra}
+use Rattle.mach_dyld.specs.declared.weak_binds.WeakBindSettings.{WeakBindSettings}
 use Rattle.mach_dyld.proofs.WeakRun.{weak_at_start}
 use Rattle.mach_dyld.proofs.weak_binds.WeakBindStream.iter.Goals as goal
 
@@ -20,7 +20,7 @@ returns c =
     let x = cut_input s pointer segments in
     let r = cut_range s in
     let items = c.alone.ensures.items ∙ ap (λ (i : Input). items_of weak_rules i r c.first.result (start_of r)) c.source.ensures
-    ∙ ap (λ (m : WeakExtra). items_of weak_rules x r m (start_of r)) c.first.ensures in
+    ∙ ap (λ (m : WeakBindSettings). items_of weak_rules x r m (start_of r)) c.first.ensures in
     let reads = c.alone.ensures.reads ∙ ap (λ (i : Input). reads_of weak_rules i r (start_of r)) c.source.ensures in
     subst (λ (t : CutStream).
     (ps : List Placed) × AreWeakBinds (cut_input t pointer segments) (cut_range t) ps (items_left weak_rules c.alone.result)

@@ -2,7 +2,7 @@ use Rattle.std.proofs.Common.{ℕ, List, ◌∷◌, Result, Err, sym, ap, ◌∙
 use Rattle.mach_base.specs.Fault.{Fault, fault_of}
 use Rattle.mach_records.specs.declared.versions.BuildToolVersion.{BuildToolVersion}
 use Rattle.mach_load.specs.TablesLeft.{tools_view}
-use Rattle.mach_load.proofs.StartsRead.{fewer_behind}
+use Rattle.mach_load.proofs.StartsRead.{fewer_after}
 use Rattle.mach_load.proofs.ToolsRead.{tool_first, tool_fault, tools_end}
 use Rattle.mach_load.proofs.build_tools.BuildToolIteratorIterator.next.Goals as goal
 
@@ -15,7 +15,7 @@ returns-in-Ok-clause-steps c =
 pub returns-in-Ok-clause-goes : goal.returns-in-Ok-clause-goes
 returns-in-Ok-clause-goes c =
     record {
-      on = λ _. (tt, tt, fewer_behind _ _ _ (returns-in-Ok-clause-steps c));
+      on = λ _. (tt, tt, fewer_after _ _ _ (returns-in-Ok-clause-steps c));
       keeps = tt;
       rests = λ _. tt;
     }
@@ -33,7 +33,7 @@ returns-in-Err-clause-steps c =
 pub returns-in-Err-clause-goes : goal.returns-in-Err-clause-goes
 returns-in-Err-clause-goes c =
     record {
-      on = λ _. (tt, tt, fewer_behind _ _ _ (returns-in-Err-clause-steps c));
+      on = λ _. (tt, tt, fewer_after _ _ _ (returns-in-Err-clause-steps c));
       keeps = tt;
       rests = λ _. tt;
     }

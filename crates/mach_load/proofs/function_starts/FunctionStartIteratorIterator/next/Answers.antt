@@ -1,6 +1,6 @@
 use Rattle.std.proofs.Common.{Ok, ap, ◌∙◌, arith}
 use Rattle.mach_base.specs.Fault.{fault_of}
-use Rattle.mach_load.proofs.StartsRead.{none_left, first_left, end_left, fault_left, fewer_behind}
+use Rattle.mach_load.proofs.StartsRead.{none_left, first_left, end_left, fault_left, fewer_after}
 use Rattle.mach_load.proofs.function_starts.FunctionStartIteratorIterator.next.Goals as goal
 
 pub returns-then-self-clause-steps : goal.returns-then-self-clause-steps
@@ -17,7 +17,7 @@ returns-in-Ok-Some-clause-steps c =
 pub returns-in-Ok-Some-clause-goes : goal.returns-in-Ok-Some-clause-goes
 returns-in-Ok-Some-clause-goes c =
     record {
-      on = λ _. (tt, tt, fewer_behind _ _ _ (returns-in-Ok-Some-clause-steps c));
+      on = λ _. (tt, tt, fewer_after _ _ _ (returns-in-Ok-Some-clause-steps c));
       keeps = tt;
       rests = λ _. tt;
     }
@@ -37,7 +37,7 @@ returns-in-Err-clause-steps c =
 pub returns-in-Err-clause-goes : goal.returns-in-Err-clause-goes
 returns-in-Err-clause-goes c =
     record {
-      on = λ _. (tt, tt, fewer_behind _ _ _ (returns-in-Err-clause-steps c));
+      on = λ _. (tt, tt, fewer_after _ _ _ (returns-in-Err-clause-steps c));
       keeps = tt;
       rests = λ _. tt;
     }

@@ -4,7 +4,7 @@ use Rattle.mach_load.specs.LinkerOptions.{options_of}
 use Rattle.mach_load.specs.TablesLeft.{texts_view}
 use Rattle.mach_load.proofs.ListsRead.{lists_end}
 use Rattle.mach_load.proofs.OptionsRead.{option_first, option_fault}
-use Rattle.mach_load.proofs.StartsRead.{fewer_behind}
+use Rattle.mach_load.proofs.StartsRead.{fewer_after}
 use Rattle.mach_load.proofs.linker_options.LinkerOptionIteratorIterator.next.Goals as goal
 
 pub returns-in-Ok-clause-steps : goal.returns-in-Ok-clause-steps
@@ -16,7 +16,7 @@ returns-in-Ok-clause-steps c =
 pub returns-in-Ok-clause-goes : goal.returns-in-Ok-clause-goes
 returns-in-Ok-clause-goes c =
     record {
-      on = λ _. (tt, tt, fewer_behind _ _ _ (returns-in-Ok-clause-steps c));
+      on = λ _. (tt, tt, fewer_after _ _ _ (returns-in-Ok-clause-steps c));
       keeps = tt;
       rests = λ _. tt;
     }
@@ -32,7 +32,7 @@ returns-in-Err-clause-steps c =
 pub returns-in-Err-clause-goes : goal.returns-in-Err-clause-goes
 returns-in-Err-clause-goes c =
     record {
-      on = λ _. (tt, tt, fewer_behind _ _ _ (returns-in-Err-clause-steps c));
+      on = λ _. (tt, tt, fewer_after _ _ _ (returns-in-Err-clause-steps c));
       keeps = tt;
       rests = λ _. tt;
     }

@@ -1,8 +1,8 @@
 use Rattle.std.proofs.Common.{List, take, Some, None, refl, sym, subst}
 use Rattle.std.proofs.lemmas.List.{append-nil}
 use Rattle.mach_base.specs.Fault.{fault_of}
-use Rattle.machaudit.specs.Told.{FaultAt, TellsFirstFaults, faults_of}
-use Rattle.machaudit.proofs.Told.{met_one_more, countable}
+use Rattle.machaudit.specs.Reported.{FaultAt, ReportsFirstFaults, faults_of}
+use Rattle.machaudit.proofs.Reported.{met_one_more, countable}
 use Rattle.machaudit.proofs.tally.Tally.take.Goals as goal
 
 pub returns-in_ok-note-clause-met : goal.returns-in_ok-note-clause-met
@@ -10,13 +10,13 @@ returns-in_ok-note-clause-met g c = λ limit items met.
     let t = c.args.self.now in
     let some = c.in-Some.ensures.0 in
     let few = countable limit items t met some in
-    let tells = c.in_ok-note.ensures.told (faults_of (take limit items)) few met.tells.faults in
+    let reports = c.in_ok-note.ensures.reported (faults_of (take limit items)) few met.reports.faults in
     rw (c.in-Some-error.is, c.in-Some.ensures.1)
-    (met_one_more limit items (Some (c.args.place, fault_of c.in-Some-error.error)) t c.note.new.part met some tells c.in_ok-note.ensures.kept)
+    (met_one_more limit items (Some (c.args.place, fault_of c.in-Some-error.error)) t c.note.new.part met some reports c.in_ok-note.ensures.kept)
 
 pub returns-in_default-error-clause-met : goal.returns-in_default-error-clause-met
 returns-in_default-error-clause-met g c = λ limit items met.
     let t = c.args.self.now in
     let same = append-nil (faults_of (take limit items)) in
-    let tells = subst (λ (fs : List FaultAt). TellsFirstFaults fs t.part) (sym same) met.tells.faults in
-    rw (c.in_default-error.is, c.in-Some.ensures.1) (met_one_more limit items None t t.part met c.in-Some.ensures.0 tells refl)
+    let reports = subst (λ (fs : List FaultAt). ReportsFirstFaults fs t.part) (sym same) met.reports.faults in
+    rw (c.in_default-error.is, c.in-Some.ensures.1) (met_one_more limit items None t t.part met c.in-Some.ensures.0 reports refl)

@@ -4,7 +4,7 @@ use Rattle.mach_archive.specs.MemberNames.{member_name}
 use Rattle.mach_base.proofs.ItemLists.{read_as-Reads}
 use Rattle.mach_base.proofs.Written.{Appends-both}
 use Rattle.mach_cli.specs.Listings.{text_answer}
-use Rattle.machfat.proofs.MembersTold.{name_seen, name_whole}
+use Rattle.machfat.proofs.MembersReported.{name_seen, name_whole}
 use Rattle.machfat.specs.MemberLines.{a_member}
 use Rattle.machfat.proofs.archive.member.print_member.Goals as goal
 

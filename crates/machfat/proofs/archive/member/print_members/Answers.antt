@@ -4,7 +4,7 @@ use Rattle.mach_archive.specs.ArchiveViews.{archive_of, member_read, members_lef
 use Rattle.mach_archive.specs.Members.{AreMembers, MemberView}
 use Rattle.mach_base.specs.Fault.{Fault}
 use Rattle.machfat.proofs.Items.{gone_none}
-use Rattle.machfat.proofs.MembersTold.{member_more, members_cut, members_over}
+use Rattle.machfat.proofs.MembersReported.{member_more, members_cut, members_over}
 use Rattle.machfat.specs.MemberLines.{is_whole_member, member_faults, member_item, member_line}
 use Rattle.machfat.proofs.archive.member.print_members.Goals as goal
 
@@ -25,14 +25,14 @@ members-preserved g c =
     let before = c.members.invariant in
     let item = member_read c.in-Some.answer in
     let rest = members_left c.next.new.self in
-    let told = c.in_ok-whole.ensures in (
+    let reported = c.in_ok-whole.ensures in (
       before.0 ++ item ∷ [],
       subst (λ (items : List (Result MemberView Fault)). AreMembers a.bytes a.names a.begin items)
           (ap (λ left. before.0 ++ left) c.in-Some.ensures.steps ∙ sym (append_assoc before.0 (item ∷ []) rest)) before.1,
       omega (arith, before.2, length-append before.0 (item ∷ [])),
       omega (arith, before.3, c.if-number-left.false),
-      member_more before.0 item told.0 c.members.whole c.in_ok-whole.field-0 _ _ _ before.4 (told.1 ∙ ap (λ number. member_item number item) before.2)
-          told.2 told.3,
+      member_more before.0 item reported.0 c.members.whole c.in_ok-whole.field-0 _ _ _ before.4 (reported.1 ∙ ap (λ number. member_item number item) before.2)
+          reported.2 reported.3,
     )
 
 pub returns-then-number-left : goal.returns-then-number-left

@@ -2,7 +2,7 @@ use Rattle.std.proofs.Common.{◌≡◌, ◌≤◌, ◌++◌, List, Result, leng
 use Rattle.mach_base.specs.Fault.{Fault}
 use Rattle.mach_archive.specs.ArchiveViews.{archive_of, members_left}
 use Rattle.mach_archive.specs.Members.{AreMembers, MemberView}
-use Rattle.machfat.proofs.MembersTold.{MembersGone}
+use Rattle.machfat.proofs.MembersReported.{MembersGone}
 use Rattle.machfat.proofs.archive.member.print_members.Given as goal
 
 abbrev pub invariant-members : goal.invariant-members

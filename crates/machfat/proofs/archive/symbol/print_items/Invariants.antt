@@ -2,7 +2,7 @@ use Rattle.std.proofs.Common.{◌≡◌, ◌≤◌, ◌++◌, List, Result, leng
 use Rattle.mach_base.specs.Fault.{Fault}
 use Rattle.mach_archive.specs.ArchiveViews.{archive_of, archive_symbols_left}
 use Rattle.mach_archive.specs.IndexSymbols.{IndexSymbol}
-use Rattle.machfat.proofs.MembersTold.{SymbolsGone}
+use Rattle.machfat.proofs.MembersReported.{SymbolsGone}
 use Rattle.machfat.proofs.archive.symbol.print_items.Given as goal
 
 abbrev pub invariant-symbols : goal.invariant-symbols

@@ -15,10 +15,10 @@ returns-in-Ok-Some g c =
     let are = subst (λ (found : Option ArchiveSymbols). IfSome found (λ it. AreIndexSymbols (table_left it) 0 (archive_symbols_left it)))
     c.in-Ok-Some.field-0-is c.in-Ok-Some.ensures.items in
     IfOk-weaker c.print_items.result _ _
-    (λ t told. record {
-      text = told.text;
-      are_lines = symbols (table_left it) (archive_symbols_left it) told.text t table are told.are_lines;
-      written = told.written;
+    (λ t reported. record {
+      text = reported.text;
+      are_lines = symbols (table_left it) (archive_symbols_left it) reported.text t table are reported.are_lines;
+      written = reported.written;
     })
     c.print_items.ensures
 

@@ -21,13 +21,13 @@ returns-in-Slots-clause-rows g c =
 pub returns-in-Indirect-clause-rows : goal.returns-in-Indirect-clause-rows
 returns-in-Indirect-clause-rows g c =
     rw c.in-Indirect.is
-    (λ bytes o p. rw (c.begun_indirect-past.ensures.left, c.begun_indirect-past.ensures.past)
+    (λ bytes o p. rw (c.indirect_symbols_in_bounds-past.ensures.left, c.indirect_symbols_in_bounds-past.ensures.past)
     (indirect_rows c.args.image.now bytes o p (indirect_left c.indirect_symbols.result) c.indirect_symbols.ensures))
 
 pub returns-in-Data-clause-rows : goal.returns-in-Data-clause-rows
 returns-in-Data-clause-rows g c =
     rw c.in-Data.is
-    (λ bytes o p. rw (c.begun_data-past.ensures.left, c.begun_data-past.ensures.past)
+    (λ bytes o p. rw (c.data_in_bounds-past.ensures.left, c.data_in_bounds-past.ensures.past)
     (data_rows c.args.image.now bytes o p (data_in_code_left c.data_in_code.result) c.data_in_code.ensures))
 
 pub returns-in-Options-clause-rows : goal.returns-in-Options-clause-rows

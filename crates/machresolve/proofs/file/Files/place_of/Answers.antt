@@ -1,6 +1,6 @@
 use Rattle.std.proofs.Common.{◌∙◌, sym, ap}
 use Rattle.std.specs.Prelude.{position, bytes_eq}
-use Rattle.machresolve.specs.Seen.{file_seen}
+use Rattle.machresolve.specs.ResolveViews.{input_view}
 use Rattle.machresolve.proofs.Places.{position-map}
 use Rattle.machresolve.proofs.file.Files.place_of.Goals as goal
 
@@ -12,4 +12,4 @@ returns-clause-place g c =
     ∙ (sym (position-map (bytes_eq name) (λ k. k.now) files.names.keys)
     ∙ (ap (position (bytes_eq name)) (sym files.named)
     ∙ (position-map (bytes_eq name) (λ f. f.name.now) files.items.items
-    ∙ sym (position-map (λ f. bytes_eq name f.name) file_seen files.items.items))))
+    ∙ sym (position-map (λ f. bytes_eq name f.name) input_view files.items.items))))

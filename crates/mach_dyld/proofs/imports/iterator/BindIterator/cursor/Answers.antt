@@ -1,6 +1,6 @@
 use Rattle.mach_dyld.proofs.BindNames.{◌∙◌, ap, sym, Input, Range, State, items_left, items_of, input_of, lazy_of, import_rules}
 use Rattle.mach_dyld.specs.BindCursors.{state_in}
-use Rattle.mach_dyld.specs.SiteCursors.{site_seen}
+use Rattle.mach_dyld.specs.SiteCursors.{site_view}
 use Rattle.mach_dyld.specs.Sites.{Site, sites_of}
 unfoldable use Rattle.mach_dyld.specs.Sites.{sites_left}
 use Rattle.mach_dyld.proofs.BindNames.{reader_by, state_of}
@@ -21,7 +21,7 @@ returns-clause-sites c = λ x lazy over.
     let it = c.args.self.now.stream in
     let k = c.cursor.result in
     let reader = reader_by import_rules (input_of it.source) in
-    ap (λ (i : Input). sites_of (reader_by import_rules i) lazy (site_seen i.bytes k) (state_in i.bytes k)) (sym over.source)
-    ∙ ap (λ (r : Range). sites_of reader r (site_seen it.source.bytes.now k) (state_in it.source.bytes.now k)) (sym over.lazy_is)
-    ∙ ap (λ (s : State). sites_of reader (lazy_of it) (site_seen it.source.bytes.now k) s) (c.cursor.ensures.state over.named)
+    ap (λ (i : Input). sites_of (reader_by import_rules i) lazy (site_view i.bytes k) (state_in i.bytes k)) (sym over.source)
+    ∙ ap (λ (r : Range). sites_of reader r (site_view it.source.bytes.now k) (state_in it.source.bytes.now k)) (sym over.lazy_is)
+    ∙ ap (λ (s : State). sites_of reader (lazy_of it) (site_view it.source.bytes.now k) s) (c.cursor.ensures.state over.named)
     ∙ ap (λ (n : Site). sites_of reader (lazy_of it) n (state_of it.state)) (c.cursor.ensures.site over.named)

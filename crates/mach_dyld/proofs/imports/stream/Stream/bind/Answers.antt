@@ -23,7 +23,7 @@ returns-clause-items g c =
       place = it.state.place;
       ended = it.state.ended;
     } in
-    after_bind g.M.Makes.rules g.M.Makes.reads (input_of it.source) (lazy_of it) it.more (state_of it.state) (it.state.count - 1) _ _ k c.requires.on
+    after_bind g.M.BindRules.rules g.M.BindRules.reads (input_of it.source) (lazy_of it) it.more (state_of it.state) (it.state.count - 1) _ _ k c.requires.on
     c.in_ok-item.ensures (ap (with_bind c.advance.new.self.is_lazy) b ∙ ap (λ l. with_bind l (moved it.state.stride (bind_of it.state.settings))) same)
 
 pub returns-clause-reads : goal.returns-clause-reads
@@ -36,7 +36,7 @@ returns-clause-bound g c =
     let it = c.args.self.now in
     let offset = it.state.settings.offset in (
       offset,
-      subst (λ (b : Bind). g.M.Makes.rules.makes (input_of it.source) (record b { offset = offset }) it.more ≡ Ok (g.M.Makes.seen c.in_ok-item.item))
+      subst (λ (b : Bind). g.M.BindRules.rules.makes (input_of it.source) (record b { offset = offset }) it.more ≡ Ok (g.M.BindRules.seen c.in_ok-item.item))
           (sym c.advance.ensures.moved) c.in_ok-item.ensures,
     )
 
@@ -44,7 +44,7 @@ pub returns-clause-site : goal.returns-clause-site
 unfolding sites_left
 returns-clause-site g c =
     let it = c.args.self.now in
-    let reader = reader_by g.M.Makes.rules (input_of it.source) in
+    let reader = reader_by g.M.BindRules.rules (input_of it.source) in
     let k : it.state.count ≡ suc (it.state.count - 1) = omega arith in
     let range : Bool → Range = λ l. record { from = it.state.from; upto = it.state.upto; is_lazy = l } in
     let t : State = record {

@@ -5,10 +5,10 @@ use Rattle.mach_dyld.proofs.imports.stream.Stream.error.Goals as goal
 
 pub returns-in-Instruction : goal.returns-in-Instruction
 returns-in-Instruction g c =
-    at_instruction g.M.Makes.rules g.M.Makes.reads c.args.self c.in-Instruction.byte (g.M.Makes.fault c.unreadable.result)
-    (subst (StopsFor g.M.Makes.rules c.args.self) c.in-Instruction.is c.requires) c.unreadable.ensures
+    at_instruction g.M.BindRules.rules g.M.BindRules.reads c.args.self c.in-Instruction.byte (g.M.BindRules.fault c.unreadable.result)
+    (subst (StopsFor g.M.BindRules.rules c.args.self) c.in-Instruction.is c.requires) c.unreadable.ensures
 
 pub returns-in-Bind : goal.returns-in-Bind
 returns-in-Bind g c =
-    at_bind g.M.Makes.rules g.M.Makes.reads c.args.self (subst (StopsFor g.M.Makes.rules c.args.self) c.in-Bind.is c.requires)
+    at_bind g.M.BindRules.rules g.M.BindRules.reads c.args.self (subst (StopsFor g.M.BindRules.rules c.args.self) c.in-Bind.is c.requires)
     ∙ ap (λ f. Err f ∷ []) (sym c.refusal.ensures)

@@ -4,10 +4,10 @@ use Rattle.mach_dyld.proofs.imports.stream.Stream.has_fault_counted.Given as goa
 
 abbrev pub invariant-instructions : goal.invariant-instructions
 invariant-instructions g l = record {
-  fault : has_fault (items_left g.M.Makes.rules l.fn.self) ≡ has_fault (items_left g.M.Makes.rules l.stream);
-  reads : l.steps + opcodes_left g.M.Makes.rules l.stream ≡ l.initial.steps + opcodes_left g.M.Makes.rules l.fn.self;
+  fault : has_fault (items_left g.M.BindRules.rules l.fn.self) ≡ has_fault (items_left g.M.BindRules.rules l.stream);
+  reads : l.steps + opcodes_left g.M.BindRules.rules l.stream ≡ l.initial.steps + opcodes_left g.M.BindRules.rules l.fn.self;
   kept : l.initial.steps ≤ l.steps;
 }
 
 abbrev pub decreases-instructions : goal.decreases-instructions
-decreases-instructions g l = length (items_left g.M.Makes.rules l.stream)
+decreases-instructions g l = length (items_left g.M.BindRules.rules l.stream)

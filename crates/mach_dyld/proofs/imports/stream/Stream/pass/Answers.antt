@@ -1,19 +1,19 @@
 use Rattle.mach_dyld.proofs.BindNames.{Bool, ◌∙◌, ◌≡◌, ◌+◌, ◌-◌, refl, ap, arith, Bind, State, input_of, lazy_of, state_of, bind_of, items_left, opcodes_left}
 use Rattle.mach_dyld.proofs.BindNames.{reads_of, items_of, after_strides, ◌++◌, sym}
 use Rattle.mach_dyld.specs.BindingFaults.{first_made}
-use Rattle.mach_dyld.proofs.BindingTurns.{pass_items, behind_all}
+use Rattle.mach_dyld.proofs.BindingTurns.{pass_items, following_all}
 use Rattle.mach_dyld.proofs.imports.stream.Stream.pass.Goals as goal
 
 pub returns-clause-items : goal.returns-clause-items
 unfolding items_left
 returns-clause-items g c = λ none.
-    let u = g.M.Makes.rules in
+    let u = g.M.BindRules.rules in
     let it = c.args.self.now in
     let n = c.args.count in
     let s = state_of it.state in
     let there = c.requires.there in
     let parts : it.state.count ≡ it.state.count - n + n = omega (arith, there) in
-    let b = c.advance.ensures.moved ∙ behind_all (bind_of it.state.settings) it.state.stride n c.requires.some in
+    let b = c.advance.ensures.moved ∙ following_all (bind_of it.state.settings) it.state.stride n c.requires.some in
     let with_bind : Bool → Bind → State = λ l d. record {
       range = record { from = it.state.from; upto = it.state.upto; is_lazy = l };
       settings = d;

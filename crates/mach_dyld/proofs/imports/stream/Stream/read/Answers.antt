@@ -15,7 +15,7 @@ returns-in_default-clause-err g c =
       count = c.requires.count;
       on = c.requires.on;
       within = c.requires.within;
-      fault = rw (g.M.Makes.reads.bytes (range_of it.state) it.source.pointer it.source.bytes.now it.state.place _ c.in_default.ensures.value) refl;
+      fault = rw (g.M.BindRules.reads.bytes (range_of it.state) it.source.pointer it.source.bytes.now it.state.place _ c.in_default.ensures.value) refl;
       opcode = λ lt. absurd (omega (arith, past, lt));
     }
 
@@ -23,9 +23,9 @@ pub returns-in-Some-execute-clause-items : goal.returns-in-Some-execute-clause-i
 unfolding items_left
 returns-in-Some-execute-clause-items g c =
     let it = c.args.self.now in
-    let u = g.M.Makes.rules in
+    let u = g.M.BindRules.rules in
     let t = state_of c.execute.new.state in
-    (after_executed u g.M.Makes.reads (input_of it.source) (lazy_of it) it.more (state_of it.state) t
+    (after_executed u g.M.BindRules.reads (input_of it.source) (lazy_of it) it.more (state_of it.state) t
     c.requires.count c.requires.on c.requires.within c.in-Some.byte c.in-Some.ensures.value c.in-Some-execute.ensures.value).items
     ∙ ap (λ m. items_of u (input_of it.source) (lazy_of it) m t) (sym c.set.ensures)
 
@@ -33,7 +33,7 @@ pub returns-in-Some-execute-clause-left : goal.returns-in-Some-execute-clause-le
 unfolding opcodes_left
 returns-in-Some-execute-clause-left g c =
     let it = c.args.self.now in
-    (after_executed g.M.Makes.rules g.M.Makes.reads (input_of it.source) (lazy_of it) it.more (state_of it.state) (state_of c.execute.new.state)
+    (after_executed g.M.BindRules.rules g.M.BindRules.reads (input_of it.source) (lazy_of it) it.more (state_of it.state) (state_of c.execute.new.state)
     c.requires.count c.requires.on c.requires.within c.in-Some.byte c.in-Some.ensures.value c.in-Some-execute.ensures.value).reads
 
 abbrev the_range : ℕ → ℕ → Bool → Range
@@ -47,7 +47,7 @@ unfolding items_left
 returns-in-None-clause-items g c =
     let it = c.args.self.now in
     let same = c.in-None.ensures in
-    still_unreadable g.M.Makes.rules g.M.Makes.reads (input_of it.source) (lazy_of it) it.more (state_of it.state) (state_of c.execute.new.state)
+    still_unreadable g.M.BindRules.rules g.M.BindRules.reads (input_of it.source) (lazy_of it) it.more (state_of it.state) (state_of c.execute.new.state)
     c.requires.count c.requires.on c.requires.within it.more same.value same.count (same.ended ∙ c.requires.on) same.place
     (range_is _ _ _ _ _ _ same.from same.upto same.is_lazy)
 
@@ -69,7 +69,7 @@ pub returns-in-Some-execute-clause-sites : goal.returns-in-Some-execute-clause-s
 unfolding sites_left
 returns-in-Some-execute-clause-sites g c =
     let it = c.args.self.now in
-    let u = g.M.Makes.rules in
+    let u = g.M.BindRules.rules in
     site_executed (reader_by u (input_of it.source)) (lazy_of it) (site_in it.state.settings) (state_of it.state) c.requires.count c.requires.on
-    (g.M.Makes.reads.moves (range_of it.state) it.source.pointer it.source.bytes.now) it.source.pointer (state_of c.execute.new.state)
+    (g.M.BindRules.reads.moves (range_of it.state) it.source.pointer it.source.bytes.now) it.source.pointer (state_of c.execute.new.state)
     (site_in c.execute.new.state.settings) c.requires.within c.in-Some-execute.ensures.value c.in-Some-execute.ensures.site

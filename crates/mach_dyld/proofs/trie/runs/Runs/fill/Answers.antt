@@ -24,9 +24,9 @@ loop-done-init g c =
 pub loop-done-preserved : goal.loop-done-preserved
 loop-done-preserved g c =
     let s = c.args.source.now in
-    let behind : length s.bytes.now - c.loop-done.done - 1 ≡ length s.bytes.now - (c.loop-done.done + 1) = omega arith in
+    let following : length s.bytes.now - c.loop-done.done - 1 ≡ length s.bytes.now - (c.loop-done.done + 1) = omega arith in
     record {
-      tail = subst (λ n. IsTail s n c.back-tail.result) behind c.back-tail.ensures;
+      tail = subst (λ n. IsTail s n c.back-tail.result) following c.back-tail.ensures;
       room = c.raise.ensures.len ∙ c.loop-done.invariant.room;
       barren = raised_barren s c.loop-done.self c.raise.new.self _ _ c.loop-done.invariant.barren c.count_at-count.ensures c.raise.ensures.here
           c.raise.ensures.others;

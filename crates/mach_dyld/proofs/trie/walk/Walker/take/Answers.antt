@@ -1,7 +1,7 @@
 use Rattle.mach_dyld.proofs.TrieNames.{◌≡◌, ◌+◌, ◌-◌, ◌++◌, ◌∙◌, refl, sym, ap, subst, arith, ℕ, suc, List, length, reverse, take, inl, append-nil}
 use Rattle.mach_dyld.proofs.TrieNames.{err_from_is_err_and, IsUtf8, Entry, own_entries, fault_in, info_in, HasFound, node_in}
 use Rattle.mach_dyld.proofs.TrieNames.{source_trie, IsEndOfWalk}
-use Rattle.mach_base.proofs.Faults.{Stands-failed}
+use Rattle.mach_base.proofs.Faults.{ErrorMeets-failed}
 use Rattle.mach_dyld.specs.Trie as trie
 use Rattle.mach_dyld.specs.Nowhere.{AreOpened}
 use Rattle.std.proofs.Math.Logic.{∥∥₁_elim, ∥∥₁_map}
@@ -73,9 +73,9 @@ returns-in_err-own-clause-refused g c =
     rw (p.1, p.2) (λ found n at.
     let off = turn.clear at.1 (omega arith) c.is_marked.ensures c.if-is_marked.false in
     record {
-      fault = Stands-failed (fault_in c.args.self.now.source) c.in_err-own.field-0.0 (node_in c.args.self.now.source c.args.self.now.next.start)
+      fault = ErrorMeets-failed (fault_in c.args.self.now.source) c.in_err-own.field-0.0 (node_in c.args.self.now.source c.args.self.now.next.start)
           (turn.child_fault at.1 (omega arith)) c.in_err-own.ensures.fault;
-      ends = Stands-failed (IsEndOfWalk (source_trie c.args.self.now.source) c.args.self.now.source.from found) c.in_err-own.field-0.0
+      ends = ErrorMeets-failed (IsEndOfWalk (source_trie c.args.self.now.source) c.args.self.now.source.from found) c.in_err-own.field-0.0
           (node_in c.args.self.now.source c.args.self.now.next.start) (turn.ends_at_node at.1 (omega arith)) c.in_err-own.ensures.fault;
       visited = suc n;
       visits = turn.child_visits at.1 (omega arith) off refl;
@@ -163,7 +163,7 @@ returns-clause-found g c = λ found n at.
     let all = subst (AreOpened s node.0) c.in-Some.is node.2 in
     let there = subst (λ (bs : List trie.Branch). node_in s c.args.self.now.next.start ≡ Ok (record { own = info_in c.in_ok-own.own; branches = bs })) all.0
     node.1 in
-    let readable = subst (λ (bs : Option Branches). IfSome bs (λ b. IsReadable s.bytes.now s.from b.behind)) c.in-Some.is c.in_ok-own.ensures.readable in (
+    let readable = subst (λ (bs : Option Branches). IfSome bs (λ b. IsReadable s.bytes.now s.from b.following)) c.in-Some.is c.in_ok-own.ensures.readable in (
       suc n,
       inl (
         at.0,
@@ -187,11 +187,11 @@ pub returns-clause-less : goal.returns-clause-less
 returns-clause-less g c =
     ∥∥₁_elim c.requires le_prop (λ r.
     let off = turn.clear r.2.1 (omega arith) c.is_marked.ensures c.if-is_marked.false in
-    let few = subst (λ (bs : Option Branches). IfSome bs (λ b. b.behind.left + 1 ≤ length c.args.self.now.source.bytes.now)) c.in-Some.is
+    let few = subst (λ (bs : Option Branches). IfSome bs (λ b. b.following.left + 1 ≤ length c.args.self.now.source.bytes.now)) c.in-Some.is
     c.in_ok-own.ensures.few in
     let w = c.args.self.now in
     less_entered w.over (length w.source.bytes.now) w.marks c.mark.new.self w.top
-    (record { left = c.in-Some.branches.behind.left; place = c.in-Some.branches.behind.place; name_len = c.len-name_len.result })
+    (record { left = c.in-Some.branches.following.left; place = c.in-Some.branches.following.place; name_len = c.len-name_len.result })
     (w.next.start - w.source.from) (reverse w.stack.items) (reverse c.keep_below.new.stack.items) r.2.0 (omega (arith, few)) (turn.within
     r.2.1 (omega arith)) off c.mark.ensures
     c.in_ok-keep_below.ensures.kept c.in_ok-keep_below.ensures.used_up)

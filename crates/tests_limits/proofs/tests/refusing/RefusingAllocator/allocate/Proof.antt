@@ -91,8 +91,8 @@ module _ (Z : Al) {M : Type 1} {𝓤 : Ura M} (𝓛 : Logic 𝓤) (at_mem : Memo
     abbrev Tokens : SProp 𝓤
     Tokens = sep 𝓤 (A.lft κ q) (sep 𝓤 (A.lft ρ s) (emp 𝓤))
 
-    abbrev Told : Option (Bor Z.row.Denot) → Type 0
-    Told o = IfSome o (λ h. h.now ≡ r.now.inner)
+    abbrev Reported : Option (Bor Z.row.Denot) → Type 0
+    Reported o = IfSome o (λ h. h.now ≡ r.now.inner)
 
     lent_goes : ρ ⊑ Z.row.lives → ent 𝓤 (sep 𝓤 (sem 𝓛 (hidden_shr (R.the_row (param 0 Z.row)) κ r.now r.ref_ptr.0 r.ref_ptr.1)) Tokens) (Lends.pre at_lent)
     lent_goes le = qed 𝓛 (‵ (hidden_shr (R.the_row (param 0 Z.row)) κ r.now r.ref_ptr.0 r.ref_ptr.1) ∷ raw Tokens ∷ []) ∵
@@ -107,13 +107,13 @@ module _ (Z : Al) {M : Type 1} {𝓤 : Ura M} (𝓛 : Logic 𝓤) (at_mem : Memo
         check ! (ap only e ∙ ap (λ (ws : List Val). live 1 (of_list ws)) (e' ∙ ap (λ (ws : List Val). ws ++ []) e'')) $ keep ! (0 ∷ []) $ done !)))))
 
     abbrev Found : Val → Option (Bor Z.row.Denot) → SProp 𝓤
-    Found v o = guard 𝓤 ((v ≡ shown_val o) × Told o) (sep 𝓤 (sem 𝓛 (seen_if Z κ o)) Tokens)
+    Found v o = guard 𝓤 ((v ≡ shown_val o) × Reported o) (sep 𝓤 (sem 𝓛 (seen_if Z κ o)) Tokens)
 
     lent_Gives : (v : Val) → ent 𝓤 (Lends.post at_lent v) (H.⇛ (ex 𝓤 (Found v)))
     lent_Gives v = qed 𝓛 (raw (Lends.post at_lent v) ∷ []) ∵ updating ! $
         use1 𝓛
         (later (some (λ (o : Option (Bor Z.row.Denot)). (raw Tokens ⊛ ‵ ((Shown Z κ).own_val o (v ∷ [])))
-        ⊛ some (λ (ws : Unit {0} × Unit {0}). ‵ (fsep ftrue ftrue) ⊛ given (Told o) (‵ ftrue))))) (id⊢ 𝓤 _) $ await ! tt $ pick ! (λ o.
+        ⊛ some (λ (ws : Unit {0} × Unit {0}). ‵ (fsep ftrue ftrue) ⊛ given (Reported o) (‵ ftrue))))) (id⊢ 𝓤 _) $ await ! tt $ pick ! (λ o.
         split ! $ split ! $ move ! (1 ∷ []) $ use1 𝓛 (given (v ≡ shown_val o) (‵ (seen_if Z κ o))) (opened o v) $
         learn ! (λ e. move ! (2 ∷ []) $ pick ! (λ ws. split ! $ move ! (1 ∷ []) $ learn ! (λ k.
         at_once ! $ show ! (Found v) o $ check ! (e, k) $ keep ! (2 ∷ 3 ∷ []) $ done !))))
@@ -169,7 +169,7 @@ module _ (Z : Al) {M : Type 1} {𝓤 : Ura M} (𝓛 : Logic 𝓤) (at_mem : Memo
       Then = any_q (after_seq 𝓤 H (Wp 𝓤 H 𝓣.C 𝓣.Λ En (after 2 (here Z).body) (at_return 𝓤 H En Post)) (at_return 𝓤 H En Post))
 
       abbrev had : Option (Bor Z.row.Denot) → List (Item 𝓤)
-      had f = given ((u ≡ shown_val f) × Told Z 𝓛 at_mem run κ ρ q s out r f) (‵ (seen_if Z κ f) ⊛ ‵ (flft κ q) ⊛ ‵ (flft ρ s) ⊛ ‵ ftrue)
+      had f = given ((u ≡ shown_val f) × Reported Z 𝓛 at_mem run κ ρ q s out r f) (‵ (seen_if Z κ f) ⊛ ‵ (flft κ q) ⊛ ‵ (flft ρ s) ⊛ ‵ ftrue)
           ∷ holding 𝓛 En ((3, vint w64 a) ∷ (2, vint w64 n) ∷ (1, vptr r.ref_ptr.0 r.ref_ptr.1) ∷ [])
 
       shown : (f : Option (Bor Z.row.Denot)) → Seq (Go {0}) 𝓛 (had f) (lands 𝓣.C 𝓣.Λ En (place 5 []) u (after 1 (here Z).body) (at_ret En Post))
@@ -219,7 +219,7 @@ module _ (Z : Al) {M : Type 1} {𝓤 : Ura M} (𝓛 : Logic 𝓤) (at_mem : Memo
         use2 𝓛 (raw ((Lends Z 𝓛 at_mem run).pre (at_lent Z 𝓛 at_mem run κ ρ q s out r))) (lent_goes Z 𝓛 at_mem run κ ρ q s out r le) $
         calls_at ! (fm_of 𝓤 H 𝓛.laws 𝓣) (Lends Z 𝓛 at_mem run) ln (at_lent Z 𝓛 at_mem run κ ρ q s out r) (and_then ! (get ! refl) (no_more !)) (λ u.
         use1 𝓛
-        (later (some (λ (f : Option (Bor Z.row.Denot)). given ((u ≡ shown_val f) × Told Z 𝓛 at_mem run κ ρ q s out r f)
+        (later (some (λ (f : Option (Bor Z.row.Denot)). given ((u ≡ shown_val f) × Reported Z 𝓛 at_mem run κ ρ q s out r f)
         (‵ (seen_if Z κ f) ⊛ ‵ (flft κ q) ⊛ ‵ (flft ρ s) ⊛ ‵ ftrue)))) (lent_Gives Z 𝓛 at_mem run κ ρ q s out r u) $ await ! tt $ pick ! (λ f.
         shown fn fa le said l u f)))))
 

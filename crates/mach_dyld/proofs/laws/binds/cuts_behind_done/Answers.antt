@@ -1,5 +1,0 @@
-use Rattle.mach_dyld.proofs.BindCut.{cuts}
-use Rattle.mach_dyld.proofs.laws.binds.cuts_behind_done.Goals as goal
-
-pub returns : goal.returns
-returns c = cuts

@@ -1,0 +1,39 @@
+use Rattle.std.proofs.Common.{◌∙◌, ap}
+use Rattle.machaudit.proofs.Quiet.{one_line}
+use Rattle.machaudit.proofs.Refusals.{whole_refusal}
+use Rattle.machaudit.proofs.Verdicts.{status_bound, status_sound, status_whole, status_faulty}
+use Rattle.machaudit.specs.Foreign.{refusal_in}
+use Rattle.machaudit.specs.Verdicts.{status_of, verdict_of_report}
+use Rattle.machaudit.proofs.output.run.Goals as goal
+
+pub returns-clause-bounds : goal.returns-clause-bounds
+returns-clause-bounds g c = rw (c.status.ensures, c.verdict.ensures) (status_bound (verdict_of_report c.in-Ok.report))
+
+pub returns-clause-sound : goal.returns-clause-sound
+returns-clause-sound g c = λ zero.
+    status_sound (verdict_of_report c.in-Ok.report) c.in-Ok.ensures.judged (rw (c.status.ensures, c.verdict.ensures) at zero)
+
+pub returns-clause-whole : goal.returns-clause-whole
+returns-clause-whole g c = λ zero.
+    status_whole (verdict_of_report c.in-Ok.report) c.in-Ok.ensures.judged (rw (c.status.ensures, c.verdict.ensures) at zero)
+
+pub returns-clause-faulty : goal.returns-clause-faulty
+returns-clause-faulty g c = λ one.
+    status_faulty (verdict_of_report c.in-Ok.report) c.in-Ok.ensures.judged (rw (c.status.ensures, c.verdict.ensures) at one)
+
+pub returns-clause-quiet : goal.returns-clause-quiet
+returns-clause-quiet g c = λ quiet.
+    let v = verdict_of_report c.in-Ok.report in (
+      v,
+      c.status.ensures ∙ ap status_of c.verdict.ensures,
+      c.in-Ok.ensures.judged,
+      one_line c.args.call.name.now v,
+      c.in_ok-write_report.ensures.quiet quiet,
+    )
+
+pub returns-clause-message : goal.returns-clause-message
+returns-clause-message g c = record {
+  refusal = refusal_in c.in-Ok.report;
+  is_refusal = whole_refusal _ c.args.bytes.now c.in-Ok.report c.in-Ok.ensures.reported;
+  message = c.in_ok-say_refusal.ensures;
+}

@@ -1,0 +1,157 @@
+//! What the program prints, and its exit status.
+
+ghost use Rattle.std.specs.Prelude.{◌≡◌, ◌≤◌, ◌⊎◌, [], IfOk, OnOk};
+ghost use Rattle.std.specs.Io.Buffered.{writer_buffer, writer_contents};
+ghost use Rattle.std.specs.Io.KnownBytes.{Appends};
+ghost use Rattle.machaudit.specs.Sound.{IsSound, IsLong};
+ghost use Rattle.mach_cli.specs.Escapes.{IsOneLine};
+ghost use Rattle.mach_cli.specs.Foreigners.{refused_kind};
+ghost use Rattle.machaudit.specs.Foreign.{SaysForeign, foreign_message, kind_message, refusal_in};
+ghost use Rattle.machaudit.specs.Quiet.{quiet_line};
+ghost use Rattle.machaudit.specs.Verdicts.{Judges, status_of, verdict_of_report};
+ghost use Rattle.machaudit.specs.declared.options.Format.TheVariants as formats;
+ghost use Rattle.machaudit.specs.declared.verdict.Verdict.{Verdict};
+
+use crate::audit::audit;
+use crate::json::print_object;
+use crate::options::{Format, Options};
+use crate::report::Report;
+use crate::text::print_report;
+use crate::verdict::Verdict;
+use goblin_mach::Error;
+use mach_cli::{Escaped, Names, ShowFailure, refused_kind};
+use std::alloc::{Allocator, Global};
+use std::io;
+use std::io::{BufWriter, Write};
+
+/// The program's name.
+pub const NAME: &str = "machaudit";
+
+/// How a file is reported.
+#[derive(Clone, Copy, Debug)]
+pub struct Call<'a> {
+    /// The options.
+    pub options: Options,
+    /// The file's name.
+    pub name: &'a str,
+    /// Whether the name is printed before the lines.
+    pub heading: bool,
+}
+
+/// Audits the bytes of a file, prints the report, and returns the exit status.
+///
+/// It is 0 if the file is sound and none of its lists is longer than the limit, else 1. All that is printed has left the buffer
+/// then. With `--quiet` it is one line, which says the same as the status. If the file doesn't open and is not Mach-O, `err` has
+/// a line with its kind.
+pub fn run<A: Allocator + Clone, W: Write + Drop, B: Allocator, E: Write>(
+    alloc: &A,
+    json: Global,
+    call: Call<'_>,
+    bytes: &[u8],
+    out: &mut BufWriter<W, B>,
+    err: &mut E,
+) -> Result<u8, ShowFailure>
+    ensures bounds { IfOk result (λ status. status ≤ 1) }
+    ensures sound { IfOk result (λ status. status ≡ 0 → IsSound bytes.now) }
+    ensures whole { IfOk result (λ status. status ≡ 0 → IsLong call.entry.options.limit bytes.now → ⊥) }
+    ensures faulty { IfOk result (λ status. status ≡ 1 → (IsSound bytes.now → ⊥) ⊎ IsLong call.entry.options.limit bytes.now) }
+    ensures quiet { IfOk result (λ status. call.entry.options.format ≡ formats.Quiet → (v : Verdict) × (status ≡ status_of v)
+        × Judges (IsSound bytes.now) (IsLong call.entry.options.limit bytes.now) v × IsOneLine (quiet_line call.entry.name.now v)
+        × Appends (writer_contents W.contents out.old) (writer_contents W.contents out.new) (quiet_line call.entry.name.now v)) }
+    ensures flushed { OnOk result (writer_buffer out.new ≡ []) }
+    ensures message { OnOk result (SaysForeign call.entry.name.now bytes.now (E.contents err.old) (E.contents err.new)) }
+{
+    let Ok(report) = audit(alloc, bytes, call.options.limit) else {
+        return Err(ShowFailure::Memory);
+    };
+    write_report(json, call, &report, out)?;
+    say_refusal(call.name, bytes, &report, err)?;
+    Ok(status(report.verdict()))
+}
+
+// Prints the kind of a file, if it is refused as a whole and is not Mach-O.
+fn say_refusal<A: Allocator, E: Write>(
+    file: &str,
+    bytes: &[u8],
+    report: &Report<A>,
+    err: &mut E,
+) -> io::Result<()>
+    ensures { OnOk result (Appends (E.contents err.old) (E.contents err.new) (foreign_message file.now bytes.now (refusal_in report.now))) }
+{
+    match report.refusal() {
+        Some(error) => say_foreign(file, bytes, error, err),
+        None => Ok(()),
+    }
+}
+
+// Prints the kind of a file that is refused for an error, if it is not Mach-O.
+fn say_foreign<E: Write>(file: &str, bytes: &[u8], error: &Error, err: &mut E) -> io::Result<()>
+    ensures { OnOk result (Appends (E.contents err.old) (E.contents err.new) (kind_message file.now (refused_kind bytes.now error.now))) }
+{
+    let Some(kind) = refused_kind(bytes, error) else {
+        return Ok(());
+    };
+    let names = Names {
+        program: NAME,
+        file,
+    };
+    writeln!(err, "{names}: {kind}")
+}
+
+// Returns the exit status of a verdict.
+fn status(verdict: Verdict) -> u8
+    ensures { result ≡ status_of verdict }
+{
+    match verdict {
+        Verdict::Sound => 0,
+        Verdict::Unended | Verdict::Faulty => 1,
+    }
+}
+
+// Prints the report of a file and flushes it.
+fn write_report<A: Allocator, W: Write + Drop, B: Allocator>(
+    json: Global,
+    call: Call<'_>,
+    report: &Report<A>,
+    out: &mut BufWriter<W, B>,
+) -> Result<(), ShowFailure>
+    ensures quiet { OnOk result (call.entry.options.format ≡ formats.Quiet
+        → Appends (writer_contents W.contents out.old) (writer_contents W.contents out.new) (quiet_line call.entry.name.now (verdict_of_report report.now))) }
+    ensures flushed { OnOk result (writer_buffer out.new ≡ []) }
+{
+    print(json, call, report, out)?;
+    out.flush()?;
+    Ok(())
+}
+
+// Prints the report of a file.
+fn print<A: Allocator, O: Write>(
+    json: Global,
+    call: Call<'_>,
+    report: &Report<A>,
+    out: &mut O,
+) -> Result<(), ShowFailure>
+    ensures { OnOk result (call.entry.options.format ≡ formats.Quiet
+        → Appends (O.contents out.old) (O.contents out.new) (quiet_line call.entry.name.now (verdict_of_report report.now))) }
+{
+    match call.options.format {
+        Format::Text => {
+            if call.heading {
+                let name = Escaped(call.name);
+                writeln!(out, "{name}:")?;
+            }
+            print_report(report, out)?;
+        }
+        Format::Quiet => print_verdict(call.name, report.verdict(), out)?,
+        Format::Json => print_object(json, call.name, report, out)?,
+    }
+    Ok(())
+}
+
+// Prints the line of a file: whether it is sound.
+fn print_verdict<O: Write>(name: &str, verdict: Verdict, out: &mut O) -> io::Result<()>
+    ensures { OnOk result (Appends (O.contents out.old) (O.contents out.new) (quiet_line name.now verdict)) }
+{
+    let name = Escaped(name);
+    writeln!(out, "{name}: {verdict}")
+}

@@ -1,0 +1,13 @@
+use Rattle.std.proofs.Common.{List}
+use Rattle.mach_base.specs.Text.{texts}
+use Rattle.mach_dyld.specs.Trie.{Entry}
+use Rattle.mach_dyld.specs.Walks.{HasGiven, work_left}
+use Rattle.goblin_mach.specs.OpenImage.{trie_view}
+use Rattle.goblin_mach.specs.Subjects.{trie_or_empty}
+use Rattle.machdump.proofs.output.walk_over.Given as goal
+
+abbrev pub invariant-exports : goal.invariant-exports
+invariant-exports g l = (found : List Entry) × HasGiven (trie_or_empty (trie_view l.image)) (texts l.image.libs.items) found l.walk
+
+abbrev pub decreases-exports : goal.decreases-exports
+decreases-exports g l = work_left l.walk

@@ -1,9 +1,0 @@
-use Rattle.std.proofs.Common.{ap}
-use Rattle.machresolve.specs.Lines.{one_text}
-use Rattle.machresolve.specs.Opened.{call_seen}
-use Rattle.machresolve.specs.Seen.{outcome_seen}
-use Rattle.machresolve.proofs.Printed.{nothing_written}
-use Rattle.machresolve.proofs.run.print_one.Goals as goal
-
-pub returns-in-Refused : goal.returns-in-Refused
-returns-in-Refused g c = nothing_written (g.O.Write.contents c.args.out.now) _ (ap (λ x. one_text (call_seen c.args.call.now) (outcome_seen x)) c.in-Refused.is)

@@ -1,9 +1,0 @@
-use Rattle.std.proofs.Common.{◌≡◌, length}
-use Rattle.machsyms.specs.Listed.{asked_left, source_left}
-use Rattle.machsyms.proofs.listed.AskedSymbols.take_next.Given as goal
-
-abbrev pub invariant-symbols : goal.invariant-symbols
-invariant-symbols l = asked_left l.initial.self ≡ asked_left l.self
-
-abbrev pub decreases-symbols : goal.decreases-symbols
-decreases-symbols l = length (source_left l.self.source)
