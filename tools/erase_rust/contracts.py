@@ -1,0 +1,106 @@
+"""Contracts as documentation: what is proved of a public function, in a form for readers."""
+import re
+
+CLAUSE = re.compile(r"(requires|ensures)(\*?)\s*([A-Za-z_0-9]*)\s*\{(.*)\}\s*\Z", re.S)
+# Predicates on the result: what each of their arguments is said of, and the name of the value that it is said of.
+WRAPPERS = {
+    "IfOk": [("Ok", "x")], "OnOk": [("Ok", "")], "IfErr": [("Err", "e")], "OnErr": [("Err", "")], "IfSome": [("Some", "x")],
+    "IfNone": [("None", "")], "MatchResult": [("Ok", "x"), ("Err", "e")], "MatchOption": [("None", ""), ("Some", "x")],
+}
+MEMORY = "the result is `Ok`, unless memory is refused"
+WHOLE = {"IsOk result": "the result is `Ok`", "IsErr result": "the result is `Err`", "IsOkUnlessMemory result": MEMORY}
+BINDERS = re.compile(r"(?:\((?:[A-Za-z_0-9]+ )+: [^()]*(?:\([^()]*\)[^()]*)*\)\s*)+")
+
+
+def split(text, marks):
+    """The parts of a formula between marks that are in no brackets; a blank counts as one mark."""
+    found, depth, first = [], 0, 0
+    for met in re.finditer(r'"(?:\\.|[^"\\])*"|.', text):
+        depth += {"(": 1, "[": 1, "{": 1, ")": -1, "]": -1, "}": -1}.get(met.group(), 0)
+        if met.group() == marks and depth == 0:
+            found.append(text[first:met.start()].strip())
+            first = met.end()
+    return [part for part in found + [text[first:].strip()] if part]
+
+
+def bare(text):
+    """A formula without brackets around all of it."""
+    return text[1:-1].strip() if text.startswith("(") and text.endswith(")") and len(split(text, " ")) == 1 else text
+
+
+def phrase(text):
+    """A formula in words as far as they are short, and else as code."""
+    text = text.strip()
+    if text in WHOLE:
+        return WHOLE[text]
+    parts, exact = split(text, "→"), split(text, "↔")
+    if len(parts) > 1:
+        return ", ".join([_premise(part) for part in parts[:-1]] + [phrase(parts[-1])])
+    if len(exact) == 2 and re.fullmatch(r"Is(True|Ok|Some|None|Err) result", exact[0]):
+        head = exact[0].split()[0][2:]
+        return "the result is `%s` exactly if `%s`" % (head.lower() if head == "True" else head, bare(exact[1]))
+    words = split(text, " ")
+    if words[0] in WRAPPERS and words[1:2] == ["result"] and len(words) == 2 + len(WRAPPERS[words[0]]):
+        return "; ".join(_case(head, value, bare(word)) for (head, value), word in zip(WRAPPERS[words[0]], words[2:]))
+    met = BINDERS.match(text)
+    if met and text[met.end():].startswith("× "):
+        return "there is `%s` with: %s" % (_names(met.group()), phrase(text[met.end() + 2:]))
+    return "`%s`" % text
+
+
+def _case(head, value, text):
+    """What is said of one form of a result."""
+    bound = re.match(r"λ ([A-Za-z_0-9]+)\. ", text)
+    if value and bound:
+        value, text = bound.group(1), text[bound.end():]
+    elif value:
+        text = "%s %s" % (text, value)
+    return "if `%s`: %s" % ("%s(%s)" % (head, value) if value else head, phrase(text))
+
+
+def _premise(text):
+    """A premise: a condition, or names with their types."""
+    return "for each `%s`" % _names(text) if BINDERS.fullmatch(text) else "if " + phrase(bare(text))
+
+
+def _names(text):
+    """Names with their types, without the brackets."""
+    return "`, `".join(bare(part) for part in split(text, " "))
+
+
+def readable(clause):
+    """A clause as (whether it is a condition for callers, name, text), or None if it speaks to the prover alone."""
+    kind, star, name, body = CLAUSE.match(clause).groups()
+    body = re.sub(r"\.now\b", "", re.sub(r"\s+", " ", body)).strip()
+    return None if star else (kind == "requires", name, phrase(body))
+
+
+def documentation(clauses, has_more):
+    """The lines that document clauses, below other documentation or not."""
+    found = [one for one in map(readable, clauses) if one]
+    needs = "; ".join(text for is_need, _, text in found if is_need)
+    lines = ([""] if has_more else []) + ["# Proved", ""]
+    lines += ["Callers make sure of: %s." % needs, ""] if needs else []
+    lines += ["- %s%s" % ("*%s*: " % name.replace("_", " ") if name else "", text) for is_need, name, text in found if not is_need]
+    return "".join("///%s\n" % (" " + line if line else "") for line in lines) if found else ""
+
+
+def contracts(stream):
+    """Takes the clauses out. Those of public functions and of traits become documentation."""
+    for i in stream.each("fn"):
+        end = stream.seek(i, "{", ";")
+        clauses = [k for k in range(i, end) if stream.tokens[k].kind == "clause"]
+        if not clauses:
+            continue
+        for k in clauses + [end] * (stream.text(end) == "{"):
+            stream.tokens[k].gone = k != end
+            stream.tokens[k - 1].gone = stream.tokens[k - 1].gone or stream.tokens[k - 1].kind == "space"
+        stream.tokens[end].before = " " if stream.text(end) == "{" else ""
+        start, head = stream.item_start(i)
+        if stream.text(head) == "pub" and stream.text(stream.next(head)) != "(" or stream.text(end) == ";":
+            docs = [k for k in range(start, head) if stream.tokens[k].kind == "doc" and not stream.tokens[k].gone]
+            at = stream.next(docs[-1] if docs else start - 1)
+            stream.tokens[at].before += documentation([stream.text(k) for k in clauses], bool(docs))
+    for i, token in enumerate(stream.tokens):
+        if token.kind == "clause" and not token.gone:
+            stream.refuse(i, "a clause in another place: " + " ".join(token.text.split())[:60])

@@ -1,0 +1,52 @@
+"""Tries the tool on small inputs. Each file of `golden` has a case: files of Rattle, each below a line `//// FILE`, and below a line
+`//// result` the files of Rust that they become, or the message with which the tool stops."""
+import os
+import re
+import tempfile
+
+from .lexer import Unknown
+from .project import Project, Stop
+
+FOLDER = os.path.join(os.path.dirname(os.path.abspath(__file__)), "golden")
+CONFIG = "crate base\ncrate case as shown\ncrate more when extra\nmodule case guarded when extra\n"
+MARK = re.compile(r"^//// (\S+)\n", re.M)
+
+
+def files_of(text):
+    """The files of a text, as a dictionary from their names."""
+    parts = MARK.split(text)
+    return dict(zip(parts[1::2], parts[2::2]))
+
+
+def result(files):
+    """What the tool makes of files: files of Rust below lines with their names, or a message."""
+    with tempfile.TemporaryDirectory() as top:
+        for name, text in {"base/lib.rt": "", "more/lib.rt": "", "crates.conf": CONFIG, **files}.items():
+            path = os.path.join(top, name if "." in name.split("/")[0] else "crates/" + name.replace("/", "/src/", 1))
+            os.makedirs(os.path.dirname(path), exist_ok=True)
+            with open(path, "w", encoding="utf-8") as file:
+                file.write(text)
+        try:
+            made = Project(top, os.path.join(top, "crates.conf")).files()
+        except (Unknown, Stop) as error:
+            return "%s\n" % error
+        wanted = {name: text for name, text in made.items() if name != "mod.rs" and text.count("\n") > 2}
+        return "".join("//// %s\n%s" % pair for pair in sorted(wanted.items()))
+
+
+def run(writes):
+    """Tries all cases, or writes what they result in; returns the status."""
+    failed, cases = 0, sorted(os.listdir(FOLDER))
+    for case in cases:
+        path = os.path.join(FOLDER, case)
+        with open(path, encoding="utf-8") as file:
+            given, _, wanted = file.read().partition("//// result\n")
+        found = result(files_of(given))
+        if writes:
+            with open(path, "w", encoding="utf-8") as file:
+                file.write(given + "//// result\n" + found)
+        elif found != wanted:
+            failed += 1
+            print("erase: golden/%s has another result:\n%s" % (case, found))
+    print("%d passed, %d failed" % (len(cases) - failed, failed))
+    return 1 if failed else 0

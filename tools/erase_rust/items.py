@@ -1,0 +1,150 @@
+"""Passes over items and types: what has no meaning in a program goes, and a few forms become Rust's."""
+from .known import ERASED_ATTRIBUTES, KEPT_ATTRIBUTES
+
+FORMATTERS = ("Formatter", "DebugStruct", "DebugList", "DebugTuple", "DebugMap")
+
+
+def ghosts(stream):
+    """Ghost items and fields go."""
+    for i, token in enumerate(stream.tokens):
+        if token.kind == "ghost":
+            token.gone = True
+            if stream.text(stream.prev(i)) == "pub":
+                stream.remove(stream.prev(i))
+
+
+def examples(stream):
+    """Code in documentation is Rattle, so it is marked as text."""
+    is_open = False
+    for token in stream.tokens:
+        if token.kind in ("doc", "inner") and token.text[3:].strip().startswith("```"):
+            token.text = token.text if is_open else token.text[:token.text.index("```")] + "```text"
+            is_open = not is_open
+
+
+def attributes(stream):
+    """What speaks to the prover goes, `Drop` goes out of derives, and `derive_where(X; ..)` becomes `derive(X)`."""
+    for i in stream.each("#"):
+        open_ = stream.next(i)
+        if stream.text(open_) == "!":
+            open_ = stream.next(open_)
+        if stream.text(open_) != "[":
+            stream.refuse(i, "a # without an attribute")
+        name = stream.next(open_)
+        word = stream.text(name)
+        if word in ERASED_ATTRIBUTES:
+            stream.remove(i, stream.close(open_))
+        elif word in ("derive", "derive_where"):
+            _derive(stream, i, name)
+        elif word not in KEPT_ATTRIBUTES or word == "cfg" and not stream.reads(name, "cfg", "(", "test", ")"):
+            stream.refuse(i, "an attribute: " + " ".join(stream.words(open_, stream.close(open_))))
+
+
+def _derive(stream, i, name):
+    """Erases in one derive whose name is at `name`."""
+    body = stream.next(name)
+    if stream.text(name) == "derive_where":
+        stream.replace(name, name, "derive")
+        semicolon = stream.seek(stream.next(body), ";", ")")
+        if stream.text(semicolon) == ";":
+            stream.remove(semicolon, stream.close(body) - 1)
+    parts = stream.parts(body)
+    drops = [n for n, part in enumerate(parts) if stream.words(*part[:2]) == ["Drop"]]
+    if drops and len(parts) == 1:
+        stream.remove(i, stream.close(stream.next(i)))
+        return
+    for n in drops:
+        stream.remove_part(parts, n)
+
+
+def tests(stream):
+    """Modules of tests go."""
+    for i in stream.each("#"):
+        if not stream.reads(i, "#", "[", "cfg", "(", "test", ")", "]"):
+            continue
+        item = stream.next(stream.close(stream.next(i)))
+        if stream.text(item) != "mod":
+            stream.refuse(i, "#[cfg(test)] before another item than a module")
+        stream.remove(i, stream.item_end(item))
+
+
+def models(stream):
+    """`impl Model for ..` and `impl From<AllocFailed<..>> for ..` go."""
+    for i in stream.each("impl"):
+        if stream.text(stream.prev(i)) not in ("", "}", ";", "]"):
+            continue
+        words = stream.words(i, stream.seek(i, "{"))
+        if "for" in words and ("Model" in words[:words.index("for")] or "AllocFailed" in words):
+            stream.remove(stream.item_start(i)[0], stream.item_end(i))
+
+
+def finals(stream):
+    """`final fn` is `fn`."""
+    for i in stream.each("final"):
+        if stream.text(stream.next(i)) in ("fn", "const"):
+            stream.remove(i, i + 1)
+
+
+def clones(stream):
+    """`clone` of an impl returns no Result in Rust."""
+    for i in stream.each("fn"):
+        if not stream.reads(i, "fn", "clone", "("):
+            continue
+        arrow = stream.next(stream.close(stream.arguments(i)))
+        body = stream.seek(arrow, "{")
+        ok = stream.next(body)
+        open_ = stream.next(ok)
+        if stream.text(arrow) != "->" or not stream.reads(ok, "Ok", "(") or stream.next(stream.close(open_)) != stream.close(body):
+            stream.refuse(i, "a clone of another form")
+        stream.remove(stream.close(open_))
+        stream.remove(ok, open_)
+        stream.replace(stream.next(arrow), stream.prev(body), "Self")
+
+
+def formatters(stream):
+    """Formatters have no parameter in Rust: `fn fmt<W: Write>(&self, f: &mut Formatter<W>)`."""
+    for at, word in list(stream.generics()):
+        if word != "fn":
+            continue
+        open_, names = stream.next(stream.close(at)), set()
+        for k in range(open_, stream.close(open_)):
+            if stream.live(k) and stream.text(k) in FORMATTERS and stream.opens_generics(stream.next(k)):
+                writer = stream.next(stream.next(k))
+                names.add(stream.text(writer))
+                stream.replace(writer, writer, "'_" if stream.text(k) == "Formatter" else "'_, '_")
+        parts = stream.parts(at)
+        gone = [n for n, (first, _, _) in enumerate(parts) if stream.text(first) in names]
+        for n in gone:
+            if stream.words(*parts[n][:2])[-1] != "Write":
+                stream.refuse(at, "a formatter of another form")
+        stream.remove_parts(at, gone)
+
+
+def drops(stream):
+    """The bound `Drop` goes: each type of Rust may be dropped."""
+    for i in stream.each("Drop"):
+        before, after = stream.prev(i), stream.next(i)
+        if stream.text(before) == "+":
+            stream.remove(before, i)
+            stream.remove_space(before - 1)
+        elif stream.text(before) == ":" and stream.text(after) == "+":
+            stream.remove(i, after)
+            stream.remove_space(after + 1)
+        elif stream.text(before) == ":":
+            stream.remove(before, i)
+        else:
+            stream.refuse(i, "Drop in another place than a bound or a derive")
+    for i in stream.each("where"):
+        parts = stream.where_parts(i)
+        stream.remove_where(i, [n for n, (first, last, _) in enumerate(parts) if ":" not in stream.words(first, last)])
+
+
+def labels(stream):
+    """Labels that only a proof names go."""
+    used = {stream.text(stream.next(i)) for i in stream.each("break", "continue")}
+    for i in stream.each():
+        if stream.tokens[i].kind != "lifetime" or stream.text(stream.next(i)) != ":" or stream.text(i) in used:
+            continue
+        loop = stream.next(stream.next(i))
+        if stream.text(loop) in ("while", "for", "loop"):
+            stream.remove(i, loop - 1)

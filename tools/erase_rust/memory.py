@@ -1,0 +1,177 @@
+"""Passes for memory: the allocator goes out of types, signatures and calls, and what may be refused memory calls the shim."""
+from .known import FALLIBLE, MAKERS
+
+
+class Allocators:
+    """The allocators of one file. Rust's Vec and String have the global one."""
+
+    def __init__(self, stream, names):
+        self.stream, self.names = stream, names
+        self.lists = list(stream.generics())
+        self.scopes = [scope for at, word in self.lists for scope in self._scopes(at, word)]
+
+    def erase(self):
+        """Erases all allocators."""
+        self.of_types()
+        self.of_bounds()
+        self.of_functions()
+        self.of_fields()
+        self.of_calls()
+
+    def _scopes(self, at, word):
+        """What each name of the generics at a place means, and where: (first, last, name, whether it is an allocator)."""
+        stream = self.stream
+        end = stream.item_end(stream.close(at))
+        for first, last, _ in stream.parts(at):
+            words = stream.words(first, last)
+            is_one = "Allocator" in words[:4] or words[-2:] == ["=", "Global"]
+            yield at, end, words[0], is_one or word == "type" and len(words) == 1 and self._is_last_of_list(words[0], at, end)
+
+    def _is_last_of_list(self, name, first, last):
+        """Whether a name is the last argument of one of std's lists."""
+        stream = self.stream
+        for k in range(first, last):
+            if stream.live(k) and stream.text(k) in ("Vec", "BTreeMap", "String") and stream.opens_generics(stream.next(k)):
+                if stream.text(stream.prev(stream.close(stream.next(k)))) == name:
+                    return True
+        return False
+
+    def is_type(self, i):
+        """Whether the name at i is the type of an allocator."""
+        name = self.stream.text(i)
+        inner = [scope for scope in self.scopes if scope[0] <= i <= scope[1] and scope[2] == name]
+        return name == "Global" or bool(inner) and max(inner)[3]
+
+    def of_types(self):
+        """Parameters and arguments of types."""
+        stream = self.stream
+        for at, _ in self.lists:
+            parts = stream.parts(at)
+            stream.remove_parts(at, [n for n, part in enumerate(parts) if stream.is_name(part[0]) and self.is_type(part[0])])
+        for i in stream.each("<"):
+            if stream.opens_generics(i):
+                stream.remove_parts(i, [n for n, part in enumerate(stream.parts(i)) if self._is_argument(*part[:2])])
+
+    def _is_argument(self, first, last):
+        """Whether an argument of a type is an allocator or a reference to one."""
+        words = [word for word in self.stream.words(first, last) if word[0] not in "&'"]
+        return words == [self.stream.text(last)] and self.is_type(last)
+
+    def of_bounds(self):
+        """Bounds after `where`."""
+        for i in self.stream.each("where"):
+            parts = self.stream.where_parts(i)
+            self.stream.remove_where(i, [n for n, part in enumerate(parts) if self.is_type(part[0])])
+
+    def of_functions(self):
+        """Parameters of functions."""
+        stream = self.stream
+        for i in stream.each("fn"):
+            open_ = stream.arguments(i)
+            if open_ is None:
+                continue
+            parts = stream.parts(open_)
+            for n, (first, last, _) in enumerate(parts):
+                words = stream.words(first, last)
+                if words[1:2] == [":"] and self._is_argument(stream.next(stream.next(first)), last):
+                    self.names.add(words[0])
+                    stream.remove_part(parts, n)
+
+    def of_fields(self):
+        """Fields of structs and of their values."""
+        stream = self.stream
+        for i in stream.each("{"):
+            first = stream.next(i)
+            if stream.text(stream.next(first)) not in (":", ",", "}") and stream.text(first) != "pub":
+                continue
+            parts = stream.parts(i)
+            for n, (first, last, _) in enumerate(parts):
+                words = stream.words(first, last)
+                if words[-2:-1] == [":"] and len(words) <= 4 and words[0] != "where" and self.is_type(last):
+                    self.names.add(words[-3])
+                    stream.remove_part(parts, n)
+                elif len(words) == 1 and words[0] in self.names and len(parts) > 1:
+                    stream.remove_part(parts, n)
+
+    def of_calls(self):
+        """Arguments of calls."""
+        stream = self.stream
+        for i in stream.each("("):
+            parts = stream.parts(i) if self.names else []
+            for n, (first, last, _) in enumerate(parts):
+                words = stream.words(first, last)
+                words = words[1:] if words[:1] in (["&"], ["*"]) else words
+                words = words[2:] if words[:2] == ["self", "."] else words
+                if words and words[0] in self.names and words[1:] in ([], [".", "clone", "(", ")", "?"]):
+                    stream.remove_part(parts, n)
+
+
+def is_statement(stream, i, end):
+    """Whether the call of a method at i, which ends at `end`, is a statement. Then it returns nothing that can fail, since Rattle
+    refuses a Result that nothing uses."""
+    if stream.text(stream.next(end)) != ";":
+        return False
+    k = stream.prev(i)
+    while stream.text(k) in (".", "::", ")", "]") or stream.tokens[k].kind in ("name", "number"):
+        if stream.text(k) == "return":
+            return False
+        k = stream.prev(stream.pair[k] if stream.text(k) in (")", "]") else k)
+    return stream.text(k) in ("{", "}", ";")
+
+
+def calls(stream):
+    """What may be refused memory calls the shim."""
+    for i in stream.each():
+        text, after = stream.text(i), stream.next(i)
+        if not stream.is_name(i):
+            continue
+        if text in FALLIBLE and stream.text(stream.prev(i)) == "." and stream.text(after) == "(":
+            end = stream.close(after)
+            if stream.text(stream.next(end)) == "?" or not is_statement(stream, i, end):
+                stream.tokens[i].text, trait = FALLIBLE[text]
+                stream.shim.add(trait)
+        elif text == "push_reserved":
+            stream.shim.add("TryGrow")
+        elif stream.text(after) == "::" and (text, stream.text(stream.next(after))) in MAKERS:
+            stream.tokens[i].text = MAKERS[text, stream.text(stream.next(after))]
+            stream.shim.add(stream.tokens[i].text)
+        elif text == "vec" and stream.text(after) == "!":
+            _vec(stream, i)
+        elif text == "clone" and stream.text(stream.prev(i)) == "." and stream.reads(i, "clone", "(", ")", "?"):
+            stream.remove(stream.next(stream.close(after)))
+
+
+def _vec(stream, i):
+    """`vec![in ALLOC; ITEM; LEN]?` is `try_vec(ITEM, LEN)?`."""
+    open_ = stream.next(stream.next(i))
+    first = stream.seek(stream.next(open_), ";", "]")
+    second = stream.seek(stream.next(first), ";", "]")
+    if not stream.reads(open_, "[", "in") or stream.text(first) != ";" or stream.text(second) != ";":
+        stream.refuse(i, "a vec! of another form")
+    stream.replace(i, first, "try_vec(")
+    stream.remove_space(first + 1)
+    stream.tokens[second].text = ","
+    stream.tokens[stream.pair[open_]].text = ")"
+    stream.shim.add("try_vec")
+
+
+def proofs(stream):
+    """`prove!(X)` tests X in Rust, and text that is proved to be UTF-8 is made by the shim."""
+    for i in stream.each("prove", "unsafe"):
+        if stream.text(i) == "prove" and stream.text(stream.next(i)) == "!":
+            stream.tokens[i].text = "assert" if stream.text(stream.prev(i)) == "=" else "debug_assert"
+        elif stream.text(i) == "unsafe":
+            _unsafe(stream, i)
+
+
+def _unsafe(stream, i):
+    """`unsafe { str::from_utf8_unchecked(X) }` is `proved_utf8(X)`."""
+    open_ = stream.next(i)
+    if not stream.reads(i, "unsafe", "{", "str", "::", "from_utf8_unchecked", "("):
+        stream.refuse(i, "an unsafe block of another form")
+    call = stream.seek(stream.next(open_), "(")
+    if stream.next(stream.close(call)) != stream.close(open_):
+        stream.refuse(i, "an unsafe block of another form")
+    stream.remove(stream.close(call) + 1, stream.close(open_))
+    stream.replace(i, stream.prev(call), "proved_utf8")
+    stream.shim.add("proved_utf8")

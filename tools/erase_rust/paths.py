@@ -1,0 +1,131 @@
+"""Passes over paths and imports: where each name of Rattle is in the crate of Rust."""
+from .known import PATHS, TEST_PATHS, TRAITS
+
+ROOT = "crate::generated"
+
+
+class Paths:
+    """The paths of one file. `project` has the modules of all crates, the laws, the traits and what features guard."""
+
+    def __init__(self, stream, project, crate, module, is_test):
+        self.stream, self.project, self.crate, self.is_test = stream, project, crate, is_test
+        self.feature = project.feature([crate] + module)
+        self.mentioned = self._mentioned()
+
+    def _mentioned(self):
+        """The names that the file mentions outside of imports."""
+        stream, found, i = self.stream, set(), 0
+        while i < len(stream.tokens):
+            if stream.live(i) and stream.text(i) == "use":
+                i = stream.seek(i, ";")
+            elif stream.live(i) and stream.is_name(i):
+                found.add(stream.text(i))
+            i += 1
+        return found
+
+    def rewrite(self, path, i):
+        """The path in Rust of a path in Rattle, as a list of names, or None if it names what is erased."""
+        if path[0] == "crate" or path[0] in self.project.modules:
+            crate = self.crate if path[0] == "crate" else path[0]
+            return ROOT.split("::") + [self.project.modules[crate]] + path[1:]
+        if path[0] not in ("std", "byteorder", "memchr"):
+            return path
+        known = {**PATHS, **TEST_PATHS} if self.is_test else PATHS
+        for n in range(len(path), 0, -1):
+            if "::".join(path[:n]) in known:
+                there = known["::".join(path[:n])]
+                return None if there is None else there.split("::") + path[n:]
+        return self.stream.refuse(i, "a path of the standard library: " + "::".join(path))
+
+    def in_code(self):
+        """Paths in code."""
+        stream = self.stream
+        heads = {"std", "crate", "byteorder", "memchr"} | set(self.project.modules)
+        for i in stream.each():
+            if stream.text(i) not in heads or stream.text(stream.next(i)) != "::" or stream.text(stream.prev(i)) in ("::", "."):
+                continue
+            path, k = [stream.text(i)], i
+            while stream.text(stream.next(k)) == "::" and stream.is_name(stream.next(stream.next(k))):
+                k = stream.next(stream.next(k))
+                path.append(stream.text(k))
+            new = self.rewrite(path, i)
+            if new is None:
+                stream.refuse(i, "a path to a name that is erased: " + "::".join(path))
+            stream.replace(i, k, "::".join(new))
+
+    def leaves(self, i, prefix=()):
+        """The leaves of the tree of a `use` at i, as (path, alias), and the place after it."""
+        stream, path = self.stream, list(prefix)
+        while True:
+            if stream.text(i) == "{":
+                found, k = [], stream.next(i)
+                while k < stream.close(i):
+                    leaves, k = self.leaves(k, path)
+                    found += leaves
+                    k = stream.next(k) if stream.text(k) == "," else k
+                return found, stream.next(stream.close(i))
+            path.append(stream.text(i))
+            after = stream.next(i)
+            if stream.text(after) != "::":
+                break
+            i = stream.next(after)
+        alias = None
+        if stream.text(after) == "as":
+            alias = stream.text(stream.next(after))
+            after = stream.next(stream.next(after))
+        return [(path[:-1] if path[-1] == "self" else path, alias)], after
+
+    def imports(self):
+        """Imports: names that are erased, and names that only proofs mention, go."""
+        stream = self.stream
+        for i in list(stream.each("use")):
+            leaves, end = self.leaves(stream.next(i))
+            if stream.text(end) != ";" or any(token.kind == "comment" for token in stream.tokens[i:end]):
+                stream.refuse(i, "an import of another form")
+            kept = [leaf for leaf in (self._import(path, alias, i) for path, alias in leaves) if leaf]
+            start, head = stream.item_start(i)
+            if kept:
+                visibility = "".join(t.text for t in stream.tokens[head:i] if not t.gone)
+                stream.replace(head, end, "\n".join(self._grouped(kept, visibility)))
+                stream.tokens[head].kind = "export" if visibility else "import"
+            else:
+                stream.remove(start, end)
+
+    def _import(self, path, alias, i):
+        """What is imported of a leaf: (feature, module, name), or None if nothing is."""
+        if path[-1] in self.project.laws:
+            return None
+        new = self.rewrite(path, i)
+        name = alias or path[-1]
+        is_public = self.stream.text(self.stream.prev(i)) in ("pub", ")")
+        is_mentioned = is_public or name == "*" or name in self.mentioned
+        is_trait = name in TRAITS or name in self.project.traits
+        if new is None or not (is_mentioned or is_trait and (new[:2] != ["core", "fmt"] or self.is_test)):
+            return None
+        feature = self.project.feature([self.crate] + path[1:] if path[0] == "crate" else path)
+        return (None if feature == self.feature else feature), "::".join(new[:-1]), new[-1] + (" as " + alias if alias else "")
+
+    @staticmethod
+    def _grouped(kept, visibility):
+        """The lines that import what is kept: one for each module and feature."""
+        groups = {}
+        for feature, module, name in kept:
+            groups.setdefault((feature, module), []).append(name)
+        for (feature, module), names in groups.items():
+            if feature:
+                yield '#[cfg(feature = "%s")]' % feature
+            joined = names[0] if len(names) == 1 else "{%s}" % ", ".join(names)
+            yield "%suse %s%s;" % (visibility, module + "::" if module else "", joined)
+
+    def modules(self, base):
+        """The modules that the file declares, as (name, place of `mod`); those that a feature guards get its condition."""
+        stream, found = self.stream, []
+        for i in stream.each("mod"):
+            name = stream.text(stream.next(i))
+            if stream.text(stream.next(stream.next(i))) != ";":
+                continue
+            feature = self.project.feature([self.crate] + base + [name])
+            if feature != self.feature:
+                stream.tokens[stream.item_start(i)[1]].before += '#[cfg(feature = "%s")]\n' % feature
+            found.append((name, i))
+        return found
