@@ -13,7 +13,9 @@ use mach_load::{CommandVariant, LoadCommand};
 /// The address and the place in the file of a segment.
 #[derive(Clone, Copy)]
 pub struct Mapping {
+    /// Its address in memory.
     pub vmaddr: u64,
+    /// Its file offset.
     pub fileoff: u64,
 }
 
@@ -102,6 +104,7 @@ impl Subject for Mains {
 /// The thread states with which an image begins: their instruction pointers, by the cpu.
 #[derive(Clone, Copy)]
 pub struct Pointers {
+    /// The cpu: one of the `CPU_TYPE_` constants.
     pub cputype: u32,
 }
 

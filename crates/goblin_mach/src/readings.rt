@@ -14,6 +14,7 @@ use std::alloc::Allocator;
 
 /// A subject of an image's commands: what is read from those that concern it.
 pub trait Subject {
+    /// What is read.
     type Value: Drop;
 
     // What contracts see of a value.

@@ -124,7 +124,9 @@ impl Container {
 /// The width and the byte order of an image.
 #[derive(Clone, Copy, Debug, PartialEq)]
 pub struct Ctx {
+    /// The width.
     pub container: Container,
+    /// The byte order.
     pub le: Endian,
 }
 

@@ -13,9 +13,19 @@ pub enum ScrollError {
     /// The offset is at or past the end of the bytes.
     BadOffset(usize),
     /// `size` bytes were requested, but only `len` are left.
-    TooBig { size: usize, len: usize },
+    TooBig {
+        /// How many bytes were requested.
+        size: usize,
+        /// How many are left.
+        len: usize,
+    },
     /// The remaining bytes, `size` of them, do not begin with such a value.
-    BadInput { size: usize, msg: &'static str },
+    BadInput {
+        /// How many bytes remain.
+        size: usize,
+        /// What is wrong with them.
+        msg: &'static str,
+    },
 }
 
 /// Why a file, or a part of one, was refused.
@@ -33,6 +43,7 @@ pub enum Error {
     Memory(AllocError),
 }
 
+/// An answer of the library, or why there is none.
 pub type Result<T> = std::result::Result<T, Error>;
 
 impl From<ScrollError> for Error {

@@ -34,7 +34,9 @@ pub struct FixupCursor {
     pub next: u8,
     /// Whether the start `index` follows the chain, whether there is a current segment, and whether everything was returned: 0 means no.
     pub has_more: u8,
+    /// Whether there is a current segment: 0 means no.
     pub opened: u8,
+    /// Whether everything was returned: 0 means no.
     pub ended: u8,
 }
 

@@ -74,19 +74,27 @@ impl SymbolKind {
 pub enum ExportInfo<'a> {
     /// An address in the image, as an offset from the image's start.
     Regular {
+        /// The offset of the address.
         address: u64,
+        /// Its flags.
         flags: u64,
     },
     /// A symbol of another library, under its own name or another.
     Reexport {
+        /// The library.
         lib: &'a str,
+        /// The name in that library, if it is another one.
         lib_symbol_name: Option<&'a str>,
+        /// Its flags.
         flags: u64,
     },
     /// A stub, and a resolver that returns the address to use. Both are offsets from the image's start.
     Stub {
+        /// The offset of the stub.
         stub_offset: Uleb128,
+        /// The offset of the resolver.
         resolver_offset: Uleb128,
+        /// Its flags.
         flags: u64,
     },
 }

@@ -22,7 +22,9 @@ use std::alloc::Allocator;
 /// How many bits the offsets and lengths in a fat file's table have.
 #[derive(Clone, Copy, Debug, PartialEq)]
 pub enum Form {
+    /// 32 bits.
     Bits32,
+    /// 64 bits.
     Bits64,
 }
 

@@ -16,13 +16,17 @@ use std::alloc::Allocator;
 #[derive(Clone, Copy)]
 #[repr(C)]
 pub struct FatPart {
+    /// The place of its first byte.
     pub offset: usize,
+    /// How many bytes it has.
     pub len: usize,
     /// The cpu type, and the kind of cpu with its capabilities.
     pub cputype: u32,
+    /// The kind of cpu, with its capabilities in the top 8 bits.
     pub cpusubtype: u32,
     /// The entry's offset in the file is a multiple of 2 to this power.
     pub align: u32,
+    /// Zero for entries of 32 bits; written as it is in entries of 64 bits.
     pub reserved: u32,
 }
 

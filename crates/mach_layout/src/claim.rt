@@ -8,8 +8,11 @@ use crate::fault::Owner;
 /// A range of the file, or of memory, and its owner.
 #[derive(Clone, Copy, Debug, PartialEq)]
 pub struct Claim {
+    /// Its owner.
     pub owner: Owner,
+    /// Its first byte.
     pub start: u64,
+    /// How many bytes it has.
     pub len: u64,
 }
 

@@ -240,6 +240,7 @@ pub enum Part {
 /// The owner of a range or a fault.
 #[derive(Clone, Copy, Debug, PartialEq)]
 pub struct Owner {
+    /// Which part of the file or of an image it is.
     pub part: Part,
     /// The place of its command in the bytes; 0 for the header. For a slice, the place of its record.
     pub command: u64,
@@ -250,7 +251,9 @@ pub struct Owner {
 /// A fault of layout.
 #[derive(Clone, Copy, Debug, PartialEq)]
 pub struct LayoutFault {
+    /// The rule.
     pub rule: Rule,
+    /// What breaks the rule.
     pub owner: Owner,
     /// The other owner, if two conflict.
     pub other: Option<Owner>,

@@ -21,9 +21,13 @@ use mach_records::cputype::{CPU_TYPE_ARM64, CPU_TYPE_ARM64_32};
 /// What the rules read of an image: the bytes and the context in which it was opened, its header and its commands.
 #[derive(Clone, Copy)]
 pub struct Layout<'a, 'b> {
+    /// The bytes.
     pub bytes: &'a [u8],
+    /// The width and the byte order.
     pub ctx: Ctx,
+    /// The header.
     pub header: Header,
+    /// The load commands, in order.
     pub commands: &'b [LoadCommand],
 }
 

@@ -22,14 +22,18 @@ use std::slice::Iter;
 pub struct PlacedSegment {
     /// The place of the command in the bytes.
     pub place: usize,
+    /// The command.
     pub command: SegmentCommand64,
 }
 
 /// A section in its 64-bit form, with its segment and its number there, from 1.
 #[derive(Clone, Copy)]
 pub struct PlacedSection {
+    /// Its segment.
     pub segment: PlacedSegment,
+    /// Its number in the segment, from 1.
     pub number: u64,
+    /// The section.
     pub section: Section64,
 }
 

@@ -156,6 +156,7 @@ pub fn report_each<T, J: Judges<T>, A: Allocator>(
 
 /// Items that come one at a time, and that can be iterated again.
 pub trait Items: Drop {
+    /// An item.
     type Item: Drop;
 
     // The items that are left.
@@ -197,7 +198,9 @@ pub fn report_over<I: Items, J: Judges<I::Item>, A: Allocator>(
 /// The numbers from one number up to another, without the latter.
 #[derive(Clone, Copy)]
 pub struct Numbers {
+    /// The first number.
     pub from: u32,
+    /// The number after the last one.
     pub upto: u32,
 }
 

@@ -14,6 +14,7 @@ use mach_records::{LC_THREAD, LC_UNIXTHREAD, LoadCommandHeader};
 pub struct LoadCommand {
     /// The offset of its first byte, counted from byte 0.
     pub offset: usize,
+    /// Its record.
     pub command: CommandVariant,
 }
 

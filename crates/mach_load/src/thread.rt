@@ -13,7 +13,9 @@ use mach_records::cputype::{
 /// The state of a thread: at most 70 words, and zeros after the first `count` (struct thread_command).
 #[derive(Clone, Copy, Debug)]
 pub struct ThreadCommand {
+    /// Its number: one of the `LC_` constants.
     pub cmd: u32,
+    /// Its size in bytes.
     pub cmdsize: u32,
     /// Which registers the words are. Its meaning depends on the CPU.
     pub flavor: u32,

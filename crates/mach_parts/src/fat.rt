@@ -17,8 +17,10 @@ pub const FAT_MAGIC: u32 = 0xcafe_babe;
 /// The magic of a fat file, with its bytes reversed.
 pub const FAT_CIGAM: u32 = 0xbeba_feca;
 
+/// The size of a `FatHeader` in bytes.
 pub const SIZEOF_FAT_HEADER: usize = 8;
 
+/// The size of a `FatArch` in bytes.
 pub const SIZEOF_FAT_ARCH: usize = 20;
 
 /// The header of a fat file (struct fat_header).

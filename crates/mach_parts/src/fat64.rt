@@ -14,6 +14,7 @@ use mach_records::cputype::{CPU_ARCH_ABI64, CPU_SUBTYPE_MASK, CpuSubType, CpuTyp
 /// The magic of a 64-bit fat file.
 pub const FAT_MAGIC_64: u32 = 0xcafe_babf;
 
+/// The size of a `FatArch64` in bytes.
 pub const SIZEOF_FAT_ARCH_64: usize = 32;
 
 /// One entry of a 64-bit fat file: an image or an archive for one CPU (struct fat_arch_64).

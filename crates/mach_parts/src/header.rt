@@ -33,19 +33,28 @@ pub const MH_MAGIC_64: u32 = 0xfeed_facf;
 /// The magic of a 64-bit image, with its bytes reversed.
 pub const MH_CIGAM_64: u32 = 0xcffa_edfe;
 
+/// The size of a `Header32` in bytes.
 pub const SIZEOF_HEADER_32: usize = 28;
 
+/// The size of a `Header64` in bytes.
 pub const SIZEOF_HEADER_64: usize = 32;
 
 /// The header of a 32-bit image, as in the file (struct mach_header).
 #[derive(Clone, Copy, Debug, Default)]
 pub struct Header32 {
+    /// The magic number.
     pub magic: u32,
+    /// The cpu: one of the `CPU_TYPE_` constants.
     pub cputype: u32,
+    /// The kind of cpu, with its capabilities in the top 8 bits.
     pub cpusubtype: u32,
+    /// The kind of image: one of the `MH_` constants.
     pub filetype: u32,
+    /// The number of load commands.
     pub ncmds: u32,
+    /// The size of the load commands in bytes.
     pub sizeofcmds: u32,
+    /// Its flags.
     pub flags: u32,
 }
 
@@ -110,13 +119,21 @@ impl Header32 {
 /// The header of a 64-bit image, as in the file (struct mach_header_64).
 #[derive(Clone, Copy, Debug, Default)]
 pub struct Header64 {
+    /// The magic number.
     pub magic: u32,
+    /// The cpu: one of the `CPU_TYPE_` constants.
     pub cputype: u32,
+    /// The kind of cpu, with its capabilities in the top 8 bits.
     pub cpusubtype: u32,
+    /// The kind of image: one of the `MH_` constants.
     pub filetype: u32,
+    /// The number of load commands.
     pub ncmds: u32,
+    /// The size of the load commands in bytes.
     pub sizeofcmds: u32,
+    /// Its flags.
     pub flags: u32,
+    /// Not used.
     pub reserved: u32,
 }
 

@@ -6,11 +6,15 @@ use mach_base::{Endian, Record, RecordBytes, array_at};
 /// The unique number of the image (struct uuid_command, `LC_UUID`).
 #[derive(Clone, Copy, Debug)]
 pub struct UuidCommand {
+    /// Its number: one of the `LC_` constants.
     pub cmd: u32,
+    /// Its size in bytes.
     pub cmdsize: u32,
+    /// The number.
     pub uuid: [u8; 16],
 }
 
+/// The size of an `UuidCommand` in bytes.
 pub const SIZEOF_UUID_COMMAND: usize = 24;
 
 impl Record for UuidCommand {
@@ -46,7 +50,9 @@ impl Record for UuidCommand {
 /// Where a program begins (struct entry_point_command, `LC_MAIN`).
 #[derive(Clone, Copy, Debug)]
 pub struct EntryPointCommand {
+    /// Its number: one of the `LC_` constants.
     pub cmd: u32,
+    /// Its size in bytes.
     pub cmdsize: u32,
     /// The file offset of its first instruction.
     pub entryoff: u64,
@@ -54,6 +60,7 @@ pub struct EntryPointCommand {
     pub stacksize: u64,
 }
 
+/// The size of an `EntryPointCommand` in bytes.
 pub const SIZEOF_ENTRY_POINT_COMMAND: usize = 24;
 
 impl Record for EntryPointCommand {
@@ -91,7 +98,9 @@ impl Record for EntryPointCommand {
 /// An image within a file set (struct fileset_entry_command, `LC_FILESET_ENTRY`).
 #[derive(Clone, Copy, Debug)]
 pub struct FilesetEntryCommand {
+    /// Its number: one of the `LC_` constants.
     pub cmd: u32,
+    /// Its size in bytes.
     pub cmdsize: u32,
     /// Its address in memory.
     pub vmaddr: u64,
@@ -99,6 +108,7 @@ pub struct FilesetEntryCommand {
     pub fileoff: u64,
     /// Its name.
     pub entry_id: LcStr,
+    /// Not used.
     pub reserved: u32,
 }
 
@@ -141,7 +151,9 @@ impl Record for FilesetEntryCommand {
 /// Bytes that a tool has added to the file (struct note_command, `LC_NOTE`).
 #[derive(Clone, Copy, Debug)]
 pub struct NoteCommand {
+    /// Its number: one of the `LC_` constants.
     pub cmd: u32,
+    /// Its size in bytes.
     pub cmdsize: u32,
     /// The name of the tool, padded with zeros.
     pub data_owner: [u8; 16],
@@ -188,7 +200,9 @@ impl Record for NoteCommand {
 /// The checksum of the image before prebinding (struct prebind_cksum_command, `LC_PREBIND_CKSUM`).
 #[derive(Clone, Copy, Debug)]
 pub struct PrebindCksumCommand {
+    /// Its number: one of the `LC_` constants.
     pub cmd: u32,
+    /// Its size in bytes.
     pub cmdsize: u32,
     /// The checksum, or 0 if none was computed.
     pub cksum: u32,
@@ -227,12 +241,15 @@ impl Record for PrebindCksumCommand {
 /// Options of an object file for the linker (struct linker_option_command, `LC_LINKER_OPTION`).
 #[derive(Clone, Copy, Debug)]
 pub struct LinkerOptionCommand {
+    /// Its number: one of the `LC_` constants.
     pub cmd: u32,
+    /// Its size in bytes.
     pub cmdsize: u32,
     /// How many texts follow this record, each ended by a zero byte.
     pub count: u32,
 }
 
+/// The size of a `LinkerOptionCommand` in bytes.
 pub const SIZEOF_LINKER_OPTION_COMMAND: usize = 12;
 
 impl Record for LinkerOptionCommand {
@@ -268,10 +285,13 @@ impl Record for LinkerOptionCommand {
 /// Texts that follow this record; obsolete (struct ident_command, `LC_IDENT`).
 #[derive(Clone, Copy, Debug)]
 pub struct IdentCommand {
+    /// Its number: one of the `LC_` constants.
     pub cmd: u32,
+    /// Its size in bytes.
     pub cmdsize: u32,
 }
 
+/// The size of an `IdentCommand` in bytes.
 pub const SIZEOF_IDENT_COMMAND: usize = 8;
 
 impl Record for IdentCommand {

@@ -16,6 +16,7 @@ pub struct Dylib {
     pub compatibility_version: u32,
 }
 
+/// The size of a `Dylib` in bytes.
 pub const SIZEOF_DYLIB: usize = 16;
 
 impl Record for Dylib {
@@ -53,11 +54,15 @@ impl Record for Dylib {
 /// A dynamic library that the image uses or is (struct dylib_command, `LC_LOAD_DYLIB` and related commands, or `LC_ID_DYLIB`).
 #[derive(Clone, Copy, Debug)]
 pub struct DylibCommand {
+    /// Its number: one of the `LC_` constants.
     pub cmd: u32,
+    /// Its size in bytes.
     pub cmdsize: u32,
+    /// The library.
     pub dylib: Dylib,
 }
 
+/// The size of a `DylibCommand` in bytes.
 pub const SIZEOF_DYLIB_COMMAND: usize = 24;
 
 impl Record for DylibCommand {
@@ -101,7 +106,9 @@ impl Record for DylibCommand {
 /// A library that the image was bound to when it was built (struct prebound_dylib_command, `LC_PREBOUND_DYLIB`).
 #[derive(Clone, Copy, Debug)]
 pub struct PreboundDylibCommand {
+    /// Its number: one of the `LC_` constants.
     pub cmd: u32,
+    /// Its size in bytes.
     pub cmdsize: u32,
     /// Its path.
     pub name: LcStr,
@@ -111,6 +118,7 @@ pub struct PreboundDylibCommand {
     pub linked_modules: LcStr,
 }
 
+/// The size of a `PreboundDylibCommand` in bytes.
 pub const SIZEOF_PREBOUND_DYLIB_COMMAND: usize = 20;
 
 impl Record for PreboundDylibCommand {
@@ -151,12 +159,15 @@ impl Record for PreboundDylibCommand {
 /// dylinker_command, `LC_LOAD_DYLINKER`, `LC_ID_DYLINKER` or `LC_DYLD_ENVIRONMENT`).
 #[derive(Clone, Copy, Debug)]
 pub struct DylinkerCommand {
+    /// Its number: one of the `LC_` constants.
     pub cmd: u32,
+    /// Its size in bytes.
     pub cmdsize: u32,
     /// The path of the linker, or the setting.
     pub name: LcStr,
 }
 
+/// The size of a `DylinkerCommand` in bytes.
 pub const SIZEOF_DYLINKER_COMMAND: usize = 12;
 
 impl Record for DylinkerCommand {
@@ -192,11 +203,15 @@ impl Record for DylinkerCommand {
 /// A path to substitute for `@rpath` when libraries are searched for (struct rpath_command, `LC_RPATH`).
 #[derive(Clone, Copy, Debug)]
 pub struct RpathCommand {
+    /// Its number: one of the `LC_` constants.
     pub cmd: u32,
+    /// Its size in bytes.
     pub cmdsize: u32,
+    /// The path.
     pub path: LcStr,
 }
 
+/// The size of a `RpathCommand` in bytes.
 pub const SIZEOF_RPATH_COMMAND: usize = 12;
 
 impl Record for RpathCommand {
@@ -234,11 +249,13 @@ impl Record for RpathCommand {
 pub struct Fvmlib {
     /// Its path.
     pub name: LcStr,
+    /// Its version.
     pub minor_version: u32,
     /// The address of its header in memory.
     pub header_addr: u32,
 }
 
+/// The size of a `Fvmlib` in bytes.
 pub const SIZEOF_FVMLIB: usize = 12;
 
 impl Record for Fvmlib {
@@ -274,11 +291,15 @@ impl Record for Fvmlib {
 /// A library at a fixed address that the image uses or is (struct fvmlib_command, `LC_LOADFVMLIB` or `LC_IDFVMLIB`).
 #[derive(Clone, Copy, Debug)]
 pub struct FvmlibCommand {
+    /// Its number: one of the `LC_` constants.
     pub cmd: u32,
+    /// Its size in bytes.
     pub cmdsize: u32,
+    /// The library.
     pub fvmlib: Fvmlib,
 }
 
+/// The size of a `FvmlibCommand` in bytes.
 pub const SIZEOF_FVMLIB_COMMAND: usize = 20;
 
 impl Record for FvmlibCommand {
@@ -320,7 +341,9 @@ impl Record for FvmlibCommand {
 /// A file to load at a fixed address (struct fvmfile_command, `LC_FVMFILE`).
 #[derive(Clone, Copy, Debug)]
 pub struct FvmfileCommand {
+    /// Its number: one of the `LC_` constants.
     pub cmd: u32,
+    /// Its size in bytes.
     pub cmdsize: u32,
     /// Its path.
     pub name: LcStr,
@@ -328,6 +351,7 @@ pub struct FvmfileCommand {
     pub header_addr: u32,
 }
 
+/// The size of a `FvmfileCommand` in bytes.
 pub const SIZEOF_FVMFILE_COMMAND: usize = 16;
 
 impl Record for FvmfileCommand {

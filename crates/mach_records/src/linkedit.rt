@@ -7,7 +7,9 @@ use mach_base::{Endian, Record, RecordBytes};
 /// `LC_CODE_SIGNATURE`, `LC_FUNCTION_STARTS`, `LC_DYLD_EXPORTS_TRIE` and others).
 #[derive(Clone, Copy, Debug, Default)]
 pub struct LinkeditDataCommand {
+    /// Its number: one of the `LC_` constants.
     pub cmd: u32,
+    /// Its size in bytes.
     pub cmdsize: u32,
     /// Its file offset.
     pub dataoff: u32,
@@ -15,6 +17,7 @@ pub struct LinkeditDataCommand {
     pub datasize: u32,
 }
 
+/// The size of a `LinkeditDataCommand` in bytes.
 pub const SIZEOF_LINKEDIT_DATA_COMMAND: usize = 16;
 
 impl Record for LinkeditDataCommand {
@@ -53,25 +56,33 @@ impl Record for LinkeditDataCommand {
 /// bytes (struct dyld_info_command, `LC_DYLD_INFO` or `LC_DYLD_INFO_ONLY`).
 #[derive(Clone, Copy, Debug, Default)]
 pub struct DyldInfoCommand {
+    /// Its number: one of the `LC_` constants.
     pub cmd: u32,
+    /// Its size in bytes.
     pub cmdsize: u32,
     /// The rebases: pointers that move with the image.
     pub rebase_off: u32,
+    /// The size of the rebases.
     pub rebase_size: u32,
     /// The binds at loading.
     pub bind_off: u32,
+    /// The size of these binds.
     pub bind_size: u32,
     /// The weak binds, whose symbols several images may define.
     pub weak_bind_off: u32,
+    /// The size of the weak binds.
     pub weak_bind_size: u32,
     /// The lazy binds, at first use.
     pub lazy_bind_off: u32,
+    /// The size of the lazy binds.
     pub lazy_bind_size: u32,
     /// The trie of the exports.
     pub export_off: u32,
+    /// The size of the trie.
     pub export_size: u32,
 }
 
+/// The size of a `DyldInfoCommand` in bytes.
 pub const SIZEOF_DYLIB_INFO_COMMAND: usize = 48;
 
 impl Record for DyldInfoCommand {
@@ -171,7 +182,9 @@ impl Record for DataInCodeEntry {
 /// The encrypted bytes of a 32-bit image (struct encryption_info_command, `LC_ENCRYPTION_INFO`).
 #[derive(Clone, Copy, Debug)]
 pub struct EncryptionInfoCommand32 {
+    /// Its number: one of the `LC_` constants.
     pub cmd: u32,
+    /// Its size in bytes.
     pub cmdsize: u32,
     /// Their file offset.
     pub cryptoff: u32,
@@ -181,6 +194,7 @@ pub struct EncryptionInfoCommand32 {
     pub cryptid: u32,
 }
 
+/// The size of an `EncryptionInfoCommand32` in bytes.
 pub const SIZEOF_ENCRYPTION_INFO_COMMAND_32: usize = 20;
 
 impl Record for EncryptionInfoCommand32 {
@@ -220,7 +234,9 @@ impl Record for EncryptionInfoCommand32 {
 /// The encrypted bytes of a 64-bit image (struct encryption_info_command_64, `LC_ENCRYPTION_INFO_64`).
 #[derive(Clone, Copy, Debug)]
 pub struct EncryptionInfoCommand64 {
+    /// Its number: one of the `LC_` constants.
     pub cmd: u32,
+    /// Its size in bytes.
     pub cmdsize: u32,
     /// Their file offset.
     pub cryptoff: u32,
@@ -228,9 +244,11 @@ pub struct EncryptionInfoCommand64 {
     pub cryptsize: u32,
     /// The method of encryption; 0 if they are not encrypted yet.
     pub cryptid: u32,
+    /// Not used.
     pub pad: u32,
 }
 
+/// The size of an `EncryptionInfoCommand64` in bytes.
 pub const SIZEOF_ENCRYPTION_INFO_COMMAND_64: usize = 24;
 
 impl Record for EncryptionInfoCommand64 {

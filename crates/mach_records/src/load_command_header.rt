@@ -7,6 +7,7 @@ use std::fmt;
 /// The offset of a text of a command, in bytes from the start of the command.
 pub type LcStr = u32;
 
+/// The size of an `LcStr` in bytes.
 pub const SIZEOF_LC_STR: usize = 4;
 
 const _: () = prove!(SIZEOF_LC_STR == size_of::<LcStr>());
@@ -20,6 +21,7 @@ pub struct LoadCommandHeader {
     pub cmdsize: u32,
 }
 
+/// The size of a `LoadCommandHeader` in bytes.
 pub const SIZEOF_LOAD_COMMAND: usize = 8;
 
 impl Record for LoadCommandHeader {

@@ -245,17 +245,25 @@ impl Record for DylibReference {
 /// The routine that a 32-bit library runs before all others (struct routines_command, `LC_ROUTINES`).
 #[derive(Clone, Copy, Debug)]
 pub struct RoutinesCommand32 {
+    /// Its number: one of the `LC_` constants.
     pub cmd: u32,
+    /// Its size in bytes.
     pub cmdsize: u32,
     /// The address of the routine.
     pub init_address: u32,
     /// The index of its module in the module table.
     pub init_module: u32,
+    /// Not used.
     pub reserved1: u32,
+    /// Not used.
     pub reserved2: u32,
+    /// Not used.
     pub reserved3: u32,
+    /// Not used.
     pub reserved4: u32,
+    /// Not used.
     pub reserved5: u32,
+    /// Not used.
     pub reserved6: u32,
 }
 
@@ -311,17 +319,25 @@ impl Record for RoutinesCommand32 {
 /// The routine that a 64-bit library runs before all others (struct routines_command_64, `LC_ROUTINES_64`).
 #[derive(Clone, Copy, Debug)]
 pub struct RoutinesCommand64 {
+    /// Its number: one of the `LC_` constants.
     pub cmd: u32,
+    /// Its size in bytes.
     pub cmdsize: u32,
     /// The address of the routine.
     pub init_address: u64,
     /// The index of its module in the module table.
     pub init_module: u64,
+    /// Not used.
     pub reserved1: u64,
+    /// Not used.
     pub reserved2: u64,
+    /// Not used.
     pub reserved3: u64,
+    /// Not used.
     pub reserved4: u64,
+    /// Not used.
     pub reserved5: u64,
+    /// Not used.
     pub reserved6: u64,
 }
 

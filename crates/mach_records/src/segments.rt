@@ -39,6 +39,7 @@ pub struct Section32 {
     pub reserved2: u32,
 }
 
+/// The size of a `Section32` in bytes.
 pub const SIZEOF_SECTION_32: usize = 68;
 
 impl Record for Section32 {
@@ -112,9 +113,11 @@ pub struct Section64 {
     pub reserved1: u32,
     /// For stubs: the size of one in bytes.
     pub reserved2: u32,
+    /// Not used.
     pub reserved3: u32,
 }
 
+/// The size of a `Section64` in bytes.
 pub const SIZEOF_SECTION_64: usize = 80;
 
 impl Record for Section64 {
@@ -168,7 +171,9 @@ impl Record for Section64 {
 /// A part of the file that is mapped into the memory of a 32-bit image (struct segment_command, `LC_SEGMENT`).
 #[derive(Clone, Copy, Debug)]
 pub struct SegmentCommand32 {
+    /// Its number: one of the `LC_` constants.
     pub cmd: u32,
+    /// Its size in bytes.
     pub cmdsize: u32,
     /// Its name, padded with zeros.
     pub segname: [u8; 16],
@@ -190,6 +195,7 @@ pub struct SegmentCommand32 {
     pub flags: u32,
 }
 
+/// The size of a `SegmentCommand32` in bytes.
 pub const SIZEOF_SEGMENT_COMMAND_32: usize = 56;
 
 impl Record for SegmentCommand32 {
@@ -250,7 +256,9 @@ impl SegmentCommand32 {
 /// A part of the file that is mapped into the memory of a 64-bit image (struct segment_command_64, `LC_SEGMENT_64`).
 #[derive(Clone, Copy, Debug)]
 pub struct SegmentCommand64 {
+    /// Its number: one of the `LC_` constants.
     pub cmd: u32,
+    /// Its size in bytes.
     pub cmdsize: u32,
     /// Its name, padded with zeros.
     pub segname: [u8; 16],
@@ -272,6 +280,7 @@ pub struct SegmentCommand64 {
     pub flags: u32,
 }
 
+/// The size of a `SegmentCommand64` in bytes.
 pub const SIZEOF_SEGMENT_COMMAND_64: usize = 72;
 
 impl Record for SegmentCommand64 {

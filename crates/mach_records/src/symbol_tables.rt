@@ -9,7 +9,9 @@ use mach_base::{Endian, Record, RecordBytes, array_at};
 /// The places of the symbols and of the string table (struct symtab_command, `LC_SYMTAB`).
 #[derive(Clone, Copy, Debug)]
 pub struct SymtabCommand {
+    /// Its number: one of the `LC_` constants.
     pub cmd: u32,
+    /// Its size in bytes.
     pub cmdsize: u32,
     /// The file offset of the first symbol.
     pub symoff: u32,
@@ -21,6 +23,7 @@ pub struct SymtabCommand {
     pub strsize: u32,
 }
 
+/// The size of a `SymtabCommand` in bytes.
 pub const SIZEOF_SYMTAB_COMMAND: usize = 24;
 
 impl Record for SymtabCommand {
@@ -90,7 +93,9 @@ impl Default for SymtabCommand {
 /// The order of the symbols, and the places of the dynamic linker's tables (struct dysymtab_command, `LC_DYSYMTAB`).
 #[derive(Clone, Copy, Debug)]
 pub struct DysymtabCommand {
+    /// Its number: one of the `LC_` constants.
     pub cmd: u32,
+    /// Its size in bytes.
     pub cmdsize: u32,
     /// The index of the first local symbol.
     pub ilocalsym: u32,
@@ -130,6 +135,7 @@ pub struct DysymtabCommand {
     pub nlocrel: u32,
 }
 
+/// The size of a `DysymtabCommand` in bytes.
 pub const SIZEOF_DYSYMTAB_COMMAND: usize = 80;
 
 impl Record for DysymtabCommand {
@@ -246,7 +252,9 @@ impl Default for DysymtabCommand {
 /// The place of the hints of a two-level namespace (struct twolevel_hints_command, `LC_TWOLEVEL_HINTS`).
 #[derive(Clone, Copy, Debug)]
 pub struct TwolevelHintsCommand {
+    /// Its number: one of the `LC_` constants.
     pub cmd: u32,
+    /// Its size in bytes.
     pub cmdsize: u32,
     /// The file offset of the first hint.
     pub offset: u32,
@@ -327,7 +335,9 @@ impl Record for TwolevelHint {
 /// A symbol segment of the old GNU form; obsolete (struct symseg_command, `LC_SYMSEG`).
 #[derive(Clone, Copy, Debug)]
 pub struct SymsegCommand {
+    /// Its number: one of the `LC_` constants.
     pub cmd: u32,
+    /// Its size in bytes.
     pub cmdsize: u32,
     /// Its file offset.
     pub offset: u32,
@@ -335,6 +345,7 @@ pub struct SymsegCommand {
     pub size: u32,
 }
 
+/// The size of a `SymsegCommand` in bytes.
 pub const SIZEOF_SYMSEG_COMMAND: usize = 16;
 
 impl Record for SymsegCommand {

@@ -6,12 +6,15 @@ use mach_base::{Endian, Record, RecordBytes};
 /// The umbrella that the image is a part of (struct sub_framework_command, `LC_SUB_FRAMEWORK`).
 #[derive(Clone, Copy, Debug)]
 pub struct SubFrameworkCommand {
+    /// Its number: one of the `LC_` constants.
     pub cmd: u32,
+    /// Its size in bytes.
     pub cmdsize: u32,
     /// The name of the umbrella framework.
     pub umbrella: LcStr,
 }
 
+/// The size of a `SubFrameworkCommand` in bytes.
 pub const SIZEOF_SUB_FRAMEWORK_COMMAND: usize = 12;
 
 impl Record for SubFrameworkCommand {
@@ -47,12 +50,15 @@ impl Record for SubFrameworkCommand {
 /// A client that may link to the image, although the image is a part of an umbrella (struct sub_client_command, `LC_SUB_CLIENT`).
 #[derive(Clone, Copy, Debug)]
 pub struct SubClientCommand {
+    /// Its number: one of the `LC_` constants.
     pub cmd: u32,
+    /// Its size in bytes.
     pub cmdsize: u32,
     /// The name of the client.
     pub client: LcStr,
 }
 
+/// The size of a `SubClientCommand` in bytes.
 pub const SIZEOF_SUB_CLIENT_COMMAND: usize = 12;
 
 impl Record for SubClientCommand {
@@ -88,12 +94,15 @@ impl Record for SubClientCommand {
 /// An umbrella framework whose symbols the image re-exports (struct sub_umbrella_command, `LC_SUB_UMBRELLA`).
 #[derive(Clone, Copy, Debug)]
 pub struct SubUmbrellaCommand {
+    /// Its number: one of the `LC_` constants.
     pub cmd: u32,
+    /// Its size in bytes.
     pub cmdsize: u32,
     /// The name of the framework.
     pub sub_umbrella: LcStr,
 }
 
+/// The size of a `SubUmbrellaCommand` in bytes.
 pub const SIZEOF_SUB_UMBRELLA_COMMAND: usize = 12;
 
 impl Record for SubUmbrellaCommand {
@@ -129,12 +138,15 @@ impl Record for SubUmbrellaCommand {
 /// A library whose symbols the image re-exports (struct sub_library_command, `LC_SUB_LIBRARY`).
 #[derive(Clone, Copy, Debug)]
 pub struct SubLibraryCommand {
+    /// Its number: one of the `LC_` constants.
     pub cmd: u32,
+    /// Its size in bytes.
     pub cmdsize: u32,
     /// The name of the library.
     pub sub_library: LcStr,
 }
 
+/// The size of a `SubLibraryCommand` in bytes.
 pub const SIZEOF_SUB_LIBRARY_COMMAND: usize = 12;
 
 impl Record for SubLibraryCommand {

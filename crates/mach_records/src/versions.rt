@@ -10,9 +10,13 @@ use mach_base::{Endian, Error, Record, RecordBytes};
 /// A system that the number of a `LC_VERSION_MIN_` command names.
 #[derive(Clone, Copy, Debug)]
 pub enum Platform {
+    /// macOS.
     Macos = LC_VERSION_MIN_MACOSX as isize,
+    /// iOS.
     Iphoneos = LC_VERSION_MIN_IPHONEOS as isize,
+    /// tvOS.
     Tvos = LC_VERSION_MIN_TVOS as isize,
+    /// watchOS.
     Watchos = LC_VERSION_MIN_WATCHOS as isize,
 }
 
@@ -38,7 +42,9 @@ impl TryFrom<u32> for Platform {
 /// The oldest system that the image runs on (struct version_min_command, the four `LC_VERSION_MIN_` commands).
 #[derive(Clone, Copy, Debug)]
 pub struct VersionMinCommand {
+    /// Its number: one of the `LC_` constants.
     pub cmd: u32,
+    /// Its size in bytes.
     pub cmdsize: u32,
     /// The version of the system, X.Y.Z in 16, 8 and 8 bits.
     pub version: u32,
@@ -46,6 +52,7 @@ pub struct VersionMinCommand {
     pub sdk: u32,
 }
 
+/// The size of a `VersionMinCommand` in bytes.
 pub const SIZEOF_VERSION_MIN_COMMAND: usize = 16;
 
 impl Record for VersionMinCommand {
@@ -107,7 +114,9 @@ impl VersionMinCommand {
 /// The platform that the image was built for (struct build_version_command, `LC_BUILD_VERSION`).
 #[derive(Clone, Copy, Debug)]
 pub struct BuildVersionCommand {
+    /// Its number: one of the `LC_` constants.
     pub cmd: u32,
+    /// Its size in bytes.
     pub cmdsize: u32,
     /// One of the `PLATFORM_` constants.
     pub platform: u32,
@@ -155,28 +164,40 @@ impl Record for BuildVersionCommand {
     }
 }
 
+/// macOS.
 pub const PLATFORM_MACOS: u32 = 1;
 
+/// iOS.
 pub const PLATFORM_IOS: u32 = 2;
 
+/// tvOS.
 pub const PLATFORM_TVOS: u32 = 3;
 
+/// watchOS.
 pub const PLATFORM_WATCHOS: u32 = 4;
 
+/// bridgeOS.
 pub const PLATFORM_BRIDGEOS: u32 = 5;
 
+/// iOS on macOS.
 pub const PLATFORM_MACCATALYST: u32 = 6;
 
+/// The simulator of iOS.
 pub const PLATFORM_IOSSIMULATOR: u32 = 7;
 
+/// The simulator of tvOS.
 pub const PLATFORM_TVOSSIMULATOR: u32 = 8;
 
+/// The simulator of watchOS.
 pub const PLATFORM_WATCHOSSIMULATOR: u32 = 9;
 
+/// Drivers of macOS.
 pub const PLATFORM_DRIVERKIT: u32 = 10;
 
+/// visionOS.
 pub const PLATFORM_VISIONOS: u32 = 11;
 
+/// The simulator of visionOS.
 pub const PLATFORM_VISIONOSSIMULATOR: u32 = 12;
 
 /// A tool that the image was built with (struct build_tool_version).
@@ -214,18 +235,24 @@ impl Record for BuildToolVersion {
     }
 }
 
+/// The compiler clang.
 pub const TOOL_CLANG: u32 = 1;
 
+/// The compiler of Swift.
 pub const TOOL_SWIFT: u32 = 2;
 
+/// The linker ld.
 pub const TOOL_LD: u32 = 3;
 
+/// The linker lld.
 pub const TOOL_LLD: u32 = 4;
 
 /// The version of the sources that the image was built from (struct source_version_command, `LC_SOURCE_VERSION`).
 #[derive(Clone, Copy, Debug)]
 pub struct SourceVersionCommand {
+    /// Its number: one of the `LC_` constants.
     pub cmd: u32,
+    /// Its size in bytes.
     pub cmdsize: u32,
     /// A.B.C.D.E in 24, 10, 10, 10 and 10 bits.
     pub version: u64,

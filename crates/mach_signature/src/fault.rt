@@ -48,13 +48,33 @@ impl Display for SlotName {
 #[derive(Clone, Copy, Debug, PartialEq)]
 pub enum CodeFault {
     /// The pages are scattered, as the vector at this place says, and aren't judged.
-    Scattered { place: u32 },
+    Scattered {
+        /// The place of the vector.
+        place: u32,
+    },
     /// More bytes are covered than the image has.
-    Limit { limit: u64, len: u64 },
+    Limit {
+        /// How many bytes are covered.
+        limit: u64,
+        /// How many bytes the image has.
+        len: u64,
+    },
     /// The number of code slots isn't the number of pages.
-    Slots { slots: u32, pages: u64 },
+    Slots {
+        /// The number of code slots.
+        slots: u32,
+        /// The number of pages.
+        pages: u64,
+    },
     /// A page isn't what was signed.
-    Page { index: u32, start: u64, end: u64 },
+    Page {
+        /// The number of the page.
+        index: u32,
+        /// Its first byte.
+        start: u64,
+        /// The place after its last byte.
+        end: u64,
+    },
 }
 
 impl Display for CodeFault {
@@ -83,13 +103,25 @@ impl Display for CodeFault {
 #[derive(Clone, Copy, Debug, PartialEq)]
 pub enum SpecialFault {
     /// The slot isn't known.
-    Unknown { slot: u32 },
+    Unknown {
+        /// The number of the slot.
+        slot: u32,
+    },
     /// Something is there, but the directory has no hash of it.
-    Unsealed { slot: u32 },
+    Unsealed {
+        /// The number of the slot.
+        slot: u32,
+    },
     /// What is there isn't what was signed.
-    Changed { slot: u32 },
+    Changed {
+        /// The number of the slot.
+        slot: u32,
+    },
     /// What was signed isn't there.
-    Absent { slot: u32 },
+    Absent {
+        /// The number of the slot.
+        slot: u32,
+    },
 }
 
 impl Display for SpecialFault {
@@ -127,7 +159,12 @@ pub enum DirectoryFault {
     /// The name of the team can't be read.
     Team(Error),
     /// Fewer bytes are covered than the image has before its signature.
-    Short { limit: u64, dataoff: u32 },
+    Short {
+        /// How many bytes are covered.
+        limit: u64,
+        /// The place of the signature.
+        dataoff: u32,
+    },
     /// A fault of the code.
     Code(CodeFault),
     /// A fault of a special slot.
@@ -162,15 +199,32 @@ impl Display for DirectoryFault {
 #[derive(Debug, Drop)]
 pub enum SignatureFault {
     /// A blob can't be read.
-    Blob { index: u32, error: Error },
+    Blob {
+        /// The number of the blob.
+        index: u32,
+        /// Why it can't be read.
+        error: Error,
+    },
     /// The magic of a blob isn't one of its slot.
-    Magic { index: u32, slot: u32, magic: u32 },
+    Magic {
+        /// The number of the blob.
+        index: u32,
+        /// Its slot.
+        slot: u32,
+        /// Its magic.
+        magic: u32,
+    },
     /// No code directory counts.
     Refused(Error),
     /// A fault of the first code directory, or of what it covers.
     First(DirectoryFault),
     /// A fault of the code directory of an alternate slot, or of what it covers.
-    Alternate { slot: u32, fault: DirectoryFault },
+    Alternate {
+        /// The slot.
+        slot: u32,
+        /// The fault.
+        fault: DirectoryFault,
+    },
 }
 
 impl Display for SignatureFault {

@@ -42,6 +42,7 @@ pub struct SignedBytes<'a> {
     pub image: &'a [u8],
     /// The offset of the signature in the image.
     pub dataoff: u32,
+    /// The signature.
     pub signature: CodeSignature<'a>,
     /// The section `__info_plist` of `__TEXT`, if the image has one.
     pub plist: Option<&'a [u8]>,

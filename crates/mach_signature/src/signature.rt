@@ -14,7 +14,9 @@ use mach_base::{BE, Error, Record, Result, ScrollError, bytes_at};
 /// A signature: its bytes, cut at the length that it gives, and how many blobs its index names.
 #[derive(Clone, Copy)]
 pub struct CodeSignature<'a> {
+    /// The bytes of the signature.
     pub bytes: &'a [u8],
+    /// The number of its blobs.
     pub count: u32,
     ghost indexed: { 12 + 8 * count ≤ length bytes.now },
 }

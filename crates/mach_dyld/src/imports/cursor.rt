@@ -53,25 +53,32 @@ pub struct BindCursor {
     pub special: i64,
     /// The offset in the segment.
     pub offset: u64,
+    /// The addend.
     pub addend: i64,
     /// The place after the last DONE, counted from the start of the range, or 0.
     pub sequence: u64,
+    /// The index of the segment, if one was set.
     pub segment: u8,
+    /// The flags of the symbol.
     pub flags: u8,
     /// For bindings: whether an ordinal was set (bit 0), and whether it is a special one (bit 1).
     pub ordinal: u8,
     /// Whether the lazy stream is read, and whether the iterator has ended: 0 means no.
     pub is_lazy: u8,
+    /// Whether the iterator has ended: 0 means no.
     pub ended: u8,
     /// For bindings: the type, and whether a name and a segment were set.
     pub kind: u8,
+    /// For bindings: whether a name was set.
     pub has_name: u8,
+    /// For bindings: whether a segment was set.
     pub has_segment: u8,
 }
 
 /// An import, with the place of its name in the bytes and the number of its library.
 #[derive(Debug, Drop)]
 pub struct PlacedImport<'a> {
+    /// The import.
     pub import: Import<'a>,
     /// The place of its name, or a place outside the bytes if it has no name.
     pub name_place: usize,
@@ -82,6 +89,7 @@ pub struct PlacedImport<'a> {
 /// A binding, with the place of its name in the bytes.
 #[derive(Clone, Copy, Debug)]
 pub struct PlacedBinding<'a> {
+    /// The binding.
     pub binding: Binding<'a>,
     /// The place of its name, or a place outside the bytes if it has no name.
     pub name_place: usize,

@@ -14,8 +14,11 @@ use mach_base::{Ctx, Error, Result};
 /// The tables from which slots are read: the indirect symbol table and the symbols, if there are any. `ctx` has the width of a pointer.
 #[derive(Clone, Copy)]
 pub struct SlotSource<'a, 'b> {
+    /// The indirect symbol table.
     pub indirect: IndirectSymbols<'a>,
+    /// The symbols, if there are any.
     pub symbols: Option<&'b Symbols<'a>>,
+    /// The width and the byte order.
     pub ctx: Ctx,
 }
 

@@ -10,8 +10,10 @@ use mach_base::{
     TryIntoCtx, low_bits,
 };
 
+/// The size of a `Nlist32` in bytes.
 pub const SIZEOF_NLIST_32: usize = 12;
 
+/// The size of a `Nlist64` in bytes.
 pub const SIZEOF_NLIST_64: usize = 16;
 
 /// The record of a symbol in a 32-bit image (struct nlist).
