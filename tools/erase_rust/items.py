@@ -5,10 +5,10 @@ FORMATTERS = ("Formatter", "DebugStruct", "DebugList", "DebugTuple", "DebugMap")
 
 
 def ghosts(stream):
-    """Ghost items and fields go."""
+    """Ghost items and fields go, with the comments right above them."""
     for i, token in enumerate(stream.tokens):
         if token.kind == "ghost":
-            token.gone = True
+            stream.remove(stream.above(i), i)
             if stream.text(stream.prev(i)) == "pub":
                 stream.remove(stream.prev(i))
 

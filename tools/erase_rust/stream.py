@@ -147,9 +147,9 @@ class Stream:
             elif self.text(k) == ")" and self.text(self.prev(self.pair[k])) == "pub":
                 head = self.prev(self.pair[k])
             else:
-                return self._above(head), head
+                return self.above(head), head
 
-    def _above(self, start):
+    def above(self, start):
         """The first token of the documentation, comments and attributes above a token."""
         while True:
             k = start - 1
