@@ -225,7 +225,7 @@ def sources(crate):
 def words_of(comment):
     """A comment of the sources as C has it: one line, without a full stop at the end, and without a header of the format."""
     text = re.sub(r" \(`[^`]*`\)", "", " ".join(line.strip(" /") for line in comment.splitlines())).rstrip(".")
-    return text if re.match(r"\w*[A-Z0-9]\b", text) or not text else text[0].lower() + text[1:]
+    return text if re.match(r"(?!A\b)\w*[A-Z0-9]\b", text) or not text else text[0].lower() + text[1:]
 
 
 def pointer_formats(path, text):

@@ -566,12 +566,12 @@ const char *gm_platform_name(uint32_t platform);                      /* "MACOS"
 #define GM_MH_MAGIC     UINT32_C(0xfeedface) /* the magic of a 32-bit image */
 #define GM_MH_MAGIC_64  UINT32_C(0xfeedfacf) /* the magic of a 64-bit image */
 /* cpus: `cputype` */
-#define GM_CPU_TYPE_X86       UINT32_C(0x7)
-#define GM_CPU_TYPE_ARM       UINT32_C(0xc)
-#define GM_CPU_TYPE_POWERPC   UINT32_C(0x12)
+#define GM_CPU_TYPE_X86       UINT32_C(0x7) /* an x86 with 32 bits */
+#define GM_CPU_TYPE_ARM       UINT32_C(0xc) /* an ARM with 32 bits */
+#define GM_CPU_TYPE_POWERPC   UINT32_C(0x12) /* a PowerPC with 32 bits */
 #define GM_CPU_ARCH_ABI64     UINT32_C(0x01000000) /* the bit of a CPU type whose addresses have 64 bits */
-#define GM_CPU_TYPE_X86_64    UINT32_C(0x01000007)
-#define GM_CPU_TYPE_ARM64     UINT32_C(0x0100000c)
+#define GM_CPU_TYPE_X86_64    UINT32_C(0x01000007) /* an x86 with 64 bits */
+#define GM_CPU_TYPE_ARM64     UINT32_C(0x0100000c) /* an ARM with 64 bits */
 #define GM_CPU_TYPE_POWERPC64 UINT32_C(0x01000012)
 #define GM_CPU_ARCH_ABI64_32  UINT32_C(0x02000000) /* the bit of a cpu of 64 bits whose addresses have 32 */
 #define GM_CPU_TYPE_ARM64_32  UINT32_C(0x0200000c) /* an ARM64 whose addresses have 32 bits */
@@ -602,20 +602,20 @@ const char *gm_platform_name(uint32_t platform);                      /* "MACOS"
 /* the kind of GM_CPU_TYPE_POWERPC and GM_CPU_TYPE_POWERPC64 */
 #define GM_CPU_SUBTYPE_POWERPC_ALL UINT32_C(0)
 /* file types: `filetype` of a gm_image */
-#define GM_MH_OBJECT      UINT32_C(0x1) /* A relocatable object file */
+#define GM_MH_OBJECT      UINT32_C(0x1) /* a relocatable object file */
 #define GM_MH_EXECUTE     UINT32_C(0x2) /* an executable */
-#define GM_MH_FVMLIB      UINT32_C(0x3) /* A shared library at a fixed address */
+#define GM_MH_FVMLIB      UINT32_C(0x3) /* a shared library at a fixed address */
 #define GM_MH_CORE        UINT32_C(0x4) /* the memory of a crashed process */
 #define GM_MH_PRELOAD     UINT32_C(0x5) /* an executable that the kernel does not start */
-#define GM_MH_DYLIB       UINT32_C(0x6) /* A dynamic library */
-#define GM_MH_DYLINKER    UINT32_C(0x7) /* A dynamic linker */
-#define GM_MH_BUNDLE      UINT32_C(0x8) /* A bundle, loaded at run time */
-#define GM_MH_DYLIB_STUB  UINT32_C(0x9) /* A library without contents, to link against */
+#define GM_MH_DYLIB       UINT32_C(0x6) /* a dynamic library */
+#define GM_MH_DYLINKER    UINT32_C(0x7) /* a dynamic linker */
+#define GM_MH_BUNDLE      UINT32_C(0x8) /* a bundle, loaded at run time */
+#define GM_MH_DYLIB_STUB  UINT32_C(0x9) /* a library without contents, to link against */
 #define GM_MH_DSYM        UINT32_C(0xa) /* debug sections for another file */
-#define GM_MH_KEXT_BUNDLE UINT32_C(0xb) /* A kernel extension */
-#define GM_MH_FILESET     UINT32_C(0xc) /* A file set of images */
-#define GM_MH_GPU_EXECUTE UINT32_C(0xd) /* A program for a graphics processor */
-#define GM_MH_GPU_DYLIB   UINT32_C(0xe) /* A library for a graphics processor */
+#define GM_MH_KEXT_BUNDLE UINT32_C(0xb) /* a kernel extension */
+#define GM_MH_FILESET     UINT32_C(0xc) /* a file set of images */
+#define GM_MH_GPU_EXECUTE UINT32_C(0xd) /* a program for a graphics processor */
+#define GM_MH_GPU_DYLIB   UINT32_C(0xe) /* a library for a graphics processor */
 /* the bits of `flags` of a gm_image */
 #define GM_MH_NOUNDEFS                      UINT32_C(0x1) /* there are no undefined references */
 #define GM_MH_INCRLINK                      UINT32_C(0x2) /* it is the output of an incremental link against a base file */
@@ -647,61 +647,61 @@ const char *gm_platform_name(uint32_t platform);                      /* "MACOS"
 #define GM_MH_SIM_SUPPORT                   UINT32_C(0x08000000) /* it may be used in a simulator */
 #define GM_MH_DYLIB_IN_CACHE                UINT32_C(0x80000000) /* it is in a shared cache */
 /* load commands: `cmd` of a gm_command */
-#define GM_LC_SEGMENT                  UINT32_C(0x1)
-#define GM_LC_SYMTAB                   UINT32_C(0x2)
-#define GM_LC_SYMSEG                   UINT32_C(0x3)
-#define GM_LC_THREAD                   UINT32_C(0x4)
-#define GM_LC_UNIXTHREAD               UINT32_C(0x5)
-#define GM_LC_LOADFVMLIB               UINT32_C(0x6)
-#define GM_LC_IDFVMLIB                 UINT32_C(0x7)
-#define GM_LC_IDENT                    UINT32_C(0x8)
-#define GM_LC_FVMFILE                  UINT32_C(0x9)
-#define GM_LC_PREPAGE                  UINT32_C(0xa)
-#define GM_LC_DYSYMTAB                 UINT32_C(0xb)
-#define GM_LC_LOAD_DYLIB               UINT32_C(0xc)
-#define GM_LC_ID_DYLIB                 UINT32_C(0xd)
-#define GM_LC_LOAD_DYLINKER            UINT32_C(0xe)
-#define GM_LC_ID_DYLINKER              UINT32_C(0xf)
-#define GM_LC_PREBOUND_DYLIB           UINT32_C(0x10)
-#define GM_LC_ROUTINES                 UINT32_C(0x11)
-#define GM_LC_SUB_FRAMEWORK            UINT32_C(0x12)
-#define GM_LC_SUB_UMBRELLA             UINT32_C(0x13)
-#define GM_LC_SUB_CLIENT               UINT32_C(0x14)
-#define GM_LC_SUB_LIBRARY              UINT32_C(0x15)
-#define GM_LC_TWOLEVEL_HINTS           UINT32_C(0x16)
-#define GM_LC_PREBIND_CKSUM            UINT32_C(0x17)
-#define GM_LC_SEGMENT_64               UINT32_C(0x19)
-#define GM_LC_ROUTINES_64              UINT32_C(0x1a)
-#define GM_LC_UUID                     UINT32_C(0x1b)
-#define GM_LC_CODE_SIGNATURE           UINT32_C(0x1d)
-#define GM_LC_SEGMENT_SPLIT_INFO       UINT32_C(0x1e)
-#define GM_LC_LAZY_LOAD_DYLIB          UINT32_C(0x20)
-#define GM_LC_ENCRYPTION_INFO          UINT32_C(0x21)
-#define GM_LC_DYLD_INFO                UINT32_C(0x22)
-#define GM_LC_VERSION_MIN_MACOSX       UINT32_C(0x24)
-#define GM_LC_VERSION_MIN_IPHONEOS     UINT32_C(0x25)
-#define GM_LC_FUNCTION_STARTS          UINT32_C(0x26)
-#define GM_LC_DYLD_ENVIRONMENT         UINT32_C(0x27)
-#define GM_LC_DATA_IN_CODE             UINT32_C(0x29)
-#define GM_LC_SOURCE_VERSION           UINT32_C(0x2a)
-#define GM_LC_DYLIB_CODE_SIGN_DRS      UINT32_C(0x2b)
-#define GM_LC_ENCRYPTION_INFO_64       UINT32_C(0x2c)
-#define GM_LC_LINKER_OPTION            UINT32_C(0x2d)
-#define GM_LC_LINKER_OPTIMIZATION_HINT UINT32_C(0x2e)
-#define GM_LC_VERSION_MIN_TVOS         UINT32_C(0x2f)
-#define GM_LC_VERSION_MIN_WATCHOS      UINT32_C(0x30)
-#define GM_LC_NOTE                     UINT32_C(0x31)
-#define GM_LC_BUILD_VERSION            UINT32_C(0x32)
+#define GM_LC_SEGMENT                  UINT32_C(0x1) /* a segment of a 32-bit image */
+#define GM_LC_SYMTAB                   UINT32_C(0x2) /* the symbols */
+#define GM_LC_SYMSEG                   UINT32_C(0x3) /* a symbol table of GDB; obsolete */
+#define GM_LC_THREAD                   UINT32_C(0x4) /* the state of a thread */
+#define GM_LC_UNIXTHREAD               UINT32_C(0x5) /* the state of the first thread, with a stack */
+#define GM_LC_LOADFVMLIB               UINT32_C(0x6) /* a library at a fixed address that the image uses; obsolete */
+#define GM_LC_IDFVMLIB                 UINT32_C(0x7) /* the image's own name as a library at a fixed address; obsolete */
+#define GM_LC_IDENT                    UINT32_C(0x8) /* texts that identify the image; obsolete */
+#define GM_LC_FVMFILE                  UINT32_C(0x9) /* a file to be loaded at a fixed address */
+#define GM_LC_PREPAGE                  UINT32_C(0xa) /* pages to be read in advance; obsolete */
+#define GM_LC_DYSYMTAB                 UINT32_C(0xb) /* the tables that the dynamic linker uses */
+#define GM_LC_LOAD_DYLIB               UINT32_C(0xc) /* a library that the image needs */
+#define GM_LC_ID_DYLIB                 UINT32_C(0xd) /* the image's own name as a library */
+#define GM_LC_LOAD_DYLINKER            UINT32_C(0xe) /* the dynamic linker that the image uses */
+#define GM_LC_ID_DYLINKER              UINT32_C(0xf) /* the image's own name as a dynamic linker */
+#define GM_LC_PREBOUND_DYLIB           UINT32_C(0x10) /* a library for which the image is prebound; obsolete */
+#define GM_LC_ROUTINES                 UINT32_C(0x11) /* the first routine of a 32-bit library */
+#define GM_LC_SUB_FRAMEWORK            UINT32_C(0x12) /* the framework that the image is a part of */
+#define GM_LC_SUB_UMBRELLA             UINT32_C(0x13) /* a framework that is a part of the image */
+#define GM_LC_SUB_CLIENT               UINT32_C(0x14) /* a client that may link to the image */
+#define GM_LC_SUB_LIBRARY              UINT32_C(0x15) /* a library that is a part of the image */
+#define GM_LC_TWOLEVEL_HINTS           UINT32_C(0x16) /* hints for looking up names */
+#define GM_LC_PREBIND_CKSUM            UINT32_C(0x17) /* the checksum of a prebound image */
+#define GM_LC_SEGMENT_64               UINT32_C(0x19) /* a segment of a 64-bit image */
+#define GM_LC_ROUTINES_64              UINT32_C(0x1a) /* the first routine of a 64-bit library */
+#define GM_LC_UUID                     UINT32_C(0x1b) /* the unique number of the image */
+#define GM_LC_CODE_SIGNATURE           UINT32_C(0x1d) /* the place of the code signature */
+#define GM_LC_SEGMENT_SPLIT_INFO       UINT32_C(0x1e) /* the place of the data for moving segments apart */
+#define GM_LC_LAZY_LOAD_DYLIB          UINT32_C(0x20) /* a library that is loaded when it is first used */
+#define GM_LC_ENCRYPTION_INFO          UINT32_C(0x21) /* the encrypted bytes of a 32-bit image */
+#define GM_LC_DYLD_INFO                UINT32_C(0x22) /* the streams of the dynamic linker */
+#define GM_LC_VERSION_MIN_MACOSX       UINT32_C(0x24) /* the oldest macOS that the image runs on */
+#define GM_LC_VERSION_MIN_IPHONEOS     UINT32_C(0x25) /* the oldest iOS that the image runs on */
+#define GM_LC_FUNCTION_STARTS          UINT32_C(0x26) /* the place of the starts of functions */
+#define GM_LC_DYLD_ENVIRONMENT         UINT32_C(0x27) /* a variable of the environment for the dynamic linker */
+#define GM_LC_DATA_IN_CODE             UINT32_C(0x29) /* the place of the list of data in code */
+#define GM_LC_SOURCE_VERSION           UINT32_C(0x2a) /* the version of the sources */
+#define GM_LC_DYLIB_CODE_SIGN_DRS      UINT32_C(0x2b) /* the place of what the libraries must be signed with */
+#define GM_LC_ENCRYPTION_INFO_64       UINT32_C(0x2c) /* the encrypted bytes of a 64-bit image */
+#define GM_LC_LINKER_OPTION            UINT32_C(0x2d) /* options for the linker */
+#define GM_LC_LINKER_OPTIMIZATION_HINT UINT32_C(0x2e) /* the place of hints for the linker */
+#define GM_LC_VERSION_MIN_TVOS         UINT32_C(0x2f) /* the oldest tvOS that the image runs on */
+#define GM_LC_VERSION_MIN_WATCHOS      UINT32_C(0x30) /* the oldest watchOS that the image runs on */
+#define GM_LC_NOTE                     UINT32_C(0x31) /* the place of data with an owner */
+#define GM_LC_BUILD_VERSION            UINT32_C(0x32) /* the platform and the versions that the image was built for */
 #define GM_LC_REQ_DYLD                 UINT32_C(0x80000000) /* the bit of a command number that the dynamic linker must understand */
-#define GM_LC_LOAD_WEAK_DYLIB          UINT32_C(0x80000018)
-#define GM_LC_RPATH                    UINT32_C(0x8000001c)
-#define GM_LC_REEXPORT_DYLIB           UINT32_C(0x8000001f)
-#define GM_LC_DYLD_INFO_ONLY           UINT32_C(0x80000022)
-#define GM_LC_LOAD_UPWARD_DYLIB        UINT32_C(0x80000023)
-#define GM_LC_MAIN                     UINT32_C(0x80000028)
-#define GM_LC_DYLD_EXPORTS_TRIE        UINT32_C(0x80000033)
-#define GM_LC_DYLD_CHAINED_FIXUPS      UINT32_C(0x80000034)
-#define GM_LC_FILESET_ENTRY            UINT32_C(0x80000035)
+#define GM_LC_LOAD_WEAK_DYLIB          UINT32_C(0x80000018) /* a library that may be missing */
+#define GM_LC_RPATH                    UINT32_C(0x8000001c) /* a path on which libraries are searched */
+#define GM_LC_REEXPORT_DYLIB           UINT32_C(0x8000001f) /* a library whose exports the image re-exports */
+#define GM_LC_DYLD_INFO_ONLY           UINT32_C(0x80000022) /* the streams of the dynamic linker, which it must understand */
+#define GM_LC_LOAD_UPWARD_DYLIB        UINT32_C(0x80000023) /* a library that may need the image in turn */
+#define GM_LC_MAIN                     UINT32_C(0x80000028) /* the place at which the image begins to run */
+#define GM_LC_DYLD_EXPORTS_TRIE        UINT32_C(0x80000033) /* the place of the trie of exports */
+#define GM_LC_DYLD_CHAINED_FIXUPS      UINT32_C(0x80000034) /* the place of the chained fixups */
+#define GM_LC_FILESET_ENTRY            UINT32_C(0x80000035) /* an image in a file set */
 /* what memory allows: `maxprot` and `initprot` of a gm_segment */
 #define GM_VM_PROT_NONE    UINT32_C(0x0) /* nothing */
 #define GM_VM_PROT_READ    UINT32_C(0x1) /* reading */
@@ -772,50 +772,50 @@ const char *gm_platform_name(uint32_t platform);                      /* "MACOS"
 /* how an undefined symbol is referred to: `desc` of a gm_symbol in the bits of GM_REFERENCE_TYPE */
 #define GM_REFERENCE_FLAG_UNDEFINED_NON_LAZY         UINT16_C(0x0) /* an undefined symbol, bound when the image is loaded */
 #define GM_REFERENCE_FLAG_UNDEFINED_LAZY             UINT16_C(0x1) /* an undefined symbol, bound at its first use */
-#define GM_REFERENCE_FLAG_DEFINED                    UINT16_C(0x2) /* A symbol defined in this module */
-#define GM_REFERENCE_FLAG_PRIVATE_DEFINED            UINT16_C(0x3) /* A symbol defined in this module, and visible only in its image */
-#define GM_REFERENCE_FLAG_PRIVATE_UNDEFINED_NON_LAZY UINT16_C(0x4) /* A symbol of another module of the image, bound when it is loaded */
-#define GM_REFERENCE_FLAG_PRIVATE_UNDEFINED_LAZY     UINT16_C(0x5) /* A symbol of another module of the image, bound at its first use */
+#define GM_REFERENCE_FLAG_DEFINED                    UINT16_C(0x2) /* a symbol defined in this module */
+#define GM_REFERENCE_FLAG_PRIVATE_DEFINED            UINT16_C(0x3) /* a symbol defined in this module, and visible only in its image */
+#define GM_REFERENCE_FLAG_PRIVATE_UNDEFINED_NON_LAZY UINT16_C(0x4) /* a symbol of another module of the image, bound when it is loaded */
+#define GM_REFERENCE_FLAG_PRIVATE_UNDEFINED_LAZY     UINT16_C(0x5) /* a symbol of another module of the image, bound at its first use */
 #define GM_REFERENCE_TYPE                            UINT16_C(0xf) /* the bits of `n_desc` that hold the kind of reference of an undefined symbol */
 /* the other bits of `desc` */
 #define GM_N_ARM_THUMB_DEF        UINT16_C(0x0008) /* it is Thumb code */
 #define GM_REFERENCED_DYNAMICALLY UINT16_C(0x10) /* looked up by name at run time, so it is not stripped */
 #define GM_N_DESC_DISCARDED       UINT16_C(0x20) /* for the dynamic linker at run time */
 #define GM_N_NO_DEAD_STRIP        UINT16_C(0x20) /* never stripped as unused, in an object file */
-#define GM_N_WEAK_REF             UINT16_C(0x40) /* A weak reference: 0 if nothing defines it */
-#define GM_N_WEAK_DEF             UINT16_C(0x80) /* A weak definition: another definition replaces it */
+#define GM_N_WEAK_REF             UINT16_C(0x40) /* a weak reference: 0 if nothing defines it */
+#define GM_N_WEAK_DEF             UINT16_C(0x80) /* a weak definition: another definition replaces it */
 #define GM_N_REF_TO_WEAK          UINT16_C(0x0080) /* of an undefined symbol: its definition is weak */
 #define GM_N_SYMBOL_RESOLVER      UINT16_C(0x0100) /* a function that answers the address to use */
 #define GM_N_ALT_ENTRY            UINT16_C(0x0200) /* a place inside of what the symbol before it names */
 #define GM_N_COLD_FUNC            UINT16_C(0x0400) /* a function that is seldom called */
 /* the types of entries for a debugger: `n_type`, where a bit of GM_N_STAB is set */
-#define GM_N_GSYM    UINT8_C(0x20) /* A global variable */
+#define GM_N_GSYM    UINT8_C(0x20) /* a global variable */
 #define GM_N_FNAME   UINT8_C(0x22) /* the name of a procedure */
-#define GM_N_FUN     UINT8_C(0x24) /* A procedure */
-#define GM_N_STSYM   UINT8_C(0x26) /* A static variable */
-#define GM_N_LCSYM   UINT8_C(0x28) /* A static variable of zeros */
+#define GM_N_FUN     UINT8_C(0x24) /* a procedure */
+#define GM_N_STSYM   UINT8_C(0x26) /* a static variable */
+#define GM_N_LCSYM   UINT8_C(0x28) /* a static variable of zeros */
 #define GM_N_BNSYM   UINT8_C(0x2e) /* the beginning of a section's symbol */
-#define GM_N_PC      UINT8_C(0x30) /* A global Pascal symbol */
+#define GM_N_PC      UINT8_C(0x30) /* a global Pascal symbol */
 #define GM_N_AST     UINT8_C(0x32) /* the path of a syntax tree */
 #define GM_N_OPT     UINT8_C(0x3c) /* options of the compiler */
-#define GM_N_RSYM    UINT8_C(0x40) /* A variable in a register */
-#define GM_N_SLINE   UINT8_C(0x44) /* A line of the source */
+#define GM_N_RSYM    UINT8_C(0x40) /* a variable in a register */
+#define GM_N_SLINE   UINT8_C(0x44) /* a line of the source */
 #define GM_N_ENSYM   UINT8_C(0x4e) /* the end of a section's symbol */
 #define GM_N_SSYM    UINT8_C(0x60) /* an element of a structure */
-#define GM_N_SO      UINT8_C(0x64) /* A source file */
+#define GM_N_SO      UINT8_C(0x64) /* a source file */
 #define GM_N_OSO     UINT8_C(0x66) /* an object file */
-#define GM_N_LSYM    UINT8_C(0x80) /* A local variable */
+#define GM_N_LSYM    UINT8_C(0x80) /* a local variable */
 #define GM_N_BINCL   UINT8_C(0x82) /* the beginning of an included file */
 #define GM_N_SOL     UINT8_C(0x84) /* an included file */
 #define GM_N_PARAMS  UINT8_C(0x86) /* the compiler's parameters */
 #define GM_N_VERSION UINT8_C(0x88) /* the compiler's version */
 #define GM_N_OLEVEL  UINT8_C(0x8a) /* the compiler's level of optimization */
-#define GM_N_PSYM    UINT8_C(0xa0) /* A parameter */
+#define GM_N_PSYM    UINT8_C(0xa0) /* a parameter */
 #define GM_N_EINCL   UINT8_C(0xa2) /* the end of an included file */
 #define GM_N_ENTRY   UINT8_C(0xa4) /* an alternate entry of a procedure */
-#define GM_N_LBRAC   UINT8_C(0xc0) /* A left bracket */
+#define GM_N_LBRAC   UINT8_C(0xc0) /* a left bracket */
 #define GM_N_EXCL    UINT8_C(0xc2) /* an included file that is omitted */
-#define GM_N_RBRAC   UINT8_C(0xe0) /* A right bracket */
+#define GM_N_RBRAC   UINT8_C(0xe0) /* a right bracket */
 #define GM_N_BCOMM   UINT8_C(0xe2) /* the beginning of a common block */
 #define GM_N_ECOMM   UINT8_C(0xe4) /* the end of a common block */
 #define GM_N_ECOML   UINT8_C(0xe8) /* the end of a local common block */
@@ -835,65 +835,65 @@ const char *gm_platform_name(uint32_t platform);                      /* "MACOS"
 #define GM_EXPORT_SYMBOL_FLAGS_STUB_AND_RESOLVER UINT64_C(0x10) /* the export is a stub with a resolver */
 /* relocations of GM_CPU_TYPE_X86_64: bits 28 to 31 of `info` of a gm_relocation */
 #define GM_X86_64_RELOC_UNSIGNED   UINT8_C(0) /* an absolute address */
-#define GM_X86_64_RELOC_SIGNED     UINT8_C(1) /* A signed 32-bit displacement */
+#define GM_X86_64_RELOC_SIGNED     UINT8_C(1) /* a signed 32-bit displacement */
 #define GM_X86_64_RELOC_BRANCH     UINT8_C(2) /* the displacement of a call or a jump */
-#define GM_X86_64_RELOC_GOT_LOAD   UINT8_C(3) /* A load of an entry in the global offset table */
+#define GM_X86_64_RELOC_GOT_LOAD   UINT8_C(3) /* a load of an entry in the global offset table */
 #define GM_X86_64_RELOC_GOT        UINT8_C(4) /* another use of the global offset table */
 #define GM_X86_64_RELOC_SUBTRACTOR UINT8_C(5) /* the subtrahend of a difference; a GM_X86_64_RELOC_UNSIGNED follows */
 #define GM_X86_64_RELOC_SIGNED_1   UINT8_C(6) /* like GM_X86_64_RELOC_SIGNED, with the addend -1 */
 #define GM_X86_64_RELOC_SIGNED_2   UINT8_C(7) /* like GM_X86_64_RELOC_SIGNED, with the addend -2 */
 #define GM_X86_64_RELOC_SIGNED_4   UINT8_C(8) /* like GM_X86_64_RELOC_SIGNED, with the addend -4 */
-#define GM_X86_64_RELOC_TLV        UINT8_C(9) /* A thread-local variable */
+#define GM_X86_64_RELOC_TLV        UINT8_C(9) /* a thread-local variable */
 /* relocations of GM_CPU_TYPE_X86 */
-#define GM_GENERIC_RELOC_VANILLA        UINT8_C(0) /* A plain address */
+#define GM_GENERIC_RELOC_VANILLA        UINT8_C(0) /* a plain address */
 #define GM_GENERIC_RELOC_PAIR           UINT8_C(1) /* the second relocation of a pair */
 #define GM_GENERIC_RELOC_SECTDIFF       UINT8_C(2) /* the difference of two addresses; a pair follows */
-#define GM_GENERIC_RELOC_PB_LA_PTR      UINT8_C(3) /* A prebound lazy pointer */
+#define GM_GENERIC_RELOC_PB_LA_PTR      UINT8_C(3) /* a prebound lazy pointer */
 #define GM_GENERIC_RELOC_LOCAL_SECTDIFF UINT8_C(4) /* the difference of two local addresses; a pair follows */
-#define GM_GENERIC_RELOC_TLV            UINT8_C(5) /* A thread-local variable */
+#define GM_GENERIC_RELOC_TLV            UINT8_C(5) /* a thread-local variable */
 /* relocations of GM_CPU_TYPE_ARM */
-#define GM_ARM_RELOC_VANILLA        UINT8_C(0) /* A plain address */
+#define GM_ARM_RELOC_VANILLA        UINT8_C(0) /* a plain address */
 #define GM_ARM_RELOC_PAIR           UINT8_C(1) /* the second relocation of a pair */
 #define GM_ARM_RELOC_SECTDIFF       UINT8_C(2) /* the difference of two addresses; a pair follows */
 #define GM_ARM_RELOC_LOCAL_SECTDIFF UINT8_C(3) /* the difference of two local addresses; a pair follows */
-#define GM_ARM_RELOC_PB_LA_PTR      UINT8_C(4) /* A prebound lazy pointer */
+#define GM_ARM_RELOC_PB_LA_PTR      UINT8_C(4) /* a prebound lazy pointer */
 #define GM_ARM_RELOC_BR24           UINT8_C(5) /* the 24-bit displacement of a branch */
 #define GM_ARM_THUMB_RELOC_BR22     UINT8_C(6) /* the 22-bit displacement of a Thumb branch */
-#define GM_ARM_THUMB_32BIT_BRANCH   UINT8_C(7) /* A 32-bit Thumb branch; obsolete */
+#define GM_ARM_THUMB_32BIT_BRANCH   UINT8_C(7) /* a 32-bit Thumb branch; obsolete */
 #define GM_ARM_RELOC_HALF           UINT8_C(8) /* half of an address, in a `movw` or a `movt` */
 #define GM_ARM_RELOC_HALF_SECTDIFF  UINT8_C(9) /* half of the difference of two addresses */
 /* relocations of GM_CPU_TYPE_ARM64 and GM_CPU_TYPE_ARM64_32 */
-#define GM_ARM64_RELOC_UNSIGNED            UINT8_C(0) /* A pointer */
+#define GM_ARM64_RELOC_UNSIGNED            UINT8_C(0) /* a pointer */
 #define GM_ARM64_RELOC_SUBTRACTOR          UINT8_C(1) /* the subtrahend of a difference; a GM_ARM64_RELOC_UNSIGNED follows */
 #define GM_ARM64_RELOC_BRANCH26            UINT8_C(2) /* the 26-bit displacement of a branch */
 #define GM_ARM64_RELOC_PAGE21              UINT8_C(3) /* the distance to the page of the target */
 #define GM_ARM64_RELOC_PAGEOFF12           UINT8_C(4) /* the offset within that page */
 #define GM_ARM64_RELOC_GOT_LOAD_PAGE21     UINT8_C(5) /* the distance to the page of an entry of the global offset table */
 #define GM_ARM64_RELOC_GOT_LOAD_PAGEOFF12  UINT8_C(6) /* the offset of that entry within its page */
-#define GM_ARM64_RELOC_POINTER_TO_GOT      UINT8_C(7) /* A pointer to an entry of the global offset table */
+#define GM_ARM64_RELOC_POINTER_TO_GOT      UINT8_C(7) /* a pointer to an entry of the global offset table */
 #define GM_ARM64_RELOC_TLVP_LOAD_PAGE21    UINT8_C(8) /* the distance to the page of a thread-local variable */
 #define GM_ARM64_RELOC_TLVP_LOAD_PAGEOFF12 UINT8_C(9) /* the offset of that variable within its page */
 #define GM_ARM64_RELOC_ADDEND              UINT8_C(10) /* the addend of the GM_ARM64_RELOC_PAGE21 or GM_ARM64_RELOC_PAGEOFF12 that follows */
 /* bits 0 to 23 of `info` */
 #define GM_R_ABS UINT8_C(0) /* an absolute value, without a symbol or a section */
 /* platforms, of GM_LC_BUILD_VERSION */
-#define GM_PLATFORM_MACOS             UINT32_C(1)
-#define GM_PLATFORM_IOS               UINT32_C(2)
-#define GM_PLATFORM_TVOS              UINT32_C(3)
-#define GM_PLATFORM_WATCHOS           UINT32_C(4)
-#define GM_PLATFORM_BRIDGEOS          UINT32_C(5)
-#define GM_PLATFORM_MACCATALYST       UINT32_C(6)
-#define GM_PLATFORM_IOSSIMULATOR      UINT32_C(7)
-#define GM_PLATFORM_TVOSSIMULATOR     UINT32_C(8)
-#define GM_PLATFORM_WATCHOSSIMULATOR  UINT32_C(9)
-#define GM_PLATFORM_DRIVERKIT         UINT32_C(10)
-#define GM_PLATFORM_VISIONOS          UINT32_C(11)
-#define GM_PLATFORM_VISIONOSSIMULATOR UINT32_C(12)
+#define GM_PLATFORM_MACOS             UINT32_C(1) /* macOS */
+#define GM_PLATFORM_IOS               UINT32_C(2) /* iOS */
+#define GM_PLATFORM_TVOS              UINT32_C(3) /* tvOS */
+#define GM_PLATFORM_WATCHOS           UINT32_C(4) /* watchOS */
+#define GM_PLATFORM_BRIDGEOS          UINT32_C(5) /* bridgeOS */
+#define GM_PLATFORM_MACCATALYST       UINT32_C(6) /* iOS on macOS */
+#define GM_PLATFORM_IOSSIMULATOR      UINT32_C(7) /* the simulator of iOS */
+#define GM_PLATFORM_TVOSSIMULATOR     UINT32_C(8) /* the simulator of tvOS */
+#define GM_PLATFORM_WATCHOSSIMULATOR  UINT32_C(9) /* the simulator of watchOS */
+#define GM_PLATFORM_DRIVERKIT         UINT32_C(10) /* drivers of macOS */
+#define GM_PLATFORM_VISIONOS          UINT32_C(11) /* visionOS */
+#define GM_PLATFORM_VISIONOSSIMULATOR UINT32_C(12) /* the simulator of visionOS */
 /* tools, of GM_LC_BUILD_VERSION */
-#define GM_TOOL_CLANG UINT32_C(1)
-#define GM_TOOL_SWIFT UINT32_C(2)
-#define GM_TOOL_LD    UINT32_C(3)
-#define GM_TOOL_LLD   UINT32_C(4)
+#define GM_TOOL_CLANG UINT32_C(1) /* the compiler clang */
+#define GM_TOOL_SWIFT UINT32_C(2) /* the compiler of Swift */
+#define GM_TOOL_LD    UINT32_C(3) /* the linker ld */
+#define GM_TOOL_LLD   UINT32_C(4) /* the linker lld */
 /* `kind` of a gm_data_in_code_entry */
 #define GM_DICE_KIND_DATA             UINT16_C(1) /* data */
 #define GM_DICE_KIND_JUMP_TABLE8      UINT16_C(2) /* jump tables of 8 bits */
