@@ -2,7 +2,7 @@
 
 Comments, ghost items, clauses and what else speaks to the prover are left out first. A path counts as the same if it leads to the same
 name of the same crate, and a comma before a closing bracket doesn't count. Imports are compared as sets. All else is compared token by
-token, and each place at which the two differ is of the kind `what goes => what comes`.
+token, and each place at which the two differ is of the kind `what goes => what comes`. Crates of tests are left out.
 """
 import collections
 import difflib
@@ -103,6 +103,8 @@ class Audit:
     def __init__(self, top):
         self.top, self.kinds, self.files, self.same, self.places = top, collections.Counter(), {}, 0, {}
         folder = os.path.join(top, GENERATED)
+        with open(os.path.join(folder, "mod.rs"), encoding="utf-8") as file:
+            tests = set(re.findall(r"#\[cfg\(test\)\]\npub mod (\w+);", file.read()))
         for place, _, names in sorted(os.walk(folder)):
             for path in sorted(os.path.join(place, name) for name in names):
                 with open(path, encoding="utf-8") as file:
@@ -110,7 +112,7 @@ class Audit:
                 origin = ORIGIN.match(text)
                 if FORBID not in text:
                     self.kinds["", "a file without " + FORBID.strip()] += 1
-                if origin:
+                if origin and origin[3] not in tests:
                     self.files[path] = origin, text
                     self.places[origin[3]] = os.path.relpath(path, folder).split(os.sep)[0]
         for path, (origin, text) in self.files.items():
