@@ -97,61 +97,54 @@ def short(words):
     return text
 
 
-class Audit:
-    """The tally over all files."""
+def read(*path):
+    """The text of a file."""
+    with open(os.path.join(*path), encoding="utf-8") as file:
+        return file.read()
 
-    def __init__(self, top):
-        self.top, self.kinds, self.files, self.same, self.places = top, collections.Counter(), {}, 0, {}
-        folder = os.path.join(top, GENERATED)
-        with open(os.path.join(folder, "mod.rs"), encoding="utf-8") as file:
-            tests = set(re.findall(r"#\[cfg\(test\)\]\npub mod (\w+);", file.read()))
-        for place, _, names in sorted(os.walk(folder)):
-            for path in sorted(os.path.join(place, name) for name in names):
-                with open(path, encoding="utf-8") as file:
-                    text = file.read()
-                origin = ORIGIN.match(text)
-                if FORBID not in text:
-                    self.kinds["", "a file without " + FORBID.strip()] += 1
-                if origin and origin[3] not in tests:
-                    self.files[path] = origin, text
-                    self.places[origin[3]] = os.path.relpath(path, folder).split(os.sep)[0]
-        for path, (origin, text) in self.files.items():
-            self.compare(origin, text)
 
-    def compare(self, origin, text):
-        """Adds the differences of one file."""
-        path = os.path.join(self.top, origin[1])
-        if origin[2] == "toolchain":
-            path = os.path.join(os.path.dirname(os.path.dirname(os.path.realpath(shutil.which("rt")))), "rattle", origin[1].partition("/")[2])
-        with open(path, encoding="utf-8") as file:
-            imports, before = tokens(self.placed(without_ghosts(file.read()), origin[3]))
-        new_imports, after = tokens(text.replace(FORBID, "", 1).replace("crate::generated::", "generated::"))
-        self.kinds.update(import_kinds(imports, new_imports))
+def pairs(top):
+    """The source and the Rust of each file but those of tests, with the paths into crates of the project in the same form."""
+    folder = os.path.join(top, GENERATED)
+    left_out = set(re.findall(r"#\[cfg\(test\)\]\npub mod (\w+);", read(folder, "mod.rs")))
+    files = [os.path.join(place, name) for place, _, names in os.walk(folder) for name in names]
+    made = [(ORIGIN.match(read(path)), read(path), os.path.relpath(path, folder).split(os.sep)[0]) for path in files]
+    places = {origin[3]: place for origin, _, place in made if origin}
+    toolchain = os.path.join(os.path.dirname(os.path.realpath(shutil.which("rt") or "")), "..", "rattle")
+    for origin, text, place in made:
+        if origin and place not in left_out:
+            source = read(toolchain if origin[2] == "toolchain" else top, origin[1].removeprefix("toolchain/"))
+            source = re.sub(r"(?<![\w:])crate::", origin[3] + "::", without_ghosts(source))
+            source = re.sub(r"(?<![\w:])(%s)::" % "|".join(places), lambda met: "generated::%s::" % places[met[1]], source)
+            yield source, text.replace(FORBID, "", 1).replace("crate::generated::", "generated::")
+
+
+def tally(top):
+    """The kinds of differences with how many there are of each, and the counts of files and of tokens in both."""
+    kinds, files, same = collections.Counter(), 0, 0
+    for source, made in pairs(top):
+        (imports, before), (new_imports, after) = tokens(source), tokens(made)
+        kinds.update(import_kinds(imports, new_imports))
+        files += 1
         for tag, i1, i2, j1, j2 in difflib.SequenceMatcher(None, before, after, autojunk=False).get_opcodes():
             if tag == "equal":
-                self.same += i2 - i1
+                same += i2 - i1
             else:
-                self.kinds[short(before[i1:i2]), short(after[j1:j2])] += 1
-
-    def placed(self, text, crate):
-        """The text of a source with the paths to crates of the project as they are in the Rust crate."""
-        text = re.sub(r"(?<![\w:])crate::", crate + "::", text)
-        return re.sub(r"(?<![\w:])(%s)::" % "|".join(self.places), lambda met: "generated::%s::" % self.places[met[1]], text)
+                kinds[short(before[i1:i2]), short(after[j1:j2])] += 1
+    return kinds, files, same
 
 
 def run(top, writes):
     """Prints the tally, and compares its kinds with the list or writes that; returns the status."""
-    audit = Audit(top)
-    found = sorted("%s  =>  %s" % kind for kind in audit.kinds)
-    print("erase: %d files, %d tokens in both, %d differences of %d kinds" % (len(audit.files), audit.same, sum(audit.kinds.values()), len(found)))
-    path = os.path.join(top, LIST)
+    kinds, files, same = tally(top)
+    found, path = {"%s  =>  %s" % kind for kind in kinds}, os.path.join(top, LIST)
+    print("erase: %d files, %d tokens in both, %d differences of %d kinds" % (files, same, sum(kinds.values()), len(found)))
     if writes:
         with open(path, "w", encoding="utf-8") as file:
-            file.write("\n".join(found) + "\n")
+            file.write("\n".join(sorted(found)) + "\n")
         return 0
-    with open(path, encoding="utf-8") as file:
-        listed = file.read().splitlines()
-    for kind in sorted(set(found) ^ set(listed)):
+    listed = set(read(path).splitlines())
+    for kind in sorted(found ^ listed):
         print("erase: %s: %s" % ("a new kind of difference" if kind in found else "no difference is of this kind any more", kind))
-    print("%d passed, %d failed" % (len(set(found) & set(listed)), len(set(found) ^ set(listed))))
-    return 1 if set(found) != set(listed) else 0
+    print("%d passed, %d failed" % (len(found & listed), len(found ^ listed)))
+    return 1 if found != listed else 0

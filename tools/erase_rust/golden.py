@@ -1,13 +1,13 @@
 """Tries the tool on small inputs. Each file of `golden` has a case: files of Rattle, each below a line `//// FILE`, and below a line
 `//// result` the files of Rust that they become, or the message with which the tool stops."""
+import glob
 import os
 import re
 import tempfile
 
-from .lexer import Unknown
-from .project import Project, Stop
+from .lexer import Stop
+from .project import Project, write_files
 
-FOLDER = os.path.join(os.path.dirname(os.path.abspath(__file__)), "golden")
 CONFIG = "crate base\ncrate case as shown\ncrate more when extra\nmodule case guarded when extra\n"
 MARK = re.compile(r"^//// (\S+)\n", re.M)
 
@@ -21,14 +21,11 @@ def files_of(text):
 def result(files):
     """What the tool makes of files: files of Rust below lines with their names, or a message."""
     with tempfile.TemporaryDirectory() as top:
-        for name, text in {"base/lib.rt": "", "more/lib.rt": "", "crates.conf": CONFIG, **files}.items():
-            path = os.path.join(top, name if "." in name.split("/")[0] else "crates/" + name.replace("/", "/src/", 1))
-            os.makedirs(os.path.dirname(path), exist_ok=True)
-            with open(path, "w", encoding="utf-8") as file:
-                file.write(text)
+        files = {"base/lib.rt": "", "more/lib.rt": "", "crates.conf": CONFIG, **files}
+        write_files(top, {"crates/" + name.replace("/", "/src/", 1) if "/" in name else name: text for name, text in files.items()})
         try:
             made = Project(top, os.path.join(top, "crates.conf")).files()
-        except (Unknown, Stop) as error:
+        except Stop as error:
             return "%s\n" % error
         wanted = {name: text for name, text in made.items() if name != "mod.rs" and text.count("\n") > 2}
         return "".join("//// %s\n%s" % pair for pair in sorted(wanted.items()))
@@ -36,9 +33,8 @@ def result(files):
 
 def run(writes):
     """Tries all cases, or writes what they result in; returns the status."""
-    failed, cases = 0, sorted(os.listdir(FOLDER))
-    for case in cases:
-        path = os.path.join(FOLDER, case)
+    failed, paths = 0, sorted(glob.glob(os.path.join(os.path.dirname(os.path.abspath(__file__)), "golden", "*.txt")))
+    for path in paths:
         with open(path, encoding="utf-8") as file:
             given, _, wanted = file.read().partition("//// result\n")
         found = result(files_of(given))
@@ -47,6 +43,6 @@ def run(writes):
                 file.write(given + "//// result\n" + found)
         elif found != wanted:
             failed += 1
-            print("erase: golden/%s has another result:\n%s" % (case, found))
-    print("%d passed, %d failed" % (len(cases) - failed, failed))
+            print("erase: %s has another result:\n%s" % (os.path.basename(path), found))
+    print("%d passed, %d failed" % (len(paths) - failed, failed))
     return 1 if failed else 0

@@ -1,5 +1,6 @@
 """Laws: functions that prove something and do nothing."""
 
+
 def law_calls(stream, i):
     """The names that the body of the function at i calls, if the function has a clause and returns nothing, takes no self, and
     its body only calls functions; else None."""
@@ -37,11 +38,9 @@ def find_laws(streams):
             elif stream.is_name(stream.next(i)):
                 others.add(stream.text(stream.next(i)))
     laws = set(calls) - others
-    while True:
-        fewer = {name for name in laws if laws.issuperset(calls[name])}
-        if fewer == laws:
-            return laws
+    while (fewer := {name for name in laws if laws.issuperset(calls[name])}) != laws:
         laws = fewer
+    return laws
 
 
 def remove_laws(stream, laws):

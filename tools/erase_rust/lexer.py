@@ -18,16 +18,13 @@ PART = re.compile(
     re.X | re.S,
 )
 INDEX = re.compile(r"[0-9]+")
+STRING = re.compile(r'"(?:\\.|[^"\\])*"', re.S)
 CLAUSE = re.compile(r"(?:requires|ensures)\*?(?:\s+[A-Za-z_][A-Za-z0-9_]*)?\s*(?=\{)")
 GHOST = re.compile(r"ghost\s+(?:(use)\b|[A-Za-z_][A-Za-z0-9_]*\s*(?=[:=]))")
-REFUSED = {"/*": "a block comment", "r": "a raw string or name", "b": "a raw string", "c": "a string of C"}
 
 
-class Unknown(Exception):
-    """A construct that the tool doesn't know."""
-
-    def __init__(self, path, line, construct):
-        super().__init__("%s:%d: %s" % (path, line, construct))
+class Stop(Exception):
+    """Why the tool ends without having written anything."""
 
 
 class Token:
@@ -53,26 +50,21 @@ class Lexer:
                 self.refuse("a character that Rust doesn't have: %r" % self.text[self.at])
             kind, end = met.lastgroup, met.end()
             if kind == "refused":
-                self.refuse(REFUSED["/*" if met.group() == "/*" else met.group()[0]])
+                self.refuse("a comment, a string or a name of another form: " + self.shown())
             if kind == "number" and self.text[self.at - 1:self.at] == ".":  # t.0.1
                 end = INDEX.match(self.text, self.at).end()
             if kind == "name" and met.group() in ("requires", "ensures"):
                 kind, end = "clause", self.clause_end()
             elif kind == "name" and met.group() == "ghost":
                 kind, end = "ghost", self.ghost_end()
-            self.take(kind, end)
+            self.found.append(Token(kind, self.text[self.at:end], self.line))
+            self.line += self.found[-1].text.count("\n")
+            self.at = end
         return self.found
-
-    def take(self, kind, end):
-        """Adds the token from here to a place."""
-        text = self.text[self.at:end]
-        self.found.append(Token(kind, text, self.line))
-        self.line += text.count("\n")
-        self.at = end
 
     def refuse(self, construct):
         """Stops at what this tool doesn't know."""
-        raise Unknown(self.path, self.line, construct)
+        raise Stop("%s:%d: %s" % (self.path, self.line, construct))
 
     def clause_end(self):
         """The place after the clause that begins here."""
@@ -107,7 +99,8 @@ class Lexer:
         while at < len(self.text):
             char = self.text[at]
             if char == '"':
-                at = self.string_end(at)
+                met = STRING.match(self.text, at)
+                at = met.end() if met else len(self.text)
                 continue
             depth += (char == "{") - (char == "}")
             at += 1
@@ -115,18 +108,6 @@ class Lexer:
                 return at
         return self.refuse("a block without an end: " + self.shown())
 
-    def string_end(self, at):
-        """The place after the string of the prover's language that begins at a place."""
-        at += 1
-        while at < len(self.text) and self.text[at] != '"':
-            at += 2 if self.text[at] == "\\" else 1
-        return at + 1
-
     def shown(self):
         """The beginning of the text from here, for a message."""
         return " ".join(self.text[self.at:self.at + 60].split())
-
-
-def lex(text, path):
-    """The tokens of a file."""
-    return Lexer(text, path).tokens()

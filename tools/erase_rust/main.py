@@ -4,40 +4,25 @@ import shutil
 import sys
 
 from . import audit, golden
-from .lexer import Unknown
-from .project import Project, Stop
+from .lexer import Stop
+from .project import Project, read_files, write_files
 
-GENERATED = "rust/goblin_mach/src/generated"
 CONFIG = "rust/crates.conf"
-
-
-def committed(folder):
-    """The files of a folder, as a dictionary from their paths below it."""
-    found = {}
-    for place, _, names in os.walk(folder):
-        for name in names:
-            path = os.path.join(place, name)
-            with open(path, encoding="utf-8") as file:
-                found[os.path.relpath(path, folder)] = file.read()
-    return found
+GENERATED = "rust/goblin_mach/src/generated"
 
 
 def generate(top):
-    """Writes all files."""
+    """Writes all files; returns the status."""
     made, folder = Project(top, os.path.join(top, CONFIG)).files(), os.path.join(top, GENERATED)
     shutil.rmtree(folder, ignore_errors=True)
-    for name, text in made.items():
-        path = os.path.join(folder, name)
-        os.makedirs(os.path.dirname(path), exist_ok=True)
-        with open(path, "w", encoding="utf-8") as file:
-            file.write(text)
+    write_files(folder, made)
     print("erase: %d files, %d lines" % (len(made), sum(text.count("\n") for text in made.values())))
     return 0
 
 
 def check(top):
-    """Compares what would be written with what is there."""
-    made, there = Project(top, os.path.join(top, CONFIG)).files(), committed(os.path.join(top, GENERATED))
+    """Compares what would be written with what is there; returns the status."""
+    made, there = Project(top, os.path.join(top, CONFIG)).files(), read_files(os.path.join(top, GENERATED))
     differ = sorted(name for name in made.keys() | there.keys() if made.get(name) != there.get(name))
     for name in differ:
         what = "has no source" if name not in made else "is missing" if name not in there else "is not what its source makes"
@@ -48,17 +33,14 @@ def check(top):
 
 def main(top, words, usage):
     """Runs the command with its words; returns its status."""
+    writes = words[1:] == ["--write"] and words[0] in ("--test", "--audit")
+    commands = {"": generate, "--check": check, "--test": lambda _: golden.run(writes), "--audit": lambda _: audit.run(top, writes)}
+    command = commands.get(words[0] if words else "")
+    if command is None or len(words) > 1 and not writes:
+        print(usage, end="", file=sys.stderr)
+        return 2
     try:
-        if not words:
-            return generate(top)
-        if words == ["--check"]:
-            return check(top)
-        if words in (["--test"], ["--test", "--write"]):
-            return golden.run("--write" in words)
-        if words in (["--audit"], ["--audit", "--write"]):
-            return audit.run(top, "--write" in words)
-    except (Unknown, Stop) as error:
+        return command(top)
+    except Stop as error:
         print("erase: %s" % error, file=sys.stderr)
         return 1
-    print(usage, end="", file=sys.stderr)
-    return 2

@@ -1,5 +1,7 @@
 """Passes for memory: the allocator goes out of types, signatures and calls, and what may be refused memory calls the shim."""
-from .known import FALLIBLE, MAKERS
+from .known import MAKERS, RENAMED, TRAIT_OF
+
+LISTS = {"String": 0, "Vec": 1, "BTreeMap": 2}
 
 
 class Allocators:
@@ -25,16 +27,13 @@ class Allocators:
         for first, last, _ in stream.parts(at):
             words = stream.words(first, last)
             is_one = "Allocator" in words[:4] or words[-2:] == ["=", "Global"]
-            yield at, end, words[0], is_one or word == "type" and len(words) == 1 and self._is_last_of_list(words[0], at, end)
+            yield at, end, words[0], is_one or word == "type" and self._is_of_alias(words[0], at)
 
-    def _is_last_of_list(self, name, first, last):
-        """Whether a name is the last argument of one of std's lists."""
-        stream = self.stream
-        for k in range(first, last):
-            if stream.live(k) and stream.text(k) in ("Vec", "BTreeMap", "String") and stream.opens_generics(stream.next(k)):
-                if stream.text(stream.prev(stream.close(stream.next(k)))) == name:
-                    return True
-        return False
+    def _is_of_alias(self, name, at):
+        """Whether a name is the allocator of the list or text for which an alias is declared: its argument after the usual ones."""
+        of = self.stream.next(self.stream.seek(self.stream.close(at), "="))
+        parts = self.stream.parts(self.stream.next(of)) if self.stream.text(of) in LISTS else []
+        return len(parts) > LISTS.get(self.stream.text(of), 0) and self.stream.text(parts[-1][0]) == name
 
     def is_type(self, i):
         """Whether the name at i is the type of an allocator."""
@@ -125,11 +124,10 @@ def calls(stream):
         text, after = stream.text(i), stream.next(i)
         if not stream.is_name(i):
             continue
-        if text in FALLIBLE and stream.text(stream.prev(i)) == "." and stream.text(after) == "(":
-            end = stream.close(after)
-            if stream.text(stream.next(end)) == "?" or not is_statement(stream, i, end):
-                stream.tokens[i].text, trait = FALLIBLE[text]
-                stream.shim.add(trait)
+        if text in TRAIT_OF and stream.text(stream.prev(i)) == "." and stream.text(after) == "(":
+            if not is_statement(stream, i, stream.close(after)):
+                stream.tokens[i].text = RENAMED.get(text, "try_" + text)
+                stream.shim.add(TRAIT_OF[text])
         elif text == "push_reserved":
             stream.shim.add("TryGrow")
         elif stream.text(after) == "::" and (text, stream.text(stream.next(after))) in MAKERS:

@@ -14,13 +14,12 @@ class Paths:
 
     def _mentioned(self):
         """The names that the file mentions outside of imports."""
-        stream, found, i = self.stream, set(), 0
-        while i < len(stream.tokens):
-            if stream.live(i) and stream.text(i) == "use":
-                i = stream.seek(i, ";")
-            elif stream.live(i) and stream.is_name(i):
-                found.add(stream.text(i))
-            i += 1
+        found, end = set(), 0
+        for i in self.stream.each():
+            if self.stream.text(i) == "use":
+                end = self.stream.seek(i, ";")
+            elif i > end and self.stream.is_name(i):
+                found.add(self.stream.text(i))
         return found
 
     def rewrite(self, path, i):
@@ -119,13 +118,10 @@ class Paths:
 
     def modules(self, base):
         """The modules that the file declares, as (name, place of `mod`); those that a feature guards get its condition."""
-        stream, found = self.stream, []
-        for i in stream.each("mod"):
-            name = stream.text(stream.next(i))
-            if stream.text(stream.next(stream.next(i))) != ";":
-                continue
-            feature = self.project.feature([self.crate] + base + [name])
-            if feature != self.feature:
-                stream.tokens[stream.item_start(i)[1]].before += '#[cfg(feature = "%s")]\n' % feature
-            found.append((name, i))
-        return found
+        for i in self.stream.each("mod"):
+            name = self.stream.text(self.stream.next(i))
+            if self.stream.text(self.stream.next(self.stream.next(i))) == ";":
+                feature = self.project.feature([self.crate] + base + [name])
+                if feature != self.feature:
+                    self.stream.tokens[self.stream.item_start(i)[1]].before += '#[cfg(feature = "%s")]\n' % feature
+                yield name, i

@@ -1,7 +1,7 @@
 """The tokens of a file, with what finds, removes and replaces some of them."""
 import re
 
-from .lexer import IDLE, Unknown, lex
+from .lexer import IDLE, Lexer, Stop
 
 PAIRS = {"(": ")", "[": "]", "{": "}"}
 VISIBILITY = ("pub", "final", "const", "unsafe")
@@ -11,37 +11,27 @@ class Stream:
     """The tokens of a file. A place is an index of a token, and stays the same while tokens are removed and replaced."""
 
     def __init__(self, text, path):
-        self.path, self.tokens = path, lex(text, path)
-        self.pair = {}
-        self._match_brackets()
-
-    def _match_brackets(self):
-        """Sets `pair`, which leads from each bracket to its partner."""
-        open_, marks = [], set(PAIRS) | set(PAIRS.values())
+        self.path, self.tokens, self.shim = path, Lexer(text, path).tokens(), set()
+        self.pair = {}  # leads from each bracket to its partner
+        open_ = []
         for i, token in enumerate(self.tokens):
-            if token.kind != "mark" or token.text not in marks:
-                continue
-            if token.text in PAIRS:
+            if token.kind == "mark" and token.text in PAIRS:
                 open_.append(i)
-            elif not open_ or PAIRS[self.tokens[open_[-1]].text] != token.text:
-                self.refuse(i, "a bracket without its partner: " + token.text)
-            else:
-                first = open_.pop()
-                self.pair[first], self.pair[i] = i, first
+            elif token.kind == "mark" and token.text in PAIRS.values():
+                if not open_ or PAIRS[self.text(open_[-1])] != token.text:
+                    self.refuse(i, "a bracket without its partner: " + token.text)
+                self.pair[i] = open_.pop()
+                self.pair[self.pair[i]] = i
         if open_:
             self.refuse(open_[-1], "a bracket without its partner: " + self.text(open_[-1]))
 
     def refuse(self, i, construct):
         """Stops at what this tool doesn't know."""
-        line = self.tokens[i].line if 0 <= i < len(self.tokens) else 0
-        raise Unknown(self.path, line, construct)
-
-    # ------------------------------------------------------------------------------------------------ finding
+        raise Stop("%s:%d: %s" % (self.path, self.tokens[min(i, len(self.tokens) - 1)].line, construct))
 
     def live(self, i):
         """Whether the token at i is part of the program and not removed."""
-        token = self.tokens[i]
-        return not token.gone and token.kind not in IDLE
+        return not self.tokens[i].gone and self.tokens[i].kind not in IDLE
 
     def next(self, i):
         """The next live token after i."""
@@ -66,11 +56,8 @@ class Stream:
         return 0 <= i < len(self.tokens) and self.tokens[i].kind == "name"
 
     def each(self, *texts):
-        """The places of the live tokens with one of these texts; of all live tokens if there are no texts. What is removed
-        meanwhile is left out."""
-        for i in range(len(self.tokens)):
-            if self.live(i) and (not texts or self.tokens[i].text in texts):
-                yield i
+        """The places of the live tokens with one of these texts, or of all if there are no texts. What is removed meanwhile is left out."""
+        return (i for i, token in enumerate(self.tokens) if self.live(i) and (not texts or token.text in texts))
 
     def reads(self, i, *texts):
         """Whether the live tokens from i on are these."""
@@ -85,11 +72,11 @@ class Stream:
         return [self.text(k) for k in range(first, last + 1) if self.live(k)]
 
     def seek(self, i, *texts):
-        """The first live token at i or after it with one of these texts, outside of brackets that open after i."""
+        """The first live token at i or after it with one of these texts, outside of brackets that open there."""
         while i < len(self.tokens) and self.text(i) not in texts:
-            i = self.next(self.pair[i] if self.text(i) in PAIRS and i in self.pair else i)
+            i = self.next(self.pair[i] if self.text(i) in PAIRS else i)
         if i >= len(self.tokens):
-            self.refuse(len(self.tokens) - 1, "no %s follows" % " or ".join(texts))
+            self.refuse(i, "no %s follows" % " or ".join(texts))
         return i
 
     def close(self, i):
@@ -97,45 +84,33 @@ class Stream:
         if self.text(i) != "<":
             return self.pair[i]
         depth = 0
-        while True:
-            text = self.text(i)
-            depth += (text == "<") - (text == ">")
+        while i < len(self.tokens) and self.text(i) != ";":
+            depth += (self.text(i) == "<") - (self.text(i) == ">")
             if depth == 0:
                 return i
-            if text in PAIRS:
-                i = self.pair[i]
-            elif text == ";" or i >= len(self.tokens):
-                self.refuse(i, "generics without an end")
-            i = self.next(i)
+            i = self.next(self.pair[i] if self.text(i) in PAIRS else i)
+        return self.refuse(i, "generics without an end")
 
     def opens_generics(self, i):
         """Whether the `<` at i opens generics: it follows a name or `::` without a space."""
         k = i - 1
         while k >= 0 and self.tokens[k].gone:
             k -= 1
-        return self.text(i) == "<" and k >= 0 and (self.tokens[k].kind == "name" or self.text(k) == "::")
+        return self.text(i) == "<" and (self.is_name(k) or self.text(k) == "::")
 
     def parts(self, open_, close=None):
         """The parts of a list between brackets, as (first, last, comma after it or None)."""
         close = self.close(open_) if close is None else close
         found, first, last, k = [], None, None, self.next(open_)
         while k < close:
-            text = self.text(k)
-            if text == ",":
-                if first is not None:
-                    found.append((first, last, k))
+            if self.text(k) == ",":
+                found += [(first, last, k)] if first is not None else []
                 first = None
             else:
                 first = k if first is None else first
-                if text in PAIRS or self.opens_generics(k):
-                    k = self.close(k)
-                last = k
+                last = k = self.close(k) if self.text(k) in PAIRS or self.opens_generics(k) else k
             k = self.next(k)
-        if first is not None:
-            found.append((first, last, None))
-        return found
-
-    # ------------------------------------------------------------------------------------------------ items
+        return found + ([(first, last, None)] if first is not None else [])
 
     def item_start(self, i):
         """Of the item whose keyword is at i: the first token with its documentation and attributes, and that without."""
@@ -176,12 +151,8 @@ class Stream:
 
     def arguments(self, i):
         """The `(` of the parameters of the function whose `fn` is at i, or None for a type of functions."""
-        if not self.is_name(self.next(i)):
-            return None
         k = self.next(self.next(i))
-        return self.next(self.close(k)) if self.text(k) == "<" else k
-
-    # ------------------------------------------------------------------------------------------------ changing
+        return (self.next(self.close(k)) if self.text(k) == "<" else k) if self.is_name(self.next(i)) else None
 
     def remove(self, first, last=None):
         """Removes the tokens from first to last."""
@@ -194,35 +165,29 @@ class Stream:
         token = self.tokens[first]
         token.kind, token.text, token.gone = "name", text, False
 
-    def remove_space(self, i):
-        """Removes the space at i, if there is one within a line."""
-        if i < len(self.tokens) and self.tokens[i].kind == "space" and "\n" not in self.tokens[i].text:
+    def remove_space(self, i, lines=False):
+        """Removes the space at i, if there is one, and if it is within a line or lines may go too."""
+        if i < len(self.tokens) and self.tokens[i].kind == "space" and (lines or "\n" not in self.tokens[i].text):
             self.remove(i)
 
     def remove_part(self, parts, n):
         """Removes part n of a list, with a comma."""
         first, last, comma = parts[n]
         self.remove(first, last)
+        if comma is None:
+            before = [k for _, _, k in parts[:n] if not self.tokens[k].gone]
+            comma = before[-1] if before else None
         if comma is not None:
             self.remove(comma)
-            self.remove_space(comma + 1)
-            return
-        for _, _, before in reversed(parts[:n]):
-            if before is not None and not self.tokens[before].gone:
-                self.remove(before)
-                if self.tokens[before + 1].kind == "space":
-                    self.remove(before + 1)
-                return
+            self.remove_space(comma + 1, lines=comma < first)
 
     def remove_parts(self, open_, numbers):
-        """Removes parts of the list at a bracket, and the brackets if no part is left; returns how many were removed."""
+        """Removes parts of the list at a bracket, and the brackets if no part is left."""
         close, parts = self.close(open_), self.parts(open_)
-        numbers = list(numbers)
         for n in numbers:
             self.remove_part(parts, n)
         if numbers and len(numbers) == len(parts):
             self.remove(open_, close)
-        return len(numbers)
 
     def where_parts(self, i):
         """The parts of the `where` at i, up to the `{` or `;` after it."""
@@ -236,16 +201,10 @@ class Stream:
         if len(numbers) == len(parts):
             self.remove(i)
 
-    # ------------------------------------------------------------------------------------------------ writing
-
     def written(self):
         """The text of what is left. A line of which nothing is left goes."""
         text = "".join("\0" if t.gone else t.before + t.text for t in self.tokens)
-        lines = []
-        for line in text.split("\n"):
-            bare = line.replace("\0", "")
-            if bare.strip() or "\0" not in line:
-                lines.append(bare.rstrip())
-        text = re.sub(r"\n{3,}", "\n\n", "\n".join(lines))
-        text = re.sub(r"\{\n\n", "{\n", text)
+        lines = [(line, line.replace("\0", "").rstrip()) for line in text.split("\n")]
+        text = "\n".join(bare for line, bare in lines if bare or "\0" not in line)
+        text = re.sub(r"\{\n\n+", "{\n", re.sub(r"\n{3,}", "\n\n", text))
         return re.sub(r"\n\n(\s*\})", r"\n\1", text).strip() + "\n"

@@ -110,6 +110,10 @@ impl<T> TryGrow<T> for Vec<T> {
 /// A stable sort that may be refused memory, and then leaves the items in their order.
 pub(crate) trait TrySort<T> {
     fn try_sort_by_key<K: Ord>(&mut self, key: impl FnMut(&T) -> K) -> Result<(), AllocError>;
+
+    fn try_sort_by_cached_key<K: Ord>(&mut self, key: impl FnMut(&T) -> K) -> Result<(), AllocError> {
+        self.try_sort_by_key(key)
+    }
 }
 
 impl<T> TrySort<T> for [T] {

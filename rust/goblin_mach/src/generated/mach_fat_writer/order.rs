@@ -43,7 +43,7 @@ fn sort_by_rank(
     entries: &mut [FatEntry<'_>],
 ) -> core::result::Result<(), AllocError> {
     let count = entries.len();
-    entries.try_sort_by_key(|entry| rank(firsts, count, entry))?;
+    entries.try_sort_by_cached_key(|entry| rank(firsts, count, entry))?;
     Ok(())
 }
 
