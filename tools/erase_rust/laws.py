@@ -2,8 +2,7 @@
 
 
 def law_calls(stream, i):
-    """The names that the body of the function at i calls, if the function has a clause and returns nothing, takes no self, and
-    its body only calls functions; else None."""
+    """The names that the body of the function at i calls, if it has a clause, no self and no result, and else only calls; else None."""
     open_ = stream.arguments(i)
     if open_ is None or "self" in stream.words(open_, stream.close(open_)):
         return None

@@ -26,8 +26,7 @@ def handles(stream):
 
 
 def macros(stream):
-    """`format!(in ALLOC; ..)` and `vec![in ALLOC; ..]` of items, and `write!` that no `?` follows, are macros of the shim. `Fail::new`
-    is `Fail::from`, and `push` may be that of a text."""
+    """What takes memory by a macro calls one of the shim. `Fail::new` is `Fail::from`, and `push` may be that of a text."""
     for i in stream.each("Fail", "push"):
         if stream.text(i) == "push":
             stream.shim.add("TryText")

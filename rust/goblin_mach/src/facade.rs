@@ -28,7 +28,9 @@ impl fmt::Display for ScrollError {
     fn fmt(&self, f: &mut fmt::Formatter<'_>) -> fmt::Result {
         match self {
             ScrollError::BadOffset(place) => write!(f, "offset {place} is past the end"),
-            ScrollError::TooBig { size, len } => write!(f, "{size} bytes are needed and {len} are left"),
+            ScrollError::TooBig { size, len } => {
+                write!(f, "{size} bytes are needed and {len} are left")
+            }
             ScrollError::BadInput { size, msg } => write!(f, "{msg}, {size} bytes left"),
         }
     }

@@ -4,7 +4,9 @@
 #![warn(missing_docs)]
 
 #[cfg(not(target_pointer_width = "64"))]
-compile_error!("goblin_mach needs a usize of 64 bits: what is proved of its sources holds for that width");
+compile_error!(
+    "goblin_mach needs a usize of 64 bits: what is proved of its sources holds for that width"
+);
 
 extern crate alloc;
 #[cfg(feature = "std")]

@@ -22,7 +22,9 @@ impl<K: Ord, V> BTreeMap<K, V> {
     where
         K: Borrow<Q>,
     {
-        let after = self.chunks.partition_point(|chunk| chunk[0].0.borrow() <= key);
+        let after = self
+            .chunks
+            .partition_point(|chunk| chunk[0].0.borrow() <= key);
         after.saturating_sub(1)
     }
 
@@ -31,7 +33,9 @@ impl<K: Ord, V> BTreeMap<K, V> {
         K: Borrow<Q>,
     {
         let chunk = self.chunks.get(self.chunk(key))?;
-        let at = chunk.binary_search_by(|item| item.0.borrow().cmp(key)).ok()?;
+        let at = chunk
+            .binary_search_by(|item| item.0.borrow().cmp(key))
+            .ok()?;
         Some(&chunk[at].1)
     }
 
@@ -88,13 +92,19 @@ mod tests {
         let mut map = BTreeMap::new();
         let mut seed = 1u64;
         for round in 0..30_000u64 {
-            seed = seed.wrapping_mul(6364136223846793005).wrapping_add(1442695040888963407);
+            seed = seed
+                .wrapping_mul(6364136223846793005)
+                .wrapping_add(1442695040888963407);
             let key = if round < 5_000 { round } else { seed >> 49 };
             assert_eq!(map.get(&key), wanted.get(&key));
             assert_eq!(map.try_insert(key, round), Ok(wanted.insert(key, round)));
             assert!(map.contains_key(&key));
         }
-        let items = map.chunks.iter().flatten().map(|&(key, value)| (key, value));
+        let items = map
+            .chunks
+            .iter()
+            .flatten()
+            .map(|&(key, value)| (key, value));
         assert!(items.eq(wanted));
     }
 }

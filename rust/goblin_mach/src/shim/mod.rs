@@ -1,7 +1,10 @@
 //! What the generated modules take of Rattle's standard library and Rust's doesn't have, or has in another form. Written by
 //! hand. All `unsafe` code of the crate is here. Nothing here was proved; the tests of this module test it.
 // What no other module uses if features are off.
-#![cfg_attr(not(all(feature = "layout", feature = "signature", feature = "write")), allow(dead_code, unused_imports))]
+#![cfg_attr(
+    not(all(feature = "layout", feature = "signature", feature = "write")),
+    allow(dead_code, unused_imports)
+)]
 
 mod map;
 
@@ -111,7 +114,10 @@ impl<T> TryGrow<T> for Vec<T> {
 pub(crate) trait TrySort<T> {
     fn try_sort_by_key<K: Ord>(&mut self, key: impl FnMut(&T) -> K) -> Result<(), AllocError>;
 
-    fn try_sort_by_cached_key<K: Ord>(&mut self, key: impl FnMut(&T) -> K) -> Result<(), AllocError> {
+    fn try_sort_by_cached_key<K: Ord>(
+        &mut self,
+        key: impl FnMut(&T) -> K,
+    ) -> Result<(), AllocError> {
         self.try_sort_by_key(key)
     }
 }
@@ -120,7 +126,11 @@ impl<T> TrySort<T> for [T] {
     fn try_sort_by_key<K: Ord>(&mut self, mut key: impl FnMut(&T) -> K) -> Result<(), AllocError> {
         let mut order = Vec::new();
         order.try_reserve_exact(self.len())?;
-        order.extend(self.iter().enumerate().map(|(index, item)| (key(item), index)));
+        order.extend(
+            self.iter()
+                .enumerate()
+                .map(|(index, item)| (key(item), index)),
+        );
         order.sort_unstable();
         for at in 0..self.len() {
             // What was at this index has been swapped to where the order of that place says.

@@ -11,9 +11,16 @@ mod neon;
 #[cfg(all(target_arch = "aarch64", not(feature = "checked")))]
 use {core::arch::aarch64, neon as here};
 
-#[cfg(any(test, feature = "checked", not(any(target_arch = "x86_64", target_arch = "aarch64"))))]
+#[cfg(any(
+    test,
+    feature = "checked",
+    not(any(target_arch = "x86_64", target_arch = "aarch64"))
+))]
 mod words;
-#[cfg(any(feature = "checked", not(any(target_arch = "x86_64", target_arch = "aarch64"))))]
+#[cfg(any(
+    feature = "checked",
+    not(any(target_arch = "x86_64", target_arch = "aarch64"))
+))]
 use words as here;
 
 #[cfg(test)]

@@ -33,7 +33,12 @@ impl SimdPartialEq for u8x32 {
 
     #[inline(always)]
     fn simd_eq(self, other: u8x32) -> Mask {
-        unsafe { Mask(_mm_cmpeq_epi8(self.0, other.0), _mm_cmpeq_epi8(self.1, other.1)) }
+        unsafe {
+            Mask(
+                _mm_cmpeq_epi8(self.0, other.0),
+                _mm_cmpeq_epi8(self.1, other.1),
+            )
+        }
     }
 }
 

@@ -50,12 +50,18 @@ use super::{SimdPartialEq, SimdPartialOrd};
 fn draws() -> impl Iterator<Item = (Vec<u8>, u8)> {
     let mut seed = 1u64;
     let mut draw = move || {
-        seed = seed.wrapping_mul(6364136223846793005).wrapping_add(1442695040888963407);
+        seed = seed
+            .wrapping_mul(6364136223846793005)
+            .wrapping_add(1442695040888963407);
         (seed >> 56) as u8
     };
     (0..20_000usize).map(move |round| {
         let bytes: Vec<u8> = (0..32).map(|_| draw()).collect();
-        let byte = if round % 2 == 0 { draw() } else { bytes[round % 32] };
+        let byte = if round % 2 == 0 {
+            draw()
+        } else {
+            bytes[round % 32]
+        };
         (bytes, byte)
     })
 }
