@@ -19,8 +19,7 @@ mod shim;
 // Made of the sources in Rattle by tools/erase.
 mod generated;
 
-pub use facade::{Exports, container, error};
-pub use generated::mach;
+pub use facade::{Object, bytes, container, debug, error, mach};
 #[cfg(feature = "archive")]
 pub use generated::mach_archive as archive;
 #[cfg(feature = "write")]

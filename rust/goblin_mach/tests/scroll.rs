@@ -1,0 +1,95 @@
+//! scroll's traits give what this crate's own give.
+#![cfg(feature = "scroll")]
+mod common;
+
+use goblin_mach::mach::header::{Header, Header64};
+use goblin_mach::mach::load_command::{CommandVariant, LoadCommandHeader, Section64};
+use goblin_mach::mach::segment::Section;
+use goblin_mach::mach::symbols::{Nlist, Nlist64};
+use goblin_mach::{Container, Ctx, Error, MachO, Record};
+use scroll::ctx::{FromCtx, IntoCtx, SizeWith};
+use scroll::{BE, LE, Pread, Pwrite};
+
+#[test]
+fn images_are_read_alike() {
+    for bytes in common::files() {
+        let Ok(image) = MachO::parse(&bytes, 0) else {
+            continue;
+        };
+        let le = scroll::Endian::from(image.little_endian);
+        let container = [Container::Little, Container::Big][image.is_64 as usize];
+        let ctx = Ctx::new(container, le.into());
+        let header: Header = bytes.pread_with(0, ctx).unwrap();
+        assert_eq!(format!("{header:?}"), format!("{:?}", image.header));
+        assert_eq!(Header::size_with(&ctx), Header::size_with(&container));
+        let at = &mut Header::size_with(&ctx);
+        for command in &image.load_commands {
+            assert_eq!(*at, command.offset);
+            let prefix: LoadCommandHeader = bytes.pread_with(*at, le).unwrap();
+            assert_eq!(prefix.cmd, command.command.cmd());
+            let variant: CommandVariant = bytes.pread_with(*at, le).unwrap();
+            assert_eq!(format!("{variant:?}"), format!("{:?}", command.command));
+            *at += prefix.cmdsize as usize;
+        }
+    }
+}
+
+#[test]
+fn records_are_written_and_read() {
+    let mut section = Section64::load(&[5; 80], goblin_mach::LE);
+    section.addr = 0x0102_0304_0506_0708;
+    for le in [LE, BE] {
+        let mut bytes = [0; 100];
+        let at = &mut 8;
+        assert_eq!(bytes.gwrite_with(&section, at, le).unwrap(), 80);
+        assert_eq!((*at, Section64::size_with(&le)), (88, 80));
+        let read: Section64 = bytes.pread_with(8, le).unwrap();
+        assert_eq!(format!("{read:?}"), format!("{section:?}"));
+        let own = Section64::read(&bytes, 8, le.into()).unwrap();
+        assert_eq!(format!("{read:?}"), format!("{own:?}"));
+        let read = Section64::from_ctx(&bytes[8..], le);
+        assert_eq!(format!("{read:?}"), format!("{section:?}"));
+        let mut again = [0; 80];
+        section.into_ctx(&mut again, le);
+        assert_eq!(again, bytes[8..88]);
+        assert!(bytes.pwrite_with(section, 21, le).is_err());
+    }
+}
+
+#[test]
+fn values_are_written_in_a_context() {
+    for ctx in [Ctx::new(Container::Little, LE.into()), Ctx::from(BE)] {
+        let mut bytes = [0; 80];
+        let nlist = Nlist {
+            n_strx: 7,
+            n_type: 1,
+            n_sect: 2,
+            n_desc: 3,
+            n_value: 9,
+        };
+        let written = bytes.pwrite_with(nlist.clone(), 0, ctx).unwrap();
+        assert_eq!(written, Nlist::size_with(&ctx));
+        let read: Nlist = bytes.pread_with(0, ctx).unwrap();
+        assert_eq!(format!("{read:?}"), format!("{nlist:?}"));
+        let written = bytes.pwrite_with(Section::default(), 0, ctx).unwrap();
+        assert_eq!(written, Section::size_with(&ctx));
+    }
+}
+
+#[test]
+fn errors_are_those_of_the_trait() {
+    let bytes = [0; 20];
+    assert!(matches!(
+        bytes.pread_with::<Header64>(0, LE),
+        Err(scroll::Error::TooBig { size: 32, len: 20 })
+    ));
+    assert!(matches!(
+        bytes.pread_with::<Nlist64>(20, LE),
+        Err(scroll::Error::BadOffset(20))
+    ));
+    let read = |at| -> Result<u64, Error> { Ok(bytes.pread_with::<u64>(at, LE)?) };
+    assert!(matches!(read(0), Ok(0)));
+    assert!(matches!(read(16), Err(Error::Scroll(_))));
+    let mach: Result<Header, Error> = bytes.pread_with(0, Ctx::from(LE));
+    assert!(matches!(mach, Err(Error::Scroll(_) | Error::Malformed(_))));
+}
