@@ -12,10 +12,11 @@
 //! ```
 use crate::mach::fat::{FatArch, FatHeader};
 use crate::mach::header::{Header, filetype_to_str};
+use crate::mach::imports::Import;
 use crate::mach::relocation::RelocationInfo;
 use crate::mach::segment::{Section, Segment};
 use crate::mach::symbols::{Nlist32, Nlist64};
-use crate::mach::{Mach, MachO, MultiArch, Result};
+use crate::mach::{Container, Ctx, Endian, Mach, MachO, MultiArch, Result};
 use alloc::vec::Vec;
 use core::fmt::{self, Debug, Formatter};
 
@@ -46,6 +47,9 @@ impl<T: Debug> Debug for Either<T> {
         }
     }
 }
+
+// The segments of an image, which goblin prints with the image's context.
+struct Listed<'b, 'a>(&'b MachO<'a>);
 
 fn sections(segment: &Segment) -> Result<Vec<Section>> {
     let all = segment.sections()?;
@@ -101,11 +105,20 @@ shown! {
         "n_sect" format_args!("{:#x}", at.n_sect), "n_desc" format_args!("{:#03x}", at.n_desc),
         "n_value" format_args!("{:#x}", at.n_value),
     }
+    Listed<'_, '_>, "Segments", at {
+        "segments" Each(at.0.segments.as_slice()),
+        "ctx" Ctx::new(if at.0.is_64 { Container::Big } else { Container::Little }, Endian::from(at.0.little_endian)),
+    }
     MachO<'_>, "MachO", at {
-        "header" Goblin(&at.header), "load_commands" at.load_commands, "segments" Each(at.segments.as_slice()),
+        "header" Goblin(&at.header), "load_commands" at.load_commands, "segments" Goblin(&Listed(at)),
         "entry" at.entry, "old_style_entry" at.old_style_entry, "libs" at.libs, "name" at.name,
         "little_endian" at.little_endian, "is_64" at.is_64, "symbols()" at.symbols().collect::<Vec<_>>(),
-        "exports()" at.exports(), "imports()" at.imports(),
+        "exports()" at.exports(), "imports()" at.imports().as_ref().map(|all| Each(all)),
+    }
+    Import<'_>, "Import", at {
+        "name" at.name, "dylib" at.dylib, "is_lazy" at.is_lazy, "offset" at.offset, "size" at.size,
+        "address" at.address, "addend" at.addend, "is_weak" at.is_weak,
+        "start_of_sequence_offset" at.start_of_sequence_offset,
     }
     MultiArch<'_>, "MultiArch", at {
         "arches" Either(at.arches().as_ref().map(|all| Each(all)).map_err(|_| crate::Error::Malformed("entries"))),

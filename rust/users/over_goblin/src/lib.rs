@@ -1,0 +1,1 @@
+//! No code: see ../examples/ and tests/.
