@@ -12,7 +12,8 @@ except ImportError:
     from wheel.bdist_wheel import bdist_wheel
 
 HERE = os.path.dirname(os.path.abspath(__file__))
-CARRIED = glob.glob(os.path.join(glob.escape(HERE), "goblin_mach", "libgoblin_mach.so*"))
+CARRIED = [path for name in ("libgoblin_mach.so*", "libgoblin_mach.dylib", "goblin_mach.dll")
+           for path in glob.glob(os.path.join(glob.escape(HERE), "goblin_mach", name))]
 
 
 class Package(Distribution):

@@ -5,6 +5,7 @@ from __future__ import annotations
 import ctypes
 import glob
 import os
+import sys
 from ctypes import POINTER, c_char_p, c_size_t, c_uint32, c_uint64, c_void_p
 from typing import Any, Dict, List, Sequence, Tuple
 
@@ -15,8 +16,8 @@ FITS = (0, 2)
 """MAJOR and MINOR of the library versions that this package is written for; others may have other structs and calls."""
 
 HERE = os.path.dirname(os.path.abspath(__file__))
-NAME = "libgoblin_mach.so"
-SONAME = "libgoblin_mach.so.0"
+NAME = {"darwin": "libgoblin_mach.dylib", "win32": "goblin_mach.dll"}.get(sys.platform, "libgoblin_mach.so")
+SONAME = NAME + ".0" if NAME.endswith(".so") else NAME
 
 
 def _in_folder(folder: str) -> List[str]:

@@ -9,8 +9,10 @@ class Paths:
 
     def __init__(self, stream, project, crate, module, is_test):
         self.stream, self.project, self.crate, self.is_test = stream, project, crate, is_test
+        self.heads = {path.split("::")[0] for path in PATHS}
         self.feature = project.feature([crate] + module)
         self.mentioned = self._mentioned()
+        self.has_bounds = any(token.gone and token.text == "Write" for token in stream.tokens)
 
     def _mentioned(self):
         """The names that the file mentions outside of imports."""
@@ -27,7 +29,7 @@ class Paths:
         if path[0] == "crate" or path[0] in self.project.modules:
             crate = self.crate if path[0] == "crate" else path[0]
             return ROOT.split("::") + [self.project.modules[crate]] + path[1:]
-        if path[0] not in ("std", "byteorder", "memchr"):
+        if path[0] not in self.heads:
             return path
         known = {**PATHS, **TEST_PATHS} if self.is_test else PATHS
         for n in range(len(path), 0, -1):
@@ -39,7 +41,7 @@ class Paths:
     def in_code(self):
         """Paths in code."""
         stream = self.stream
-        heads = {"std", "crate", "byteorder", "memchr"} | set(self.project.modules)
+        heads = {"crate"} | self.heads | set(self.project.modules)
         for i in stream.each():
             if stream.text(i) not in heads or stream.text(stream.next(i)) != "::" or stream.text(stream.prev(i)) in ("::", "."):
                 continue
@@ -99,10 +101,11 @@ class Paths:
         is_public = self.stream.text(self.stream.prev(i)) in ("pub", ")")
         is_mentioned = is_public or name == "*" or name in self.mentioned
         is_trait = name in TRAITS or name in self.project.traits
-        if new is None or not (is_mentioned or is_trait and (new[:2] != ["core", "fmt"] or self.is_test)):
+        if new is None or not (is_mentioned or is_trait and (new[:2] != ["core", "fmt"] or self.is_test or not self.has_bounds)):
             return None
         feature = self.project.feature([self.crate] + path[1:] if path[0] == "crate" else path)
-        return (None if feature == self.feature else feature), "::".join(new[:-1]), new[-1] + (" as " + alias if alias else "")
+        is_on = feature == self.feature or (self.feature, feature) in self.project.implied
+        return None if is_on else feature, "::".join(new[:-1]), new[-1] + (" as " + alias if alias else "")
 
     @staticmethod
     def _grouped(kept, visibility):

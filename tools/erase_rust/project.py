@@ -5,7 +5,7 @@ import shutil
 import subprocess
 import tempfile
 
-from . import items, laws, memory, runtime
+from . import foreign, items, laws, memory, runtime
 from .contracts import contracts
 from .known import FUNCTIONS, MACROS, MAKERS, METHODS, PRELUDE, REFUSED_WORDS, SHIM, TEST_MACROS, TEST_WORDS, TRAIT_OF, TYPES
 from .lexer import Stop
@@ -20,7 +20,8 @@ class Project:
     """The crates that `rust/crates.conf` names, with all their files."""
 
     def __init__(self, top, config):
-        self.top, self.modules, self.folders, self.features, self.tests, self.omitted = top, {}, {}, {}, set(), set()
+        self.top, self.modules, self.folders, self.features, self.calls = top, {}, {}, {}, []
+        self.tests, self.omitted, self.implied = set(), set(), set()
         self._configure(config)
         self.streams = {}
         for crate, folder in self.folders.items():
@@ -34,10 +35,11 @@ class Project:
 
     def _configure(self, config):
         """Reads the lines of the file of crates: `crate NAME [as MODULE] [when FEATURE]`, `library NAME [when FEATURE]` for one
-        of the toolchain, `tests NAME`, `module CRATE PATH when FEATURE`, and `omit CRATE PATH` for a module that is left out."""
+        of the toolchain, `tests NAME`, `module CRATE PATH when FEATURE`, `omit CRATE PATH` for a module that is left out, and
+        `implies FEATURE FEATURE` for a feature that turns another on."""
         with open(config, encoding="utf-8") as file:
             for number, line in enumerate(file, 1):
-                met = re.fullmatch(r"(crate|library|tests|module|omit) (\w+)(?: as (\w+)| ([\w/]+))?(?: when (\w+))?\s*(?:#.*)?|\s*(?:#.*)?", line.strip())
+                met = re.fullmatch(r"(crate|library|tests|module|omit|implies) (\w+)(?: as (\w+)| ([\w/]+))?(?: when (\w+))?\s*(?:#.*)?|\s*(?:#.*)?", line.strip())
                 if met is None:
                     raise Stop("%s:%d: a line of another form" % (os.path.relpath(config, self.top), number))
                 kind, name, module, path, feature = met.groups()
@@ -45,6 +47,8 @@ class Project:
                     self.features[tuple([name] + (path.split("/") if path else []))] = feature
                 elif kind == "omit":
                     self.omitted.add((name, *path.split("/")))
+                elif kind == "implies":
+                    self.implied.add((name, path))
                 if kind in ("crate", "library", "tests"):
                     self.modules[name] = module or name
                     self.folders[name] = self._folder(kind, name)
@@ -75,7 +79,12 @@ class Project:
         """All files of Rust, as a dictionary from their paths below the folder of generated sources."""
         made = {}
         for crate, module in self.modules.items():
+            self.calls = []
             self._make(crate, [], os.path.join(module, "mod.rs"), made)
+            if self.calls:
+                head = HEAD % ("the functions of crates/%s that C calls" % crate)
+                made[os.path.join(module, "calls.rs")] = "%s\n#![forbid(unsafe_code)]\n\n%s" % (head, foreign.listed(sorted(self.calls)))
+                made[os.path.join(module, "mod.rs")] += "pub mod calls;\n"
         made["mod.rs"] = self._root()
         return formatted(made)
 
@@ -111,6 +120,7 @@ class Project:
         is_test = crate in self.tests
         items.ghosts(stream)
         items.examples(stream)
+        called = foreign.functions(stream)
         items.attributes(stream)
         if not is_test:
             items.tests(stream)
@@ -121,6 +131,7 @@ class Project:
         items.clones(stream)
         items.formatters(stream)
         memory.Allocators(stream, runtime.handles(stream) if is_test else set()).erase()
+        self.calls += [(module, foreign.signature(stream, i)) for i in called]
         items.drops(stream)
         items.labels(stream)
         if is_test:

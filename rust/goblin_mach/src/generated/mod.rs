@@ -3,10 +3,14 @@
 // Names and parameters that only contracts or other crates use.
 #![allow(dead_code, unused_imports, unused_variables)]
 
+#[cfg(feature = "capi")]
+pub mod goblin_mach_c;
 pub mod mach;
 #[cfg(feature = "archive")]
 pub mod mach_archive;
 pub mod mach_base;
+#[cfg(feature = "capi")]
+pub mod mach_c_places;
 pub mod mach_chained;
 pub mod mach_dyld;
 #[cfg(feature = "write")]

@@ -6,6 +6,10 @@
     allow(dead_code, unused_imports)
 )]
 
+#[cfg(feature = "capi")]
+pub(crate) mod arrayvec;
+#[cfg(feature = "capi")]
+mod c;
 mod map;
 
 pub(crate) mod byteorder;
