@@ -683,7 +683,7 @@ static gm_command last_command(const given *g, uint32_t cmd) {
 static uint64_t base_by_segments(const given *g) {
     gm_segment s;
     for (size_t i = 0; gm_segments(OF, i, &s, 1); i++)
-        if (!memcmp(s.name, "__TEXT\0\0\0\0\0\0\0\0\0\0", 16)) return s.vmaddr;
+        if (!strncmp((const char *)s.name, "__TEXT", 16)) return s.vmaddr;
     return 0;
 }
 
