@@ -1,5 +1,6 @@
 /* tools/rows loads this into a program by LD_PRELOAD if a row requests memory, a clock or renames that fail. The environment says which:
      SCARCE_GROWTH=N, N..   the Nth growth of memory is refused, or the Nth and all later ones
+     SCARCE_SPARED=N        the first N growths are neither counted nor refused
      SCARCE_HEAP=N          a growth is refused after which the program would hold more than N bytes
      SCARCE_CLOCK=STEP,..   each reading of the monotonic clock is so many nanoseconds after the previous one, by these steps in turn
      SCARCE_CLOCK=none      that clock can't be read
@@ -26,7 +27,7 @@ extern void __libc_free(void *);
 
 enum { MOST = 16 };
 static uintptr_t own_from, own_upto;
-static uint64_t refused, growths, now, steps[MOST];
+static uint64_t refused, spared, growths, now, steps[MOST];
 static size_t count, readings, most, held;
 static bool all_behind, is_heap, no_clock, no_renames;
 static int told = -1;
@@ -46,10 +47,11 @@ static int find_own(struct dl_phdr_info *info, size_t size, void *nothing) {
 
 __attribute__((constructor)) static void begin(void) {
     const char *growth = getenv("SCARCE_GROWTH"), *heap = getenv("SCARCE_HEAP"), *clock = getenv("SCARCE_CLOCK");
-    const char *renames = getenv("SCARCE_RENAMES"), *fd = getenv("SCARCE_TOLD");
+    const char *renames = getenv("SCARCE_RENAMES"), *fd = getenv("SCARCE_TOLD"), *first = getenv("SCARCE_SPARED");
     char *rest;
     dl_iterate_phdr(find_own, NULL);
     if (growth) refused = strtoull(growth, &rest, 10), all_behind = *rest == '.';
+    if (first) spared = strtoull(first, &rest, 10);
     if (heap) most = strtoull(heap, &rest, 10), is_heap = true;
     no_clock = clock && strcmp(clock, "none") == 0;
     no_renames = renames != NULL;
@@ -81,6 +83,7 @@ static bool is_past_heap(size_t size, void *block) {
 
 /* Whether a growth by the program's own code is the one to refuse, or a later one. */
 static bool is_numbered(void) {
+    if (spared > 0) return spared--, false;
     growths++;
     if (refused == 0 || growths < refused || (growths > refused && !all_behind)) return false;
     tell('g');

@@ -92,6 +92,7 @@ def contracts(stream):
         clauses = [k for k in range(i, end) if stream.tokens[k].kind == "clause"]
         if not clauses:
             continue
+        stream.remove_comments(clauses[0], end)
         for k in clauses + [end] * (stream.text(end) == "{"):
             stream.tokens[k].gone = k != end
             stream.tokens[k - 1].gone = stream.tokens[k - 1].gone or stream.tokens[k - 1].kind == "space"

@@ -7,26 +7,35 @@ from . import audit, golden
 from .lexer import Stop
 from .project import Project, read_files, write_files
 
-CONFIG = "rust/crates.conf"
-GENERATED = "rust/goblin_mach/src/generated"
+# The folders of generated sources, by the files of their crates.
+FOLDERS = {"rust/crates.conf": "rust/goblin_mach/src/generated", "rust/tools.conf": "rust/goblin_mach_tools/src/generated"}
+
+
+def make(top):
+    """All files, as a dictionary from their paths below the top."""
+    made = {config: Project(top, os.path.join(top, config)).files() for config in FOLDERS}
+    return {os.path.join(FOLDERS[config], name): text for config, files in made.items() for name, text in files.items()}
 
 
 def generate(top):
     """Writes all files; returns the status."""
-    made, folder = Project(top, os.path.join(top, CONFIG)).files(), os.path.join(top, GENERATED)
-    shutil.rmtree(folder, ignore_errors=True)
-    write_files(folder, made)
+    made = make(top)
+    for folder in FOLDERS.values():
+        shutil.rmtree(os.path.join(top, folder), ignore_errors=True)
+    write_files(top, made)
     print("erase: %d files, %d lines" % (len(made), sum(text.count("\n") for text in made.values())))
     return 0
 
 
 def check(top):
     """Compares what would be written with what is there; returns the status."""
-    made, there = Project(top, os.path.join(top, CONFIG)).files(), read_files(os.path.join(top, GENERATED))
+    made, there = make(top), {}
+    for folder in FOLDERS.values():
+        there.update({os.path.join(folder, name): text for name, text in read_files(os.path.join(top, folder)).items()})
     differ = sorted(name for name in made.keys() | there.keys() if made.get(name) != there.get(name))
     for name in differ:
         what = "has no source" if name not in made else "is missing" if name not in there else "is not what its source makes"
-        print("erase: %s/%s %s: run tools/erase" % (GENERATED, name, what))
+        print("erase: %s %s: run tools/erase" % (name, what))
     print("%d passed, %d failed" % (len(made.keys() | there.keys()) - len(differ), len(differ)))
     return 1 if differ else 0
 

@@ -1,7 +1,7 @@
 """Passes for memory: the allocator goes out of types, signatures and calls, and what may be refused memory calls the shim."""
 from .known import MAKERS, RENAMED, TRAIT_OF
 
-LISTS = {"String": 0, "Vec": 1, "BTreeMap": 2}
+LISTS = {"String": 0, "Vec": 1, "BTreeMap": 2, "IndexSet": 2}
 
 
 class Allocators:

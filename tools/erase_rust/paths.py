@@ -1,7 +1,11 @@
 """Passes over paths and imports: where each name of Rattle is in the crate of Rust."""
+import re
+
+from . import programs
 from .known import PATHS, TEST_PATHS, TRAITS
 
-ROOT = "crate::generated"
+# A name in a format.
+NAMED = re.compile(r"\{([A-Za-z_]\w*)[:}]")
 
 
 class Paths:
@@ -9,7 +13,8 @@ class Paths:
 
     def __init__(self, stream, project, crate, module, is_test):
         self.stream, self.project, self.crate, self.is_test = stream, project, crate, is_test
-        self.heads = {path.split("::")[0] for path in PATHS}
+        self.known = {**PATHS, **(TEST_PATHS if is_test else programs.PATHS if project.programs else {})}
+        self.heads = {path.split("::")[0] for path in self.known}
         self.feature = project.feature([crate] + module)
         self.mentioned = self._mentioned()
         self.has_bounds = any(token.gone and token.text == "Write" for token in stream.tokens)
@@ -22,19 +27,20 @@ class Paths:
                 end = self.stream.seek(i, ";")
             elif i > end and self.stream.is_name(i):
                 found.add(self.stream.text(i))
+            elif self.stream.tokens[i].kind == "literal":
+                found.update(NAMED.findall(self.stream.text(i)))
         return found
 
     def rewrite(self, path, i):
         """The path in Rust of a path in Rattle, as a list of names, or None if it names what is erased."""
         if path[0] == "crate" or path[0] in self.project.modules:
             crate = self.crate if path[0] == "crate" else path[0]
-            return ROOT.split("::") + [self.project.modules[crate]] + path[1:]
+            return [self.project.roots[crate], "generated", self.project.modules[crate]] + path[1:]
         if path[0] not in self.heads:
             return path
-        known = {**PATHS, **TEST_PATHS} if self.is_test else PATHS
         for n in range(len(path), 0, -1):
-            if "::".join(path[:n]) in known:
-                there = known["::".join(path[:n])]
+            if "::".join(path[:n]) in self.known:
+                there = self.known["::".join(path[:n])]
                 return None if there is None else there.split("::") + path[n:]
         return self.stream.refuse(i, "a path of the standard library: " + "::".join(path))
 
@@ -100,7 +106,7 @@ class Paths:
         name = alias or path[-1]
         is_public = self.stream.text(self.stream.prev(i)) in ("pub", ")")
         is_mentioned = is_public or name == "*" or name in self.mentioned
-        is_trait = name in TRAITS or name in self.project.traits
+        is_trait = name in TRAITS | programs.TRAITS or name in self.project.traits
         if new is None or not (is_mentioned or is_trait and (new[:2] != ["core", "fmt"] or self.is_test or not self.has_bounds)):
             return None
         feature = self.project.feature([self.crate] + path[1:] if path[0] == "crate" else path)

@@ -5,7 +5,7 @@ import shutil
 import subprocess
 import tempfile
 
-from . import foreign, items, laws, memory, runtime
+from . import foreign, items, laws, memory, programs, runtime
 from .contracts import contracts
 from .known import FUNCTIONS, MACROS, MAKERS, METHODS, PRELUDE, REFUSED_WORDS, SHIM, TEST_MACROS, TEST_WORDS, TRAIT_OF, TYPES
 from .lexer import Stop
@@ -17,12 +17,13 @@ RUSTFMT = ["rustfmt", "--edition", "2024", "--style-edition", "2024", "--config"
 
 
 class Project:
-    """The crates that `rust/crates.conf` names, with all their files."""
+    """The crates that a file of crates names, with all their files."""
 
     def __init__(self, top, config):
         self.top, self.modules, self.folders, self.features, self.calls = top, {}, {}, {}, []
         self.tests, self.omitted, self.implied = set(), set(), set()
-        self._configure(config)
+        self.config, self.roots, self.programs = os.path.relpath(config, top), {}, set()
+        self._configure(config, "crate")
         self.streams = {}
         for crate, folder in self.folders.items():
             for name, text in read_files(folder).items():
@@ -32,28 +33,41 @@ class Project:
         self.traits = self._named("trait")
         self.known_functions = self._named("fn") | FUNCTIONS | {"<"}
         self.known_methods = self._named("fn") | METHODS | TRAIT_OF.keys()
+        self.known_macros = MACROS
+        if self.programs:
+            self.known_functions |= programs.FUNCTIONS
+            self.known_methods |= programs.METHODS
+            self.known_macros = MACROS | programs.MACROS
 
-    def _configure(self, config):
+    def _configure(self, config, root):
         """Reads the lines of the file of crates: `crate NAME [as MODULE] [when FEATURE]`, `library NAME [when FEATURE]` for one
-        of the toolchain, `tests NAME`, `module CRATE PATH when FEATURE`, `omit CRATE PATH` for a module that is left out, and
-        `implies FEATURE FEATURE` for a feature that turns another on."""
+        of the toolchain, `tests NAME`, `program NAME`, `module CRATE PATH when FEATURE`, `omit CRATE PATH` for a module that is left
+        out, `implies FEATURE FEATURE` for a feature that turns another on, and `uses FILE of CRATE` for the crates of another such
+        file. The crates are modules of `root`."""
+        kinds = "crate|library|tests|program|module|omit|implies"
         with open(config, encoding="utf-8") as file:
             for number, line in enumerate(file, 1):
-                met = re.fullmatch(r"(crate|library|tests|module|omit|implies) (\w+)(?: as (\w+)| ([\w/]+))?(?: when (\w+))?\s*(?:#.*)?|\s*(?:#.*)?", line.strip())
+                used = re.fullmatch(r"uses (\S+) of (\w+)", line.strip())
+                if used:
+                    self._configure(os.path.join(os.path.dirname(config), used[1]), used[2])
+                    continue
+                met = re.fullmatch(r"(%s) (\w+)(?: as (\w+)| ([\w/]+))?(?: when (\w+))?\s*(?:#.*)?|\s*(?:#.*)?" % kinds, line.strip())
                 if met is None:
                     raise Stop("%s:%d: a line of another form" % (os.path.relpath(config, self.top), number))
                 kind, name, module, path, feature = met.groups()
-                if feature:
+                if root != "crate" and kind not in ("crate", "library"):
+                    continue
+                if feature and root == "crate":
                     self.features[tuple([name] + (path.split("/") if path else []))] = feature
                 elif kind == "omit":
                     self.omitted.add((name, *path.split("/")))
                 elif kind == "implies":
                     self.implied.add((name, path))
-                if kind in ("crate", "library", "tests"):
-                    self.modules[name] = module or name
+                if kind in ("crate", "library", "tests", "program"):
+                    self.modules[name], self.roots[name] = module or name, root
                     self.folders[name] = self._folder(kind, name)
-                if kind == "tests":
-                    self.tests.add(name)
+                if kind in ("tests", "program"):
+                    (self.tests if kind == "tests" else self.programs).add(name)
 
     def _folder(self, kind, name):
         """The folder of a crate's sources."""
@@ -78,7 +92,7 @@ class Project:
     def files(self):
         """All files of Rust, as a dictionary from their paths below the folder of generated sources."""
         made = {}
-        for crate, module in self.modules.items():
+        for crate, module in self._own():
             self.calls = []
             self._make(crate, [], os.path.join(module, "mod.rs"), made)
             if self.calls:
@@ -88,11 +102,15 @@ class Project:
         made["mod.rs"] = self._root()
         return formatted(made)
 
+    def _own(self):
+        """The crates that are made, with their modules, in the order of these."""
+        return sorted((pair for pair in self.modules.items() if self.roots[pair[0]] == "crate"), key=lambda pair: pair[1])
+
     def _root(self):
         """The file that declares the modules of all crates."""
-        lines = [HEAD % "rust/crates.conf", "#![forbid(unsafe_code)]", "// Names and parameters that only contracts or other crates use.",
+        lines = [HEAD % self.config, "#![forbid(unsafe_code)]", "// Names and parameters that only contracts or other crates use.",
                  "#![allow(dead_code, unused_imports, unused_variables)]", ""]
-        for crate, module in sorted(self.modules.items(), key=lambda pair: pair[1]):
+        for crate, module in self._own():
             feature = self.features.get((crate,))
             lines += ['#[cfg(feature = "%s")]' % feature] if feature else []
             lines += ["#[cfg(test)]"] * (crate in self.tests) + ["pub mod %s;" % module]
@@ -100,7 +118,8 @@ class Project:
 
     def _make(self, crate, module, destination, made):
         """Erases the file of a module and those below it; returns whether anything is left."""
-        path = os.path.join(self.folders[crate], *(module or ["lib"])) + ".rt"
+        path = os.path.join(self.folders[crate], *(module or ["main"])) + ".rt"
+        path = path if module or path in self.streams else os.path.join(self.folders[crate], "lib.rt")
         stream = self.streams[path]
         paths = self._erase(stream, crate, module)
         below = os.path.dirname(destination) if not module else destination[:-len(".rs")]
@@ -130,7 +149,8 @@ class Project:
         items.finals(stream)
         items.clones(stream)
         items.formatters(stream)
-        memory.Allocators(stream, runtime.handles(stream) if is_test else set()).erase()
+        names = runtime.handles(stream) if is_test else programs.erase(stream) if crate in self.programs else set()
+        memory.Allocators(stream, names).erase()
         self.calls += [(module, foreign.signature(stream, i)) for i in called]
         items.drops(stream)
         items.labels(stream)
@@ -146,7 +166,7 @@ class Project:
 
     def check(self, stream, is_test):
         """Stops at a word, a macro, a method or a function of std that the tool doesn't know."""
-        macros = MACROS | TEST_MACROS if is_test else MACROS
+        macros = MACROS | TEST_MACROS if is_test else self.known_macros
         for i in stream.each():
             text, after = stream.text(i), stream.next(i)
             if not stream.is_name(i):
@@ -167,7 +187,8 @@ class Project:
         """The text of a file, with its head and with what it imports of the shim and of alloc."""
         used = {stream.text(i) for i in stream.each() if stream.is_name(i)}
         inner, rest = re.fullmatch(r"((?://![^\n]*\n|\n)*)(.*)", stream.written(), re.S).groups()
-        more = ["use %s;" % path for name, path in PRELUDE.items() if name in used]
+        prelude = {**PRELUDE, **programs.PRELUDE} if self.programs else PRELUDE
+        more = ["use %s;" % path for path in dict.fromkeys(path for name, path in prelude.items() if name in used)]
         more += ["use %s::{%s};" % (SHIM, ", ".join(sorted(stream.shim)))] if stream.shim else []
         return "\n".join([HEAD % stream.path, *filter(None, inner.split("\n")), "#![forbid(unsafe_code)]", "", *more, "", rest])
 

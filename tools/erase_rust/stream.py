@@ -159,6 +159,11 @@ class Stream:
         for k in range(first, (first if last is None else last) + 1):
             self.tokens[k].gone = True
 
+    def remove_comments(self, first, last):
+        """Removes the comments from first to last."""
+        for token in self.tokens[first:last + 1]:
+            token.gone = token.gone or token.kind == "comment"
+
     def replace(self, first, last, text):
         """Puts a text in the place of the tokens from first to last."""
         self.remove(first, last)

@@ -14,10 +14,13 @@ extern crate std;
 
 // Written by hand.
 mod facade;
-mod shim;
 
+// What the programs of goblin_mach_tools use too. No part of it is promised to stay as it is.
+#[doc(hidden)]
+pub mod shim;
 // Made of the sources in Rattle by tools/erase.
-mod generated;
+#[doc(hidden)]
+pub mod generated;
 
 pub use facade::{Object, bytes, container, debug, error, mach};
 #[cfg(feature = "archive")]

@@ -1,7 +1,7 @@
 //! Numbers in bytes, in both orders.
 
 /// An order of bytes.
-pub(crate) trait ByteOrder {
+pub trait ByteOrder {
     fn read_u16(bytes: &[u8]) -> u16;
     fn read_u32(bytes: &[u8]) -> u32;
     fn read_u64(bytes: &[u8]) -> u64;
@@ -11,10 +11,10 @@ pub(crate) trait ByteOrder {
 }
 
 /// The lowest byte first.
-pub(crate) struct LittleEndian;
+pub struct LittleEndian;
 
 /// The highest byte first.
-pub(crate) struct BigEndian;
+pub struct BigEndian;
 
 fn first<const N: usize>(bytes: &[u8]) -> [u8; N] {
     let mut first = [0; N];

@@ -8,12 +8,12 @@ use core::mem;
 const CHUNK: usize = 512;
 
 /// Keys and their values, in chunks. The keys ascend in each chunk and from chunk to chunk, and no chunk is empty.
-pub(crate) struct BTreeMap<K, V> {
+pub struct BTreeMap<K, V> {
     chunks: Vec<Vec<(K, V)>>,
 }
 
 impl<K: Ord, V> BTreeMap<K, V> {
-    pub(crate) fn new() -> BTreeMap<K, V> {
+    pub fn new() -> BTreeMap<K, V> {
         BTreeMap { chunks: Vec::new() }
     }
 
@@ -28,7 +28,7 @@ impl<K: Ord, V> BTreeMap<K, V> {
         after.saturating_sub(1)
     }
 
-    pub(crate) fn get<Q: Ord + ?Sized>(&self, key: &Q) -> Option<&V>
+    pub fn get<Q: Ord + ?Sized>(&self, key: &Q) -> Option<&V>
     where
         K: Borrow<Q>,
     {
@@ -39,7 +39,7 @@ impl<K: Ord, V> BTreeMap<K, V> {
         Some(&chunk[at].1)
     }
 
-    pub(crate) fn contains_key<Q: Ord + ?Sized>(&self, key: &Q) -> bool
+    pub fn contains_key<Q: Ord + ?Sized>(&self, key: &Q) -> bool
     where
         K: Borrow<Q>,
     {
@@ -47,7 +47,7 @@ impl<K: Ord, V> BTreeMap<K, V> {
     }
 
     /// Sets the value of a key, and returns the value that it had. The map is unchanged if memory is refused.
-    pub(crate) fn try_insert(&mut self, key: K, value: V) -> Result<Option<V>, AllocError> {
+    pub fn try_insert(&mut self, key: K, value: V) -> Result<Option<V>, AllocError> {
         let mut n = self.chunk(&key);
         let Some(chunk) = self.chunks.get_mut(n) else {
             let mut first = Vec::new();

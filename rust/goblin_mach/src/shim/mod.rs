@@ -12,8 +12,8 @@ pub(crate) mod arrayvec;
 mod c;
 mod map;
 
-pub(crate) mod byteorder;
-pub(crate) mod simd;
+pub mod byteorder;
+pub mod simd;
 
 #[cfg(test)]
 mod for_tests;
@@ -23,7 +23,7 @@ use alloc::string::String;
 use alloc::vec::Vec;
 use core::fmt;
 
-pub(crate) use map::BTreeMap;
+pub use map::BTreeMap;
 
 #[cfg(test)]
 pub(crate) use for_tests::*;
@@ -48,7 +48,7 @@ impl From<TryReserveError> for AllocError {
 }
 
 /// A vector that grows, or is refused memory and stays unchanged.
-pub(crate) trait TryGrow<T> {
+pub trait TryGrow<T> {
     fn try_push(&mut self, item: T) -> Result<(), AllocError>;
     fn try_insert(&mut self, index: usize, item: T) -> Result<(), AllocError>;
     fn try_room(&mut self, more: usize) -> Result<(), AllocError>;
@@ -115,7 +115,7 @@ impl<T> TryGrow<T> for Vec<T> {
 }
 
 /// A stable sort that may be refused memory, and then leaves the items in their order.
-pub(crate) trait TrySort<T> {
+pub trait TrySort<T> {
     fn try_sort_by_key<K: Ord>(&mut self, key: impl FnMut(&T) -> K) -> Result<(), AllocError>;
 
     fn try_sort_by_cached_key<K: Ord>(
@@ -150,7 +150,7 @@ impl<T> TrySort<T> for [T] {
 }
 
 /// `collect(alloc)?` into a vector.
-pub(crate) trait TryList: Iterator + Sized {
+pub trait TryList: Iterator + Sized {
     fn try_list(self) -> Result<Vec<Self::Item>, AllocError> {
         let mut list = Vec::new();
         list.try_reserve(self.size_hint().0)?;
@@ -164,7 +164,7 @@ pub(crate) trait TryList: Iterator + Sized {
 impl<I: Iterator> TryList for I {}
 
 /// What lends a slice of bytes or other items.
-pub(crate) trait AsSlice<T> {
+pub trait AsSlice<T> {
     fn as_slice(&self) -> &[T];
 }
 
@@ -187,11 +187,11 @@ impl<T, const N: usize> AsSlice<T> for &[T; N] {
 }
 
 /// `String::from_str(alloc, text)?`.
-pub(crate) struct TryString;
+pub struct TryString;
 
 impl TryString {
     #[inline(always)]
-    pub(crate) fn from_str(text: &str) -> Result<String, AllocError> {
+    pub fn from_str(text: &str) -> Result<String, AllocError> {
         let mut made = String::new();
         made.try_reserve_exact(text.len())?;
         made.push_str(text);
@@ -200,10 +200,10 @@ impl TryString {
 }
 
 /// `Vec::with_capacity(alloc, len)?`.
-pub(crate) struct TryVec;
+pub struct TryVec;
 
 impl TryVec {
-    pub(crate) fn with_capacity<T>(len: usize) -> Result<Vec<T>, AllocError> {
+    pub fn with_capacity<T>(len: usize) -> Result<Vec<T>, AllocError> {
         let mut made = Vec::new();
         made.try_reserve_exact(len)?;
         Ok(made)
@@ -211,7 +211,7 @@ impl TryVec {
 }
 
 /// `vec![in alloc; item; len]?`: as many copies of an item.
-pub(crate) fn try_vec<T: Copy>(item: T, len: usize) -> Result<Vec<T>, AllocError> {
+pub fn try_vec<T: Copy>(item: T, len: usize) -> Result<Vec<T>, AllocError> {
     let mut made = Vec::new();
     made.try_reserve_exact(len)?;
     made.resize(len, item);
@@ -234,9 +234,9 @@ pub(crate) fn proved_utf8(bytes: &[u8]) -> &str {
     str::from_utf8(bytes).expect("proved to be UTF-8")
 }
 
-pub(crate) mod memchr {
+pub mod memchr {
     /// The index of the first byte of this value.
-    pub(crate) fn memchr(byte: u8, bytes: &[u8]) -> Option<usize> {
+    pub fn memchr(byte: u8, bytes: &[u8]) -> Option<usize> {
         bytes.iter().position(|&b| b == byte)
     }
 }

@@ -26,19 +26,19 @@ use words as here;
 #[cfg(test)]
 mod tests;
 
-pub(crate) use here::u8x32;
+pub use here::u8x32;
 
-pub(crate) mod prelude {
-    pub(crate) use super::{SimdPartialEq, SimdPartialOrd, u8x32};
+pub mod prelude {
+    pub use super::{SimdPartialEq, SimdPartialOrd, u8x32};
 }
 
 /// Lanes that are equal.
-pub(crate) trait SimdPartialEq: Sized {
+pub trait SimdPartialEq: Sized {
     type Mask;
     fn simd_eq(self, other: Self) -> Self::Mask;
 }
 
 /// Lanes that are at least as large.
-pub(crate) trait SimdPartialOrd: SimdPartialEq {
+pub trait SimdPartialOrd: SimdPartialEq {
     fn simd_ge(self, other: Self) -> Self::Mask;
 }

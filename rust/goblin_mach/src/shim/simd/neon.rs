@@ -6,11 +6,11 @@ use core::ops::BitOr;
 
 #[allow(non_camel_case_types)]
 #[derive(Clone, Copy)]
-pub(crate) struct u8x32(uint8x16_t, uint8x16_t);
+pub struct u8x32(uint8x16_t, uint8x16_t);
 
 /// All bits of a lane are set, or none.
 #[derive(Clone, Copy)]
-pub(crate) struct Mask(uint8x16_t, uint8x16_t);
+pub struct Mask(uint8x16_t, uint8x16_t);
 
 /// The bit of each lane, in each half of a register.
 const BITS: [u8; 16] = [1, 2, 4, 8, 16, 32, 64, 128, 1, 2, 4, 8, 16, 32, 64, 128];
@@ -18,14 +18,14 @@ const BITS: [u8; 16] = [1, 2, 4, 8, 16, 32, 64, 128, 1, 2, 4, 8, 16, 32, 64, 128
 // SAFETY, of each block below: each aarch64 has NEON, and what is read is in the array.
 impl u8x32 {
     #[inline(always)]
-    pub(crate) fn from_slice(bytes: &[u8]) -> u8x32 {
+    pub fn from_slice(bytes: &[u8]) -> u8x32 {
         let bytes: &[u8; 32] = bytes[..32].try_into().expect("32 bytes");
         let at = bytes.as_ptr();
         unsafe { u8x32(vld1q_u8(at), vld1q_u8(at.add(16))) }
     }
 
     #[inline(always)]
-    pub(crate) fn splat(byte: u8) -> u8x32 {
+    pub fn splat(byte: u8) -> u8x32 {
         let all = unsafe { vdupq_n_u8(byte) };
         u8x32(all, all)
     }
@@ -59,7 +59,7 @@ impl BitOr for Mask {
 impl Mask {
     /// Bit k is lane k.
     #[inline(always)]
-    pub(crate) fn to_bitmask(self) -> u64 {
+    pub fn to_bitmask(self) -> u64 {
         let half = |m| unsafe {
             let bits = vandq_u8(m, vld1q_u8(BITS.as_ptr()));
             let (low, high) = (vaddv_u8(vget_low_u8(bits)), vaddv_u8(vget_high_u8(bits)));

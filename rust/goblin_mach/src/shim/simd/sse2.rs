@@ -6,23 +6,23 @@ use core::ops::BitOr;
 
 #[allow(non_camel_case_types)]
 #[derive(Clone, Copy)]
-pub(crate) struct u8x32(__m128i, __m128i);
+pub struct u8x32(__m128i, __m128i);
 
 /// All bits of a lane are set, or none.
 #[derive(Clone, Copy)]
-pub(crate) struct Mask(__m128i, __m128i);
+pub struct Mask(__m128i, __m128i);
 
 // SAFETY, of each block below: each x86_64 has SSE2, and what is read is in the array.
 impl u8x32 {
     #[inline(always)]
-    pub(crate) fn from_slice(bytes: &[u8]) -> u8x32 {
+    pub fn from_slice(bytes: &[u8]) -> u8x32 {
         let bytes: &[u8; 32] = bytes[..32].try_into().expect("32 bytes");
         let at = bytes.as_ptr().cast::<__m128i>();
         unsafe { u8x32(_mm_loadu_si128(at), _mm_loadu_si128(at.add(1))) }
     }
 
     #[inline(always)]
-    pub(crate) fn splat(byte: u8) -> u8x32 {
+    pub fn splat(byte: u8) -> u8x32 {
         let all = unsafe { _mm_set1_epi8(byte as i8) };
         u8x32(all, all)
     }
@@ -62,7 +62,7 @@ impl BitOr for Mask {
 impl Mask {
     /// Bit k is lane k.
     #[inline(always)]
-    pub(crate) fn to_bitmask(self) -> u64 {
+    pub fn to_bitmask(self) -> u64 {
         let half = |m| u64::from(unsafe { _mm_movemask_epi8(m) } as u32);
         half(self.0) | half(self.1) << 16
     }

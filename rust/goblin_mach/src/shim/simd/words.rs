@@ -8,21 +8,21 @@ const HIGH: u64 = 0x8080_8080_8080_8080;
 /// Four words of eight lanes each, the lowest lane first.
 #[allow(non_camel_case_types)]
 #[derive(Clone, Copy)]
-pub(crate) struct u8x32([u64; 4]);
+pub struct u8x32([u64; 4]);
 
 /// The high bit of a lane is set, or none.
 #[derive(Clone, Copy)]
-pub(crate) struct Mask([u64; 4]);
+pub struct Mask([u64; 4]);
 
 impl u8x32 {
     #[inline(always)]
-    pub(crate) fn from_slice(bytes: &[u8]) -> u8x32 {
+    pub fn from_slice(bytes: &[u8]) -> u8x32 {
         let (words, _) = bytes[..32].as_chunks::<8>();
         u8x32(from_fn(|k| u64::from_le_bytes(words[k])))
     }
 
     #[inline(always)]
-    pub(crate) fn splat(byte: u8) -> u8x32 {
+    pub fn splat(byte: u8) -> u8x32 {
         u8x32([u64::from(byte) * 0x0101_0101_0101_0101; 4])
     }
 }
@@ -62,7 +62,7 @@ impl BitOr for Mask {
 impl Mask {
     /// Bit k is lane k.
     #[inline(always)]
-    pub(crate) fn to_bitmask(self) -> u64 {
+    pub fn to_bitmask(self) -> u64 {
         let mut bits = 0;
         for k in 0..4 {
             bits |= (((self.0[k] >> 7).wrapping_mul(0x0102_0408_1020_4080)) >> 56) << (8 * k);
