@@ -5,3 +5,4 @@
 
 pub mod mach_cli;
 pub mod machdump;
+pub mod machsyms;
