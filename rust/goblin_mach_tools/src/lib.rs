@@ -20,4 +20,4 @@ macro_rules! programs {
     )*};
 }
 
-programs!(machdump machsyms);
+programs!(machdump machinfo machsyms);

@@ -5,4 +5,5 @@
 
 pub mod mach_cli;
 pub mod machdump;
+pub mod machinfo;
 pub mod machsyms;
