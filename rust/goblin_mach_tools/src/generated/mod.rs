@@ -7,4 +7,5 @@ pub mod mach_cli;
 pub mod machaudit;
 pub mod machdump;
 pub mod machinfo;
+pub mod machsign;
 pub mod machsyms;
