@@ -6,6 +6,7 @@
 pub mod mach_cli;
 pub mod machaudit;
 pub mod machdump;
+pub mod machfat;
 pub mod machinfo;
 pub mod machsign;
 pub mod machsyms;
