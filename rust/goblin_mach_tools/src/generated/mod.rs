@@ -7,6 +7,7 @@ pub mod mach_cli;
 pub mod machaudit;
 pub mod machdump;
 pub mod machfat;
+pub mod machfixups;
 pub mod machinfo;
 pub mod machsign;
 pub mod machsyms;
