@@ -20,4 +20,4 @@ macro_rules! programs {
     )*};
 }
 
-programs!(machaudit machdump machfat machfixups machinfo machsign machsyms);
+programs!(machaudit machdump machfat machfixups machinfo machresolve machsign machsyms);

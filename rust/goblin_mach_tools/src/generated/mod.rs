@@ -9,5 +9,6 @@ pub mod machdump;
 pub mod machfat;
 pub mod machfixups;
 pub mod machinfo;
+pub mod machresolve;
 pub mod machsign;
 pub mod machsyms;

@@ -1,0 +1,3 @@
+fn main() -> std::process::ExitCode {
+    goblin_mach_tools::machresolve()
+}
