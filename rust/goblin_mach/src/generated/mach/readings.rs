@@ -25,7 +25,7 @@ pub trait Subject {
 ///
 /// # Proved
 ///
-/// - *kept*: if `Ok`: `map S.seen values.new.items ≡ map S.seen values.old.items ++ said (S.reading subject (command_of command))`
+/// - *kept*: if `Ok`: `map S.seen values.new.items ≡ map S.seen values.old.items ++ values_read (S.reading subject (command_of command))`
 /// - *read*: if `Ok`: `IsRead (S.reading subject (command_of command))`
 /// - *refused*: if `Err(e)`: `ErrorMeets (IsRefused (S.reading subject (command_of command))) e`
 #[inline(always)]
@@ -44,7 +44,7 @@ pub fn add<S: Subject>(
 ///
 /// # Proved
 ///
-/// - *kept*: if `Ok`: `map S.seen values.new.items ≡ map S.seen values.old.items ++ said (S.reading subject (command_of command))`
+/// - *kept*: if `Ok`: `map S.seen values.new.items ≡ map S.seen values.old.items ++ values_read (S.reading subject (command_of command))`
 /// - *only*: the result is `Ok`, unless memory is refused
 pub fn add_readable<S: Subject>(
     values: &mut Vec<S::Value>,
@@ -61,7 +61,7 @@ pub fn add_readable<S: Subject>(
 ///
 /// # Proved
 ///
-/// - *kept*: if `Ok`: `option_map S.seen last.new ≡ last_or (option_map S.seen last.old) (said (S.reading subject (command_of command)))`
+/// - *kept*: if `Ok`: `option_map S.seen last.new ≡ last_or (option_map S.seen last.old) (values_read (S.reading subject (command_of command)))`
 /// - *read*: if `Ok`: `IsRead (S.reading subject (command_of command))`
 /// - *refused*: if `Err(e)`: `ErrorMeets (IsRefused (S.reading subject (command_of command))) e`
 pub fn put<S: Subject>(
@@ -79,7 +79,7 @@ pub fn put<S: Subject>(
 ///
 /// # Proved
 ///
-/// - `option_map S.seen last.new ≡ last_or (option_map S.seen last.old) (said (S.reading subject (command_of command)))`
+/// - `option_map S.seen last.new ≡ last_or (option_map S.seen last.old) (values_read (S.reading subject (command_of command)))`
 pub fn put_readable<S: Subject>(last: &mut Option<S::Value>, subject: &S, command: &LoadCommand) {
     if let Some(Ok(value)) = subject.read(command) {
         *last = Some(value);

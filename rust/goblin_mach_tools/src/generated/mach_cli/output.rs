@@ -14,7 +14,7 @@ const CLOSED: u8 = 141;
 /// # Proved
 ///
 /// - *status*: if `result ≢ 0`, `IsUnwritten result`
-/// - *said*: if `result ≡ 0`, `Appends (O.contents out.old) (O.contents out.new) text`
+/// - *message*: if `result ≡ 0`, `Appends (O.contents out.old) (O.contents out.new) text`
 pub fn say<O: Write, E: Write>(name: &str, text: &str, out: &mut O, err: &mut E) -> u8 {
     match put(text, out) {
         Ok(()) => 0,

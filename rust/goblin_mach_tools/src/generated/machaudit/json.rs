@@ -12,7 +12,7 @@ use crate::generated::machaudit::report::{
     EntryReport, FatReport, Finding, ImageReport, PartReport, Parts, Records, Report,
     SignaturePart, SignatureReport,
 };
-use crate::generated::machaudit::signature_text::said_of;
+use crate::generated::machaudit::signature_text::message_of;
 use crate::generated::machaudit::verdict::Verdict;
 use crate::shim::AllocError;
 use crate::shim::io::Write;
@@ -157,7 +157,7 @@ fn signature_owner(slot: Option<u32>) -> Result<String, AllocError> {
 
 // Builds a fault of a signature.
 fn signature_value(fault: &SignatureFault) -> Result<Value, AllocError> {
-    let said = said_of(fault);
+    let said = message_of(fault);
     let place = said.place;
     let place = format_in!("{place}")?;
     let owner = signature_owner(said.slot)?;

@@ -41,7 +41,7 @@ pub struct Call<'a> {
 /// - *faulty*: if `Ok(status)`: if `status ≡ 1`, `(IsSound bytes → ⊥) ⊎ IsLong call.entry.options.limit bytes`
 /// - *quiet*: if `Ok(status)`: if `call.entry.options.format ≡ formats.Quiet`, there is `v : Verdict` with: `(status ≡ status_of v) × Judges (IsSound bytes) (IsLong call.entry.options.limit bytes) v × IsOneLine (quiet_line call.entry.name v) × Appends (writer_contents W.contents out.old) (writer_contents W.contents out.new) (quiet_line call.entry.name v)`
 /// - *flushed*: if `Ok`: `writer_buffer out.new ≡ []`
-/// - *said*: if `Ok`: `SaysForeign call.entry.name bytes (E.contents err.old) (E.contents err.new)`
+/// - *message*: if `Ok`: `SaysForeign call.entry.name bytes (E.contents err.old) (E.contents err.new)`
 pub fn run<W: Write, E: Write>(
     call: Call<'_>,
     bytes: &[u8],

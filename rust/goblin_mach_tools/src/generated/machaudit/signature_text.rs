@@ -40,7 +40,7 @@ impl fmt::Display for SignaturePlace {
 
 /// A fault of a signature as JSON has it: its kind, its owner, and its place.
 #[derive(Clone, Copy)]
-pub struct SignatureSaid {
+pub struct SignatureMessage {
     pub kind: &'static str,
     /// The slot of the directory that has the fault, if a directory has it.
     pub slot: Option<u32>,
@@ -48,9 +48,9 @@ pub struct SignatureSaid {
 }
 
 /// Returns a fault as JSON has it.
-pub fn said_of(fault: &SignatureFault) -> SignatureSaid {
+pub fn message_of(fault: &SignatureFault) -> SignatureMessage {
     match fault {
-        SignatureFault::Blob { index, error: _ } => SignatureSaid {
+        SignatureFault::Blob { index, error: _ } => SignatureMessage {
             kind: "unreadable",
             slot: None,
             place: SignaturePlace::Blob(*index),
@@ -59,23 +59,23 @@ pub fn said_of(fault: &SignatureFault) -> SignatureSaid {
             index,
             slot: _,
             magic: _,
-        } => SignatureSaid {
+        } => SignatureMessage {
             kind: "magic",
             slot: None,
             place: SignaturePlace::Blob(*index),
         },
-        SignatureFault::Refused(_) => SignatureSaid {
+        SignatureFault::Refused(_) => SignatureMessage {
             kind: "unreadable",
             slot: Some(0),
             place: SignaturePlace::Whole,
         },
-        SignatureFault::First(fault) => said_of_directory(0, fault),
-        SignatureFault::Alternate { slot, fault } => said_of_directory(*slot, fault),
+        SignatureFault::First(fault) => message_of_directory(0, fault),
+        SignatureFault::Alternate { slot, fault } => message_of_directory(*slot, fault),
     }
 }
 
 // Returns a fault of the directory of a slot as JSON has it.
-fn said_of_directory(slot: u32, fault: &DirectoryFault) -> SignatureSaid {
+fn message_of_directory(slot: u32, fault: &DirectoryFault) -> SignatureMessage {
     let (kind, place) = match fault {
         DirectoryFault::Identifier(_) | DirectoryFault::Team(_) => {
             ("unreadable", SignaturePlace::Whole)
@@ -87,7 +87,7 @@ fn said_of_directory(slot: u32, fault: &DirectoryFault) -> SignatureSaid {
         DirectoryFault::Code(fault) => code_said(*fault),
         DirectoryFault::Special(fault) => special_said(*fault),
     };
-    SignatureSaid {
+    SignatureMessage {
         kind,
         slot: Some(slot),
         place,

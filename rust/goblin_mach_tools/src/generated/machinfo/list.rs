@@ -31,7 +31,7 @@ pub enum ImageList<'a, 'b> {
     Libraries(LibraryIterator<'a, 'b>),
     Rebases(RebaseIterator<'a, 'b>),
     Weak(WeakBindIterator<'a, 'b>),
-    Said(CommandFacts<'b>),
+    FactRows(CommandFacts<'b>),
     Paths(Iter<'b, &'a str>),
 }
 
@@ -86,8 +86,8 @@ impl<'a, 'b> ImageList<'a, 'b> {
     ///
     /// - *left*: `list_rows_left result ≡ map (λ r. Ok r) (facts_within question (commands_view image))`
     /// - *past*: `list_rows_past result ≡ 0`
-    pub fn said(question: Question, image: &'b MachO<'a>) -> Self {
-        ImageList::Said(CommandFacts::of(question, image))
+    pub fn facts(question: Question, image: &'b MachO<'a>) -> Self {
+        ImageList::FactRows(CommandFacts::of(question, image))
     }
 
     /// Returns the run paths of an image.
@@ -148,7 +148,7 @@ impl<'a, 'b> ImageList<'a, 'b> {
                 Ok(bind) => Some(Ok(Row::Weak(bind))),
                 Err(error) => Some(Err(error)),
             },
-            ImageList::Said(list) => Some(Ok(list.take_next()?)),
+            ImageList::FactRows(list) => Some(Ok(list.take_next()?)),
             ImageList::Paths(list) => Some(Ok(Row::RunPath(*list.next()?))),
         }
     }

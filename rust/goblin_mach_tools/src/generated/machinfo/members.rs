@@ -84,11 +84,11 @@ fn write_lists<O: Write>(image: &MachO<'_>, limit: usize, out: &mut O) -> io::Re
         out,
     )?;
     let paths = write_list("run_paths", ImageList::run_paths(image), limit, out)?;
-    let list = ImageList::said(Question::Platform, image);
+    let list = ImageList::facts(Question::Platform, image);
     let platforms = write_list("platforms", list, limit, out)?;
     let segments = write_segments(image.segments.as_slice(), limit, out)?;
     let tools = write_list("tools", ImageList::of(Word::Tools, image), limit, out)?;
-    let list = ImageList::said(Question::Uuid, image);
+    let list = ImageList::facts(Question::Uuid, image);
     let uuids = write_list("uuids", list, limit, out)?;
     let used = then(then(libraries, paths), platforms);
     Ok(then(then(used, segments), then(tools, uuids)))

@@ -65,19 +65,19 @@ impl<'a> Listing for SummaryLines<'a, '_> {
 pub fn print_front<O: Write>(image: &MachO<'_>, limit: usize, out: &mut O) -> io::Result<bool> {
     print_kind(&image.header, out)?;
     print_image_name(image.name, out)?;
-    let said = print_facts(image, limit, out)?;
+    let facts = print_facts(image, limit, out)?;
     print_entry(image.entry, out)?;
     print_flags(image.header.flags, out)?;
     let segments = print_segments(image.segments.as_slice(), limit, out)?;
     let used = print_used(image, limit, out)?;
-    Ok(said & segments & used)
+    Ok(facts & segments & used)
 }
 
 // Prints the UUIDs, the platforms and the tools of an image. Returns whether all were printed and can be read.
 fn print_facts<O: Write>(image: &MachO<'_>, limit: usize, out: &mut O) -> io::Result<bool> {
-    let list = ImageList::said(Question::Uuid, image);
+    let list = ImageList::facts(Question::Uuid, image);
     let uuids = print_list(list, "uuid", limit, out)?;
-    let list = ImageList::said(Question::Platform, image);
+    let list = ImageList::facts(Question::Platform, image);
     let platforms = print_list(list, "platform", limit, out)?;
     let list = ImageList::of(Word::Tools, image);
     let tools = print_list(list, "tool: refused", limit, out)?;

@@ -88,7 +88,7 @@ pub fn refuse<S: ImageView, O: Write, E: Write>(
 /// # Proved
 ///
 /// - *text*: if `Ok`: `Appends (O.contents out.old) (O.contents out.new) (error_end (codes "out of memory"))`
-/// - *said*: if `Ok`: `Appends (E.contents err.old) (E.contents err.new) (complaint (S.names shows) (codes "out of memory"))`
+/// - *message*: if `Ok`: `Appends (E.contents err.old) (E.contents err.new) (complaint (S.names shows) (codes "out of memory"))`
 pub fn refuse_members<S: ImageView, O: Write, E: Write>(
     shows: &S,
     out: &mut O,
@@ -104,7 +104,7 @@ pub fn refuse_members<S: ImageView, O: Write, E: Write>(
 /// # Proved
 ///
 /// - *text*: if `Ok`: `Appends (O.contents out.old) (O.contents out.new) (object_front (headings.Arch index) ++ error_end (words_of error))`
-/// - *said*: if `Ok`: `Appends (E.contents err.old) (E.contents err.new) (entry_complaint (S.names shows) index (words_of error))`
+/// - *message*: if `Ok`: `Appends (E.contents err.old) (E.contents err.new) (entry_complaint (S.names shows) index (words_of error))`
 pub fn refuse_entry<S: ImageView, O: Write, E: Write>(
     shows: &S,
     index: usize,
