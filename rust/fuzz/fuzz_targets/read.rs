@@ -15,8 +15,16 @@ fn told<T: std::fmt::Debug>(result: Result<T, Error>) -> String {
     }
 }
 
-/// Reads all of an image; of its symbols, which a header may say are billions, some.
-fn image(bytes: &[u8], image: &MachO) {
+/// How many imports of an input are read: some bytes may say that there are millions.
+const IMPORTS: usize = 50_000;
+
+/// Reads all of an image; of its symbols, which a header may say are billions, some. `left` is how many imports may be read; lists are not
+/// built if there are more.
+fn image(bytes: &[u8], image: &MachO, left: &mut usize) {
+    *left -= image.iter_imports().take(*left).count();
+    if *left == 0 {
+        return;
+    }
     for segment in &image.segments {
         for section in segment.sections().into_iter().flatten() {
             std::hint::black_box(section);
@@ -60,16 +68,21 @@ fn image(bytes: &[u8], image: &MachO) {
 
 /// Reads an input.
 fn read(bytes: &[u8]) {
+    let mut left = IMPORTS;
     match Mach::parse(bytes) {
-        Ok(Mach::Binary(one)) => image(bytes, &one),
+        Ok(Mach::Binary(one)) => image(bytes, &one, &mut left),
+        // A header may say that it has billions of entries, and each is an error or an image.
         Ok(Mach::Fat(file)) => {
-            for entry in &file {
+            for entry in file.into_iter().take(1000) {
                 if let Ok(SingleArch::MachO(one)) = entry {
-                    image(one.bytes(), &one);
+                    image(one.bytes(), &one, &mut left);
                 }
             }
         }
         Err(error) => assert!(!describe(&error).to_string().is_empty()),
+    }
+    if left == 0 {
+        return;
     }
     if let Ok(views) = link_view(bytes) {
         for view in views.into_iter().flatten() {
