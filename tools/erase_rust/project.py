@@ -21,7 +21,7 @@ class Project:
 
     def __init__(self, top, config):
         self.top, self.modules, self.folders, self.features, self.calls = top, {}, {}, {}, []
-        self.tests, self.omitted, self.implied = set(), set(), set()
+        self.tests, self.omitted, self.implied, self.renamed = set(), set(), set(), {}
         self.config, self.roots, self.programs = os.path.relpath(config, top), {}, set()
         self._configure(config, "crate")
         self.streams = {}
@@ -42,14 +42,17 @@ class Project:
     def _configure(self, config, root):
         """Reads the lines of the file of crates: `crate NAME [as MODULE] [when FEATURE]`, `library NAME [when FEATURE]` for one
         of the toolchain, `tests NAME`, `program NAME`, `module CRATE PATH when FEATURE`, `omit CRATE PATH` for a module that is left
-        out, `implies FEATURE FEATURE` for a feature that turns another on, and `uses FILE of CRATE` for the crates of another such
-        file. The crates are modules of `root`."""
+        out, `rename CRATE PATH NAME as NEW`, `implies FEATURE FEATURE` for a feature that turns another on, and `uses FILE of CRATE`
+        for the crates of another such file. The crates are modules of `root`."""
         kinds = "crate|library|tests|program|module|omit|implies"
         with open(config, encoding="utf-8") as file:
             for number, line in enumerate(file, 1):
-                used = re.fullmatch(r"uses (\S+) of (\w+)", line.strip())
-                if used:
-                    self._configure(os.path.join(os.path.dirname(config), used[1]), used[2])
+                if met := re.fullmatch(r"uses (\S+) of (\w+)", line.strip()):
+                    self._configure(os.path.join(os.path.dirname(config), met[1]), met[2])
+                    continue
+                if met := re.fullmatch(r"rename (\w+) ([\w/]+) (\w+) as (\w+)", line.strip()):
+                    if root == "crate":
+                        self.renamed[(met[1], *met[2].split("/"), met[3])] = met[4]
                     continue
                 met = re.fullmatch(r"(%s) (\w+)(?: as (\w+)| ([\w/]+))?(?: when (\w+))?\s*(?:#.*)?|\s*(?:#.*)?" % kinds, line.strip())
                 if met is None:
@@ -99,6 +102,8 @@ class Project:
                 head = HEAD % ("the functions of crates/%s that C calls" % crate)
                 made[os.path.join(module, "calls.rs")] = "%s\n#![forbid(unsafe_code)]\n\n%s" % (head, foreign.listed(sorted(self.calls)))
                 made[os.path.join(module, "mod.rs")] += "pub mod calls;\n"
+        for crate, *module, name in self.renamed:
+            raise Stop("%s: no function %s to rename" % (self.shown(crate, "/".join(module) + ".rt"), name))
         made["mod.rs"] = self._root()
         return formatted(made)
 
@@ -121,6 +126,9 @@ class Project:
         path = os.path.join(self.folders[crate], *(module or ["main"])) + ".rt"
         path = path if module or path in self.streams else os.path.join(self.folders[crate], "lib.rt")
         stream = self.streams[path]
+        for i in stream.each("fn"):
+            name = stream.tokens[stream.next(i)]
+            name.text = self.renamed.pop((crate, *module, name.text), name.text)
         paths = self._erase(stream, crate, module)
         below = os.path.dirname(destination) if not module else destination[:-len(".rs")]
         for name, i in paths.modules(module):

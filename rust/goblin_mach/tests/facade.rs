@@ -3,6 +3,7 @@ mod common;
 
 use goblin_mach::bytes::{BE, LE, NATIVE, Pread, Pwrite, StrCtx};
 use goblin_mach::mach::constants::{self, cputype};
+use goblin_mach::mach::fat::FatArch;
 use goblin_mach::mach::header::Header;
 use goblin_mach::mach::load_command::SymtabCommand;
 use goblin_mach::{Container, Ctx, Endian, Error, Object, ScrollError, debug::Goblin};
@@ -46,6 +47,9 @@ fn same_as_the_proved_calls() {
                     file.narches
                 );
                 assert_eq!(file.machos().len(), file.narches);
+                let wide = |arch: Result<FatArch, Error>| arch.is_ok_and(|arch| arch.is_64());
+                let found = file.find(|arch| arch.is_ok_and(|arch| arch.is_64()));
+                assert_eq!(format!("{found:?}"), format!("{:?}", file.find_with(wide)));
                 for (entry, image) in file.into_iter().zip(file.machos()) {
                     match (entry, image) {
                         (Ok(SingleArch::MachO(one)), Ok(other)) => {

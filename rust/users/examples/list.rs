@@ -40,6 +40,8 @@ fn show_all(fat: &MultiArch, bytes: &[u8]) -> Result<(), Any> {
             Err(_) => println!("no image"),
         }
     }
+    let wide = fat.find(|arch| arch.map(|arch| arch.is_64()).unwrap_or(false));
+    println!("has an image of 64 bits: {}", wide.is_some());
     Ok(())
 }
 

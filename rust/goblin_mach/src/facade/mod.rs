@@ -3,7 +3,10 @@
 use crate::generated::mach as proved;
 use crate::mach::exports::{ExportInfo, ExportWalk};
 use crate::mach::segment::{Segment, Segments};
-use crate::mach::{Container, Ctx, Endian, Error, Mach, MachO, MultiArch, Result, ScrollError};
+use crate::mach::{
+    ArchRecord, Container, Ctx, Endian, Error, FatTable, Mach, MachO, MultiArch, Result,
+    ScrollError, SingleArch,
+};
 use alloc::string::{String, ToString};
 use core::{fmt, ops};
 
@@ -170,6 +173,14 @@ impl<'a, 'b> IntoIterator for ExportWalk<'a, 'b> {
     }
 }
 
+impl<'a, R: ArchRecord> FatTable<'a, R> {
+    /// Opens the first entry for whose record, or the error of reading it, `f` returns true: [`FatTable::find_with`] of errors
+    /// of this crate.
+    pub fn find<F: Fn(Result<R>) -> bool>(&self, f: F) -> Option<Result<SingleArch<'a>>> {
+        self.find_with(f)
+    }
+}
+
 /// The images of a fat file: what a `for` loop over goblin 0.2's `MultiArch` returns. An entry that is an archive is an error.
 /// Made by [`MultiArch::machos`].
 #[derive(Clone)]
@@ -187,8 +198,8 @@ impl<'a> Iterator for MachOIterator<'a, '_> {
 
     fn next(&mut self) -> Option<Self::Item> {
         Some(self.0.next()?.and_then(|entry| match entry {
-            proved::SingleArch::MachO(image) => Ok(image),
-            proved::SingleArch::Archive(_) => Err(Error::Malformed("an entry is an image")),
+            SingleArch::MachO(image) => Ok(image),
+            SingleArch::Archive(_) => Err(Error::Malformed("an entry is an image")),
         }))
     }
 

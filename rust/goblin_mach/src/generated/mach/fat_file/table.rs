@@ -109,7 +109,7 @@ impl<'a, R: ArchRecord> FatTable<'a, R> {
     ///
     /// - *found*: if `Some(answer)`: there is `i : ℕ` with: `IsFirstTaken R.arch_form E.from_gives (F.post f) (file_view self) i × OpensEntry (arch_entry_in R.arch_form (file_view self) i) answer`
     /// - *none*: if `None`: `NoneTaken R.arch_form E.from_gives (F.post f) (file_view self)`
-    pub fn find<E: From<Error>, F: Fn(core::result::Result<R, E>) -> bool>(
+    pub fn find_with<E: From<Error>, F: Fn(core::result::Result<R, E>) -> bool>(
         &self,
         f: F,
     ) -> Option<Result<SingleArch<'a>>> {
