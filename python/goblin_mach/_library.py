@@ -17,7 +17,7 @@ FITS = (0, 2)
 
 HERE = os.path.dirname(os.path.abspath(__file__))
 NAME = {"darwin": "libgoblin_mach.dylib", "win32": "goblin_mach.dll"}.get(sys.platform, "libgoblin_mach.so")
-SONAME = NAME + ".0" if NAME.endswith(".so") else NAME
+SONAME = "libgoblin_mach.so.0"
 
 
 def _in_folder(folder: str) -> List[str]:
@@ -32,7 +32,7 @@ def places() -> List[str]:
         return [named]
     top = os.path.dirname(os.path.dirname(HERE))
     built = _in_folder(os.path.join(top, "build")) if os.path.exists(os.path.join(top, "python", "pyproject.toml")) else []
-    return [*_in_folder(HERE), *built, SONAME, NAME]
+    return [*_in_folder(HERE), *built, *([SONAME] if NAME.endswith(".so") else []), NAME]
 
 
 def _open_first(paths: Sequence[str]) -> ctypes.CDLL:
