@@ -1,0 +1,430 @@
+"""The answers of the package to vectors: vectors/README.md says what they are. `test_vectors.py` compares them."""
+
+import re
+
+import goblin_mach
+from goblin_mach import Archive, FatEntry, FatPart, FileType, HeaderFlags, Image, LoadCommand, Platform, Refused, Relocation, Stab, SymbolType, _memory
+
+MODES = {"strict": goblin_mach.STRICT, "lossy": goblin_mach.LOSSY}
+LEFT_OUT = {"mach", "input", "images"}
+"""The calls that the package doesn't have."""
+
+
+# ---- errors, of which the package tells fewer apart than the vectors
+
+ERRORS = {"malformed": "malformed", "bad magic": "bad-magic", "out of the bytes, or no text": "short", "too many": "too-short"}
+CALLED = {"malformed": "malformed", "bad-magic": "bad-magic", "bad-offset": "short", "too-big": "short", "bad-input": "short", "too-short": "too-short"}
+ERROR = re.compile(rf"(\berror |\()({'|'.join(CALLED)})[^)]*")
+
+
+def plain(line):
+    """A wanted line, with errors as the package tells them apart."""
+    parts = line.split('"')
+    parts[::2] = [ERROR.sub(lambda found: found[1] + CALLED[found[2]], part) for part in parts[::2]]
+    return '"'.join(parts)
+
+
+def error(words):
+    return "error " + ERRORS.get(words, words)
+
+
+def why(refused):
+    return error(goblin_mach.ERRORS[refused.code])
+
+
+def each(items, line):
+    """The lines of items up to their end or to what refuses them. An item after the end is `more`."""
+    try:
+        for item in items:
+            yield error(item.error) if getattr(item, "error", None) else line(item)
+    except Refused as refused:
+        yield why(refused)
+    if next(iter(items), None) is not None:
+        yield "more"
+
+
+# ---- parts of lines
+
+def quoted(name):
+    raw = name.encode("utf-8", "surrogateescape") if isinstance(name, str) else name
+    return '"' + "".join(chr(byte) if 0x20 <= byte <= 0x7E and byte not in b'"\\' else f"\\x{byte:02x}" for byte in raw) + '"'
+
+
+def hyphened(words):
+    return words.replace(" ", "-")
+
+
+def words_if(**held):
+    """The words of what holds, each after a blank."""
+    return "".join(" " + hyphened(word.replace("_", " ")) for word, holds in held.items() if holds)
+
+
+def library(image, ordinal):
+    """The name of a library by its ordinal: that of ordinal 0 is the image's own, or self."""
+    return quoted(image.libraries()[ordinal - 1].name if ordinal else image.name or "self")
+
+
+PROVIDERS = {"itself": "itself", "program": "main-executable", "any": "flat", "any weak": "weak-look-up"}
+
+
+def provider(image, item):
+    return f"{item.library} {library(image, item.library)}" if item.provider == "library" else PROVIDERS[item.provider]
+
+
+def signed(item):
+    return f" key {item.key} diversity {item.diversity}{words_if(by_address=item.is_address_diverse)}" if item.is_signed else ""
+
+
+def place(part, whole):
+    """Where the bytes of a part begin in those of the whole."""
+    return _memory.Held(part).at - _memory.Held(whole).at
+
+
+# ---- lists of an image
+
+def header(image):
+    numbers = image._numbers  # the package has no names of its own for the magic and for the entry of a thread
+    yield (f"header {numbers.magic:#x} cpu {image.cputype:#x} {image.cpusubtype:#x} type {image.filetype} flags {image.flags:#x} "
+           f"{64 if image.is_64 else 32} {'little' if image.is_little_endian else 'big'}")
+    counts = (f"{word} {len(rows)}" for word, rows in [("commands", image.commands()), ("segments", image.segments()), ("libraries", image.libraries()),
+                                                       ("run-paths", image.run_paths()), ("symbols", image.symbols())])
+    yield f"holds {' '.join(counts)} entry {image.entry:#x}{words_if(thread=numbers.is_old_style_entry)}"
+
+
+def commands(image):
+    return each(image.commands(), lambda it: f"command {it.cmd:#x} at {it.offset:#x} size {it.size}")
+
+
+def segments(image):
+    return each(image.segments(), lambda it: (
+        f"segment {quoted(it.name)} at {it.vmaddr:#x} size {it.vmsize:#x} file {it.fileoff:#x} {it.filesize:#x} data {len(it.data)} "
+        f"protection {it.initprot:#x} {it.maxprot:#x} sections {it.nsects} flags {it.flags:#x}"))
+
+
+def sections(image):
+    for number, segment in enumerate(image.segments()):
+        yield from each(image.sections(segment), lambda it, number=number: (
+            f"section {number} {quoted(it.name)} of {quoted(it.segment)} at {it.addr:#x} size {it.size:#x} offset {it.offset:#x} data {len(it.data)} "
+            f"align {it.align} relocations {it.nreloc} at {it.reloff:#x} flags {it.flags:#x}"))
+
+
+def relocations(image):
+    for segment_number, segment in enumerate(image.segments()):
+        for number, section in enumerate(image.sections(segment)):
+            if section.error:
+                yield error(section.error)
+                continue
+            yield from each(image.relocations(section), lambda it, numbers=(segment_number, number): (
+                f"relocation {numbers[0]} {numbers[1]} address {it.address & 0xFFFFFFFF:#x} info {it.info:#x}"))
+
+
+def symbols(image):
+    return each(image.symbols(), lambda it: (
+        f"symbol {quoted(it.name)} value {it.value:#x} type {it.n_type:#x} section {it.section} description {it.desc:#x}"))
+
+
+def provided(image, symbol):
+    found = image.symbol_provider(symbol)
+    if found is None:
+        return "none"
+    return error(found.error) if found.error else f"provider {provider(image, found)}"
+
+
+def libraries(image):
+    return each(image.libraries(), lambda it: (
+        f"library {it.ordinal} {quoted(it.name)} {it.kind} timestamp {it.timestamp} current {it.current_version:#x} "
+        f"compatible {it.compatibility_version:#x}"
+        + words_if(used_weak=it.is_weak, used_reexport=it.is_reexport, used_upward=it.is_upward, used_delayed=it.is_delayed)))
+
+
+def note(image, it):
+    at = f" at {place(it.data, image.data):#x}" if it.data else ""
+    return f"note {quoted(it.owner)}{at} size {len(it.data)} of {it.command:#x}"
+
+
+def slot(it):
+    symbol = f"{it.symbol} {quoted(it.name)}" if it.owner == "symbol" else hyphened(it.owner)
+    return (f"slot {hyphened(it.kind)} at {it.address:#x} size {it.len} segment {it.segment} section {it.section} index {it.index} "
+            f"of {symbol}")
+
+
+def indirect(it):
+    return f"indirect {it.symbol if it.kind == 'symbol' else hyphened(it.kind)}"
+
+
+# ---- what dyld does with it
+
+def export(it):
+    if it.kind == "re-export":
+        # The target is the name there, also if it is the same.
+        what = f"of {quoted(it.library)}" + ("" if it.target == it.name else f" as {quoted(it.target)}")
+    else:
+        what = f"at {it.address:#x}" if it.kind == "address" else f"stub {it.address:#x} resolver {it.resolver:#x}"
+    return f"export {quoted(it.name)} {what} flags {it.flags:#x}"
+
+
+def walk(image, vector):
+    """The exports of a walk. The walk goes on past a node that is met again: then what comes before the wanted fault is compared."""
+    lines, want = list(each(image.exports(), export)), vector.want or []
+    end = len(want) - 1
+    goes_on = len(lines) >= end and not any(line.startswith("error ") for line in lines[:end + 1])
+    if want[-1:] == [error("malformed")] and goes_on and not image.exports_are_a_tree():
+        lines[end:] = want[end:]
+    return lines
+
+
+def exports(image):
+    """All exports, or only why the trie is refused. A trie that a walk reads to its end, and that is no tree, has a shared node."""
+    lines = list(each(image.exports(), export))
+    if image.exports_are_a_tree():
+        return lines
+    return lines[-1:] if lines and lines[-1].startswith("error ") else [error("malformed")]
+
+
+def imports(image):
+    return each(image.imports(), lambda it: (
+        f"import {quoted(it.name)} of {library(image, it.library)} at {it.address:#x} {it.offset:#x} size {it.size} addend {it.addend} "
+        f"start {it.start_of_sequence_offset}{words_if(weak=it.is_weak, lazy=it.is_lazy)}"))
+
+
+def all_imports(image):
+    lines = list(imports(image))
+    return lines[-1:] if lines and lines[-1].startswith("error ") else lines
+
+
+def binding(it, where, is_lazy):
+    return f"binding {quoted(it.name)} of {where} at {it.address:#x} {it.offset:#x} addend {it.addend}{words_if(weak=it.is_weak, lazy=is_lazy)}"
+
+
+def bindings(image):
+    return each(image.bindings(), lambda it: binding(it, provider(image, it), it.is_lazy))
+
+
+def weak_binds(image):
+    return each(image.weak_binds(), lambda it: f"strong {quoted(it.name)}" if it.is_strong else binding(it, "weak-look-up", False))
+
+
+def rebase(it):
+    return f"rebase {it.kind} at {it.address:#x} segment {it.segment} offset {it.offset:#x} target {it.target:#x}{signed(it)}"
+
+
+def fixup(it):
+    what = {"rebase": f"rebase {it.target:#x}", "bind": f"bind {it.import_number} addend {it.addend}", "number": f"value {it.target:#x}"}[it.kind]
+    return f"{what} at {it.address:#x} segment {it.segment} offset {it.offset:#x}{signed(it)}"
+
+
+# ---- files
+
+def entry(it):
+    return f"entry cpu {it.cputype:#x} {it.cpusubtype:#x} at {it.offset:#x} size {it.size} align {it.align}"
+
+
+def archive_kind(data):
+    """The kind of an archive. None if it is thin, or none: the package refuses these."""
+    is_archive = goblin_mach.parse(data).kind == "archive" and not data.startswith(b"!<thin>")
+    return Archive(data).kind if is_archive else None
+
+
+def member(it):
+    name = f"({ERRORS[it.name_error]})" if it.name_error else quoted(it.name)
+    numbers = (f" {word} {'none' if number is None else number}"
+               for word, number in [("date", it.date), ("owner", it.uid), ("group", it.gid), ("mode", it.mode)])
+    return f"member {name} header {it.offset:#x} at {it.start:#x} size {len(it.data)}{''.join(numbers)}"
+
+
+def write_fat(vector, data):
+    """The lines of a written file. None if a part isn't in the bytes: the package takes bytes."""
+    if any(offset + length > len(data) for offset, length, *_ in vector.parts):
+        return None
+    parts = [FatPart(cputype, cpusubtype, data[offset:offset + length], align) for offset, length, cputype, cpusubtype, align in vector.parts]
+    written = goblin_mach.write_fat(parts, vector.number == 64)
+    rows = ((at, written[at:at + 16]) for at in range(0, len(written), 16))
+    return [f"size {len(written)}", *(f"{at:#x}: {row.hex()}" for at, row in rows if any(row)), "end"]
+
+
+# ---- judgements
+
+def owner(it):
+    return f"{hyphened(it.part)} {it.command:#x} {it.index}"
+
+
+def layout_fault(it):
+    other = f" other {owner(it.other)}" if it.other else ""
+    return f"fault {hyphened(it.rule)} of {owner(it.owner)} found {it.found:#x} limit {it.limit:#x}{other}"
+
+
+def signature(image):
+    it = image.signature
+    if it is None:
+        return "unsigned"
+
+    def text(name, value, shown):
+        return f"({ERRORS[it.errors[name]]})" if name in it.errors else "none" if value is None else str(shown(value))
+
+    power = it.page_size.bit_length() - 1 if it.page_size else 0
+    return (f"signature {text('identifier', it.identifier, quoted)} team {text('team', it.team, quoted)} version {it.version:#x} flags {it.flags:#x} "
+            f"hash {it.hash_type} limit {it.limit} pages {it.pages} page-size {power} entitlements {text('entitlements', it.entitlements, len)} "
+            f"cdhash {it.cdhash.hex()}")
+
+
+def signature_faults(image):
+    """Faults have errors, but each is the line of a fault."""
+    try:
+        for it in image.signature_faults():
+            ends = f" {error(it.error)}" if it.error else ""
+            yield f"fault {it.kind} slot {it.slot:#x} index {it.number} found {it.found:#x} limit {it.limit:#x}{ends}"
+    except Refused as refused:
+        yield why(refused)
+
+
+def as_signed(image):
+    """Whether it is as it was signed. If no code directory counts, which refuses the signature, that is a fault of it."""
+    try:
+        found = image.signature
+    except Refused:
+        return "no" if any(image.signature_faults()) else "yes"
+    return "yes" if found is not None and found.is_as_signed() else "no"
+
+
+# ---- names of numbers. None is a name that the package has, and the library doesn't
+
+def known(number, prefix=""):
+    return prefix + number.name if number.is_known else "none"
+
+
+def flag_name(number):
+    names = HeaderFlags.of(number).names
+    return f"MH_{names[0]}" if len(names) == 1 and not names[0].startswith("0x") else "none"
+
+
+def platform_name(number):
+    return None if number == 0 else known(Platform.of(number))
+
+
+def symbol_type_name(number):
+    return known(Stab.of(number) if number & 0xE0 else SymbolType.of(number & 0x0E), "N_")
+
+
+def cpu_name(cputype, cpusubtype):
+    name = FatEntry(cputype, cpusubtype, 0, 0, 0, None).arch
+    return "none" if name.startswith("unknown(") else name
+
+
+RELOCATIONS = {"X86_64Relocation": "X86_64_RELOC_", "GenericRelocation": "GENERIC_RELOC_", "ArmRelocation": "ARM_RELOC_", "Arm64Relocation": "ARM64_RELOC_"}
+THUMB = {"THUMB_BR22": "ARM_THUMB_RELOC_BR22", "THUMB_32BIT_BRANCH": "ARM_THUMB_32BIT_BRANCH"}
+
+
+def relocation_name(cputype, number):
+    kind = Relocation(0, number << 28, None).type_for(cputype)
+    prefix = RELOCATIONS.get(type(kind).__name__)
+    if prefix is None:
+        return None if kind.is_known else "none"
+    return THUMB.get(kind.name) or known(kind, prefix)
+
+
+NAMES = {
+    "command-names": lambda number: known(LoadCommand.of(number), "LC_"),
+    "file-type-names": lambda number: known(FileType.of(number)),
+    "header-flag-names": flag_name,
+    "platform-names": platform_name,
+    "symbol-type-names": symbol_type_name,
+    "cpu-names": cpu_name,
+    "relocation-names": relocation_name,
+}
+
+
+# ---- calls: lists of lines, to which an end is added, and single lines. None is what the package can't be asked
+
+LISTS_OF_IMAGES = {
+    "header": header,
+    "commands": commands,
+    "segments": segments,
+    "sections": sections,
+    "relocations": relocations,
+    "symbols": symbols,
+    "libraries": libraries,
+    "run-paths": lambda image: each(image.run_paths(), lambda it: f"path {quoted(it)}"),
+    "ids": lambda image: each(image.ids(), lambda it: f"id {quoted(it)}"),
+    "function-starts": lambda image: each(image.function_starts(), lambda it: f"start {it.address:#x}"),
+    "data-in-code": lambda image: each(image.data_in_code(), lambda it: f"data {it.offset:#x} length {it.length} kind {it.kind}"),
+    "indirect-symbols": lambda image: each(image.indirect_symbols(), indirect),
+    "linker-options": lambda image: each(image.linker_options(), lambda it: f"option {quoted(it.text)} of {it.command:#x}"),
+    "build-tools": lambda image: each(image.build_tools(), lambda it: f"tool {it.tool} version {it.version:#x} of {it.command:#x}"),
+    "notes": lambda image: each(image.notes(), lambda it: note(image, it)),
+    "slots": lambda image: each(image.symbol_slots(), slot),
+    "providers": lambda image: each(image.symbols(), lambda it: provided(image, it)),
+    "exports": exports,
+    "imports": all_imports,
+    "iter-imports": imports,
+    "bindings": bindings,
+    "weak-binds": weak_binds,
+    "rebases": lambda image: each(image.rebases(), rebase),
+    "fixups": lambda image: each(image.fixups(), fixup),
+    "layout": lambda image: each(image.layout_faults(), layout_fault),
+    "signature-faults": signature_faults,
+}
+LISTS_OF_FILES = {
+    "entries": lambda data: each(goblin_mach.fat_entries(data), entry),
+    "container": lambda data: each(goblin_mach.container_faults(data), layout_fault),
+    "members": lambda data: each(Archive(data).members(), member),
+    "archive-symbols": lambda data: each(Archive(data).symbols(), lambda it: f"symbol {quoted(it.name)} member {it.member:#x}"),
+}
+
+
+def found(item, line):
+    return "none" if item is None else line(item)
+
+
+def numbered_section(it):
+    return (f"found {quoted(it.name)} of {quoted(it.segment_name)} segment {it.segment} section {it.number} at {it.addr:#x} size {it.size:#x} "
+            f"offset {it.offset:#x} align {it.align} relocations {it.nreloc} at {it.reloff:#x} flags {it.flags:#x} "
+            f"reserved {it.reserved1:#x} {it.reserved2:#x}")
+
+
+SINGLES_OF_IMAGES = {
+    "find": lambda image, vector: found(image.find_export(vector.wanted_name.decode()), export),
+    "slot-at": lambda image, vector: found(image.slot_at(vector.address), lambda it: error(it.error) if it.error else slot(it)),
+    "section-at": lambda image, vector: found(image.section_at(vector.address), numbered_section),
+    "section-of": lambda image, vector: found(image.section_of(vector.number), numbered_section),
+    "signature": lambda image, vector: signature(image),
+    "as-signed": lambda image, vector: as_signed(image),
+}
+SINGLES_OF_FILES = {
+    "archive-kind": lambda data, vector: archive_kind(data),
+    "archive-find": lambda data, vector: found(Archive(data).defining(vector.wanted_name), member),
+    "member-named": lambda data, vector: found(Archive(data).member(vector.wanted_name), member),
+}
+
+
+def ended(lines):
+    """A list with its end, unless an error is its last line."""
+    lines = list(lines)
+    return lines if lines and lines[-1].startswith("error ") else [*lines, "end"]
+
+
+def named(vector):
+    names = [NAMES[vector.call](*numbers) for numbers in vector.numbers]
+    if None in names:
+        return None
+    return ended(f"{' '.join(map(hex, numbers))} {name}" for numbers, name in zip(vector.numbers, names))
+
+
+def answer(vector):
+    """The lines of a vector's answer. None if the package can't be asked."""
+    call, data = vector.call, vector.bytes()
+    if call in LEFT_OUT or call in NAMES:
+        return None if call in LEFT_OUT else named(vector)
+    try:
+        if call == "write-fat":
+            return write_fat(vector, data)
+        if call in LISTS_OF_FILES:
+            return ended(LISTS_OF_FILES[call](data))
+        if call in SINGLES_OF_FILES:
+            line = SINGLES_OF_FILES[call](data, vector)
+            return None if line is None else [line]
+        image = Image(data, vector.offset, MODES[vector.mode])
+        if call == "walk":
+            return ended(walk(image, vector))
+        return ended(LISTS_OF_IMAGES[call](image)) if call in LISTS_OF_IMAGES else [SINGLES_OF_IMAGES[call](image, vector)]
+    except Refused as refused:
+        return [why(refused)]
