@@ -1,9 +1,15 @@
 //! Each allocation is refused in turn. The result is then `Error::Memory`, and never an abort or a panic.
 #![cfg(all(feature = "layout", feature = "write"))]
 mod common;
+#[path = "common/samples.rs"]
+mod samples;
 
+use goblin_mach::exports::ExportInfo;
 use goblin_mach::write::{FatEntry, Form, create, fat_order};
-use goblin_mach::{AllocError, Error, LinkView, MachO, layout, link_view};
+use goblin_mach::{
+    AllocError, Error, LinkView, Mach, MachO, MultiArch, SingleArch, layout, link_view,
+};
+use samples::{FILE_A, FILE_B, FILE_C};
 use std::alloc::{GlobalAlloc, Layout, System};
 use std::cell::Cell;
 use std::ptr;
@@ -100,12 +106,69 @@ fn each_in_turn<T: PartialEq + std::fmt::Debug>(work: impl Fn() -> Result<T, Err
 }
 
 #[test]
-fn readers() {
+fn readers_out_of_memory() {
     let refused: usize = common::files()
         .iter()
         .map(|bytes| each_in_turn(|| work(bytes)))
         .sum();
     assert!(refused > 30);
+}
+
+/// Lossy mode leaves out no library because memory was refused.
+#[test]
+fn lossy_mode_out_of_memory() {
+    let opened = |bytes: &[u8], libraries: &[&str]| match Mach::parse_lossy(bytes)? {
+        Mach::Binary(image) => Ok(image.libs == libraries),
+        Mach::Fat(_) => panic!("an image"),
+    };
+    for (bytes, libraries) in [(&FILE_A[..], &["self"][..]), (FILE_B, &["self", "L"])] {
+        assert!(opened(bytes, libraries).unwrap());
+        assert!(each_in_turn(|| opened(bytes, libraries)) > 0);
+    }
+}
+
+#[test]
+fn records_out_of_memory() {
+    let file = MultiArch::new(FILE_C).unwrap();
+    let refused = each_in_turn(|| file.arches().map(|records| records.len()));
+    assert!(refused > 0);
+    let refused = each_in_turn(|| {
+        file.get(0)
+            .map(|entry| matches!(entry, SingleArch::MachO(_)))
+    });
+    assert!(refused > 1);
+}
+
+/// The entry that needs memory is one error, and the archive after it needs none.
+#[test]
+fn entries_out_of_memory() {
+    let file = MultiArch::new(FILE_C).unwrap();
+    for left in 0.. {
+        let mut entries = file.into_iter();
+        LEFT.set(left);
+        let items = [entries.next(), entries.next(), entries.next()];
+        LEFT.set(usize::MAX);
+        let [image, archive, none] = items;
+        assert!(matches!(archive, Some(Ok(SingleArch::Archive(bytes))) if bytes.len() == 16));
+        assert!(none.is_none());
+        match image {
+            Some(Err(Error::Memory(_))) => {}
+            Some(Ok(SingleArch::MachO(_))) if left > 1 => return,
+            other => panic!("{other:?} with {left} allocations"),
+        }
+    }
+}
+
+/// Refused memory is the result of the whole view, and never an item of it.
+#[test]
+fn view_out_of_memory() {
+    let viewed = || {
+        let items = link_view(FILE_C)?;
+        let is_refused = |item: &Result<LinkView, Error>| matches!(item, Err(Error::Memory(_)));
+        Ok((items.len(), items.iter().any(is_refused)))
+    };
+    assert_eq!(viewed().unwrap(), (2, false));
+    assert!(each_in_turn(viewed) > 1);
 }
 
 #[test]
@@ -158,4 +221,45 @@ fn order_of_entries() {
         assert!(result.is_ok() != (found == unchanged));
         result.map(|()| found)
     });
+}
+
+/// An image of one command, which names a trie. The trie's root has 2,000 leaves, of six bytes each, whose addresses are their
+/// numbers.
+fn wide_trie() -> Vec<u8> {
+    let command = [0x8000_0033, 16, 48, 28_003];
+    let header = [0xfeed_facf, 0x0100_0007, 3, 2, 1, 16, 0, 0];
+    let words = header.into_iter().chain(command);
+    let mut bytes: Vec<u8> = words.flat_map(u32::to_le_bytes).collect();
+    let number = |n: u32| {
+        [
+            (n % 128 + 128) as u8,
+            (n / 128 % 128 + 128) as u8,
+            (n / 16_384) as u8,
+        ]
+    };
+    bytes.extend([0, 0xd0, 0x0f]);
+    for leaf in 0..2000 {
+        bytes.extend(format!("{leaf:04}\0").into_bytes());
+        bytes.extend(number(16_003 + 6 * leaf));
+    }
+    for leaf in 0..2000 {
+        bytes.extend([4, 0]);
+        bytes.extend(number(leaf));
+        bytes.push(0);
+    }
+    bytes
+}
+
+/// A look-up takes no memory if at each node only one branch fits the name.
+#[test]
+fn look_ups() {
+    let bytes = wide_trie();
+    let image = MachO::parse(&bytes, 0).unwrap();
+    for leaf in 0..2000 {
+        let name = format!("{leaf:04}");
+        LEFT.set(0);
+        let found = image.find_export(&name);
+        LEFT.set(usize::MAX);
+        assert!(matches!(found, Ok(Some(ExportInfo::Regular { address, .. })) if address == leaf));
+    }
 }
