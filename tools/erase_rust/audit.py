@@ -2,7 +2,7 @@
 
 Comments, ghost items, clauses and what else speaks to the prover are left out first. A path counts as the same if it leads to the same
 name of the same crate, and a comma before a closing bracket doesn't count. Imports are compared as sets. All else is compared token by
-token, and each place at which the two differ is of the kind `what goes => what comes`. Crates of tests are left out.
+token, and each place at which the two differ is of the kind `what goes => what comes`.
 """
 import collections
 import difflib
@@ -104,16 +104,15 @@ def read(*path):
 
 
 def pairs(top):
-    """The source and the Rust of each file but those of tests, with the paths into crates of the project in the same form."""
-    made, left_out = [], set()
+    """The source and the Rust of each file, with the paths into crates of the project in the same form."""
+    made = []
     for folder in (os.path.join(top, folder) for folder in FOLDERS):
-        left_out |= set(re.findall(r"#\[cfg\(test\)\]\npub mod (\w+);", read(folder, "mod.rs")))
         files = [os.path.join(place, name) for place, _, names in os.walk(folder) for name in names]
         made += [(ORIGIN.match(read(path)), read(path), os.path.relpath(path, folder).split(os.sep)[0]) for path in files]
     places = {origin[3]: place for origin, _, place in made if origin}
     toolchain = os.path.join(os.path.dirname(os.path.realpath(shutil.which("rt") or "")), "..", "rattle")
-    for origin, text, place in made:
-        if origin and place not in left_out:
+    for origin, text, _ in made:
+        if origin:
             source = read(toolchain if origin[2] == "toolchain" else top, origin[1].removeprefix("toolchain/"))
             source = re.sub(r"(?<![\w:])crate::", origin[3] + "::", without_ghosts(source))
             source = re.sub(r"(?<![\w:])(%s)::" % "|".join(places), lambda met: "generated::%s::" % places[met[1]], source)

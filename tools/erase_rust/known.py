@@ -1,15 +1,13 @@
 """What the tool knows of Rattle and of its standard library. Whatever is not here, and is not defined in the project, stops it."""
 
-# Words of Rust for which there is no rule; tests may have the last three.
-REFUSED_WORDS = {"async", "await", "extern", "union", "yield"}
-TEST_WORDS = {"dyn", "macro_rules", "static"}
+# Words of Rust for which there is no rule.
+REFUSED_WORDS = {"async", "await", "dyn", "extern", "macro_rules", "static", "union", "yield"}
 
 ERASED_ATTRIBUTES = {"cycle", "tactic"}
 KEPT_ATTRIBUTES = {"allow", "cfg", "cold", "default", "inline", "must_use", "non_exhaustive", "repr", "test"}
 
 # Macros that mean the same in Rust. (`vec!` and `prove!` have rules of their own.)
 MACROS = {"matches", "unreachable", "write", "vec", "prove"}
-TEST_MACROS = {"assert", "assert_eq", "assert_ne", "format", "rows", "writeln"}
 
 # Methods of std that mean the same in Rust.
 METHODS = set("""
@@ -33,7 +31,6 @@ PATHS = {
     **{path: SHIM + "::" + path for path in ("arrayvec", "byteorder", "memchr")},
     **dict.fromkeys(("std::alloc::AllocFailed", "std::alloc::Allocator", "std::alloc::Global", "std::marker::Model")),
 }
-TEST_PATHS = {"std::test::Fail": SHIM + "::Fail", "std::process::Abort": None, "std::iter": "core::iter", "std::str": "core::str"}
 
 # Traits of std, whose names a file may import for their methods alone.
 TRAITS = {"AsSlice", "ByteOrder", "Write"}
@@ -44,9 +41,9 @@ PRELUDE = {"Box": "alloc::boxed::Box", "String": "alloc::string::String", "Vec":
 # Methods that may be refused memory, by their traits in the shim. Their names there begin with `try_`, but for those in RENAMED.
 REFUSABLE = {
     "TryGrow": "append extend_from_slice insert push reserve resize", "TryList": "collect", "TrySort": "sort_by_cached_key sort_by_key",
-    "TryCopy": "to_vec", "TryExtend": "extend", "TryShow": "to_string", "TryText": "push_str",
+    "TryShow": "to_string", "TryText": "push_str",
 }
 TRAIT_OF = {method: trait for trait, methods in REFUSABLE.items() for method in methods.split()}
 RENAMED = {"collect": "try_list", "reserve": "try_room"}
 # Functions that may be refused memory: the name in the shim that takes the place of the type.
-MAKERS = {("String", "from_str"): "TryString", **{("Vec", name): "TryVec" for name in ("with_capacity", "from_elem", "from_slice")}}
+MAKERS = {("String", "from_str"): "TryString", ("Vec", "with_capacity"): "TryVec"}

@@ -2,7 +2,7 @@
 import re
 
 from . import programs
-from .known import PATHS, TEST_PATHS, TRAITS
+from .known import PATHS, TRAITS
 
 # A name in a format.
 NAMED = re.compile(r"\{([A-Za-z_]\w*)[:}]")
@@ -11,9 +11,9 @@ NAMED = re.compile(r"\{([A-Za-z_]\w*)[:}]")
 class Paths:
     """The paths of one file. `project` has the modules of all crates, the laws, the traits and what features guard."""
 
-    def __init__(self, stream, project, crate, module, is_test):
-        self.stream, self.project, self.crate, self.is_test = stream, project, crate, is_test
-        self.known = {**PATHS, **(TEST_PATHS if is_test else programs.PATHS if project.programs else {})}
+    def __init__(self, stream, project, crate, module):
+        self.stream, self.project, self.crate = stream, project, crate
+        self.known = {**PATHS, **(programs.PATHS if project.programs else {})}
         self.heads = {path.split("::")[0] for path in self.known}
         self.feature = project.feature([crate] + module)
         self.mentioned = self._mentioned()
@@ -107,7 +107,7 @@ class Paths:
         is_public = self.stream.text(self.stream.prev(i)) in ("pub", ")")
         is_mentioned = is_public or name == "*" or name in self.mentioned
         is_trait = name in TRAITS | programs.TRAITS or name in self.project.traits
-        if new is None or not (is_mentioned or is_trait and (new[:2] != ["core", "fmt"] or self.is_test or not self.has_bounds)):
+        if new is None or not (is_mentioned or is_trait and (new[:2] != ["core", "fmt"] or not self.has_bounds)):
             return None
         feature = self.project.feature([self.crate] + path[1:] if path[0] == "crate" else path)
         is_on = feature == self.feature or (self.feature, feature) in self.project.implied

@@ -5,9 +5,9 @@ import shutil
 import subprocess
 import tempfile
 
-from . import foreign, items, laws, memory, programs, runtime
+from . import foreign, items, laws, memory, programs
 from .contracts import contracts
-from .known import FUNCTIONS, MACROS, MAKERS, METHODS, PRELUDE, REFUSED_WORDS, SHIM, TEST_MACROS, TEST_WORDS, TRAIT_OF, TYPES
+from .known import FUNCTIONS, MACROS, MAKERS, METHODS, PRELUDE, REFUSED_WORDS, SHIM, TRAIT_OF, TYPES
 from .lexer import Stop
 from .paths import Paths
 from .stream import Stream
@@ -21,7 +21,7 @@ class Project:
 
     def __init__(self, top, config):
         self.top, self.modules, self.folders, self.features, self.calls = top, {}, {}, {}, []
-        self.tests, self.omitted, self.implied, self.renamed = set(), set(), set(), {}
+        self.implied, self.renamed = set(), {}
         self.config, self.roots, self.programs = os.path.relpath(config, top), {}, set()
         self._configure(config, "crate")
         self.streams = {}
@@ -41,10 +41,10 @@ class Project:
 
     def _configure(self, config, root):
         """Reads the lines of the file of crates: `crate NAME [as MODULE] [when FEATURE]`, `library NAME [when FEATURE]` for one
-        of the toolchain, `tests NAME`, `program NAME`, `module CRATE PATH when FEATURE`, `omit CRATE PATH` for a module that is left
-        out, `rename CRATE PATH NAME as NEW`, `implies FEATURE FEATURE` for a feature that turns another on, and `uses FILE of CRATE`
-        for the crates of another such file. The crates are modules of `root`."""
-        kinds = "crate|library|tests|program|module|omit|implies"
+        of the toolchain, `program NAME`, `module CRATE PATH when FEATURE`, `rename CRATE PATH NAME as NEW`, `implies FEATURE FEATURE`
+        for a feature that turns another on, and `uses FILE of CRATE` for the crates of another such file. The crates are modules of
+        `root`."""
+        kinds = "crate|library|program|module|implies"
         with open(config, encoding="utf-8") as file:
             for number, line in enumerate(file, 1):
                 if met := re.fullmatch(r"uses (\S+) of (\w+)", line.strip()):
@@ -62,15 +62,13 @@ class Project:
                     continue
                 if feature and root == "crate":
                     self.features[tuple([name] + (path.split("/") if path else []))] = feature
-                elif kind == "omit":
-                    self.omitted.add((name, *path.split("/")))
                 elif kind == "implies":
                     self.implied.add((name, path))
-                if kind in ("crate", "library", "tests", "program"):
+                if kind in ("crate", "library", "program"):
                     self.modules[name], self.roots[name] = module or name, root
                     self.folders[name] = self._folder(kind, name)
-                if kind in ("tests", "program"):
-                    (self.tests if kind == "tests" else self.programs).add(name)
+                if kind == "program":
+                    self.programs.add(name)
 
     def _folder(self, kind, name):
         """The folder of a crate's sources."""
@@ -118,7 +116,7 @@ class Project:
         for crate, module in self._own():
             feature = self.features.get((crate,))
             lines += ['#[cfg(feature = "%s")]' % feature] if feature else []
-            lines += ["#[cfg(test)]"] * (crate in self.tests) + ["pub mod %s;" % module]
+            lines.append("pub mod %s;" % module)
         return "\n".join(lines) + "\n"
 
     def _make(self, crate, module, destination, made):
@@ -134,8 +132,7 @@ class Project:
         for name, i in paths.modules(module):
             if os.path.join(self.folders[crate], *module, name) + ".rt" not in self.streams:
                 stream.refuse(i, "a module without a file: " + name)
-            is_omitted = (crate, *module, name) in self.omitted
-            if is_omitted or not self._make(crate, module + [name], os.path.join(below, name + ".rs"), made):
+            if not self._make(crate, module + [name], os.path.join(below, name + ".rs"), made):
                 stream.remove(stream.item_start(i)[0], stream.item_end(i))
         if module and all(stream.tokens[i].kind == "import" for i in stream.each()):
             return False
@@ -144,46 +141,41 @@ class Project:
 
     def _erase(self, stream, crate, module):
         """Runs the passes over a file; returns its paths."""
-        is_test = crate in self.tests
         items.ghosts(stream)
         items.examples(stream)
         called = foreign.functions(stream)
         items.attributes(stream)
-        if not is_test:
-            items.tests(stream)
-        self.check(stream, is_test)
+        items.tests(stream)
+        self.check(stream)
         items.models(stream)
         laws.remove_laws(stream, self.laws)
         items.finals(stream)
         items.clones(stream)
         items.formatters(stream)
-        names = runtime.handles(stream) if is_test else programs.erase(stream) if crate in self.programs else set()
+        names = programs.erase(stream) if crate in self.programs else set()
         memory.Allocators(stream, names).erase()
         self.calls += [(module, foreign.signature(stream, i)) for i in called]
         items.drops(stream)
         items.labels(stream)
-        if is_test:
-            runtime.macros(stream)
         memory.calls(stream)
         memory.proofs(stream)
         contracts(stream)
-        paths = Paths(stream, self, crate, module, is_test)
+        paths = Paths(stream, self, crate, module)
         paths.imports()
         paths.in_code()
         return paths
 
-    def check(self, stream, is_test):
+    def check(self, stream):
         """Stops at a word, a macro, a method or a function of std that the tool doesn't know."""
-        macros = MACROS | TEST_MACROS if is_test else self.known_macros
         for i in stream.each():
             text, after = stream.text(i), stream.next(i)
             if not stream.is_name(i):
                 continue
-            if text in REFUSED_WORDS or text in TEST_WORDS and not is_test:
+            if text in REFUSED_WORDS:
                 stream.refuse(i, "the word " + text)
-            if stream.text(after) == "!" and stream.text(stream.next(after)) in ("(", "[", "{") and text not in macros:
+            if stream.text(after) == "!" and stream.text(stream.next(after)) in ("(", "[", "{") and text not in self.known_macros:
                 stream.refuse(i, "the macro %s!" % text)
-            if is_test or text not in TYPES and stream.text(stream.prev(i)) != ".":
+            if text not in TYPES and stream.text(stream.prev(i)) != ".":
                 continue
             name = stream.text(stream.next(after))
             if text in TYPES and stream.text(after) == "::" and name not in self.known_functions and (text, name) not in MAKERS:

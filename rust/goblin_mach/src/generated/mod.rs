@@ -20,31 +20,9 @@ pub mod mach_layout;
 pub mod mach_load;
 pub mod mach_parts;
 pub mod mach_records;
-#[cfg(test)]
-pub mod mach_samples;
 #[cfg(feature = "signature")]
 pub mod mach_signature;
 #[cfg(feature = "signature")]
 pub mod sha1;
 #[cfg(feature = "signature")]
 pub mod sha2;
-#[cfg(test)]
-pub mod tests_archive;
-#[cfg(test)]
-pub mod tests_chained;
-#[cfg(test)]
-pub mod tests_dyld;
-#[cfg(test)]
-pub mod tests_image;
-#[cfg(test)]
-pub mod tests_layout;
-#[cfg(test)]
-pub mod tests_load;
-#[cfg(test)]
-pub mod tests_parts;
-#[cfg(test)]
-pub mod tests_signature;
-#[cfg(test)]
-pub mod tests_texts;
-#[cfg(test)]
-pub mod tests_values;

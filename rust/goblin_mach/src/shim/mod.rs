@@ -15,18 +15,12 @@ mod map;
 pub mod byteorder;
 pub mod simd;
 
-#[cfg(test)]
-mod for_tests;
-
 use alloc::collections::TryReserveError;
 use alloc::string::String;
 use alloc::vec::Vec;
 use core::fmt;
 
 pub use map::BTreeMap;
-
-#[cfg(test)]
-pub(crate) use for_tests::*;
 
 /// Memory was refused.
 #[derive(Clone, Copy, Debug, PartialEq, Eq)]
