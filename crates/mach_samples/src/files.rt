@@ -1,16 +1,8 @@
-//! The built files of docs/FORMAT-IMAGE.md, and small images, which several crates of tests read.
+//! The built files of docs/FORMAT-IMAGE.md that the crates of tests read.
 
 use std::alloc::{AllocError, Global};
 
-/// A 64-bit image of one command.
-pub const FILE_A: [u8; 56] = [
-    0xcf, 0xfa, 0xed, 0xfe, 0x07, 0x00, 0x00, 0x01, 0x03, 0x00, 0x00, 0x00, 0x02, 0x00, 0x00, 0x00,
-    0x01, 0x00, 0x00, 0x00, 0x18, 0x00, 0x00, 0x00, 0x00, 0x00, 0x00, 0x00, 0x00, 0x00, 0x00, 0x00,
-    0x1b, 0x00, 0x00, 0x00, 0x18, 0x00, 0x00, 0x00, 0x01, 0x02, 0x03, 0x04, 0x05, 0x06, 0x07, 0x08,
-    0x09, 0x0a, 0x0b, 0x0c, 0x0d, 0x0e, 0x0f, 0x10,
-];
-
-/// A 64-bit image of five commands.
+/// File B: a 64-bit image of five commands.
 pub const FILE_B: [u8; 376] = [
     0xcf, 0xfa, 0xed, 0xfe, 0x07, 0x00, 0x00, 0x01, 0x03, 0x00, 0x00, 0x00, 0x02, 0x00, 0x00, 0x00,
     0x05, 0x00, 0x00, 0x00, 0x18, 0x01, 0x00, 0x00, 0x00, 0x00, 0x00, 0x00, 0x00, 0x00, 0x00, 0x00,
@@ -78,46 +70,10 @@ pub const EXPORTS: [u8; 64] = [
     0x03, 0x00, 0xc0, 0x1e, 0x00, 0x03, 0x00, 0xd0, 0x1e, 0x00, 0x00, 0x00, 0x00, 0x00, 0x00, 0x00,
 ];
 
-/// Builds a 64-bit little-endian image from its counts and what follows the header.
-pub fn image(alloc: Global, ncmds: u8, sizeofcmds: u8, rest: &[u8]) -> Result<Vec<u8>, AllocError> {
-    let mut bytes = vec![in alloc;
-        0xcf, 0xfa, 0xed, 0xfe, 0, 0, 0, 0, 0, 0, 0, 0, 0, 0, 0, 0, ncmds, 0, 0, 0, sizeofcmds, 0,
-        0, 0, 0, 0, 0, 0, 0, 0, 0, 0,
-    ]?;
-    bytes.extend_from_slice(rest)?;
-    Ok(bytes)
-}
-
-/// The 64-bit header of an image without commands.
-pub const BARE: [u8; 32] = [
-    0xcf, 0xfa, 0xed, 0xfe, 0, 0, 0, 0, 0, 0, 0, 0, 0, 0, 0, 0, 0, 0, 0, 0, 0, 0, 0, 0, 0, 0, 0, 0,
-    0, 0, 0, 0,
-];
-
-/// An archive without members, with eight bytes after its magic.
-pub const ARCHIVE: [u8; 16] = [
+// An archive without members, with eight bytes after its magic.
+const ARCHIVE: [u8; 16] = [
     0x21, 0x3c, 0x61, 0x72, 0x63, 0x68, 0x3e, 0x0a, 0, 0, 0, 0, 0, 0, 0, 0,
 ];
-
-/// Builds a fat file of one entry, at 28 with `size` bytes.
-pub fn of_one(alloc: Global, size: u8, entry: &[u8]) -> Result<Vec<u8>, AllocError> {
-    let mut bytes = vec![in alloc;
-        0xca, 0xfe, 0xba, 0xbe, 0, 0, 0, 1, 0, 0, 0, 0, 0, 0, 0, 0, 0, 0, 0, 28, 0, 0, 0, size, 0,
-        0, 0, 0,
-    ]?;
-    bytes.extend_from_slice(entry)?;
-    Ok(bytes)
-}
-
-/// Builds a fat file whose header says two entries, with one record, for cpu 7, and then `zeros`.
-pub fn of_one_record(alloc: Global, zeros: &[u8]) -> Result<Vec<u8>, AllocError> {
-    let mut bytes = vec![in alloc;
-        0xca, 0xfe, 0xba, 0xbe, 0, 0, 0, 2, 0, 0, 0, 7, 0, 0, 0, 0, 0, 0, 0, 0, 0, 0, 0, 0, 0, 0,
-        0, 0,
-    ]?;
-    bytes.extend_from_slice(zeros)?;
-    Ok(bytes)
-}
 
 /// Builds file C: file B at 48 and an archive at 424.
 pub fn file_c(alloc: Global) -> Result<Vec<u8>, AllocError> {
@@ -128,45 +84,4 @@ pub fn file_c(alloc: Global) -> Result<Vec<u8>, AllocError> {
     bytes.extend_from_slice(&FILE_B)?;
     bytes.extend_from_slice(&ARCHIVE)?;
     Ok(bytes)
-}
-
-/// Builds a fat file of one entry at 28, as long as file D.
-pub fn fat_of_d(alloc: Global, entry: &[u8; 436]) -> Result<Vec<u8>, AllocError> {
-    let mut bytes = vec![in alloc;
-        0xca, 0xfe, 0xba, 0xbe, 0, 0, 0, 1, 1, 0, 0, 7, 0, 0, 0, 3, 0, 0, 0, 28, 0, 0, 1, 0xb4, 0,
-        0, 0, 0,
-    ]?;
-    bytes.extend_from_slice(entry)?;
-    Ok(bytes)
-}
-
-/// A file, as the rows of tables describe it.
-#[derive(Clone, Copy)]
-pub enum File {
-    /// These bytes.
-    Of(&'static [u8]),
-    /// A prefix of these bytes, of this length.
-    Front(&'static [u8], usize),
-    /// A 64-bit little-endian image: its counts, and what follows the header.
-    Image(u8, u8, &'static [u8]),
-    /// A fat file of one entry, with its size.
-    OfOne(u8, &'static [u8]),
-    /// A fat file whose header says two entries, with one record and these bytes.
-    OfOneRecord(&'static [u8]),
-    /// File C.
-    C,
-}
-
-impl File {
-    /// Returns the bytes of the file.
-    pub fn bytes(self, alloc: Global) -> Result<Vec<u8>, AllocError> {
-        match self {
-            File::Of(bytes) => bytes.to_vec(alloc),
-            File::Front(bytes, length) => bytes.get(..length).unwrap_or(bytes).to_vec(alloc),
-            File::Image(ncmds, sizeofcmds, rest) => image(alloc, ncmds, sizeofcmds, rest),
-            File::OfOne(size, entry) => of_one(alloc, size, entry),
-            File::OfOneRecord(rest) => of_one_record(alloc, rest),
-            File::C => file_c(alloc),
-        }
-    }
 }

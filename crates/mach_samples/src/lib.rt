@@ -1,4 +1,4 @@
-//! The built files of docs/FORMAT-IMAGE.md, and small images, which several crates of tests read.
+//! The built files that the crates of tests share.
 #![tactic(auto)]
 
 pub mod files;

@@ -1,5 +1,0 @@
-use Rattle.mach_dyld.specs.Walks.{work_left}
-use Rattle.tests_limits.proofs.tests.walks.walks.Given as goal
-
-abbrev pub decreases-exports : goal.decreases-exports
-decreases-exports g l = work_left l.walk
