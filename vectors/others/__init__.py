@@ -1,0 +1,1 @@
+"""Other people's readers, asked the vectors. `run` writes docs/CONFORMANCE.md."""
