@@ -1,7 +1,9 @@
 //! Tries the vectors of the repository on this crate, and the driver on vectors that are wrong.
 mod driver;
 
+use driver::vector::{Vector, parse};
 use driver::{Outcome, all_files, print_answers};
+use goblin_mach::{Error, MachO, Result};
 
 #[test]
 fn all_as_expected() {
@@ -13,6 +15,63 @@ fn all_as_expected() {
     println!("{outcome}");
     assert!(outcome.vectors > 0);
     assert!(outcome.differences.is_empty(), "\n{outcome}");
+}
+
+// Vectors of chained fixups that end with `error malformed`, which says no more, and the reason that this crate gives.
+const REASONS: &[(&str, &str)] = &[
+    (
+        "fixups of chains, starts too short for the second",
+        "starts have room for those of a page",
+    ),
+    (
+        "fixups of chains, a start in an earlier pointer",
+        "a start lies behind the chain before it",
+    ),
+    (
+        "fixups of chains, starts over each other",
+        "starts lie before the end of earlier ones",
+    ),
+    (
+        "fixups of chains, segments over each other",
+        "a segment with chains lies behind the one before it",
+    ),
+    (
+        "fixups of chains, addresses past 64 bits",
+        "a fixup's address has at most 64 bits",
+    ),
+    (
+        "bindings of chains, a sum of addends past 64 bits",
+        "a bind's addend has at most 64 bits",
+    ),
+];
+
+/// Returns the reason that ends the fixups, or the bindings, of a vector.
+fn reason(vector: &Vector) -> Option<&'static str> {
+    fn last<T>(items: impl Iterator<Item = Result<T>>) -> Option<&'static str> {
+        match items.last()? {
+            Err(Error::Malformed(reason)) => Some(reason),
+            _ => None,
+        }
+    }
+    let image = MachO::parse(&vector.bytes, vector.offset).ok()?;
+    match vector.call.as_str() {
+        "fixups" => last(image.fixups()),
+        _ => last(image.bindings()),
+    }
+}
+
+#[test]
+fn reasons_of_chained_fixups() {
+    let files = all_files().unwrap().unwrap_or_default();
+    let Some(file) = files.iter().find(|file| file.ends_with("fixups.txt")) else {
+        println!("no vectors here");
+        return;
+    };
+    let vectors = parse(&std::fs::read_to_string(file).unwrap()).unwrap_or_default();
+    for (name, want) in REASONS {
+        let vector = vectors.iter().find(|vector| vector.name == *name);
+        assert_eq!(vector.and_then(reason), Some(*want), "{name}");
+    }
 }
 
 /// An image of 64 bits without commands.

@@ -12,7 +12,7 @@ mod names;
 mod outcome;
 #[cfg(feature = "signature")]
 mod signed;
-mod vector;
+pub mod vector;
 #[cfg(feature = "write")]
 mod written;
 
