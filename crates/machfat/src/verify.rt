@@ -15,10 +15,11 @@ use crate::commands::reported;
 use crate::entry::first_of;
 use crate::refusal::{Refusal, WriteFailure, refused_by};
 use goblin_mach::fat::FatArch;
-use goblin_mach::{Mach, MultiArch64, peek};
+use goblin_mach::{Mach, MultiArch64};
 use mach_cli::{most_items, print_cut, refused_kind};
+use mach_fat_writer::Form;
 use mach_layout::{LayoutFault, container_faults};
-use mach_parts::{FAT_MAGIC_64, FatArch64};
+use mach_parts::FatArch64;
 use std::alloc::{Allocator, Global};
 use std::io;
 use std::io::{BufWriter, Write};
@@ -72,8 +73,8 @@ fn fat_faults(alloc: Global, bytes: &[u8]) -> Result<Vec<LayoutFault>, Refusal>
     ensures faults { IfOk result (λ v. HasFatFaults bytes.now v.items) }
     ensures refused { IfErr result (RefusesFaults bytes.now) }
 {
-    match peek(bytes, 0) {
-        Ok(FAT_MAGIC_64) => wide_faults(alloc, bytes),
+    match Form::of(bytes) {
+        Some(Form::Bits64) => wide_faults(alloc, bytes),
         _ => narrow_faults(alloc, bytes),
     }
 }
