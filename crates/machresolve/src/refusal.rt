@@ -4,22 +4,22 @@ ghost use Rattle.std.specs.Prelude.{◌≡◌};
 ghost use Rattle.machresolve.specs.Refusals.{has_table, kind_reported};
 
 use crate::inputs::Given;
-use goblin_mach::fat::{FAT_MAGIC, SIZEOF_FAT_ARCH, SIZEOF_FAT_HEADER};
-use goblin_mach::{Error, describe, peek};
+use goblin_mach::fat::{FatHeader, SIZEOF_FAT_ARCH, SIZEOF_FAT_HEADER};
+use goblin_mach::{Error, describe};
 use mach_cli::{Escaped, Foreign, refused_kind};
 use std::fmt;
 use std::fmt::{Display, Formatter, Write};
 
-// Whether the bytes hold the table of a fat file.
+// Whether the bytes hold all records that their header counts, if they are a fat file.
 fn has_table(bytes: &[u8]) -> bool
     ensures { result ≡ has_table bytes.now }
 {
-    match (peek(bytes, 0), peek(bytes, 4)) {
-        (Ok(magic), Ok(count)) => {
-            let table = SIZEOF_FAT_HEADER as u64 + SIZEOF_FAT_ARCH as u64 * u64::from(count);
-            magic == FAT_MAGIC && table <= bytes.len() as u64
+    match FatHeader::parse(bytes) {
+        Ok(header) => {
+            let records = SIZEOF_FAT_ARCH as u64 * u64::from(header.nfat_arch);
+            SIZEOF_FAT_HEADER as u64 + records <= bytes.len() as u64
         }
-        _ => false,
+        Err(_) => false,
     }
 }
 
@@ -27,10 +27,9 @@ fn has_table(bytes: &[u8]) -> bool
 fn kind_reported(bytes: &[u8], error: &Error) -> Option<Foreign>
     ensures { result ≡ kind_reported bytes.now error.now }
 {
-    if has_table(bytes) {
-        None
-    } else {
-        refused_kind(bytes, error)
+    match refused_kind(bytes, error) {
+        Some(Foreign::JavaClass) if has_table(bytes) => None,
+        kind => kind,
     }
 }
 
