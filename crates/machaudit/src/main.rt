@@ -128,15 +128,7 @@ impl<W: Write + Drop, B: Allocator> FileView<BufWriter<W, B>> for Audits {
             heading: self.only.as_str() != name,
         };
         let mut err = rt.stderr();
-        match run_for(
-            &rt.alloc(),
-            rt.alloc(),
-            self.cpu,
-            call,
-            bytes,
-            out,
-            &mut err,
-        ) {
+        match run_for(&rt.alloc(), self.cpu, call, bytes, out, &mut err) {
             Ok(status) => status,
             Err(ShowFailure::Memory) => PROGRAM.no_memory_for(rt, name),
             Err(ShowFailure::Unwritten(error)) => failed(NAME, "", error, &mut err),

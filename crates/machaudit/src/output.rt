@@ -20,7 +20,7 @@ use crate::text::print_report;
 use crate::verdict::Verdict;
 use goblin_mach::Error;
 use mach_cli::{Escaped, Names, ShowFailure, refused_kind};
-use std::alloc::{Allocator, Global};
+use std::alloc::Allocator;
 use std::io;
 use std::io::{BufWriter, Write};
 
@@ -45,7 +45,6 @@ pub struct Call<'a> {
 /// a line with its kind.
 pub fn run<A: Allocator + Clone, W: Write + Drop, B: Allocator, E: Write>(
     alloc: &A,
-    json: Global,
     call: Call<'_>,
     bytes: &[u8],
     out: &mut BufWriter<W, B>,
@@ -64,7 +63,7 @@ pub fn run<A: Allocator + Clone, W: Write + Drop, B: Allocator, E: Write>(
     let Ok(report) = audit(alloc, bytes, call.options.limit) else {
         return Err(ShowFailure::Memory);
     };
-    write_report(json, call, &report, out)?;
+    write_report(call, &report, out)?;
     say_refusal(call.name, bytes, &report, err)?;
     Ok(status(report.verdict()))
 }
@@ -110,27 +109,24 @@ fn status(verdict: Verdict) -> u8
 
 // Prints the report of a file and flushes it.
 fn write_report<A: Allocator, W: Write + Drop, B: Allocator>(
-    json: Global,
     call: Call<'_>,
     report: &Report<A>,
     out: &mut BufWriter<W, B>,
-) -> Result<(), ShowFailure>
+) -> io::Result<()>
     ensures quiet { OnOk result (call.entry.options.format ≡ formats.Quiet
         → Appends (writer_contents W.contents out.old) (writer_contents W.contents out.new) (quiet_line call.entry.name.now (verdict_of_report report.now))) }
     ensures flushed { OnOk result (writer_buffer out.new ≡ []) }
 {
-    print(json, call, report, out)?;
-    out.flush()?;
-    Ok(())
+    print(call, report, out)?;
+    out.flush()
 }
 
 // Prints the report of a file.
 fn print<A: Allocator, O: Write>(
-    json: Global,
     call: Call<'_>,
     report: &Report<A>,
     out: &mut O,
-) -> Result<(), ShowFailure>
+) -> io::Result<()>
     ensures { OnOk result (call.entry.options.format ≡ formats.Quiet
         → Appends (O.contents out.old) (O.contents out.new) (quiet_line call.entry.name.now (verdict_of_report report.now))) }
 {
@@ -140,12 +136,11 @@ fn print<A: Allocator, O: Write>(
                 let name = Escaped(call.name);
                 writeln!(out, "{name}:")?;
             }
-            print_report(report, out)?;
+            print_report(report, out)
         }
-        Format::Quiet => print_verdict(call.name, report.verdict(), out)?,
-        Format::Json => print_object(json, call.name, report, out)?,
+        Format::Quiet => print_verdict(call.name, report.verdict(), out),
+        Format::Json => print_object(call.name, report, out),
     }
-    Ok(())
 }
 
 // Prints the line of a file: whether it is sound.

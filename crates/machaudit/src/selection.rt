@@ -13,7 +13,7 @@ use crate::overlaid::entries_within;
 use goblin_mach::fat::FatArch;
 use goblin_mach::{Error, Mach, MachO, MultiArch};
 use mach_cli::{Cpu, Names, ShowFailure};
-use std::alloc::{AllocError, Allocator, Global};
+use std::alloc::{AllocError, Allocator};
 use std::io::{BufWriter, Write};
 
 // What of a file is selected.
@@ -35,7 +35,6 @@ enum Selected<A: Allocator> {
 /// cpu, and then `err` has a line that says so.
 pub fn run_for<A: Allocator + Clone, W: Write + Drop, B: Allocator, E: Write>(
     alloc: &A,
-    json: Global,
     cpu: Cpu,
     call: Call<'_>,
     bytes: &[u8],
@@ -47,13 +46,13 @@ pub fn run_for<A: Allocator + Clone, W: Write + Drop, B: Allocator, E: Write>(
     ensures faulty { IfOk result (λ status. status ≡ 1 → FailsFor cpu call.entry.options.limit bytes.now ⊎ MissesAll cpu bytes.now) }
 {
     match selected_of(alloc, cpu, bytes)? {
-        Selected::Whole => run(alloc, json, call, bytes, out, err),
+        Selected::Whole => run(alloc, call, bytes, out, err),
         Selected::Other => Ok(missed(call.name, "no image of", cpu, err)),
         Selected::Entries(archs) => {
             if cpu.misses(&archs) {
                 return Ok(missed(call.name, "no entry of", cpu, err));
             }
-            run_within(alloc, json, cpu, call, bytes, &archs, out, err)
+            run_within(alloc, cpu, call, bytes, &archs, out, err)
         }
     }
 }
@@ -106,7 +105,6 @@ fn selected_entries<A: Allocator + Clone>(
 // worst status.
 fn run_within<A: Allocator + Clone, W: Write + Drop, B: Allocator, E: Write>(
     alloc: &A,
-    json: Global,
     cpu: Cpu,
     call: Call<'_>,
     bytes: &[u8],
@@ -119,7 +117,7 @@ fn run_within<A: Allocator + Clone, W: Write + Drop, B: Allocator, E: Write>(
     ensures faulty { IfOk result (λ status. status ≡ 1 → EntriesFail cpu call.entry.options.limit bytes.now archs.now ⊎ AreOverlaid cpu bytes.now archs.now) }
 {
     let most = entries_within(cpu, archs.len(), bytes, archs);
-    let status = run_entries(alloc, json, cpu, call, bytes, &archs[..most], out, err)?;
+    let status = run_entries(alloc, cpu, call, bytes, &archs[..most], out, err)?;
     if most < archs.len() {
         return Ok(left_out(call.name, archs.len() - most, err));
     }
@@ -144,7 +142,6 @@ fn left_out<E: Write>(file: &str, count: usize, err: &mut E) -> u8
 // Audits the entries for a cpu among these records, and returns the worst status.
 fn run_entries<A: Allocator + Clone, W: Write + Drop, B: Allocator, E: Write>(
     alloc: &A,
-    json: Global,
     cpu: Cpu,
     call: Call<'_>,
     bytes: &[u8],
@@ -159,7 +156,7 @@ fn run_entries<A: Allocator + Clone, W: Write + Drop, B: Allocator, E: Write>(
     let mut worst = 0u8;
     'archs: for (index, arch) in archs.iter().enumerate() {
         if cpu.takes_entry(arch) {
-            let status = run_entry(alloc, json, call, index, arch.slice(bytes), out, err)?;
+            let status = run_entry(alloc, call, index, arch.slice(bytes), out, err)?;
             worst = worst.max(status);
         }
     }
@@ -169,7 +166,6 @@ fn run_entries<A: Allocator + Clone, W: Write + Drop, B: Allocator, E: Write>(
 // Audits an entry as a file of its own, and returns its status.
 fn run_entry<A: Allocator + Clone, W: Write + Drop, B: Allocator, E: Write>(
     alloc: &A,
-    json: Global,
     call: Call<'_>,
     index: usize,
     entry: &[u8],
@@ -180,17 +176,21 @@ fn run_entry<A: Allocator + Clone, W: Write + Drop, B: Allocator, E: Write>(
     ensures sound { IfOk result (λ status. status ≡ 0 → IsSound entry.now) }
     ensures faulty { IfOk result (λ status. status ≡ 1 → IsFailing call.entry.options.limit entry.now) }
 {
-    let name = entry_name(json, call.name, index)?;
+    let name = entry_name(alloc.clone()?, call.name, index)?;
     let call = Call {
         options: call.options,
         name: &name,
         heading: true,
     };
-    run(alloc, json, call, entry, out, err)
+    run(alloc, call, entry, out, err)
 }
 
 // Returns the name of a file's entry.
-fn entry_name(alloc: Global, file: &str, index: usize) -> Result<String, AllocError> {
+fn entry_name<A: Allocator>(
+    alloc: A,
+    file: &str,
+    index: usize,
+) -> Result<String<A>, AllocError> {
     format!(in alloc; "{file}: arch {index}")
 }
 

@@ -1,0 +1,133 @@
+//! Faults as JSON has them: objects of four strings. Their texts are made of fixed words and numbers, and need no escapes.
+
+ghost use Rattle.std.specs.Prelude.{◌≡◌, ◌++◌, codes, Some, OnOk, false};
+ghost use Rattle.std.specs.Fmt.{digits};
+ghost use Rattle.std.specs.Io.KnownBytes.{Appends};
+ghost use Rattle.machaudit.specs.JsonFaults as defined;
+
+use crate::report::Finding;
+use crate::signature_text::message_of;
+use goblin_mach::{Error, describe};
+use mach_cli::comma_before;
+use mach_layout::{Evidence, LayoutFault};
+use mach_signature::{SignatureFault, SlotName};
+use std::fmt::{Display, Formatter};
+use std::io::Write;
+use std::{fmt, io};
+
+/// A fault as JSON has it.
+pub trait FaultObject {
+    ghost use Rattle.std.specs.Prelude.{List, ℕ, OnOk};
+    ghost use Rattle.std.specs.Io.KnownBytes.{Appends};
+
+    // The object of a fault, given the name of its part.
+    ghost object: { List ℕ → Self → List ℕ };
+
+    /// Writes a fault of the part with this name.
+    fn write_object<O: Write>(&self, part: &str, out: &mut O) -> io::Result<()>
+        ensures { OnOk result (Appends (O.contents out.old) (O.contents out.new) (object part.now self.now)) };
+}
+
+/// The error for which a part can't be read at all.
+#[derive(Clone, Copy)]
+pub struct Refusal<'a>(pub &'a Error);
+
+impl FaultObject for Refusal<'_> {
+    ghost object = { λ part refusal. defined.refusal_object part refusal.0.now };
+
+    fn write_object<O: Write>(&self, part: &str, out: &mut O) -> io::Result<()> {
+        let words = describe(self.0);
+        write!(
+            out,
+            "{{\"kind\":\"unreadable\",\"owner\":\"{part}\",\"place\":\"\",\"words\":\"{words}\"}}"
+        )
+    }
+}
+
+/// That a fat file has no entry.
+#[derive(Clone, Copy)]
+pub struct NoImage;
+
+impl FaultObject for NoImage {
+    ghost object = { λ part _. defined.no_image_object part };
+
+    fn write_object<O: Write>(&self, part: &str, out: &mut O) -> io::Result<()> {
+        write!(
+            out,
+            "{{\"kind\":\"empty\",\"owner\":\"{part}\",\"place\":\"\",\"words\":\"no image\"}}"
+        )
+    }
+}
+
+impl FaultObject for Finding {
+    ghost object = { defined.finding_object };
+
+    fn write_object<O: Write>(&self, part: &str, out: &mut O) -> io::Result<()> {
+        let place = self.place;
+        let words = describe(&self.error);
+        write!(
+            out,
+            "{{\"kind\":\"unreadable\",\"owner\":\"{part}\",\"place\":\"{place}\",\"words\":\"{words}\"}}"
+        )
+    }
+}
+
+impl FaultObject for LayoutFault {
+    ghost object = { λ _ fault. defined.layout_object fault };
+
+    fn write_object<O: Write>(&self, _part: &str, out: &mut O) -> io::Result<()> {
+        let (kind, owner) = (self.rule, self.owner);
+        let place = owner.command;
+        let words = Evidence(*self);
+        write!(
+            out,
+            "{{\"kind\":\"{kind}\",\"owner\":\"{owner}\",\"place\":\"0x{place:x}\",\"words\":\"{words}\"}}"
+        )
+    }
+}
+
+impl FaultObject for SignatureFault {
+    ghost object = { λ _ fault. defined.signature_object fault };
+
+    fn write_object<O: Write>(&self, _part: &str, out: &mut O) -> io::Result<()> {
+        let message = message_of(self);
+        let (kind, place) = (message.kind, message.place);
+        let owner = SignatureOwner(message.slot);
+        write!(
+            out,
+            "{{\"kind\":\"{kind}\",\"owner\":\"{owner}\",\"place\":\"{place}\",\"words\":\"{self}\"}}"
+        )
+    }
+}
+
+// The owner of a signature's fault: the directory of a slot, or the signature itself.
+#[derive(Clone, Copy)]
+struct SignatureOwner(Option<u32>);
+
+impl Display for SignatureOwner {
+    ghost output = { λ owner. Some (defined.owner_words owner.0) };
+
+    fn fmt<W: fmt::Write>(&self, f: &mut Formatter<W>) -> fmt::Result {
+        match self.0 {
+            Some(slot) => {
+                let name = SlotName(slot);
+                write!(f, "{name}")
+            }
+            None => f.write_str("signature"),
+        }
+    }
+}
+
+/// Writes a fault of the part with this name, after a comma unless it is the first.
+pub fn write_next<F: FaultObject, O: Write>(
+    part: &str,
+    fault: &F,
+    is_first: bool,
+    out: &mut O,
+) -> io::Result<()>
+    ensures { OnOk result (Appends (O.contents out.old) (O.contents out.new) (defined.element is_first (F.object part.now fault.now))) }
+{
+    let comma = comma_before(is_first);
+    write!(out, "{comma}")?;
+    fault.write_object(part, out)
+}
