@@ -1,30 +1,21 @@
 -- The faults of layout that are reported: the first ten of each rule.
-use Rattle.std.specs.Prelude.{◌+◌, ◌^◌, ℕ, zero, suc, List, [], ◌∷◌, Bool, min, nat_lt, if◌then◌else◌}
-use Rattle.std.specs.List.{replicate}
+use Rattle.std.specs.Prelude.{◌+◌, ◌-◌, ◌^◌, ℕ, List, [], ◌∷◌, Bool, min, nat_le, replicate, slice_index_or, slice_set, if◌then◌else◌}
 use Rattle.mach_layout.specs.declared.fault.LayoutFault.{LayoutFault}
 use Rattle.mach_layout.specs.declared.fault.Rule.{Rule}
 use Rattle.machaudit.specs.RuleNumbers.{rule_number}
 use Rattle.machaudit.specs.declared.layout_text.Counts.{Counts}
 
--- the count at a place; 0 past the end
-abbrev pub count_at : List ℕ → ℕ → ℕ
-count_at [] k = 0
-count_at (n ∷ ns) zero = n
-count_at (n ∷ ns) (suc k) = count_at ns k
+-- how many faults of a rule there are with one more, or the greatest number
+abbrev pub count_with : Counts → Rule → ℕ
+count_with c r = min (slice_index_or c.counts (rule_number r) 0 + 1) (2 ^ 64 - 1)
 
--- the counts with one more at a place, or the greatest number
-abbrev pub one_more : List ℕ → ℕ → List ℕ
-one_more [] k = []
-one_more (n ∷ ns) zero = min (n + 1) (2 ^ 64 - 1) ∷ ns
-one_more (n ∷ ns) (suc k) = n ∷ one_more ns k
-
--- fewer than ten faults of this rule were counted
+-- it is one of the first ten of its rule
 abbrev pub is_first : Counts → Rule → Bool
-is_first c r = nat_lt (count_at c.counts (rule_number r)) 10
+is_first c r = nat_le (count_with c r) 10
 
--- the counts with one more fault of this rule
+-- the counts with one more fault of a rule
 abbrev pub counted : Counts → Rule → Counts
-counted c r = record { counts = one_more c.counts (rule_number r) }
+counted c r = record { counts = slice_set c.counts (rule_number r) (count_with c r) }
 
 -- the faults that are among the first ten of their rules, by the counts so far
 abbrev pub first_from : Counts → List LayoutFault → List LayoutFault

@@ -1,5 +1,9 @@
 //! The text of an image's signature.
 
+ghost use Rattle.std.specs.Prelude.{◌≡◌, Some};
+ghost use Rattle.machaudit.specs.JsonFaults.{code_kind, code_place, directory_kind, directory_place, special_kind, special_place};
+ghost use Rattle.machaudit.specs.JsonFaults.{signature_kind, signature_place, signature_slot};
+
 use crate::report::{SignaturePart, SignatureReport};
 use goblin_mach::describe;
 use mach_signature::{CodeFault, DirectoryFault, SignatureFault, SlotName, SpecialFault};
@@ -21,6 +25,11 @@ pub enum SignaturePlace {
 }
 
 impl fmt::Display for SignaturePlace {
+    ghost use Rattle.std.specs.Prelude.{Some};
+    ghost use Rattle.machaudit.specs.JsonFaults.{signature_place_words};
+
+    ghost output = { λ place. Some (signature_place_words place) };
+
     fn fmt<W: fmt::Write>(&self, f: &mut fmt::Formatter<W>) -> fmt::Result {
         match self {
             SignaturePlace::Whole => Ok(()),
@@ -44,7 +53,11 @@ pub struct SignatureMessage {
 }
 
 /// Returns a fault as JSON has it.
-pub fn message_of(fault: &SignatureFault) -> SignatureMessage {
+pub fn message_of(fault: &SignatureFault) -> SignatureMessage
+    ensures kind { result.kind.now ≡ signature_kind fault.now }
+    ensures slot { result.slot ≡ signature_slot fault.now }
+    ensures place { result.place ≡ signature_place fault.now }
+{
     match fault {
         SignatureFault::Blob { index, error: _ } => SignatureMessage {
             kind: "unreadable",
@@ -71,7 +84,11 @@ pub fn message_of(fault: &SignatureFault) -> SignatureMessage {
 }
 
 // Returns a fault of the directory of a slot as JSON has it.
-fn message_of_directory(slot: u32, fault: &DirectoryFault) -> SignatureMessage {
+fn message_of_directory(slot: u32, fault: &DirectoryFault) -> SignatureMessage
+    ensures kind { result.kind.now ≡ directory_kind fault.now }
+    ensures slot { result.slot ≡ Some slot }
+    ensures place { result.place ≡ directory_place fault.now }
+{
     let (kind, place) = match fault {
         DirectoryFault::Identifier(_) | DirectoryFault::Team(_) => {
             ("unreadable", SignaturePlace::Whole)
@@ -91,7 +108,10 @@ fn message_of_directory(slot: u32, fault: &DirectoryFault) -> SignatureMessage {
 }
 
 // Returns the kind and the place of a fault of the code.
-fn code_said(fault: CodeFault) -> (&'static str, SignaturePlace) {
+fn code_said(fault: CodeFault) -> (&'static str, SignaturePlace)
+    ensures kind { result.0.now ≡ code_kind fault }
+    ensures place { result.1 ≡ code_place fault }
+{
     match fault {
         CodeFault::Scattered { place: _ } => ("scattered", SignaturePlace::Whole),
         CodeFault::Limit { limit: _, len: _ } => ("limit", SignaturePlace::Whole),
@@ -105,7 +125,10 @@ fn code_said(fault: CodeFault) -> (&'static str, SignaturePlace) {
 }
 
 // Returns the kind and the place of a fault of a special slot.
-fn special_said(fault: SpecialFault) -> (&'static str, SignaturePlace) {
+fn special_said(fault: SpecialFault) -> (&'static str, SignaturePlace)
+    ensures kind { result.0.now ≡ special_kind fault }
+    ensures place { result.1 ≡ special_place fault }
+{
     match fault {
         SpecialFault::Unknown { slot } => ("unknown", SignaturePlace::Special(slot)),
         SpecialFault::Unsealed { slot } => ("unsealed", SignaturePlace::Special(slot)),

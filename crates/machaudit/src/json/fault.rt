@@ -1,7 +1,6 @@
 //! Faults as JSON has them: objects of four strings. Their texts are made of fixed words and numbers, and need no escapes.
 
-ghost use Rattle.std.specs.Prelude.{◌≡◌, ◌++◌, codes, Some, OnOk, false};
-ghost use Rattle.std.specs.Fmt.{digits};
+ghost use Rattle.std.specs.Prelude.{Some, OnOk};
 ghost use Rattle.std.specs.Io.KnownBytes.{Appends};
 ghost use Rattle.machaudit.specs.JsonFaults as defined;
 

@@ -1,6 +1,6 @@
 //! The parts of an image or of a fat file's table as JSON has them.
 
-ghost use Rattle.std.specs.Prelude.{◌≡◌, ◌×◌, ◌++◌, length, map, IfOk, OnOk};
+ghost use Rattle.std.specs.Prelude.{◌≡◌, length, map, IfOk, OnOk};
 ghost use Rattle.std.specs.Io.KnownBytes.{Appends};
 ghost use Rattle.mach_cli.specs.JsonArrays.{with_commas};
 ghost use Rattle.machaudit.specs.JsonParts as defined;
