@@ -8,7 +8,7 @@ PATHS = {
     "std::os::unix::fs::MetadataExt": "crate::shim::fs::MetadataExt",
     "std::process::ExitCode": "std::process::ExitCode",
     "std::rt::Files": "crate::shim::rt::Files",
-    **{name: "crate::shim::" + name for name in ("indexmap", "serde_json", "strsim")},
+    **{name: "crate::shim::" + name for name in ("indexmap", "strsim")},
 }
 TRAITS = {"Clock", "Env", "Files", "IsTerminal", "MetadataExt", "OpenFile", "Read"}
 
@@ -18,7 +18,7 @@ PRELUDE = {
     "HostRuntime": "crate::shim::rt::HostRuntime",
 }
 
-MACROS = {"format", "format_args", "json", "writeln"}
+MACROS = {"format", "format_args", "writeln"}
 METHODS = set("""
     alloc arg chars dev eprint eprintln flatten get_index_of ino into_bytes invalid is_file is_terminal monotonic partition_point read_to_end
     rsplit_once split_at stderr stdin stdout sync_all to_ascii_uppercase utf8_chunks valid wrapping_shl zip
@@ -76,17 +76,16 @@ def _tuple(stream, name, value):
 
 
 def macros(stream):
-    """`format!(in ALLOC; ..)` and `json!(in ALLOC; ..)` are macros of the shim."""
-    for i in stream.each("format", "json"):
+    """`format!(in ALLOC; ..)` is a macro of the shim."""
+    for i in stream.each("format"):
         open_ = stream.next(stream.next(i))
         if stream.text(stream.next(i)) != "!" or stream.text(stream.next(open_)) != "in":
             continue
         end = stream.seek(stream.next(open_), ";")
         stream.remove(stream.next(open_), end)
         stream.remove_space(end + 1)
-        if stream.text(i) == "format":
-            stream.tokens[i].text = "format_in"
-            stream.shim.add("format_in")
+        stream.tokens[i].text = "format_in"
+        stream.shim.add("format_in")
 
 
 def failures(stream):

@@ -120,7 +120,10 @@ fn write_image<A: Allocator, O: Write>(image: &ImageReport<A>, out: &mut O) -> i
     ensures { OnOk result (Appends (O.contents out.old) (O.contents out.new) (defined.image_object image.now)) }
 {
     let opens = words_of_opening(image);
-    write!(out, "{{\"kind\":\"image\",\"opens\":\"{opens}\",\"parts\":[")?;
+    write!(
+        out,
+        "{{\"kind\":\"image\",\"opens\":\"{opens}\",\"parts\":["
+    )?;
     match image {
         ImageReport::Opens(parts) => {
             write_part::<Refusal<'_>, O>("opens", &[], Unreported::NOTHING, out)?;
@@ -154,11 +157,7 @@ fn words_of_opening<A: Allocator>(image: &ImageReport<A>) -> &'static str
 }
 
 // Writes the members after the images, and the end of the object.
-fn write_end<A: Allocator, O: Write>(
-    name: &str,
-    report: &Report<A>,
-    out: &mut O,
-) -> io::Result<()>
+fn write_end<A: Allocator, O: Write>(name: &str, report: &Report<A>, out: &mut O) -> io::Result<()>
     ensures { OnOk result (Appends (O.contents out.old) (O.contents out.new) (defined.object_end name.now report.now)) }
 {
     let kind = kind_of(report);

@@ -122,11 +122,7 @@ fn write_report<A: Allocator, W: Write + Drop, B: Allocator>(
 }
 
 // Prints the report of a file.
-fn print<A: Allocator, O: Write>(
-    call: Call<'_>,
-    report: &Report<A>,
-    out: &mut O,
-) -> io::Result<()>
+fn print<A: Allocator, O: Write>(call: Call<'_>, report: &Report<A>, out: &mut O) -> io::Result<()>
     ensures { OnOk result (call.entry.options.format ≡ formats.Quiet
         → Appends (O.contents out.old) (O.contents out.new) (quiet_line call.entry.name.now (verdict_of_report report.now))) }
 {

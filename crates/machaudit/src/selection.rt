@@ -186,11 +186,7 @@ fn run_entry<A: Allocator + Clone, W: Write + Drop, B: Allocator, E: Write>(
 }
 
 // Returns the name of a file's entry.
-fn entry_name<A: Allocator>(
-    alloc: A,
-    file: &str,
-    index: usize,
-) -> Result<String<A>, AllocError> {
+fn entry_name<A: Allocator>(alloc: A, file: &str, index: usize) -> Result<String<A>, AllocError> {
     format!(in alloc; "{file}: arch {index}")
 }
 

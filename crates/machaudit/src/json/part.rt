@@ -51,11 +51,7 @@ pub fn write_part<F: FaultObject, O: Write>(
 }
 
 // Writes the faults of the part with this name.
-fn write_faults<F: FaultObject, O: Write>(
-    part: &str,
-    faults: &[F],
-    out: &mut O,
-) -> io::Result<()>
+fn write_faults<F: FaultObject, O: Write>(part: &str, faults: &[F], out: &mut O) -> io::Result<()>
     ensures { OnOk result (Appends (O.contents out.old) (O.contents out.new) (with_commas (map (F.object part.now) faults.now))) }
 {
     let mut is_first = true;
@@ -82,11 +78,7 @@ fn write_end<O: Write>(
 }
 
 /// Writes a part whose faults are those of layout, the first ten of each rule.
-pub fn write_layout<O: Write>(
-    name: &str,
-    faults: &[LayoutFault],
-    out: &mut O,
-) -> io::Result<()>
+pub fn write_layout<O: Write>(name: &str, faults: &[LayoutFault], out: &mut O) -> io::Result<()>
     ensures { OnOk result (Appends (O.contents out.old) (O.contents out.new) (defined.layout_part name.now faults.now)) }
 {
     write!(out, "{{\"faults\":[")?;
