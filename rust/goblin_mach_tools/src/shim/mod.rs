@@ -5,7 +5,6 @@ pub(crate) mod fs;
 pub(crate) mod indexmap;
 pub(crate) mod io;
 pub(crate) mod rt;
-pub(crate) mod serde_json;
 pub(crate) mod strsim;
 pub(crate) mod time;
 

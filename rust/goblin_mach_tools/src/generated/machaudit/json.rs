@@ -2,288 +2,155 @@
 //! An audit as JSON: one object for each file. docs/PROGRAMS.md describes its form.
 #![forbid(unsafe_code)]
 
-use crate::shim::{TryGrow, TryShow, TryString, format_in};
-use alloc::string::String;
-use alloc::vec::Vec;
+pub mod fault;
+pub mod part;
 
-use crate::generated::mach_cli::{JsonString, ShowFailure};
-use crate::generated::machaudit::layout_text::Counts;
-use crate::generated::machaudit::report::{
-    EntryReport, FatReport, Finding, ImageReport, PartReport, Parts, Records, Report,
-    SignaturePart, SignatureReport,
-};
-use crate::generated::machaudit::signature_text::message_of;
+use crate::generated::mach_cli::{JsonString, comma_before};
+use crate::generated::machaudit::json::fault::{NoImage, Refusal};
+use crate::generated::machaudit::json::part::{Unreported, write_layout, write_part, write_parts};
+use crate::generated::machaudit::report::{EntryReport, FatReport, ImageReport, Report};
 use crate::generated::machaudit::verdict::Verdict;
-use crate::shim::AllocError;
+use crate::shim::io;
 use crate::shim::io::Write;
-use crate::shim::serde_json::{Value, json};
-use goblin_mach::generated::mach::{Error, describe};
-use goblin_mach::generated::mach_layout::{Evidence, LayoutFault};
-use goblin_mach::generated::mach_signature::{SignatureFault, SlotName};
+use goblin_mach::generated::mach::Error;
 
-// Builds a fault: its kind, its place, its owner, and its message.
-fn fault_value(kind: &str, place: &str, owner: &str, words: &str) -> Result<Value, AllocError> {
-    json!({"kind": kind, "place": place, "owner": owner, "words": words})
+/// Writes the object of a file on a line: its name, whether it is sound, what it is, and its images.
+///
+/// # Proved
+///
+/// - if `Ok`: `Appends (O.contents out.old) (O.contents out.new) (defined.object_line name report)`
+pub fn print_object<O: Write>(name: &str, report: &Report, out: &mut O) -> io::Result<()> {
+    write!(out, "{{\"container\":[")?;
+    write_container(report, out)?;
+    write!(out, "],\"images\":[")?;
+    write_images(report, out)?;
+    write_end(name, report, out)
 }
 
-// Builds the error of something that can't be read.
-fn error_value(owner: &str, place: &str, error: &Error) -> Result<Value, AllocError> {
-    let words = format_in!("{}", describe(error))?;
-    fault_value("unreadable", place, owner, words.as_str())
-}
-
-// What of a part isn't among its reported faults.
-#[derive(Clone, Copy)]
-struct Unreported {
-    // How many more faults there are.
-    more: usize,
-    // How many more records are claimed, past the end of the bytes.
-    past: usize,
-    // Whether the limit was reached.
-    cut: bool,
-}
-
-impl Unreported {
-    // Returns so many more faults, and nothing else.
-    fn faults(more: usize) -> Unreported {
-        Unreported {
-            more,
-            past: 0,
-            cut: false,
-        }
-    }
-}
-
-// Builds a part with its faults, and what isn't among them.
-fn part_value(name: &str, faults: Vec<Value>, unreported: Unreported) -> Result<Value, AllocError> {
-    let Unreported { more, past, cut } = unreported;
-    let ok = faults.is_empty() && past == 0 && !cut;
-    let faults = Value::Array(faults);
-    let (more, past) = (more as u64, past as u64);
-    json!({
-        "part": name, "ok": ok, "faults": faults, "more": more, "past_the_end": past, "limit_met": cut
-    })
-}
-
-// Builds the reported faults of a part.
-fn findings(name: &str, reported: &[Finding]) -> Result<Vec<Value>, AllocError> {
-    let mut faults = Vec::new();
-    for finding in reported {
-        let place = finding.place;
-        let place = format_in!("{place}")?;
-        faults.try_push(error_value(name, place.as_str(), &finding.error)?)?;
-    }
-    Ok(faults)
-}
-
-// Adds a part of an image, with the number of its records past the end of the bytes.
-fn add_part(
-    values: &mut Vec<Value>,
-    name: &str,
-    part: &PartReport,
-    past: usize,
-) -> Result<(), AllocError> {
-    let reported = part.reported.as_slice();
-    let faults = findings(name, reported)?;
-    let unreported = Unreported {
-        more: part.faults.saturating_sub(reported.len()),
-        past,
-        cut: part.cut,
-    };
-    values.try_push(part_value(name, faults, unreported)?)?;
-    Ok(())
-}
-
-// Adds a part of an image that consists of records.
-fn add_records(values: &mut Vec<Value>, name: &str, records: &Records) -> Result<(), AllocError> {
-    add_part(values, name, &records.in_bounds, records.past)
-}
-
-// Adds a part with an error alone, if there is one.
-fn add_refusal(
-    values: &mut Vec<Value>,
-    name: &str,
-    error: Option<&Error>,
-) -> Result<(), AllocError> {
-    let mut faults = Vec::new();
-    if let Some(error) = error {
-        faults.try_push(error_value(name, "", error)?)?;
-    }
-    values.try_push(part_value(name, faults, Unreported::faults(0))?)?;
-    Ok(())
-}
-
-// Builds a fault of layout.
-fn layout_value(fault: LayoutFault) -> Result<Value, AllocError> {
-    let place = format_in!("0x{:x}", fault.owner.command)?;
-    let owner = format_in!("{}", fault.owner)?;
-    let words = format_in!("{}", Evidence(fault))?;
-    fault_value(
-        fault.rule.words(),
-        place.as_str(),
-        owner.as_str(),
-        words.as_str(),
-    )
-}
-
-// Adds a part whose faults are those of layout, the first ten of each rule.
-fn add_layout(
-    values: &mut Vec<Value>,
-    name: &str,
-    faults: &[LayoutFault],
-) -> Result<(), AllocError> {
-    let mut counts = Counts::new();
-    let mut reported = Vec::new();
-    for fault in faults {
-        if counts.is_reported(fault.rule) {
-            reported.try_push(layout_value(*fault)?)?;
-        }
-    }
-    let unreported = Unreported::faults(faults.len().saturating_sub(reported.len()));
-    values.try_push(part_value(name, reported, unreported)?)?;
-    Ok(())
-}
-
-// Returns the owner of a signature's fault: the directory of a slot, or the signature itself.
-fn signature_owner(slot: Option<u32>) -> Result<String, AllocError> {
-    match slot {
-        Some(slot) => {
-            let name = SlotName(slot);
-            format_in!("{name}")
-        }
-        None => TryString::from_str("signature"),
-    }
-}
-
-// Builds a fault of a signature.
-fn signature_value(fault: &SignatureFault) -> Result<Value, AllocError> {
-    let said = message_of(fault);
-    let place = said.place;
-    let place = format_in!("{place}")?;
-    let owner = signature_owner(said.slot)?;
-    let words = format_in!("{fault}")?;
-    fault_value(said.kind, place.as_str(), owner.as_str(), words.as_str())
-}
-
-// Adds the part of a signature that can be read.
-fn add_signed(values: &mut Vec<Value>, part: &SignaturePart) -> Result<(), AllocError> {
-    let mut reported = Vec::new();
-    for fault in part.reported.as_slice() {
-        reported.try_push(signature_value(fault)?)?;
-    }
-    let unreported = Unreported::faults(part.faults.saturating_sub(reported.len()));
-    values.try_push(part_value("signature", reported, unreported)?)?;
-    Ok(())
-}
-
-// Adds the part of the signature, if there is one.
-fn add_signature(values: &mut Vec<Value>, signature: &SignatureReport) -> Result<(), AllocError> {
-    match signature {
-        SignatureReport::Unsigned => Ok(()),
-        SignatureReport::Unreadable(error) => add_refusal(values, "signature", Some(error)),
-        SignatureReport::Signed(part) => add_signed(values, part),
-    }
-}
-
-// Adds all parts of an image, but for relocations that were not read and a missing signature.
-fn add_parts(values: &mut Vec<Value>, parts: &Parts) -> Result<(), AllocError> {
-    add_records(values, "sections", &parts.sections)?;
-    if let Some(records) = &parts.relocations {
-        add_records(values, "relocations", records)?;
-    }
-    add_records(values, "symbols", &parts.symbols)?;
-    add_part(values, "exports", &parts.exports, 0)?;
-    add_part(values, "imports", &parts.imports, 0)?;
-    add_part(values, "fixups", &parts.fixups, 0)?;
-    add_part(values, "bindings", &parts.bindings, 0)?;
-    add_signature(values, &parts.signature)?;
-    add_layout(values, "layout", parts.layout.as_slice())
-}
-
-// Builds an image: how it opens, and its parts.
-fn image_value(image: &ImageReport) -> Result<Value, AllocError> {
-    let mut values = Vec::new();
-    let opens = match image {
-        ImageReport::Opens(parts) => {
-            add_refusal(&mut values, "opens", None)?;
-            add_parts(&mut values, parts)?;
-            "strictly"
-        }
-        ImageReport::OpensLossily(error, parts) => {
-            add_refusal(&mut values, "opens", Some(error))?;
-            add_parts(&mut values, parts)?;
-            "lossily"
-        }
-        ImageReport::Refused(error) => {
-            add_refusal(&mut values, "opens", Some(error))?;
-            "no"
-        }
-    };
-    let parts = Value::Array(values);
-    json!({"kind": "image", "opens": opens, "parts": parts})
-}
-
-// Builds an entry of a fat file.
-fn entry_value(entry: &EntryReport) -> Result<Value, AllocError> {
-    match entry {
-        EntryReport::Archive => json!({"kind": "archive"}),
-        EntryReport::Image(image) => image_value(image),
-    }
-}
-
-// Builds the images of a file: its entries, or itself.
-fn images(report: &Report) -> Result<Vec<Value>, AllocError> {
-    let mut values = Vec::new();
+// Writes the parts of a fat file's table; nothing for an image.
+fn write_container<O: Write>(report: &Report, out: &mut O) -> io::Result<()> {
     match report {
-        Report::Image(image) => values.try_push(image_value(image)?)?,
-        Report::Fat(fat) => {
-            for entry in fat.entries.as_slice() {
-                values.try_push(entry_value(entry)?)?;
-            }
-        }
+        Report::Image(_) => Ok(()),
+        Report::Fat(fat) => write_fat(fat, out),
     }
-    Ok(values)
 }
 
-// Builds the parts of a fat file's table.
-fn container(fat: &FatReport) -> Result<Vec<Value>, AllocError> {
-    let mut values = Vec::new();
+// Writes the parts of a fat file's table.
+fn write_fat<O: Write>(fat: &FatReport, out: &mut O) -> io::Result<()> {
+    write_table(fat, out)?;
+    write!(out, ",")?;
+    write_entries(fat, out)
+}
+
+// Writes the part of the table itself: why it can't be read, or its faults.
+fn write_table<O: Write>(fat: &FatReport, out: &mut O) -> io::Result<()> {
     match &fat.table {
-        Some(error) => add_refusal(&mut values, "table", Some(error))?,
-        None => add_layout(&mut values, "table", fat.container.as_slice())?,
+        Some(error) => write_part("table", &[Refusal(error)], Unreported::NOTHING, out),
+        None => write_layout("table", fat.container.as_slice(), out),
     }
-    let mut faults = Vec::new();
-    if fat.count == 0 {
-        faults.try_push(fault_value("empty", "", "entries", "no image")?)?;
-    }
+}
+
+// Writes the part of the entries: whether there is none, and whether there are more than were audited.
+fn write_entries<O: Write>(fat: &FatReport, out: &mut O) -> io::Result<()> {
     let unreported = Unreported {
         more: 0,
         past: 0,
         cut: fat.cut,
     };
-    values.try_push(part_value("entries", faults, unreported)?)?;
-    Ok(values)
+    if fat.count == 0 {
+        write_part("entries", &[NoImage], unreported, out)
+    } else {
+        write_part::<NoImage, O>("entries", &[], unreported, out)
+    }
 }
 
-/// Prints the object of a file on a line: its name, whether it is sound, what it is, and its images.
-pub fn print_object<O: Write>(name: &str, report: &Report, out: &mut O) -> Result<(), ShowFailure> {
-    let verdict = report.verdict();
-    let sound = verdict == Verdict::Sound;
-    let limit_met = verdict == Verdict::Unended;
-    let images = Value::Array(images(report)?).try_to_string()?;
-    let (kind, container) = match report {
-        Report::Image(_) => ("image", Vec::new()),
-        Report::Fat(fat) => ("fat file", container(fat)?),
-    };
-    let container = Value::Array(container).try_to_string()?;
-    let name = JsonString(name);
+// Writes the images of a file: its entries, or itself.
+fn write_images<O: Write>(report: &Report, out: &mut O) -> io::Result<()> {
+    match report {
+        Report::Image(image) => write_image(image, out),
+        Report::Fat(fat) => write_each(fat.entries.as_slice(), out),
+    }
+}
+
+// Writes the entries of a fat file.
+fn write_each<O: Write>(entries: &[EntryReport], out: &mut O) -> io::Result<()> {
+    let mut is_first = true;
+    for entry in entries {
+        write_entry(entry, is_first, out)?;
+        is_first = false;
+    }
+    Ok(())
+}
+
+// Writes an entry of a fat file, after a comma unless it is the first.
+fn write_entry<O: Write>(entry: &EntryReport, is_first: bool, out: &mut O) -> io::Result<()> {
+    let comma = comma_before(is_first);
+    write!(out, "{comma}")?;
+    match entry {
+        EntryReport::Archive => write!(out, "{{\"kind\":\"archive\"}}"),
+        EntryReport::Image(image) => write_image(image, out),
+    }
+}
+
+// Writes an image: how it opens, and its parts.
+fn write_image<O: Write>(image: &ImageReport, out: &mut O) -> io::Result<()> {
+    let opens = words_of_opening(image);
     write!(
         out,
-        "{{\"container\":{container},\"images\":{images},\"kind\":\"{kind}\""
+        "{{\"kind\":\"image\",\"opens\":\"{opens}\",\"parts\":["
     )?;
-    writeln!(
-        out,
-        ",\"limit_met\":{limit_met},\"name\":{name},\"sound\":{sound}}}"
-    )?;
-    Ok(())
+    match image {
+        ImageReport::Opens(parts) => {
+            write_part::<Refusal<'_>, O>("opens", &[], Unreported::NOTHING, out)?;
+            write_parts(parts, out)?;
+        }
+        ImageReport::OpensLossily(error, parts) => {
+            write_refused(error, out)?;
+            write_parts(parts, out)?;
+        }
+        ImageReport::Refused(error) => write_refused(error, out)?,
+    }
+    write!(out, "]}}")
+}
+
+// Writes the part of an image that doesn't open strictly.
+fn write_refused<O: Write>(error: &Error, out: &mut O) -> io::Result<()> {
+    write_part("opens", &[Refusal(error)], Unreported::NOTHING, out)
+}
+
+// Returns how an image opens.
+fn words_of_opening(image: &ImageReport) -> &'static str {
+    match image {
+        ImageReport::Opens(_) => "strictly",
+        ImageReport::OpensLossily(_, _) => "lossily",
+        ImageReport::Refused(_) => "no",
+    }
+}
+
+// Writes the members after the images, and the end of the object.
+fn write_end<O: Write>(name: &str, report: &Report, out: &mut O) -> io::Result<()> {
+    let kind = kind_of(report);
+    let verdict = report.verdict();
+    let (limit_met, sound) = (is_unended(verdict), is_sound(verdict));
+    let name = JsonString(name);
+    write!(out, "],\"kind\":\"{kind}\",\"limit_met\":{limit_met}")?;
+    writeln!(out, ",\"name\":{name},\"sound\":{sound}}}")
+}
+
+// Returns what a file is.
+fn kind_of(report: &Report) -> &'static str {
+    match report {
+        Report::Image(_) => "image",
+        Report::Fat(_) => "fat file",
+    }
+}
+
+// Whether no fault was found, but a list has more items than the limit.
+fn is_unended(verdict: Verdict) -> bool {
+    matches!(verdict, Verdict::Unended)
+}
+
+// Whether the file is sound.
+fn is_sound(verdict: Verdict) -> bool {
+    matches!(verdict, Verdict::Sound)
 }

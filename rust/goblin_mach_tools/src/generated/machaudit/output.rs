@@ -89,26 +89,24 @@ fn write_report<W: Write>(
     call: Call<'_>,
     report: &Report,
     out: &mut BufWriter<W>,
-) -> Result<(), ShowFailure> {
+) -> io::Result<()> {
     print(call, report, out)?;
-    out.flush()?;
-    Ok(())
+    out.flush()
 }
 
 // Prints the report of a file.
-fn print<O: Write>(call: Call<'_>, report: &Report, out: &mut O) -> Result<(), ShowFailure> {
+fn print<O: Write>(call: Call<'_>, report: &Report, out: &mut O) -> io::Result<()> {
     match call.options.format {
         Format::Text => {
             if call.heading {
                 let name = Escaped(call.name);
                 writeln!(out, "{name}:")?;
             }
-            print_report(report, out)?;
+            print_report(report, out)
         }
-        Format::Quiet => print_verdict(call.name, report.verdict(), out)?,
-        Format::Json => print_object(call.name, report, out)?,
+        Format::Quiet => print_verdict(call.name, report.verdict(), out),
+        Format::Json => print_object(call.name, report, out),
     }
-    Ok(())
 }
 
 // Prints the line of a file: whether it is sound.

@@ -48,6 +48,12 @@ pub struct SignatureMessage {
 }
 
 /// Returns a fault as JSON has it.
+///
+/// # Proved
+///
+/// - *kind*: `result.kind ≡ signature_kind fault`
+/// - *slot*: `result.slot ≡ signature_slot fault`
+/// - *place*: `result.place ≡ signature_place fault`
 pub fn message_of(fault: &SignatureFault) -> SignatureMessage {
     match fault {
         SignatureFault::Blob { index, error: _ } => SignatureMessage {
