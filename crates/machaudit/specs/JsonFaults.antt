@@ -1,13 +1,7 @@
--- Faults as JSON has them: objects of four strings. Their texts are made of fixed words and numbers, and need no escapes.
-use Rattle.std.specs.Prelude.{ℕ, List, [], ◌++◌, codes, false, Bool, Option, Some, None}
-use Rattle.std.specs.Fmt.{decimal, digits}
-use Rattle.mach_base.specs.Words.{words_of}
-use Rattle.mach_base.specs.declared.error.Error.{Error}
-use Rattle.mach_cli.specs.JsonArrays.{comma_before}
-use Rattle.mach_layout.specs.Texts.{owner_text, evidence_text}
-use Rattle.mach_layout.specs.Words.{rule_words}
-use Rattle.mach_layout.specs.declared.fault.LayoutFault.{LayoutFault}
-use Rattle.mach_signature.specs.SignWords.{slot_words, signature_fault_words}
+-- The words of a signature's fault: its kind, its owner, and its place.
+use Rattle.std.specs.Prelude.{ℕ, List, [], ◌++◌, codes, Option, Some, None}
+use Rattle.std.specs.Fmt.{decimal}
+use Rattle.mach_signature.specs.SignWords.{slot_words}
 use Rattle.mach_signature.specs.declared.fault.CodeFault.{CodeFault}
 use Rattle.mach_signature.specs.declared.fault.CodeFault.TheVariants as code
 use Rattle.mach_signature.specs.declared.fault.DirectoryFault.{DirectoryFault}
@@ -16,54 +10,8 @@ use Rattle.mach_signature.specs.declared.fault.SignatureFault.{SignatureFault}
 use Rattle.mach_signature.specs.declared.fault.SignatureFault.TheVariants as signature
 use Rattle.mach_signature.specs.declared.fault.SpecialFault.{SpecialFault}
 use Rattle.mach_signature.specs.declared.fault.SpecialFault.TheVariants as special
-use Rattle.machaudit.specs.declared.report.Finding.{Finding}
-use Rattle.machaudit.specs.declared.report.FaultPlace.{FaultPlace}
-use Rattle.machaudit.specs.declared.report.FaultPlace.TheVariants as places
 use Rattle.machaudit.specs.declared.signature_text.SignaturePlace.{SignaturePlace}
 use Rattle.machaudit.specs.declared.signature_text.SignaturePlace.TheVariants as signed
-
--- an element of an array, after a comma unless it is the first
-abbrev pub element : (is_first : Bool) → List ℕ → List ℕ
-element is_first text = comma_before is_first ++ text
-
--- the object of a fault
-abbrev pub fault_object : (kind owner place words : List ℕ) → List ℕ
-fault_object kind owner place words =
-    codes "{\"kind\":\"" ++ (kind ++ (codes "\",\"owner\":\"" ++ (owner ++ (codes "\",\"place\":\"" ++ (place ++ (codes "\",\"words\":\"" ++ (words
-    ++ codes "\"}")))))))
-
--- ---- what can't be read
-
--- the error for which a part can't be read at all
-abbrev pub refusal_object : (part : List ℕ) → Error → List ℕ
-refusal_object part e = fault_object (codes "unreadable") part [] (words_of e)
-
--- that a fat file has no entry
-abbrev pub no_image_object : (part : List ℕ) → List ℕ
-no_image_object part = fault_object (codes "empty") part [] (codes "no image")
-
--- the place of an item that can't be read
-abbrev pub place_words : FaultPlace → List ℕ
-place_words (places.Section segment index) = codes "segment " ++ (decimal segment ++ (codes ", section " ++ decimal index))
-place_words (places.Relocation segment section index) =
-    codes "segment " ++ (decimal segment ++ (codes ", section " ++ (decimal section ++ (codes ", relocation " ++ decimal index))))
-place_words (places.Symbol index) = codes "symbol " ++ decimal index
-place_words (places.Export index) = codes "export " ++ decimal index
-place_words (places.Import index) = codes "import " ++ decimal index
-place_words (places.Fixup index) = codes "fixup " ++ decimal index
-place_words (places.Binding index) = codes "binding " ++ decimal index
-
--- an item that can't be read
-abbrev pub finding_object : (part : List ℕ) → Finding → List ℕ
-finding_object part f = fault_object (codes "unreadable") part (place_words f.place) (words_of f.error)
-
--- ---- layout
-
--- a fault of layout: its rule, its owner, the place of the owner's command, and the evidence
-abbrev pub layout_object : LayoutFault → List ℕ
-layout_object f = fault_object (rule_words f.rule) (owner_text f.owner) (codes "0x" ++ digits 16 false f.owner.command) (evidence_text f)
-
--- ---- signatures
 
 -- the owner of a fault: the directory of a slot, or the signature itself
 abbrev pub owner_words : (slot : Option ℕ) → List ℕ
@@ -132,8 +80,3 @@ signature_slot (signature.Magic index slot magic) = None
 signature_slot (signature.Refused e) = Some 0
 signature_slot (signature.First fault) = Some 0
 signature_slot (signature.Alternate slot fault) = Some slot
-
--- a fault of a signature: its kind, its directory, its place there, and its words
-abbrev pub signature_object : SignatureFault → List ℕ
-signature_object f =
-    fault_object (signature_kind f) (owner_words (signature_slot f)) (signature_place_words (signature_place f)) (signature_fault_words f)

@@ -1,7 +1,6 @@
 //! An audit as JSON: one object for each file. docs/PROGRAMS.md describes its form.
 
-ghost use Rattle.std.specs.Prelude.{◌≡◌, OnOk};
-ghost use Rattle.std.specs.Io.KnownBytes.{Appends};
+ghost use Rattle.std.specs.Prelude.{◌≡◌};
 ghost use Rattle.machaudit.specs.Json as defined;
 
 pub mod fault;
@@ -22,9 +21,7 @@ pub fn print_object<A: Allocator, O: Write>(
     name: &str,
     report: &Report<A>,
     out: &mut O,
-) -> io::Result<()>
-    ensures { OnOk result (Appends (O.contents out.old) (O.contents out.new) (defined.object_line name.now report.now)) }
-{
+) -> io::Result<()> {
     write!(out, "{{\"container\":[")?;
     write_container(report, out)?;
     write!(out, "],\"images\":[")?;
@@ -33,9 +30,7 @@ pub fn print_object<A: Allocator, O: Write>(
 }
 
 // Writes the parts of a fat file's table; nothing for an image.
-fn write_container<A: Allocator, O: Write>(report: &Report<A>, out: &mut O) -> io::Result<()>
-    ensures { OnOk result (Appends (O.contents out.old) (O.contents out.new) (defined.container_objects report.now)) }
-{
+fn write_container<A: Allocator, O: Write>(report: &Report<A>, out: &mut O) -> io::Result<()> {
     match report {
         Report::Image(_) => Ok(()),
         Report::Fat(fat) => write_fat(fat, out),
@@ -43,18 +38,14 @@ fn write_container<A: Allocator, O: Write>(report: &Report<A>, out: &mut O) -> i
 }
 
 // Writes the parts of a fat file's table.
-fn write_fat<A: Allocator, O: Write>(fat: &FatReport<A>, out: &mut O) -> io::Result<()>
-    ensures { OnOk result (Appends (O.contents out.old) (O.contents out.new) (defined.fat_objects fat.now)) }
-{
+fn write_fat<A: Allocator, O: Write>(fat: &FatReport<A>, out: &mut O) -> io::Result<()> {
     write_table(fat, out)?;
     write!(out, ",")?;
     write_entries(fat, out)
 }
 
 // Writes the part of the table itself: why it can't be read, or its faults.
-fn write_table<A: Allocator, O: Write>(fat: &FatReport<A>, out: &mut O) -> io::Result<()>
-    ensures { OnOk result (Appends (O.contents out.old) (O.contents out.new) (defined.table_object fat.now)) }
-{
+fn write_table<A: Allocator, O: Write>(fat: &FatReport<A>, out: &mut O) -> io::Result<()> {
     match &fat.table {
         Some(error) => write_part("table", &[Refusal(error)], Unreported::NOTHING, out),
         None => write_layout("table", fat.container.as_slice(), out),
@@ -62,9 +53,7 @@ fn write_table<A: Allocator, O: Write>(fat: &FatReport<A>, out: &mut O) -> io::R
 }
 
 // Writes the part of the entries: whether there is none, and whether there are more than were audited.
-fn write_entries<A: Allocator, O: Write>(fat: &FatReport<A>, out: &mut O) -> io::Result<()>
-    ensures { OnOk result (Appends (O.contents out.old) (O.contents out.new) (defined.entries_object fat.now)) }
-{
+fn write_entries<A: Allocator, O: Write>(fat: &FatReport<A>, out: &mut O) -> io::Result<()> {
     let unreported = Unreported {
         more: 0,
         past: 0,
@@ -78,9 +67,7 @@ fn write_entries<A: Allocator, O: Write>(fat: &FatReport<A>, out: &mut O) -> io:
 }
 
 // Writes the images of a file: its entries, or itself.
-fn write_images<A: Allocator, O: Write>(report: &Report<A>, out: &mut O) -> io::Result<()>
-    ensures { OnOk result (Appends (O.contents out.old) (O.contents out.new) (defined.image_objects report.now)) }
-{
+fn write_images<A: Allocator, O: Write>(report: &Report<A>, out: &mut O) -> io::Result<()> {
     match report {
         Report::Image(image) => write_image(image, out),
         Report::Fat(fat) => write_each(fat.entries.as_slice(), out),
@@ -88,9 +75,7 @@ fn write_images<A: Allocator, O: Write>(report: &Report<A>, out: &mut O) -> io::
 }
 
 // Writes the entries of a fat file.
-fn write_each<A: Allocator, O: Write>(entries: &[EntryReport<A>], out: &mut O) -> io::Result<()>
-    ensures { OnOk result (Appends (O.contents out.old) (O.contents out.new) (defined.entry_objects entries.now)) }
-{
+fn write_each<A: Allocator, O: Write>(entries: &[EntryReport<A>], out: &mut O) -> io::Result<()> {
     let mut is_first = true;
     'entries: for entry in entries {
         write_entry(entry, is_first, out)?;
@@ -104,9 +89,7 @@ fn write_entry<A: Allocator, O: Write>(
     entry: &EntryReport<A>,
     is_first: bool,
     out: &mut O,
-) -> io::Result<()>
-    ensures { OnOk result (Appends (O.contents out.old) (O.contents out.new) (defined.element is_first (defined.entry_object entry.now))) }
-{
+) -> io::Result<()> {
     let comma = comma_before(is_first);
     write!(out, "{comma}")?;
     match entry {
@@ -116,9 +99,7 @@ fn write_entry<A: Allocator, O: Write>(
 }
 
 // Writes an image: how it opens, and its parts.
-fn write_image<A: Allocator, O: Write>(image: &ImageReport<A>, out: &mut O) -> io::Result<()>
-    ensures { OnOk result (Appends (O.contents out.old) (O.contents out.new) (defined.image_object image.now)) }
-{
+fn write_image<A: Allocator, O: Write>(image: &ImageReport<A>, out: &mut O) -> io::Result<()> {
     let opens = words_of_opening(image);
     write!(
         out,
@@ -139,9 +120,7 @@ fn write_image<A: Allocator, O: Write>(image: &ImageReport<A>, out: &mut O) -> i
 }
 
 // Writes the part of an image that doesn't open strictly.
-fn write_refused<O: Write>(error: &Error, out: &mut O) -> io::Result<()>
-    ensures { OnOk result (Appends (O.contents out.old) (O.contents out.new) (defined.refused_object error.now)) }
-{
+fn write_refused<O: Write>(error: &Error, out: &mut O) -> io::Result<()> {
     write_part("opens", &[Refusal(error)], Unreported::NOTHING, out)
 }
 
@@ -157,9 +136,11 @@ fn words_of_opening<A: Allocator>(image: &ImageReport<A>) -> &'static str
 }
 
 // Writes the members after the images, and the end of the object.
-fn write_end<A: Allocator, O: Write>(name: &str, report: &Report<A>, out: &mut O) -> io::Result<()>
-    ensures { OnOk result (Appends (O.contents out.old) (O.contents out.new) (defined.object_end name.now report.now)) }
-{
+fn write_end<A: Allocator, O: Write>(
+    name: &str,
+    report: &Report<A>,
+    out: &mut O,
+) -> io::Result<()> {
     let kind = kind_of(report);
     let verdict = report.verdict();
     let (limit_met, sound) = (is_unended(verdict), is_sound(verdict));

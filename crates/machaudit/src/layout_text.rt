@@ -1,9 +1,5 @@
 //! Faults of layout, the first ten of each rule.
 
-ghost use Rattle.std.specs.Prelude.{◌≡◌, ◌<◌};
-ghost use Rattle.machaudit.specs.Layout.{counted, is_first, no_counts};
-ghost use Rattle.machaudit.specs.RuleNumbers.{rule_number};
-
 use crate::tally::MOST_REPORTED;
 use mach_layout::{LayoutFault, Rule};
 use std::io;
@@ -17,38 +13,28 @@ pub struct Counts {
 
 impl Counts {
     /// Returns counts of zero.
-    pub fn new() -> Counts
-        ensures { result ≡ no_counts }
-    {
+    pub fn new() -> Counts {
         Counts { counts: [0; 64] }
     }
 
     /// Counts one more fault of a rule, and returns whether it is one of the first ten.
-    pub fn is_reported(&mut self, rule: Rule) -> bool
-        ensures first { result ≡ is_first self.old rule }
-        ensures counted { self.new ≡ counted self.old rule }
-    {
-        let place = place_of(rule);
-        let count = self.counts[place].saturating_add(1);
-        self.counts[place] = count;
-        count <= MOST_REPORTED
+    pub fn is_reported(&mut self, rule: Rule) -> bool {
+        let Some(count) = self.counts.get_mut(rule as usize) else {
+            return true;
+        };
+        *count = count.saturating_add(1);
+        *count <= MOST_REPORTED
     }
 
     /// Returns how many faults of a rule were not printed; call it once for each rule.
     pub fn more(&mut self, rule: Rule) -> usize {
-        let place = place_of(rule);
-        let more = self.counts[place].saturating_sub(MOST_REPORTED);
-        self.counts[place] = 0;
+        let Some(count) = self.counts.get_mut(rule as usize) else {
+            return 0;
+        };
+        let more = count.saturating_sub(MOST_REPORTED);
+        *count = 0;
         more
     }
-}
-
-// Returns the place of a rule's count.
-fn place_of(rule: Rule) -> usize
-    ensures number { result ≡ rule_number rule }
-    ensures bound { result < 64 }
-{
-    rule as usize
 }
 
 /// Prints faults of layout, the first ten of each rule.

@@ -14,11 +14,6 @@ use std::io::Write;
 use std::{fmt, io};
 
 impl fmt::Display for FaultPlace {
-    ghost use Rattle.std.specs.Prelude.{Some};
-    ghost use Rattle.machaudit.specs.JsonFaults.{place_words};
-
-    ghost output = { λ place. Some (place_words place) };
-
     fn fmt<W: fmt::Write>(&self, f: &mut fmt::Formatter<W>) -> fmt::Result {
         match self {
             FaultPlace::Section { segment, index } => write!(

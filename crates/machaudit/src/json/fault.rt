@@ -1,7 +1,6 @@
 //! Faults as JSON has them: objects of four strings. Their texts are made of fixed words and numbers, and need no escapes.
 
-ghost use Rattle.std.specs.Prelude.{Some, OnOk};
-ghost use Rattle.std.specs.Io.KnownBytes.{Appends};
+ghost use Rattle.std.specs.Prelude.{Some};
 ghost use Rattle.machaudit.specs.JsonFaults as defined;
 
 use crate::report::Finding;
@@ -16,15 +15,8 @@ use std::{fmt, io};
 
 /// A fault as JSON has it.
 pub trait FaultObject {
-    ghost use Rattle.std.specs.Prelude.{List, ℕ, OnOk};
-    ghost use Rattle.std.specs.Io.KnownBytes.{Appends};
-
-    // The object of a fault, given the name of its part.
-    ghost object: { List ℕ → Self → List ℕ };
-
     /// Writes a fault of the part with this name.
-    fn write_object<O: Write>(&self, part: &str, out: &mut O) -> io::Result<()>
-        ensures { OnOk result (Appends (O.contents out.old) (O.contents out.new) (object part.now self.now)) };
+    fn write_object<O: Write>(&self, part: &str, out: &mut O) -> io::Result<()>;
 }
 
 /// The error for which a part can't be read at all.
@@ -32,8 +24,6 @@ pub trait FaultObject {
 pub struct Refusal<'a>(pub &'a Error);
 
 impl FaultObject for Refusal<'_> {
-    ghost object = { λ part refusal. defined.refusal_object part refusal.0.now };
-
     fn write_object<O: Write>(&self, part: &str, out: &mut O) -> io::Result<()> {
         let words = describe(self.0);
         write!(
@@ -48,8 +38,6 @@ impl FaultObject for Refusal<'_> {
 pub struct NoImage;
 
 impl FaultObject for NoImage {
-    ghost object = { λ part _. defined.no_image_object part };
-
     fn write_object<O: Write>(&self, part: &str, out: &mut O) -> io::Result<()> {
         write!(
             out,
@@ -59,8 +47,6 @@ impl FaultObject for NoImage {
 }
 
 impl FaultObject for Finding {
-    ghost object = { defined.finding_object };
-
     fn write_object<O: Write>(&self, part: &str, out: &mut O) -> io::Result<()> {
         let place = self.place;
         let words = describe(&self.error);
@@ -72,8 +58,6 @@ impl FaultObject for Finding {
 }
 
 impl FaultObject for LayoutFault {
-    ghost object = { λ _ fault. defined.layout_object fault };
-
     fn write_object<O: Write>(&self, _part: &str, out: &mut O) -> io::Result<()> {
         let (kind, owner) = (self.rule, self.owner);
         let place = owner.command;
@@ -86,8 +70,6 @@ impl FaultObject for LayoutFault {
 }
 
 impl FaultObject for SignatureFault {
-    ghost object = { λ _ fault. defined.signature_object fault };
-
     fn write_object<O: Write>(&self, _part: &str, out: &mut O) -> io::Result<()> {
         let message = message_of(self);
         let (kind, place) = (message.kind, message.place);
@@ -123,9 +105,7 @@ pub fn write_next<F: FaultObject, O: Write>(
     fault: &F,
     is_first: bool,
     out: &mut O,
-) -> io::Result<()>
-    ensures { OnOk result (Appends (O.contents out.old) (O.contents out.new) (defined.element is_first (F.object part.now fault.now))) }
-{
+) -> io::Result<()> {
     let comma = comma_before(is_first);
     write!(out, "{comma}")?;
     fault.write_object(part, out)

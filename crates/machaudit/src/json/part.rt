@@ -1,11 +1,5 @@
 //! The parts of an image or of a fat file's table as JSON has them.
 
-ghost use Rattle.std.specs.Prelude.{◌≡◌, length, map, IfOk, OnOk};
-ghost use Rattle.std.specs.Io.KnownBytes.{Appends};
-ghost use Rattle.mach_cli.specs.JsonArrays.{with_commas};
-ghost use Rattle.machaudit.specs.JsonParts as defined;
-ghost use Rattle.machaudit.specs.Layout.{first_of_rules};
-
 use crate::json::fault::{FaultObject, Refusal, write_next};
 use crate::layout_text::Counts;
 use crate::report::{Finding, PartReport, Parts, Records, SignaturePart, SignatureReport};
@@ -41,19 +35,14 @@ pub fn write_part<F: FaultObject, O: Write>(
     faults: &[F],
     unreported: Unreported,
     out: &mut O,
-) -> io::Result<()>
-    ensures { OnOk result (Appends (O.contents out.old) (O.contents out.new)
-        (defined.part_object name.now (map (F.object name.now) faults.now) unreported)) }
-{
+) -> io::Result<()> {
     write!(out, "{{\"faults\":[")?;
     write_faults(name, faults, out)?;
     write_end(name, faults.is_empty(), unreported, out)
 }
 
 // Writes the faults of the part with this name.
-fn write_faults<F: FaultObject, O: Write>(part: &str, faults: &[F], out: &mut O) -> io::Result<()>
-    ensures { OnOk result (Appends (O.contents out.old) (O.contents out.new) (with_commas (map (F.object part.now) faults.now))) }
-{
+fn write_faults<F: FaultObject, O: Write>(part: &str, faults: &[F], out: &mut O) -> io::Result<()> {
     let mut is_first = true;
     'faults: for fault in faults {
         write_next(part, fault, is_first, out)?;
@@ -68,9 +57,7 @@ fn write_end<O: Write>(
     is_empty: bool,
     unreported: Unreported,
     out: &mut O,
-) -> io::Result<()>
-    ensures { OnOk result (Appends (O.contents out.old) (O.contents out.new) (defined.part_end name.now is_empty unreported)) }
-{
+) -> io::Result<()> {
     let Unreported { more, past, cut } = unreported;
     let ok = is_empty & (past == 0) & !cut;
     write!(out, "],\"limit_met\":{cut},\"more\":{more},\"ok\":{ok}")?;
@@ -78,9 +65,7 @@ fn write_end<O: Write>(
 }
 
 /// Writes a part whose faults are those of layout, the first ten of each rule.
-pub fn write_layout<O: Write>(name: &str, faults: &[LayoutFault], out: &mut O) -> io::Result<()>
-    ensures { OnOk result (Appends (O.contents out.old) (O.contents out.new) (defined.layout_part name.now faults.now)) }
-{
+pub fn write_layout<O: Write>(name: &str, faults: &[LayoutFault], out: &mut O) -> io::Result<()> {
     write!(out, "{{\"faults\":[")?;
     let reported = write_first(name, faults, out)?;
     let unreported = Unreported {
@@ -91,10 +76,7 @@ pub fn write_layout<O: Write>(name: &str, faults: &[LayoutFault], out: &mut O) -
 }
 
 // Writes the first ten faults of each rule, and returns how many these are.
-fn write_first<O: Write>(part: &str, faults: &[LayoutFault], out: &mut O) -> io::Result<usize>
-    ensures { IfOk result (λ count. (count ≡ length (first_of_rules faults.now))
-        × Appends (O.contents out.old) (O.contents out.new) (defined.layout_objects (first_of_rules faults.now))) }
-{
+fn write_first<O: Write>(part: &str, faults: &[LayoutFault], out: &mut O) -> io::Result<usize> {
     let mut counts = Counts::new();
     let mut reported = 0usize;
     'faults: for fault in faults {
@@ -112,9 +94,7 @@ fn write_list<A: Allocator, O: Write>(
     part: &PartReport<A>,
     past: usize,
     out: &mut O,
-) -> io::Result<()>
-    ensures { OnOk result (Appends (O.contents out.old) (O.contents out.new) (defined.list_object name.now part.now past)) }
-{
+) -> io::Result<()> {
     write!(out, ",")?;
     let reported = part.reported.as_slice();
     let unreported = Unreported {
@@ -130,17 +110,13 @@ fn write_records<A: Allocator, O: Write>(
     name: &str,
     records: &Records<A>,
     out: &mut O,
-) -> io::Result<()>
-    ensures { OnOk result (Appends (O.contents out.old) (O.contents out.new) (defined.records_object name.now records.now)) }
-{
+) -> io::Result<()> {
     write_list(name, &records.in_bounds, records.past, out)
 }
 
 /// Writes all parts of an image but for how it opens, each after a comma; relocations that were not read and a missing signature
 /// have no part.
-pub fn write_parts<A: Allocator, O: Write>(parts: &Parts<A>, out: &mut O) -> io::Result<()>
-    ensures { OnOk result (Appends (O.contents out.old) (O.contents out.new) (defined.parts_objects parts.now)) }
-{
+pub fn write_parts<A: Allocator, O: Write>(parts: &Parts<A>, out: &mut O) -> io::Result<()> {
     write_records("sections", &parts.sections, out)?;
     write_relocations(&parts.relocations, out)?;
     write_records("symbols", &parts.symbols, out)?;
@@ -157,9 +133,7 @@ pub fn write_parts<A: Allocator, O: Write>(parts: &Parts<A>, out: &mut O) -> io:
 fn write_relocations<A: Allocator, O: Write>(
     relocations: &Option<Records<A>>,
     out: &mut O,
-) -> io::Result<()>
-    ensures { OnOk result (Appends (O.contents out.old) (O.contents out.new) (defined.relocations_object relocations.now)) }
-{
+) -> io::Result<()> {
     match relocations {
         Some(records) => write_records("relocations", records, out),
         None => Ok(()),
@@ -170,9 +144,7 @@ fn write_relocations<A: Allocator, O: Write>(
 fn write_signature<A: Allocator, O: Write>(
     signature: &SignatureReport<A>,
     out: &mut O,
-) -> io::Result<()>
-    ensures { OnOk result (Appends (O.contents out.old) (O.contents out.new) (defined.signature_part signature.now)) }
-{
+) -> io::Result<()> {
     match signature {
         SignatureReport::Unsigned => Ok(()),
         SignatureReport::Unreadable(error) => {
@@ -184,9 +156,7 @@ fn write_signature<A: Allocator, O: Write>(
 }
 
 // Writes the part of a signature that can be read, after a comma.
-fn write_signed<A: Allocator, O: Write>(part: &SignaturePart<A>, out: &mut O) -> io::Result<()>
-    ensures { OnOk result (Appends (O.contents out.old) (O.contents out.new) (defined.signed_object part.now)) }
-{
+fn write_signed<A: Allocator, O: Write>(part: &SignaturePart<A>, out: &mut O) -> io::Result<()> {
     write!(out, ",")?;
     let reported = part.reported.as_slice();
     let unreported = Unreported {

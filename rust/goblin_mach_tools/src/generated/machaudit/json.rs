@@ -15,10 +15,6 @@ use crate::shim::io::Write;
 use goblin_mach::generated::mach::Error;
 
 /// Writes the object of a file on a line: its name, whether it is sound, what it is, and its images.
-///
-/// # Proved
-///
-/// - if `Ok`: `Appends (O.contents out.old) (O.contents out.new) (defined.object_line name report)`
 pub fn print_object<O: Write>(name: &str, report: &Report, out: &mut O) -> io::Result<()> {
     write!(out, "{{\"container\":[")?;
     write_container(report, out)?;

@@ -15,39 +15,28 @@ pub struct Counts {
 
 impl Counts {
     /// Returns counts of zero.
-    ///
-    /// # Proved
-    ///
-    /// - `result ≡ no_counts`
     pub fn new() -> Counts {
         Counts { counts: [0; 64] }
     }
 
     /// Counts one more fault of a rule, and returns whether it is one of the first ten.
-    ///
-    /// # Proved
-    ///
-    /// - *first*: `result ≡ is_first self.old rule`
-    /// - *counted*: `self.new ≡ counted self.old rule`
     pub fn is_reported(&mut self, rule: Rule) -> bool {
-        let place = place_of(rule);
-        let count = self.counts[place].saturating_add(1);
-        self.counts[place] = count;
-        count <= MOST_REPORTED
+        let Some(count) = self.counts.get_mut(rule as usize) else {
+            return true;
+        };
+        *count = count.saturating_add(1);
+        *count <= MOST_REPORTED
     }
 
     /// Returns how many faults of a rule were not printed; call it once for each rule.
     pub fn more(&mut self, rule: Rule) -> usize {
-        let place = place_of(rule);
-        let more = self.counts[place].saturating_sub(MOST_REPORTED);
-        self.counts[place] = 0;
+        let Some(count) = self.counts.get_mut(rule as usize) else {
+            return 0;
+        };
+        let more = count.saturating_sub(MOST_REPORTED);
+        *count = 0;
         more
     }
-}
-
-// Returns the place of a rule's count.
-fn place_of(rule: Rule) -> usize {
-    rule as usize
 }
 
 /// Prints faults of layout, the first ten of each rule.

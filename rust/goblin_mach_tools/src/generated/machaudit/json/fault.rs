@@ -16,10 +16,6 @@ use goblin_mach::generated::mach_signature::{SignatureFault, SlotName};
 /// A fault as JSON has it.
 pub trait FaultObject {
     /// Writes a fault of the part with this name.
-    ///
-    /// # Proved
-    ///
-    /// - if `Ok`: `Appends (O.contents out.old) (O.contents out.new) (object part self)`
     fn write_object<O: Write>(&self, part: &str, out: &mut O) -> io::Result<()>;
 }
 
@@ -102,10 +98,6 @@ impl Display for SignatureOwner {
 }
 
 /// Writes a fault of the part with this name, after a comma unless it is the first.
-///
-/// # Proved
-///
-/// - if `Ok`: `Appends (O.contents out.old) (O.contents out.new) (defined.element is_first (F.object part fault))`
 pub fn write_next<F: FaultObject, O: Write>(
     part: &str,
     fault: &F,

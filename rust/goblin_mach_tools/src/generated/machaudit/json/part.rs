@@ -33,10 +33,6 @@ impl Unreported {
 }
 
 /// Writes a part with these faults, and what isn't among them.
-///
-/// # Proved
-///
-/// - if `Ok`: `Appends (O.contents out.old) (O.contents out.new) (defined.part_object name (map (F.object name) faults) unreported)`
 pub fn write_part<F: FaultObject, O: Write>(
     name: &str,
     faults: &[F],
@@ -72,10 +68,6 @@ fn write_end<O: Write>(
 }
 
 /// Writes a part whose faults are those of layout, the first ten of each rule.
-///
-/// # Proved
-///
-/// - if `Ok`: `Appends (O.contents out.old) (O.contents out.new) (defined.layout_part name faults)`
 pub fn write_layout<O: Write>(name: &str, faults: &[LayoutFault], out: &mut O) -> io::Result<()> {
     write!(out, "{{\"faults\":[")?;
     let reported = write_first(name, faults, out)?;
@@ -118,10 +110,6 @@ fn write_records<O: Write>(name: &str, records: &Records, out: &mut O) -> io::Re
 
 /// Writes all parts of an image but for how it opens, each after a comma; relocations that were not read and a missing signature
 /// have no part.
-///
-/// # Proved
-///
-/// - if `Ok`: `Appends (O.contents out.old) (O.contents out.new) (defined.parts_objects parts)`
 pub fn write_parts<O: Write>(parts: &Parts, out: &mut O) -> io::Result<()> {
     write_records("sections", &parts.sections, out)?;
     write_relocations(&parts.relocations, out)?;
