@@ -2,10 +2,9 @@ mod Asking
 pub mod Lines
 mod Listings
 mod Showing
+pub mod Orders
 pub mod Missed
-pub mod PartsHeld
 pub mod Arrays
-mod Objects
 pub mod Plain
 mod Written
 mod Reader

@@ -1,86 +1,55 @@
--- What is shown of an entry and of entries in order.
-use Rattle.std.proofs.Common.{◌≡◌, ◌++◌, [], ℕ, ◌+◌, ◌<◌, List, Option, Result, Ok, sym, subst, length, take, get_or, arith}
-use Rattle.std.specs.Prelude.{Bool, true, codes}
-use Rattle.std.specs.Borrow.{Bor}
+-- What is shown of a file and of items in order.
+use Rattle.std.proofs.Common.{◌≡◌, ◌++◌, ◌∷◌, ◌∙◌, [], ℕ, ◌≤◌, List, Option, Result, Ok, refl, sym, ap, subst, length, drop, arith}
+use Rattle.std.proofs.lemmas.Bool.{false_from_ne_true, le-leb, lt-leb}
+use Rattle.std.proofs.lemmas.Bool.Decides.{Decides-eqb}
+use Rattle.std.proofs.lemmas.List.{append-nil, append_assoc}
+use Rattle.std.proofs.lemmas.Slice.Eq.{starts_is}
+use Rattle.std.specs.Prelude.{alloc_error, Bool, true, false, ◌&&◌, ◌||◌, codes, nat_eq, nat_le}
+use Rattle.std.specs.List.{starts_with}
 use Rattle.std.specs.Io.KnownBytes.{Appends}
-use Rattle.std.proofs.lemmas.List.{append-nil, length-take-le, take_more}
+use Rattle.mach_base.proofs.Binds.{same_ok}
 use Rattle.mach_base.proofs.Written.{Appends-both}
 use Rattle.mach_base.specs.Answer.{ErrorMeets}
+use Rattle.mach_base.specs.Fault.{Fault}
 use Rattle.mach_base.specs.declared.error.Error.{Error}
 use Rattle.mach_base.specs.declared.error.Error.TheVariants as errors
-use Rattle.mach_base.specs.Fault.{Fault}
+use Rattle.mach_base.specs.Number.{number, number_at}
+use Rattle.mach_base.specs.declared.context.Endian.TheVariants.{Big}
 use Rattle.mach_parts.specs.declared.fat.FatArch.{FatArch}
+use Rattle.goblin_mach.specs.File.{HasFatMagic, IsMach}
+use Rattle.goblin_mach.specs.declared.mach.Mach.TheVariants as files
+use Rattle.goblin_mach.specs.Image.{ImageFault}
+use Rattle.goblin_mach.specs.Inputs.{IsInput, begins_any_archive}
+use Rattle.goblin_mach.specs.Items.{ContentView, ItemView, archive_member, content_bytes, no_member, whole_file}
 use Rattle.goblin_mach.specs.OpenImage.{IsImage, commands_view}
+use Rattle.goblin_mach.specs.declared.fat_file.table.FatTable.{FatTable}
+use Rattle.goblin_mach.specs.declared.input.Input.TheVariants.{Fat}
 use Rattle.goblin_mach.specs.declared.macho.MachO.{MachO}
-use Rattle.goblin_mach.specs.FatEntry.{FatEntry, image, archive, entry_at, IsEntry}
-use Rattle.goblin_mach.specs.FatFile.{FatFile}
-use Rattle.goblin_mach.specs.View.{IsReported, ReportsFault}
-use Rattle.goblin_mach.specs.declared.fat_file.entry.SingleArch.TheVariants as single
 use Rattle.mach_cli.specs.Cpus.{is_of_cpu, IsTaken}
 use Rattle.mach_cli.specs.declared.cpu.Cpu.{Cpu}
-use Rattle.mach_cli.specs.Failures.{IfMemory}
-use Rattle.mach_cli.specs.Headings.{arch_line}
-use Rattle.mach_cli.specs.Shown.{ImageLines, Shown, both, ShowsEntry, an_image, an_archive, ShowsSelected, ShowsEntries, more}
-use Rattle.mach_cli.specs.declared.failure.ShowFailure.{ShowFailure}
-use Rattle.mach_cli.specs.declared.failure.ShowFailure.TheVariants as failures
+use Rattle.mach_cli.specs.Labels.{LabelView, label_of}
+use Rattle.mach_cli.specs.Refusals.{item_words, label_complaint, memory_words}
+use Rattle.mach_cli.specs.Selected.{is_part_for}
+use Rattle.mach_cli.specs.Shown.{ImageLines, IsMemberOrFile, FaultOfItem, Shown, ShowsItem, ShowsItems}
+use Rattle.mach_cli.specs.Shown.{both, nothing, no_image, no_items, other_item, selected_item, separated}
+use Rattle.mach_cli.specs.Sinks.{SinkTexts}
 
--- a weaker condition also holds if memory ran out
-pub IfMemory-weaker : (P Q : Type 0) → (P → Q) → (f : ShowFailure) → IfMemory P f → IfMemory Q f
-IfMemory-weaker P Q to failures.Memory p = to p
-IfMemory-weaker P Q to (failures.Unwritten e) p = tt
+-- ---- texts that were written
 
 -- an empty text after another one
 pub Appends-nothing : (first second third : Option (List ℕ)) (xs : List ℕ) → Appends first second xs → Appends second third [] → Appends first third xs
 Appends-nothing first second third xs one two =
     subst (λ (text : List ℕ). Appends first third text) (append-nil xs) (Appends-both first second third xs [] one two)
 
--- an error that reports a fault that is there
-pub reported_of : (P : Fault → Type 0) (e : Error) → IsReported e → ErrorMeets P e → ReportsFault P e
-reported_of P (errors.Malformed m) reported h = h
-reported_of P (errors.BadMagic n) reported h = h
-reported_of P (errors.Scroll e) reported h = h
-reported_of P (errors.BufferTooShort n m) reported h = h
-reported_of P (errors.Memory e) reported h = absurd reported
+-- three parts
+pub three : (a b c d : Option (List ℕ)) (xs ys zs : List ℕ) → Appends a b xs → Appends b c ys → Appends c d zs → Appends a d (xs ++ (ys ++ zs))
+three a b c d xs ys zs first second third = Appends-both a b d xs (ys ++ zs) first (Appends-both b c d ys zs second third)
 
--- an entry that opened as an image
-pub image_view : {A : Type 0} (there : Result FatEntry Fault) (m : MachO A) (entry : FatEntry) → there ≡ Ok entry → IsEntry {A = A} entry (single.MachO m)
-    → (slice : List ℕ) × (there ≡ Ok (image slice)) × IsImage slice 0 m
-image_view there m (image slice) is opened = (slice, is, opened)
-image_view there m (archive slice) is opened = absurd opened
+-- the same text in other words
+pub Appends-as : (first second : Option (List ℕ)) (xs ys : List ℕ) → xs ≡ ys → Appends first second xs → Appends first second ys
+Appends-as first second xs ys is written = subst (λ (text : List ℕ). Appends first second text) is written
 
--- an entry that opened as an archive
-pub archive_view : (A : Type 0) (there : Result FatEntry Fault) (bytes : Bor (List ℕ)) (entry : FatEntry)
-    → there ≡ Ok entry → IsEntry {A = A} entry (single.Archive bytes) → (slice : List ℕ) × (there ≡ Ok (archive slice))
-archive_view A there bytes (archive slice) is opened = (slice, is)
-archive_view A there bytes (image slice) is opened = absurd opened
-
-module _ (name : List ℕ) (lines : ImageLines) where
-  -- an image is shown by its lines
-  pub image_entry : (left i : ℕ) (there : Result FatEntry Fault) (slice text : List ℕ) (whole : Bool) (rest : ℕ) → there ≡ Ok (image slice)
-      → lines left slice text whole rest → ShowsEntry name lines left i there (record { text = arch_line i ++ text; message = []; whole = whole; left = rest })
-  image_entry left i there slice text whole rest is of_image =
-      let shown : Shown = record { text = arch_line i ++ text; message = []; whole = whole; left = rest } in
-      subst (λ (x : Result FatEntry Fault). ShowsEntry name lines left i x shown) (sym is) (an_image slice text whole rest of_image)
-
-  -- an archive is shown as such
-  pub archive_entry : (left i : ℕ) (there : Result FatEntry Fault) (slice : List ℕ) → there ≡ Ok (archive slice)
-      → ShowsEntry name lines left i there (record { text = arch_line i ++ codes "archive\n"; message = []; whole = true; left = left })
-  archive_entry left i there slice is =
-      let shown : Shown = record { text = arch_line i ++ codes "archive\n"; message = []; whole = true; left = left } in
-      subst (λ (x : Result FatEntry Fault). ShowsEntry name lines left i x shown) (sym is) (an_archive slice)
-
--- one more record's entry is shown
-pub one_more : (cpu : Cpu) (names : List ℕ) (lines : ImageLines) (limit : ℕ) (file : FatFile) (archs : List FatArch) (i left : ℕ) (d : FatArch)
-    (front last : Shown) → i < length archs → ShowsEntries cpu names lines limit file (take i archs) front → front.left ≡ left
-    → ShowsSelected cpu names lines left i (get_or archs i d) (entry_at file i) last
-    → ShowsEntries cpu names lines limit file (take (i + 1) archs) (both front last)
-one_more cpu names lines limit file archs i left d front last below before is one =
-    let arch = get_or archs i d in
-    let number : length (take i archs) ≡ i = length-take-le i archs (omega (arith, below)) in
-    let over = subst (λ (n : ℕ). ShowsSelected cpu names lines n i arch (entry_at file i) last) (sym is) one in
-    let at_end = subst (λ (n : ℕ). ShowsSelected cpu names lines front.left n arch (entry_at file n) last) (sym number) over in
-    subst (λ (some : List FatArch). ShowsEntries cpu names lines limit file some (both front last)) (sym (take_more archs i d below))
-    (more (take i archs) arch front last before at_end)
+-- ---- what a file is
 
 -- an image is selected, or not, by its header
 pub taken_of : {A : Type 0} (cpu : Cpu) (bytes : List ℕ) (m : MachO A) (taken : Bool) → IsImage bytes 0 m
@@ -91,3 +60,131 @@ taken_of cpu bytes m taken opened is = record {
   opens = opened.opens.lossy;
   holds = (m.header, opened.fields.header, is);
 }
+
+begun_with : (bytes prefix : List ℕ) → starts_with nat_eq bytes prefix ≡ true → bytes ≡ prefix ++ drop (length prefix) bytes
+begun_with bytes prefix starts = (starts_is Decides-eqb bytes prefix (starts_with nat_eq bytes prefix) refl).0 starts
+
+number_of : (bytes : List ℕ) → 4 ≤ length bytes → number_at Big 4 bytes 0 ≡ Ok (number Big 4 bytes)
+number_of bytes room =
+    let inside : nat_le (length bytes) 0 ≡ false = lt-leb (length bytes) 0 (omega (arith, room)) in
+    let whole : nat_le 4 (length bytes) ≡ true = le-leb 4 (length bytes) room in
+    rw (inside, whole) refl
+
+four : (a b c d : ℕ) (xs : List ℕ) → 4 ≤ length (a ∷ b ∷ c ∷ d ∷ xs)
+four a b c d xs = let n : ℕ = length xs in omega arith
+
+abbrev arch_front : List ℕ
+arch_front = codes "!<arch>" ++ 0x0a ∷ []
+
+abbrev thin_front : List ℕ
+thin_front = codes "!<thin>" ++ 0x0a ∷ []
+
+-- the magics of archives
+arch_magic : (rest : List ℕ) → number_at Big 4 (arch_front ++ rest) 0 ≡ Ok 0x213c_6172
+arch_magic rest = number_of (arch_front ++ rest) (four 0x21 0x3c 0x61 0x72 (codes "ch>" ++ 0x0a ∷ rest))
+
+thin_magic : (rest : List ℕ) → number_at Big 4 (thin_front ++ rest) 0 ≡ Ok 0x213c_7468
+thin_magic rest = number_of (thin_front ++ rest) (four 0x21 0x3c 0x74 0x68 (codes "in>" ++ 0x0a ∷ rest))
+
+two_numbers : (m n : ℕ) (b : Result ℕ Fault) → b ≡ Ok m → b ≡ Ok n → m ≡ n
+two_numbers m n b one two = same_ok (sym one ∙ two)
+
+begins_not : (bytes prefix : List ℕ) (magic : ℕ) → ((rest : List ℕ) → number_at Big 4 (prefix ++ rest) 0 ≡ Ok magic) → (magic ≡ 0xcafe_babe → ⊥)
+    → HasFatMagic bytes → starts_with nat_eq bytes prefix ≡ false
+begins_not bytes prefix magic has other fat =
+    false_from_ne_true (starts_with nat_eq bytes prefix)
+    (λ starts. other (two_numbers magic 0xcafe_babe (number_at Big 4 bytes 0)
+    (ap (λ (bs : List ℕ). number_at Big 4 bs 0) (begun_with bytes prefix starts) ∙ has (drop (length prefix) bytes)) fat))
+
+-- a fat file is no archive
+no_archive : (bytes : List ℕ) → HasFatMagic bytes → begins_any_archive bytes ≡ false
+no_archive bytes fat =
+    let arch : starts_with nat_eq bytes arch_front ≡ false = begins_not bytes arch_front 0x213c_6172 arch_magic (λ is. omega (arith, is)) fat in
+    let thin : starts_with nat_eq bytes thin_front ≡ false = begins_not bytes thin_front 0x213c_7468 thin_magic (λ is. omega (arith, is)) fat in
+    ap (λ (is : Bool). is || starts_with nat_eq bytes thin_front) arch ∙ thin
+
+pub fat_input : {A : Type 0} (bytes : List ℕ) (m : FatTable FatArch A) → IsMach IsImage bytes (files.Fat m) → IsInput bytes (Fat m)
+fat_input bytes m is = (
+  record {
+    no_archive = no_archive bytes is.magic;
+    no_fat_64 = λ wide. (let wrong = two_numbers 0xcafe_babe 0xcafe_babf (number_at Big 4 bytes 0) is.magic wide in omega (arith, wrong));
+  },
+  is,
+)
+
+-- ---- items
+
+-- out of memory has the same words for all items
+pub memory_words_of : (content : ContentView) → memory_words ≡ item_words (Ok content) (errors.Memory alloc_error)
+memory_words_of (whole_file bytes) = refl
+memory_words_of (archive_member m) = refl
+memory_words_of no_member = refl
+
+-- an item that isn't shown, by the words of its refusal
+pub refused_item : (k : SinkTexts) (names : List ℕ) (lines : ImageLines) (left : ℕ) (label : LabelView) (content : Result ContentView Fault) (e : Error)
+    (words : List ℕ) → ErrorMeets (FaultOfItem content) e → words ≡ item_words content e
+    → ShowsItem k names lines left label content (record {
+      text = k.image_front label ++ k.refused_image label words;
+      message = label_complaint names label words;
+      whole = false;
+      left = left;
+    })
+refused_item k names lines left label content e words occurs is =
+    let refused : List ℕ → Shown = λ ws. record {
+      text = k.image_front label ++ k.refused_image label ws;
+      message = label_complaint names label ws;
+      whole = false;
+      left = left;
+    } in
+    subst (λ (ws : List ℕ). ShowsItem k names lines left label content (refused ws)) (sym is) (no_image content e occurs)
+
+-- a fault of opening is one of the item
+pub item_fault : (content : ContentView) → IsMemberOrFile content → (f : Fault) → ImageFault (content_bytes content) 0 f → FaultOfItem (Ok content) f
+item_fault (whole_file bytes) may f fault = fault
+item_fault (archive_member m) may f fault = fault
+item_fault no_member may f fault = absurd may
+
+and_three : (a b c : Bool) → a && (b && c) ≡ (a && b) && c
+and_three true b c = refl
+and_three false b c = refl
+
+abbrev shown_with : (text message : List ℕ) (whole : Bool) (left : ℕ) → Shown
+shown_with text message whole left = record { text = text; message = message; whole = whole; left = left }
+
+-- three after one another
+both_three : (a b c : Shown) → both a (both b c) ≡ both (both a b) c
+both_three a b c =
+    ap (λ (text : List ℕ). shown_with text (a.message ++ (b.message ++ c.message)) (a.whole && (b.whole && c.whole)) c.left)
+    (sym (append_assoc a.text b.text c.text))
+    ∙ ap (λ (message : List ℕ). shown_with ((a.text ++ b.text) ++ c.text) message (a.whole && (b.whole && c.whole)) c.left)
+    (sym (append_assoc a.message b.message c.message))
+    ∙ ap (λ (whole : Bool). shown_with ((a.text ++ b.text) ++ c.text) ((a.message ++ b.message) ++ c.message) whole c.left)
+    (and_three a.whole b.whole c.whole)
+
+module _ (k : SinkTexts) (names : List ℕ) (lines : ImageLines) (cpu : Cpu) (limit : ℕ) (all : List ItemView) where
+  -- What is shown of those left completes what is shown of all.
+  abbrev pub Follows : (is_first : Bool) → (left : ℕ) → List ItemView → (before : Shown) → Type 0
+  Follows is_first left rest before =
+      (later : Shown) → ShowsItems k names lines cpu is_first left rest later → ShowsItems k names lines cpu true limit all (both before later)
+
+  pub item_shown : (is_first : Bool) (left : ℕ) (here : List ItemView) (x : ItemView) (rest : List ItemView) (before shown : Shown) → here ≡ x ∷ rest
+      → Follows is_first left here before → is_part_for cpu x.place ≡ true
+      → ShowsItem k names lines left (label_of x.place.entry x.content) x.content shown
+      → Follows false shown.left rest (both before (separated k is_first shown))
+  item_shown is_first left here x rest before shown is follows selected one later more =
+      let last = separated k is_first shown in
+      subst (ShowsItems k names lines cpu true limit all) (both_three before last later)
+      (follows (both last later) (subst (λ (xs : List ItemView). ShowsItems k names lines cpu is_first left xs (both last later)) (sym is)
+      (selected_item is_first left x rest shown later selected one more)))
+
+  pub item_passed : (is_first : Bool) (left : ℕ) (here : List ItemView) (x : ItemView) (rest : List ItemView) (before : Shown) → here ≡ x ∷ rest
+      → Follows is_first left here before → is_part_for cpu x.place ≡ false → Follows is_first left rest before
+  item_passed is_first left here x rest before is follows other later more =
+      follows later (subst (λ (xs : List ItemView). ShowsItems k names lines cpu is_first left xs later) (sym is)
+      (other_item is_first left x rest later other more))
+
+  pub items_shown : (is_first : Bool) (left : ℕ) (here : List ItemView) (before : Shown) → here ≡ [] → Follows is_first left here before
+      → ShowsItems k names lines cpu true limit all (both before (nothing left))
+  items_shown is_first left here before is follows =
+      follows (nothing left) (subst (λ (xs : List ItemView). ShowsItems k names lines cpu is_first left xs (nothing left)) (sym is)
+      (no_items is_first left))

@@ -1,6 +1,11 @@
 -- How many items of a list are visited.
-use Rattle.std.specs.Prelude.{ℕ, List, length, min}
+use Rattle.std.specs.Prelude.{ℕ, List, Option, Some, None, length, min}
 
 -- no more than a limit, and no more than the file has bytes
 abbrev pub most_items : (limit : ℕ) → (bytes : List ℕ) → ℕ
 most_items limit bytes = min limit (length bytes)
+
+-- the limit of a call, or the one that a program has if none is given
+abbrev pub limit_of : Option ℕ → (otherwise : ℕ) → ℕ
+limit_of (Some limit) otherwise = limit
+limit_of None otherwise = otherwise

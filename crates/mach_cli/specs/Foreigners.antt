@@ -8,8 +8,8 @@ use Rattle.mach_base.specs.declared.context.Endian.TheVariants.{Big}
 use Rattle.mach_base.specs.declared.error.Error.{Error}
 use Rattle.mach_base.specs.declared.error.Error.TheVariants as errors
 use Rattle.mach_base.specs.Words.{words_of}
-use Rattle.mach_cli.specs.declared.foreign.Foreign.{Foreign}
-use Rattle.mach_cli.specs.declared.foreign.Foreign.TheVariants.{Empty, Elf, JavaClass, Pe, Archive, Bitcode}
+use Rattle.mach_cli.specs.declared.first_bytes.Foreign.{Foreign}
+use Rattle.mach_cli.specs.declared.first_bytes.Foreign.TheVariants.{Empty, Elf, JavaClass, Pe, Archive, Bitcode}
 
 -- the first bytes of a kind of file
 pub record Front : Type 0 where

@@ -1,8 +1,6 @@
 //! What a program prints for an image.
 
 use crate::failure::ShowFailure;
-use crate::heading::Heading;
-use crate::names::Names;
 use goblin_mach::MachO;
 use std::alloc::Allocator;
 use std::io::Write;
@@ -18,35 +16,28 @@ pub struct Outcome {
 
 /// A program's call: what it shows of an image.
 pub trait ImageView {
-    ghost use Rattle.std.specs.Prelude.{◌≡◌, ◌++◌, [], ℕ, List, IfOk, IfErr};
+    ghost use Rattle.std.specs.Prelude.{◌≡◌, [], ℕ, List, IfOk, IfErr};
     ghost use Rattle.std.specs.Io.KnownBytes.{Appends};
     ghost use Rattle.goblin_mach.specs.OpenImage.{IsImage};
-    ghost use Rattle.mach_cli.specs.Names.{names_text};
-    ghost use Rattle.mach_cli.specs.Headings.{heading_text};
     ghost use Rattle.mach_cli.specs.Failures.{IfMemory};
     ghost use Rattle.mach_cli.specs.Shown.{ImageLines};
 
-    // The prefix of a file's complaints; and which texts an image may have, given how many lines may be printed.
-    ghost names: { Self → List ℕ };
+    // Which texts an image of a file may have, given the file's name and limit, and how many lines may be printed.
+    ghost lines: { Self → (file : List ℕ) → (limit : ℕ) → ImageLines };
 
-    ghost lines: { Self → ImageLines };
-
-    /// Returns the names of the program and of the file, with which complaints begin.
-    fn names(&self) -> Names<'_>
-        ensures { names_text result.program.now result.file.now ≡ names self.now };
-
-    /// Shows an image under its heading, with at most `left` lines, and returns whether it is whole, and how many lines are left.
-    /// It allocates all its memory before it writes the heading.
+    /// Shows an image of a file with at most `left` of the `limit` lines of the file, and returns whether it is whole, and how
+    /// many lines are left. It allocates all its memory before it writes.
     fn show<A: Allocator + Clone, O: Write>(
         &self,
         alloc: &A,
+        file: &str,
         image: &MachO<'_, A>,
-        heading: Heading,
+        limit: usize,
         left: usize,
         out: &mut O,
     ) -> Result<Outcome, ShowFailure>
         ensures shown { (bytes : List ℕ) → IsImage bytes 0 image.now
-            → IfOk result (λ outcome. (text : List ℕ) × lines self.now left bytes text outcome.whole outcome.left
-            × Appends (O.contents out.old) (O.contents out.new) (heading_text heading ++ text)) }
+            → IfOk result (λ outcome. (text : List ℕ) × lines self.now file.now limit left bytes text outcome.whole outcome.left
+            × Appends (O.contents out.old) (O.contents out.new) text) }
         ensures memory { IfErr result (IfMemory (Appends (O.contents out.old) (O.contents out.new) [])) };
 }

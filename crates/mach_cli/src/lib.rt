@@ -1,6 +1,6 @@
 //! What the programs share: the arguments of a call, help and version, exit statuses, and the complaint about a refused file; the
-//! loop that shows a Mach-O file, each entry of a fat file and each member of an archive, as lines or as JSON (RFC 8259); and
-//! output for terminals.
+//! driver that goes over the files of a call and the images in each, and the sinks that put these together, as text or as JSON
+//! (RFC 8259); and output for terminals.
 #![tactic(auto)]
 
 // The arguments of a call, and what a program says about itself.
@@ -9,7 +9,7 @@ mod call;
 mod complaint;
 mod cpu;
 mod failure;
-mod foreign;
+mod first_bytes;
 mod misuse;
 mod named;
 pub mod output;
@@ -17,13 +17,15 @@ mod program;
 mod word;
 
 // The output for a file, for an image, and for each entry.
-mod file_sequence;
-mod heading;
+mod document;
+mod image_files;
 mod image_view;
+mod images_view;
+mod label;
 mod listing;
 mod names;
-pub mod run;
-mod show;
+mod refusal;
+mod sink;
 mod titled;
 
 // Archives and fat files of 64 bits: each member and each entry is shown as a file of its own.
@@ -48,20 +50,22 @@ pub use crate::call::{Call, cputype_in, takes_word};
 pub use crate::complaint::{Complaint, Trouble};
 pub use crate::cpu::{Arch, Cpu};
 pub use crate::directory_name::print_name;
+pub use crate::document::Document;
 pub use crate::escaped::{Escaped, EscapedBytes, print_bytes, print_escaped};
 pub use crate::failure::ShowFailure;
-pub use crate::file_sequence::Round;
 pub use crate::files::{FileView, Files};
+pub use crate::first_bytes::{Foreign, foreign_kind, refused_kind};
 pub use crate::flags::{print_code_flags, print_segment_flags};
-pub use crate::foreign::{Foreign, foreign_kind, refused_kind};
-pub use crate::heading::Heading;
+pub use crate::image_files::ImageFiles;
 pub use crate::image_view::{ImageView, Outcome};
+pub use crate::images_view::ImagesView;
 pub use crate::json::arguments::take_json;
 pub use crate::json::array::{
     comma_before, print_array, print_empty, print_end, print_end_past, print_member, then,
 };
 pub use crate::json::signing::{AuthMembers, DiversityMembers, has_auth, key_by, rebase_type};
 pub use crate::json::text::JsonString;
+pub use crate::label::Label;
 pub use crate::listing::{
     ListProgress, Listing, count_rows, print_cut, print_listing, print_past, print_rows,
 };
@@ -74,6 +78,8 @@ pub use crate::parts::shown::{ShownPart, shown_part};
 pub use crate::parts::{Parts, parts_of};
 pub use crate::program::Program;
 pub use crate::progress::Progress;
+pub use crate::refusal::{Refusal, complain, refusal_of};
+pub use crate::sink::{Json, Sink, Text};
 pub use crate::terminal::ForTerminal;
 pub use crate::titled::Titled;
 pub use crate::word::{NoText, Word};

@@ -2,7 +2,7 @@
 
 ghost use Rattle.std.specs.Prelude.{◌≡◌, ◌<◌, ◌∷◌, [], length, IfOk, IfSome, IfNone};
 ghost use Rattle.mach_base.specs.Text.{texts};
-ghost use Rattle.mach_cli.specs.Listed.{listed_names, name_end};
+ghost use Rattle.mach_cli.specs.Listed.{are_several, listed_names, name_end};
 
 use crate::word::NoText;
 use memchr::memchr;
@@ -26,7 +26,9 @@ impl<A: Allocator> Others<'_, A> {
     }
 
     /// Whether these files and `words` others may be several.
-    pub fn are_several(&self, words: usize) -> bool {
+    pub fn are_several(&self, words: usize) -> bool
+        ensures { result ≡ are_several words self.now.lists.items self.now.no_texts.items }
+    {
         !self.lists.is_empty() || words.saturating_add(self.no_texts.len()) > 1
     }
 

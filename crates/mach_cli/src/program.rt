@@ -1,7 +1,7 @@
 //! A program's call: its arguments and its files.
 
 ghost use Rattle.std.specs.Prelude.{◌≡◌, IfErr};
-ghost use Rattle.mach_cli.specs.Rounds.{IsUnreadStatus};
+ghost use Rattle.mach_cli.specs.FileTitles.{IsUnreadStatus};
 ghost use Rattle.mach_cli.specs.Statuses.{IsStatus};
 
 use crate::call::{Call, Options, Request, understand};

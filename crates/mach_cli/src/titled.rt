@@ -1,10 +1,10 @@
 //! A writer that writes a title before the next bytes.
 
-ghost use Rattle.std.specs.Prelude.{◌≡◌, ◌≤◌, ◌++◌, [], ℕ, length, take, IfOk, OnOk};
+ghost use Rattle.std.specs.Prelude.{◌≡◌, ◌≤◌, ◌++◌, [], ℕ, length, take, false, IfOk, IsOk, OnOk};
 ghost use Rattle.std.specs.Io.{WritesAtMost};
 ghost use Rattle.std.specs.Io.Buffered.{writer_buffer, writer_inner};
 ghost use Rattle.std.specs.Io.KnownBytes.{Appends, Keeps, WriteAppends};
-ghost use Rattle.mach_cli.specs.Rounds.{title_text};
+ghost use Rattle.mach_cli.specs.FileTitles.{title_text};
 ghost use Rattle.mach_cli.specs.Titles.{pending_title, titled_contents, titled_inner, IsUnder};
 
 use crate::escaped::Escaped;
@@ -88,7 +88,8 @@ impl<W: Write> Write for Titled<W> {
 
 // Returns the title of a file or a part of this name, if it may have one.
 pub(crate) fn title_of(alloc: Global, is_titled: bool, name: &str) -> Result<Vec<u8>, AllocError>
-    ensures { IfOk result (λ title. title.items ≡ title_text is_titled name.now) }
+    ensures title { IfOk result (λ title. title.items ≡ title_text is_titled name.now) }
+    ensures untitled { is_titled ≡ false → IsOk result }
 {
     if !is_titled {
         return Ok(Vec::new(alloc));

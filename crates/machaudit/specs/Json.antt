@@ -14,9 +14,9 @@ opening_words (images.OpensLossily e parts) = codes "lossily"
 opening_words (images.Refused e) = codes "no"
 
 -- what a file is
-abbrev pub kind_words : {A : Type 0} → Report A → List ℕ
-kind_words (reports.Image r) = codes "image"
-kind_words (reports.Fat r) = codes "fat file"
+abbrev pub fault_kind_words : {A : Type 0} → Report A → List ℕ
+fault_kind_words (reports.Image r) = codes "image"
+fault_kind_words (reports.Fat r) = codes "fat file"
 
 abbrev pub is_sound : Verdict → Bool
 is_sound Sound = true

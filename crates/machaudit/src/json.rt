@@ -151,7 +151,7 @@ fn write_end<A: Allocator, O: Write>(
 
 // Returns what a file is.
 fn kind_of<A: Allocator>(report: &Report<A>) -> &'static str
-    ensures { result.now ≡ defined.kind_words report.now }
+    ensures { result.now ≡ defined.fault_kind_words report.now }
 {
     match report {
         Report::Image(_) => "image",

@@ -3,6 +3,7 @@
 
 // The audit of a file: whether it opens, and each part that can't be read or lies where it must not.
 mod audit;
+mod audits;
 mod lists;
 mod overlaid;
 mod report;
@@ -19,14 +20,13 @@ mod output;
 mod signature_text;
 mod text;
 
+use crate::audits::Audits;
 use crate::options::{DEFAULT_LIMIT, Format, Options, take_format};
-use crate::output::{Call, NAME};
-use crate::selection::run_for;
-use mach_cli::output::failed;
-use mach_cli::{Cpu, FileView, Files, ForTerminal, Misuse, Program, ShowFailure, Titled};
-use std::alloc::{AllocError, Allocator, Global};
+use crate::output::NAME;
+use mach_cli::{Files, ForTerminal, Misuse, Program, Titled};
+use std::alloc::{AllocError, Global};
 use std::io;
-use std::io::{BufWriter, IsTerminal, Write};
+use std::io::{BufWriter, IsTerminal};
 use std::process::ExitCode;
 
 const PROGRAM: Program = Program {
@@ -109,29 +109,4 @@ fn only_of(alloc: Global, are_several: bool, files: &[&str]) -> Result<String, A
         }
     }
     Ok(only)
-}
-
-// What is shown of each file: a report of what is for the cpu.
-#[derive(Drop)]
-struct Audits {
-    cpu: Cpu,
-    options: Options,
-    // The only file of the call, whose report has no heading; empty if there may be several.
-    only: String,
-}
-
-impl<W: Write + Drop, B: Allocator> FileView<BufWriter<W, B>> for Audits {
-    fn show(&self, rt: &HostRuntime, name: &str, bytes: &[u8], out: &mut BufWriter<W, B>) -> u8 {
-        let call = Call {
-            options: self.options,
-            name,
-            heading: self.only.as_str() != name,
-        };
-        let mut err = rt.stderr();
-        match run_for(&rt.alloc(), self.cpu, call, bytes, out, &mut err) {
-            Ok(status) => status,
-            Err(ShowFailure::Memory) => PROGRAM.no_memory_for(rt, name),
-            Err(ShowFailure::Unwritten(error)) => failed(NAME, "", error, &mut err),
-        }
-    }
 }

@@ -11,3 +11,4 @@ pub mod MemberLines
 pub mod SymbolLines
 pub mod ArchiveLines
 pub mod Written
+pub mod ShownFiles

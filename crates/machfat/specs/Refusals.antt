@@ -14,9 +14,9 @@ use Rattle.goblin_mach.specs.FatFile.{fat_file_in}
 use Rattle.goblin_mach.specs.View.{ViewFault}
 use Rattle.mach_cli.specs.Foreigners.{foreign_words, refused_kind}
 use Rattle.mach_cli.specs.Names.{names_text}
-use Rattle.mach_cli.specs.Shown.{complaint}
-use Rattle.mach_cli.specs.declared.foreign.Foreign as declared
-use Rattle.mach_cli.specs.declared.foreign.Foreign.TheVariants.{Archive}
+use Rattle.mach_cli.specs.Refusals.{complaint}
+use Rattle.mach_cli.specs.declared.first_bytes.Foreign as declared
+use Rattle.mach_cli.specs.declared.first_bytes.Foreign.TheVariants.{Archive}
 use Rattle.machfat.specs.Members.{MembersFault}
 use Rattle.machfat.specs.declared.refusal.WriteFailure.TheVariants as failures
 use Rattle.machfat.specs.declared.refusal.WriteFailure.{WriteFailure}

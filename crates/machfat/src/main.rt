@@ -17,6 +17,7 @@ mod made;
 mod members;
 mod new_file;
 mod refusal;
+mod shown;
 mod text;
 mod thin;
 mod verify;
@@ -24,46 +25,28 @@ mod verify;
 // The list of an archive: a line for each member, and one for each symbol of its index.
 mod archive;
 
-ghost use Rattle.std.specs.Prelude.{◌≡◌, if◌then◌else◌};
+ghost use Rattle.std.specs.Prelude.{◌≡◌, if◌then◌else◌, IfErr, IfOk};
+ghost use Rattle.mach_cli.specs.Statuses.{IsUnwritten};
+ghost use Rattle.machfat.specs.ShownFiles.{AreShownWhole, ShowsSelectedFiles};
 ghost use Rattle.mach_fat_writer.specs.declared.form.Form.TheVariants.{Bits32, Bits64};
 
-use commands::{NAME, run_extract, run_list};
-use json::run_list_json;
-use mach_cli::{
-    Call, Cpu, FileView, Files, Misuse, Others, Program, Titled, Word, cputype_in, take_json,
-};
+use commands::{NAME, run_extract};
+use mach_cli::{Call, Cpu, Files, Misuse, Others, Program, Titled, Word, cputype_in, take_json};
 use mach_fat_writer::Form;
 use made::{one_file, run_create, run_remove, run_replace};
-use members::run_members;
 use new_file::is_same_file;
-use std::alloc::{AllocError, Allocator, Global};
+use shown::{Selected, Shown};
+use std::alloc::{AllocError, Global};
 use std::io;
 use std::io::{BufWriter, Write};
 use std::process::ExitCode;
 use thin::run_thin;
-use verify::run_verify;
 
 // The option that selects a fat file of 64 bits.
 const WIDE: &str = "--fat64";
 
 // How many lines of a file are printed if no other limit is given.
 const DEFAULT_LIMIT: usize = 10_000_000;
-
-// What is printed of a file.
-#[derive(Clone, Copy)]
-enum Shown {
-    Records,
-    Object,
-    Faults,
-    Members,
-}
-
-// What is printed of each file, and how many lines at most.
-#[derive(Clone, Copy)]
-struct Selected {
-    shown: Shown,
-    limit: usize,
-}
 
 const PROGRAM: Program = Program {
     name: NAME,
@@ -181,18 +164,6 @@ fn write_file(rt: &HostRuntime, word: &str, form: Form, given: &[&str]) -> Resul
     }
 }
 
-impl<W: Write + Drop, B: Allocator> FileView<BufWriter<W, B>> for Selected {
-    fn show(&self, rt: &HostRuntime, name: &str, bytes: &[u8], out: &mut BufWriter<W, B>) -> u8 {
-        let (alloc, limit, err) = (rt.alloc(), self.limit, &mut rt.stderr());
-        match self.shown {
-            Shown::Records => run_list(alloc, limit, name, bytes, out, err),
-            Shown::Object => run_list_json(alloc, limit, name, bytes, out, err),
-            Shown::Faults => run_verify(alloc, limit, name, bytes, out, err),
-            Shown::Members => run_members(alloc, limit, name, bytes, out, err),
-        }
-    }
-}
-
 // Shows files in order, and returns the worst status.
 fn show_files(
     rt: &HostRuntime,
@@ -204,16 +175,36 @@ fn show_files(
         return Err(PROGRAM.bad_usage(rt, Misuse::Missing("FILE")));
     }
     let output = Titled::new(rt.alloc(), io::writer(rt));
-    let Ok(mut lines) = BufWriter::new(rt.alloc(), output) else {
+    let Ok(mut out) = BufWriter::new(rt.alloc(), output) else {
         return Err(PROGRAM.out_of_memory(rt));
     };
-    let shown = Files {
+    show(rt, selected, files, others, &mut out)
+}
+
+// Shows what is selected of files in order, and returns the worst status. The status of a failed write is an error.
+fn show<W: Write + Drop>(
+    rt: &HostRuntime,
+    selected: Selected,
+    files: &[&str],
+    others: &Others<'_, Global>,
+    out: &mut BufWriter<Titled<W>>,
+) -> Result<u8, u8>
+    ensures shown { IfOk result (ShowsSelectedFiles selected W.contents files.now others.now out.old out.new) }
+    ensures unwritten { IfErr result (λ status. IsUnwritten status) }
+{
+    shown_whole(selected.shown).show(rt, &selected, files, others, out)
+}
+
+// Returns how files are shown: each as a whole, whatever its cpu.
+fn shown_whole(shown: Shown) -> Files
+    ensures { AreShownWhole shown result }
+{
+    Files {
         program: PROGRAM,
         cpu: Cpu::Any,
-        has_titles: !matches!(selected.shown, Shown::Object),
+        has_titles: !matches!(shown, Shown::Object),
         has_parts: false,
-    };
-    shown.show(rt, &selected, files, others, &mut lines)
+    }
 }
 
 // Removes the option from a call's words, if it is before `--`, and returns whether it was there.

@@ -17,6 +17,12 @@
 //!   read, unless it is a bind and only its import can't be read.
 #![tactic(auto)]
 
+ghost use Rattle.std.specs.Prelude.{◌≡◌, codes, true, false, IfOk};
+ghost use Rattle.mach_cli.specs.Bounds.{limit_of};
+ghost use Rattle.mach_cli.specs.ShownCalls.{ShowsJson, ShowsText};
+ghost use Rattle.machfixups.specs.ImageLines.{image_pointer_lines};
+ghost use Rattle.machfixups.specs.JsonImages.{image_pointer_members};
+
 mod arguments;
 mod fixup_view;
 mod json;
@@ -32,12 +38,12 @@ mod stretches;
 mod text;
 
 use arguments::take_selection;
-use fixup_view::{NAME, run};
-use json::run_json;
-use mach_cli::{Call, Cpu, FileView, Files, ForTerminal, Misuse, Program, Titled, take_json};
+use fixup_view::FixupLines;
+use json::FixupObjects;
+use mach_cli::{Call, ForTerminal, ImageFiles, Misuse, Others, Program, Titled, take_json};
 use print::DEFAULT_LIMIT;
 use rows::Selection;
-use std::alloc::{Allocator, Global};
+use std::alloc::Global;
 use std::io;
 use std::io::{BufWriter, IsTerminal, Write};
 use std::process::ExitCode;
@@ -47,7 +53,7 @@ const USAGE: &str =
     [--arch NAME | --cputype 0xN] [--names FILE [-0]] FILE..\n       machfixups -h | --help | --version\n";
 
 const PROGRAM: Program = Program {
-    name: NAME,
+    name: "machfixups",
     usage: USAGE,
     version: "machfixups 0.2.0\n",
     has_limit: true,
@@ -84,56 +90,76 @@ fn start(rt: &HostRuntime) -> Result<u8, u8> {
         return Err(PROGRAM.out_of_memory(rt));
     };
     let call = PROGRAM.call(rt, &words)?;
-    let shown = Shown {
-        cpu: call.cpu,
-        selection,
-        limit: call.limit.unwrap_or(DEFAULT_LIMIT),
-        is_json,
-    };
-    show_files(rt, shown, &call)
+    show_files(rt, selection, is_json, &call)
 }
 
-// What is shown of each file: the selected lists, `limit` lines at most, or objects.
-#[derive(Clone, Copy)]
-struct Shown {
-    cpu: Cpu,
+// Shows the selected lists of files in order, and returns the worst status.
+fn show_files(
+    rt: &HostRuntime,
     selection: Selection,
-    limit: usize,
     is_json: bool,
-}
-
-impl<W: Write + Drop, B: Allocator> FileView<BufWriter<W, B>> for Shown {
-    fn show(&self, rt: &HostRuntime, name: &str, bytes: &[u8], out: &mut BufWriter<W, B>) -> u8 {
-        let (alloc, err) = (rt.alloc(), &mut rt.stderr());
-        let Shown {
-            cpu,
-            selection,
-            limit,
-            ..
-        } = *self;
-        if self.is_json {
-            run_json(alloc, cpu, selection, limit, name, bytes, out, err)
-        } else {
-            run(alloc, cpu, selection, limit, name, bytes, out, err)
-        }
-    }
-}
-
-// Shows the selected images of files in order, and returns the worst status.
-fn show_files(rt: &HostRuntime, shown: Shown, call: &Call<'_, Global>) -> Result<u8, u8> {
+    call: &Call<'_, Global>,
+) -> Result<u8, u8> {
     let (files, others) = (&call.words, &call.others);
     if files.is_empty() && others.is_empty() {
         return Err(PROGRAM.bad_usage(rt, Misuse::Missing("FILE")));
     }
     let output = ForTerminal::new(io::writer(rt), rt.stdout().is_terminal());
-    let Ok(mut lines) = BufWriter::new(rt.alloc(), Titled::new(rt.alloc(), output)) else {
+    let Ok(mut out) = BufWriter::new(rt.alloc(), Titled::new(rt.alloc(), output)) else {
         return Err(PROGRAM.out_of_memory(rt));
     };
-    let shows = Files {
+    show(
+        rt,
+        &shown_by(call, selection, is_json),
+        files,
+        others,
+        &mut out,
+    )
+}
+
+// Returns how a call shows its files: the selected lists, as lines or as objects.
+fn shown_by(
+    call: &Call<'_, Global>,
+    selection: Selection,
+    is_json: bool,
+) -> ImageFiles<FixupLines, FixupObjects>
+    ensures program { result.program.name.now ≡ codes "machfixups" }
+    ensures cpu { result.cpu ≡ call.now.cpu }
+    ensures limit { result.limit ≡ limit_of call.now.limit 10000000 }
+    ensures form { result.is_json ≡ is_json }
+    ensures titles { result.has_titles ≡ true }
+    ensures lines { result.lines ≡ record { selection = selection } }
+    ensures objects { result.objects ≡ record { selection = selection } }
+{
+    ImageFiles {
         program: PROGRAM,
-        cpu: shown.cpu,
-        has_titles: !shown.is_json,
-        has_parts: true,
-    };
-    shows.show(rt, &shown, files, others, &mut lines)
+        cpu: call.cpu,
+        limit: call.limit.unwrap_or(DEFAULT_LIMIT),
+        is_json,
+        has_titles: true,
+        lines: FixupLines { selection },
+        objects: FixupObjects { selection },
+    }
+}
+
+// Shows files in order, and returns the worst status.
+fn show<W: Write + Drop>(
+    rt: &HostRuntime,
+    shown: &ImageFiles<FixupLines, FixupObjects>,
+    files: &[&str],
+    others: &Others<'_, Global>,
+    out: &mut BufWriter<Titled<W>>,
+) -> Result<u8, u8>
+    ensures text { let s = shown.now in s.is_json ≡ false
+        → IfOk result (ShowsText s s.program.name.now (image_pointer_lines s.lines.selection) W.contents files.now others.now out.old out.new) }
+    ensures json { let s = shown.now in s.is_json ≡ true
+        → IfOk result (ShowsJson s s.program.name.now (image_pointer_members s.objects.selection) W.contents
+        files.now others.now out.old out.new) }
+{
+    let call = shown.files();
+    if shown.is_json {
+        call.show(rt, &shown.as_json(), files, others, out)
+    } else {
+        call.show(rt, &shown.as_text(), files, others, out)
+    }
 }

@@ -1,10 +1,11 @@
 -- The lines that the program shows of an image.
-use Rattle.std.specs.Prelude.{◌≡◌, ◌==◌, ◌&&◌, ℕ, List, [], ◌∷◌, ◌++◌, Bool, Option, Result, codes}
+use Rattle.std.specs.Prelude.{◌≡◌, ◌==◌, ◌&&◌, ℕ, List, [], ◌∷◌, ◌++◌, Bool, Option, Some, None, Result, codes}
 use Rattle.std.specs.Fmt.{decimal}
 use Rattle.mach_base.specs.Fault.{Fault}
 use Rattle.goblin_mach.specs.Image.{Opens}
 use Rattle.goblin_mach.specs.ImageFacts.{Facts, HasFacts}
 use Rattle.mach_cli.specs.Listings.{AreFirstLines}
+use Rattle.mach_cli.specs.Shown.{ImageLines}
 use Rattle.mach_cli.specs.JsonArrays.{AreMembersInBounds}
 use Rattle.mach_signature.specs.Directories.{Directory}
 use Rattle.mach_signature.specs.SignedFacts.{HasCodeDirectory}
@@ -76,3 +77,13 @@ pub record AreImageSummaryMembers (limit left : ℕ) (bytes : List ℕ) (text : 
   pub is_text : text ≡ front ++ (codes "\"counts\":{" ++ (counts ++ counts_end limit))
   pub is_whole : whole ≡ (front_whole && counts_whole)
   pub is_rest : rest ≡ left
+
+-- The lines of a word's list, or without a word of the summary.
+abbrev pub AreInfoLines : Option Word → (file : List ℕ) → (limit : ℕ) → ImageLines
+AreInfoLines (Some word) file limit = AreImageListLines word limit
+AreInfoLines None file limit = AreImageSummaryLines limit
+
+-- The same as members.
+abbrev pub AreInfoMembers : Option Word → (file : List ℕ) → (limit : ℕ) → ImageLines
+AreInfoMembers (Some word) file limit = AreImageListMembers word
+AreInfoMembers None file limit = AreImageSummaryMembers limit

@@ -1,5 +1,6 @@
 -- The words that select a list.
-use Rattle.std.specs.Prelude.{ℕ, List, [], ◌∷◌, codes, Option, Some, None, bytes_eq, if◌then◌else◌}
+use Rattle.std.specs.Prelude.{ℕ, List, [], ◌∷◌, codes, Option, Some, None, bytes_eq, drop, if◌then◌else◌}
+use Rattle.std.specs.Borrow.{Bor}
 use Rattle.machinfo.specs.declared.word.Word.{Word}
 use Rattle.machinfo.specs.declared.word.Word.TheVariants.{Starts, Slots, Indirect, Data, Options, Tools, Notes, Providers, Libraries, Rebases, Weak}
 
@@ -44,3 +45,18 @@ spelling_of Providers = codes "providers"
 spelling_of Libraries = codes "libraries"
 spelling_of Rebases = codes "rebases"
 spelling_of Weak = codes "weak"
+
+-- ---- the arguments of a call
+
+-- the word that selects a list: the first argument, if it is one
+abbrev pub word_selected : List (Bor (List ℕ)) → Option Word
+word_selected [] = None
+word_selected (first ∷ others) = word_named first.now
+
+-- the files: all arguments, but for that word
+abbrev pub files_after : Option Word → List (Bor (List ℕ)) → List (Bor (List ℕ))
+files_after None arguments = arguments
+files_after (Some word) arguments = drop 1 arguments
+
+abbrev pub files_named : List (Bor (List ℕ)) → List (Bor (List ℕ))
+files_named arguments = files_after (word_selected arguments) arguments

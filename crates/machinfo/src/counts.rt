@@ -18,6 +18,21 @@ use std::fmt::{Display, Formatter};
 use std::io::Write;
 use std::{fmt, io};
 
+/// The lists that are counted.
+pub const COUNTED: [Word; 11] = [
+    Word::Starts,
+    Word::Slots,
+    Word::Indirect,
+    Word::Data,
+    Word::Options,
+    Word::Tools,
+    Word::Notes,
+    Word::Providers,
+    Word::Libraries,
+    Word::Rebases,
+    Word::Weak,
+];
+
 /// The form in which counts are written.
 #[derive(Clone, Copy)]
 pub enum Form {

@@ -1,102 +1,83 @@
-//! What the program writes of an image and of a file as JSON, and its exit status.
+//! What the program writes of an image as JSON.
 
-ghost use Rattle.std.specs.Prelude.{◌≡◌, ◌≤◌, [], codes, OnOk};
-ghost use Rattle.std.specs.Io.Buffered.{writer_buffer, writer_contents};
+ghost use Rattle.std.specs.Prelude.{ℕ, List, IfOk, OnOk};
 ghost use Rattle.std.specs.Io.KnownBytes.{Appends};
-ghost use Rattle.mach_cli.specs.Bounds.{most_items};
-ghost use Rattle.mach_cli.specs.Names.{names_text};
-ghost use Rattle.mach_cli.specs.Shown.{Shown, Writes};
-ghost use Rattle.mach_cli.specs.Statuses.{IsStatus, status_by};
-ghost use Rattle.mach_cli.specs.Documents.{IsDocument};
-ghost use Rattle.machinfo.specs.ImageLines.{AreImageListMembers, AreImageSummaryMembers, counts_end};
+ghost use Rattle.goblin_mach.specs.OpenImage.{IsImage};
+ghost use Rattle.machinfo.specs.ImageLines.{AreImageListMembers, AreImageSummaryMembers, AreInfoMembers, counts_end};
 
-use crate::counts::{Form, print_counts};
+use crate::counts::{COUNTED, Form, print_counts};
 use crate::list::ImageList;
 use crate::members::write_front;
 use crate::object::ObjectList;
-use crate::views::{COUNTED, NAME};
 use crate::word::Word;
 use goblin_mach::MachO;
-use mach_cli::{
-    Cpu, Heading, ImageView, Names, Outcome, ShowFailure, most_items, print_end_past, print_member,
-};
+use mach_cli::{ImageView, Outcome, ShowFailure, print_end_past, print_member};
 use std::alloc::Allocator;
 use std::io;
-use std::io::{BufWriter, Write};
+use std::io::Write;
 
-// The rows of a list of the images of a file, as objects.
+/// The members of the list that a word selects, or of the summary.
 #[derive(Clone, Copy)]
-struct ObjectsOf<'a> {
-    file: &'a str,
+pub struct InfoObjects {
+    pub word: Option<Word>,
+}
+
+impl ImageView for InfoObjects {
+    ghost lines = { λ s. AreInfoMembers s.word };
+
+    fn show<A: Allocator + Clone, O: Write>(
+        &self,
+        _alloc: &A,
+        _file: &str,
+        image: &MachO<'_, A>,
+        limit: usize,
+        left: usize,
+        out: &mut O,
+    ) -> Result<Outcome, ShowFailure> {
+        match self.word {
+            Some(word) => Ok(write_rows(word, image, left, out)?),
+            None => Ok(write_summary(image, limit, left, out)?),
+        }
+    }
+}
+
+// Writes the rows of a word's list as objects, at most `left` of them, and whether there are more. Returns whether all rows were
+// written and can be read, and how many more may be written.
+fn write_rows<A: Allocator, O: Write>(
     word: Word,
+    image: &MachO<'_, A>,
+    left: usize,
+    out: &mut O,
+) -> io::Result<Outcome>
+    ensures { (bytes : List ℕ) → IsImage bytes 0 image.now → IfOk result (λ outcome. (text : List ℕ)
+        × AreImageListMembers word left bytes text outcome.whole outcome.left × Appends (O.contents out.old) (O.contents out.new) text) }
+{
+    let mut list = ObjectList(ImageList::of(word, image));
+    let name = word.name();
+    let past = list.0.past_rows();
+    let reported = print_member(name, &mut list, left, out)?;
+    print_end_past(reported, past, out)
 }
 
-impl ImageView for ObjectsOf<'_> {
-    ghost names = { λ selected. names_text (codes "machinfo") selected.file.now };
-
-    ghost lines = { λ selected. AreImageListMembers selected.word };
-
-    fn names(&self) -> Names<'_> {
-        Names {
-            program: NAME,
-            file: self.file,
-        }
-    }
-
-    fn show<A: Allocator + Clone, O: Write>(
-        &self,
-        _alloc: &A,
-        image: &MachO<'_, A>,
-        heading: Heading,
-        left: usize,
-        out: &mut O,
-    ) -> Result<Outcome, ShowFailure> {
-        let mut list = ObjectList(ImageList::of(self.word, image));
-        write!(out, "{heading}")?;
-        let name = self.word.name();
-        let past = list.0.past_rows();
-        let reported = print_member(name, &mut list, left, out)?;
-        Ok(print_end_past(reported, past, out)?)
-    }
-}
-
-// The summaries of the images of a file, as members, with at most `limit` items of a list counted.
-#[derive(Clone, Copy)]
-struct MembersOf<'a> {
-    file: &'a str,
+// Writes the summary as members, with how many items each list has, counted up to `limit`. Returns whether all items can be read
+// and no list has more. The summary uses up no rows.
+fn write_summary<A: Allocator, O: Write>(
+    image: &MachO<'_, A>,
     limit: usize,
-}
-
-impl ImageView for MembersOf<'_> {
-    ghost names = { λ selected. names_text (codes "machinfo") selected.file.now };
-
-    ghost lines = { λ selected. AreImageSummaryMembers selected.limit };
-
-    fn names(&self) -> Names<'_> {
-        Names {
-            program: NAME,
-            file: self.file,
-        }
-    }
-
-    fn show<A: Allocator + Clone, O: Write>(
-        &self,
-        _alloc: &A,
-        image: &MachO<'_, A>,
-        heading: Heading,
-        left: usize,
-        out: &mut O,
-    ) -> Result<Outcome, ShowFailure> {
-        write!(out, "{heading}")?;
-        let front = write_front(image, self.limit, out)?;
-        write!(out, "\"counts\":{{")?;
-        let counts = print_counts(Form::Members, &COUNTED, image, self.limit, out)?;
-        end_counts(self.limit, out)?;
-        Ok(Outcome {
-            whole: front & counts,
-            left,
-        })
-    }
+    left: usize,
+    out: &mut O,
+) -> io::Result<Outcome>
+    ensures { (bytes : List ℕ) → IsImage bytes 0 image.now → IfOk result (λ outcome. (text : List ℕ)
+        × AreImageSummaryMembers limit left bytes text outcome.whole outcome.left × Appends (O.contents out.old) (O.contents out.new) text) }
+{
+    let front = write_front(image, limit, out)?;
+    write!(out, "\"counts\":{{")?;
+    let counts = print_counts(Form::Members, &COUNTED, image, limit, out)?;
+    end_counts(limit, out)?;
+    Ok(Outcome {
+        whole: front & counts,
+        left,
+    })
 }
 
 // Writes what follows the counts.
@@ -104,50 +85,4 @@ fn end_counts<O: Write>(limit: usize, out: &mut O) -> io::Result<()>
     ensures { OnOk result (Appends (O.contents out.old) (O.contents out.new) (counts_end limit)) }
 {
     write!(out, "\"limit\":{limit}}},\"kind\":\"image\"")
-}
-
-/// Writes of a file what `run_list` prints, as JSON: one object on one line. It has an object for each row, and for each image
-/// whether it has more rows than are left of the limit.
-pub fn write_list<A: Allocator + Clone, W: Write + Drop, B: Allocator, E: Write>(
-    alloc: A,
-    word: Word,
-    cpu: Cpu,
-    limit: usize,
-    file: &str,
-    bytes: &[u8],
-    out: &mut BufWriter<W, B>,
-    err: &mut E,
-) -> u8
-    ensures status { IsStatus result }
-    ensures shown { let most = most_items limit bytes.now in result ≤ 1 → (shown : Shown)
-        × IsDocument cpu (names_text (codes "machinfo") file.now) file.now (AreImageListMembers word) most bytes.now shown
-        × (result ≡ status_by shown.whole)
-        × Writes shown (writer_contents W.contents out.old) (writer_contents W.contents out.new) (E.contents err.old) (E.contents err.new) }
-    ensures flushed { result ≤ 1 → writer_buffer out.new ≡ [] }
-{
-    let objects = ObjectsOf { file, word };
-    let limit = most_items(limit, bytes);
-    mach_cli::json::run::run(&objects, file, cpu, limit, &alloc, bytes, out, err)
-}
-
-/// Writes of a file what `run_summary` prints, as JSON: one object on one line.
-pub fn write_summary<A: Allocator + Clone, W: Write + Drop, B: Allocator, E: Write>(
-    alloc: A,
-    cpu: Cpu,
-    limit: usize,
-    file: &str,
-    bytes: &[u8],
-    out: &mut BufWriter<W, B>,
-    err: &mut E,
-) -> u8
-    ensures status { IsStatus result }
-    ensures shown { let most = most_items limit bytes.now in result ≤ 1 → (shown : Shown)
-        × IsDocument cpu (names_text (codes "machinfo") file.now) file.now (AreImageSummaryMembers most) most bytes.now shown
-        × (result ≡ status_by shown.whole)
-        × Writes shown (writer_contents W.contents out.old) (writer_contents W.contents out.new) (E.contents err.old) (E.contents err.new) }
-    ensures flushed { result ≤ 1 → writer_buffer out.new ≡ [] }
-{
-    let limit = most_items(limit, bytes);
-    let members = MembersOf { file, limit };
-    mach_cli::json::run::run(&members, file, cpu, limit, &alloc, bytes, out, err)
 }

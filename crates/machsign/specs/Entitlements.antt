@@ -13,7 +13,7 @@ use Rattle.mach_signature.specs.SignedImages.{image_signature}
 use Rattle.goblin_mach.specs.View.{ReportsFault}
 use Rattle.mach_cli.specs.Cpus.{IsTaken, is_of_cpu}
 use Rattle.mach_cli.specs.Foreigners.{refused_words}
-use Rattle.mach_cli.specs.Shown.{complaint}
+use Rattle.mach_cli.specs.Refusals.{complaint}
 use Rattle.mach_cli.specs.declared.cpu.Cpu.{Cpu}
 
 -- the content, if it can be read

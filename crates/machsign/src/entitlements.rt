@@ -8,9 +8,8 @@ ghost use Rattle.mach_base.specs.Answer.{IsOkUnlessMemory, ErrorMeets};
 ghost use Rattle.mach_base.specs.Items.{read_as};
 ghost use Rattle.mach_signature.specs.DirectoryViews.{slot_read};
 ghost use Rattle.mach_signature.specs.SignViews.{signature_view};
-ghost use Rattle.mach_cli.specs.Foreigners.{refused_words};
 ghost use Rattle.mach_cli.specs.Names.{names_text};
-ghost use Rattle.mach_cli.specs.Shown.{complaint};
+ghost use Rattle.mach_cli.specs.Refusals.{complaint, refusal_reason};
 ghost use Rattle.mach_cli.specs.Statuses.{IsStatus};
 ghost use Rattle.goblin_mach.specs.View.{IsReported};
 ghost use Rattle.goblin_mach.specs.OpenImage.{IsImage};
@@ -19,15 +18,17 @@ ghost use Rattle.goblin_mach.specs.ItemsLeft.{input_item_read};
 ghost use Rattle.machsign.specs.Entitlements.{entitlements_of, HasEntitlements, EntitlesContent, EntitlesItem, EntitlesItems, IsSelectedImage};
 ghost use Rattle.machsign.specs.Entitlements.{RefusesItem, EntitlementFault, SaysWhyNone};
 
-use crate::signature_view::NAME;
-use goblin_mach::{Content, EntryCpu, Error, Input, InputItem, MachO, Result, describe};
+use goblin_mach::{Content, EntryCpu, Error, Input, InputItem, MachO, Result};
 use mach_cli::output::failed;
-use mach_cli::{Cpu, Names, refused_kind};
+use mach_cli::{Cpu, Label, Names, Refusal, complain, refusal_of};
 use mach_signature::CodeSignature;
 use mach_signature::image::code_signature;
 use std::alloc::Allocator;
 use std::io;
 use std::io::{BufWriter, Write};
+
+/// The program's name.
+pub const NAME: &str = "machsign";
 
 // Returns the entitlements of a signature, if there is one and has some that can be read.
 fn of_signature<'a>(signature: Result<Option<CodeSignature<'a>>>) -> Option<&'a [u8]>
@@ -139,49 +140,18 @@ fn put<W: Write + Drop, B: Allocator>(bytes: &[u8], out: &mut BufWriter<W, B>) -
     Ok(())
 }
 
-// Reports that a file has no entitlements, and returns the status.
-fn none_there<E: Write>(file: &str, err: &mut E) -> u8
+// Reports why no entitlements of a file are written, and returns the status.
+fn refuse<E: Write>(file: &str, refusal: Refusal<'_>, err: &mut E) -> u8
     ensures bound { IsStatus result }
     ensures not_zero { 1 ≤ result }
     ensures reported { result ≡ 1 → Appends (E.contents err.old) (E.contents err.new)
-        (complaint (names_text (codes "machsign") file.now) (codes "no entitlements")) }
+        (complaint (names_text (codes "machsign") file.now) (refusal_reason refusal.entry)) }
 {
     let names = Names {
         program: NAME,
         file,
     };
-    match writeln!(err, "{names}: no entitlements") {
-        Ok(()) => 1,
-        Err(error) => failed(NAME, "", error, err),
-    }
-}
-
-// Writes why a file is refused: its kind, if it is not Mach-O, else the error.
-fn say_refused<E: Write>(file: &str, bytes: &[u8], error: &Error, err: &mut E) -> io::Result<()>
-    ensures { OnOk result (Appends (E.contents err.old) (E.contents err.new)
-        (complaint (names_text (codes "machsign") file.now) (refused_words bytes.now error.now))) }
-{
-    let names = Names {
-        program: NAME,
-        file,
-    };
-    match refused_kind(bytes, error) {
-        Some(kind) => writeln!(err, "{names}: {kind}"),
-        None => {
-            let words = describe(error);
-            writeln!(err, "{names}: {words}")
-        }
-    }
-}
-
-// Reports a refused file, and returns the status.
-fn refused<E: Write>(file: &str, bytes: &[u8], error: &Error, err: &mut E) -> u8
-    ensures bound { IsStatus result }
-    ensures not_zero { 1 ≤ result }
-    ensures reported { result ≡ 1 → Appends (E.contents err.old) (E.contents err.new)
-        (complaint (names_text (codes "machsign") file.now) (refused_words bytes.now error.now)) }
-{
-    match say_refused(file, bytes, error, err) {
+    match complain(names, Label::None, refusal, err) {
         Ok(()) => 1,
         Err(error) => failed(NAME, "", error, err),
     }
@@ -212,7 +182,7 @@ pub fn run_entitlements<A: Allocator + Clone, W: Write + Drop, B: Allocator, E: 
             Ok(()) => 0,
             Err(error) => failed(NAME, "", error, err),
         },
-        Ok(None) => none_there(file, err),
-        Err(error) => refused(file, bytes, &error, err),
+        Ok(None) => refuse(file, Refusal::Lacks("no entitlements"), err),
+        Err(error) => refuse(file, refusal_of(bytes, &error), err),
     }
 }

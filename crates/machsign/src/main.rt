@@ -7,6 +7,13 @@
 //! It does not check who signed: a CMS blob is not verified, and no other file is read.
 #![tactic(auto)]
 
+ghost use Rattle.std.specs.Prelude.{◌≡◌, ◌^◌, ◌-◌, codes, false, true, IfErr, IfOk};
+ghost use Rattle.mach_cli.specs.Bounds.{limit_of};
+ghost use Rattle.mach_cli.specs.ShownCalls.{ShowsJson, ShowsText};
+ghost use Rattle.mach_cli.specs.Statuses.{IsUnwritten};
+ghost use Rattle.machsign.specs.ImageLines.{AreImageSignatureLines};
+ghost use Rattle.machsign.specs.JsonSignature.{AreImageSignatureMembers};
+
 mod arguments;
 mod blobs;
 mod block;
@@ -22,12 +29,10 @@ mod special;
 mod text;
 
 use arguments::take_entitlements;
-use entitlements::run_entitlements;
-use json::run_json;
-use mach_cli::{
-    Call, Cpu, FileView, Files, ForTerminal, Misuse, Others, Program, Titled, take_json,
-};
-use signature_view::{NAME, run};
+use entitlements::{NAME, run_entitlements};
+use json::SignatureObjects;
+use mach_cli::{Call, Cpu, ForTerminal, ImageFiles, Misuse, Others, Program, Titled, take_json};
+use signature_view::SignatureLines;
 use std::alloc::{Allocator, Global};
 use std::io;
 use std::io::{BufWriter, IsTerminal, Write};
@@ -80,15 +85,18 @@ fn answer(
     is_json: bool,
     call: &Call<'_, Global>,
 ) -> Result<u8, u8> {
+    let (files, others) = (&call.words, &call.others);
     if are_selected {
-        return write_entitlements(rt, call.cpu, &call.words);
+        return write_entitlements(rt, call.cpu, files);
     }
-    let shown = Shown {
-        cpu: call.cpu,
-        limit: call.limit.unwrap_or(usize::MAX),
-        is_json,
+    if files.is_empty() && others.is_empty() {
+        return Err(PROGRAM.bad_usage(rt, Misuse::Missing("FILE")));
+    }
+    let output = ForTerminal::new(io::writer(rt), rt.stdout().is_terminal());
+    let Ok(mut out) = BufWriter::new(rt.alloc(), Titled::new(rt.alloc(), output)) else {
+        return Err(PROGRAM.out_of_memory(rt));
     };
-    show_files(rt, shown, &call.words, &call.others)
+    show_files(rt, &shown_by(call, is_json), files, others, &mut out)
 }
 
 // Writes the entitlements of the first image of a file that has them, and returns the status.
@@ -103,49 +111,40 @@ fn write_entitlements(rt: &HostRuntime, cpu: Cpu, files: &[&str]) -> Result<u8, 
     Ok(run_entitlements(rt.alloc(), cpu, file, &bytes, &mut out, &mut rt.stderr()))
 }
 
-// What is shown of each file: lines, at most `limit` of them of blobs and faults, or an object.
-#[derive(Clone, Copy)]
-struct Shown {
-    cpu: Cpu,
-    limit: usize,
-    is_json: bool,
-}
-
-impl<W: Write + Drop, B: Allocator> FileView<BufWriter<W, B>> for Shown {
-    fn show(&self, rt: &HostRuntime, name: &str, bytes: &[u8], out: &mut BufWriter<W, B>) -> u8 {
-        let (alloc, err) = (rt.alloc(), &mut rt.stderr());
-        let Shown {
-            cpu,
-            limit,
-            is_json,
-        } = *self;
-        if is_json {
-            run_json(alloc, cpu, limit, name, bytes, out, err)
-        } else {
-            run(alloc, cpu, limit, name, bytes, out, err)
-        }
+// Returns how a call shows its files: the signatures of the selected images, as lines or as objects.
+fn shown_by(call: &Call<'_, Global>, is_json: bool) -> ImageFiles<SignatureLines, SignatureObjects>
+    ensures call { (result.cpu ≡ call.now.cpu) × (result.limit ≡ limit_of call.now.limit (2 ^ 64 - 1)) × (result.is_json ≡ is_json) }
+    ensures view { (result.lines ≡ record {}) × (result.objects ≡ record {}) }
+    ensures names { (result.program.name.now ≡ codes "machsign") × (result.has_titles ≡ true) }
+{
+    ImageFiles {
+        program: PROGRAM,
+        cpu: call.cpu,
+        limit: call.limit.unwrap_or(usize::MAX),
+        is_json,
+        has_titles: true,
+        lines: SignatureLines,
+        objects: SignatureObjects,
     }
 }
 
-// Shows the signatures of the selected images of files in order, and returns the worst status.
-fn show_files(
+// Shows the selected images of files in order, then those of the files named in other ways, and returns the worst status. The
+// status of a failed write is an error, since nothing is shown after it.
+fn show_files<W: Write + Drop, B: Allocator>(
     rt: &HostRuntime,
-    shown: Shown,
+    shown: &ImageFiles<SignatureLines, SignatureObjects>,
     files: &[&str],
     others: &Others<'_, Global>,
-) -> Result<u8, u8> {
-    if files.is_empty() && others.is_empty() {
-        return Err(PROGRAM.bad_usage(rt, Misuse::Missing("FILE")));
+    out: &mut BufWriter<Titled<W>, B>,
+) -> Result<u8, u8>
+    ensures text { let s = shown.now in s.is_json ≡ false → IfOk result (λ worst. ShowsText s s.program.name.now (λ _. AreImageSignatureLines) W.contents
+        files.now others.now out.old out.new worst) }
+    ensures json { let s = shown.now in s.is_json ≡ true → IfOk result (λ worst. ShowsJson s s.program.name.now (λ _ _. AreImageSignatureMembers) W.contents
+        files.now others.now out.old out.new worst) }
+    ensures unwritten { IfErr result (λ status. IsUnwritten status) }
+{
+    if shown.is_json {
+        return shown.files().show(rt, &shown.as_json(), files, others, out);
     }
-    let output = ForTerminal::new(io::writer(rt), rt.stdout().is_terminal());
-    let Ok(mut lines) = BufWriter::new(rt.alloc(), Titled::new(rt.alloc(), output)) else {
-        return Err(PROGRAM.out_of_memory(rt));
-    };
-    let call = Files {
-        program: PROGRAM,
-        cpu: shown.cpu,
-        has_titles: !shown.is_json,
-        has_parts: true,
-    };
-    call.show(rt, &shown, files, others, &mut lines)
+    shown.files().show(rt, &shown.as_text(), files, others, out)
 }

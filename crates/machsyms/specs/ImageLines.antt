@@ -1,13 +1,16 @@
 -- The lines that the program prints of an image.
 use Rattle.std.specs.Prelude.{◌≡◌, ℕ, List, [], codes, Bool, Option, Some, None, IsTrue, ◌↔◌}
+use Rattle.std.specs.Borrow.{Bor}
 use Rattle.mach_base.specs.declared.context.Container.TheVariants.{Big}
 use Rattle.mach_parts.specs.Symbols.{SymbolTable, table_in_bounds}
 use Rattle.goblin_mach.specs.ImageFacts.{Facts, HasFacts}
 use Rattle.goblin_mach.specs.Image.{Opens}
 use Rattle.mach_cli.specs.Listings.{AreFirstLines}
+use Rattle.machsyms.specs.LetterWords.{selected_of}
 use Rattle.machsyms.specs.Lines.{selected_lines, past_the_end, symbols_over, unreadable_word}
 use Rattle.machsyms.specs.Order.{AreKeysInOrder, gone_over}
 use Rattle.machsyms.specs.Setting.{setting_of}
+use Rattle.machsyms.specs.declared.arguments.Letters.{Letters}
 use Rattle.machsyms.specs.declared.selection.Request.{Request}
 use Rattle.machsyms.specs.declared.selection.Sorting.{Sorting}
 use Rattle.machsyms.specs.declared.order.SortKey.{SortKey}
@@ -32,3 +35,10 @@ pub record AreImageSymbolLines (a : Request) (limit left : ℕ) (bytes : List �
   pub in_order : AreImageKeys a.sorting facts.symbols keys
   pub lines : AreFirstLines (unreadable_word a) limit left (selected_lines a (setting_of is_64 facts) (symbols_over (gone_over a.sorting keys) facts.symbols))
       (codes "symbols") (past_the_end facts.symbols) text whole rest
+
+-- The same of the symbols that letters select of a file of a name.
+pub record AreSelectedLines (letters : Option Letters) (is_raw : Bool) (file : List ℕ) (limit left : ℕ) (bytes : List ℕ) (text : List ℕ) (whole : Bool)
+    (rest : ℕ) : Type 0 where
+  pub name : Bor (List ℕ)
+  pub is_name : name.now ≡ file
+  pub lines : AreImageSymbolLines (selected_of letters is_raw name) limit left bytes text whole rest

@@ -1,5 +1,6 @@
 -- The members of the object of an image: its symbols.
-use Rattle.std.specs.Prelude.{ℕ, List, [], ◌∷◌, ◌++◌, codes, map, Bool, Option, Result}
+use Rattle.std.specs.Prelude.{◌≡◌, ℕ, List, [], ◌∷◌, ◌++◌, codes, map, Bool, Option, Result}
+use Rattle.std.specs.Borrow.{Bor}
 use Rattle.std.specs.Fmt.{decimal}
 use Rattle.std.specs.Io.KnownBytes.{Appends}
 use Rattle.std.specs.List.{filter}
@@ -12,8 +13,10 @@ use Rattle.mach_cli.specs.JsonArrays.{AreMembersInBounds, NamedRows}
 use Rattle.mach_cli.specs.JsonText.{json_string}
 use Rattle.machsyms.specs.Request.{takes}
 use Rattle.machsyms.specs.ImageLines.{AreImageKeys}
+use Rattle.machsyms.specs.LetterWords.{selected_of}
 use Rattle.machsyms.specs.Lines.{past_the_end, symbols_over}
 use Rattle.machsyms.specs.Order.{gone_over}
+use Rattle.machsyms.specs.declared.arguments.Letters.{Letters}
 use Rattle.machsyms.specs.declared.selection.Request.{Request}
 use Rattle.machsyms.specs.declared.order.SortKey.{SortKey}
 
@@ -57,3 +60,10 @@ pub record AreImageSymbolMembers (a : Request) (left : ℕ) (bytes : List ℕ) (
   pub keys : List SortKey
   pub in_order : AreImageKeys a.sorting facts.symbols keys
   pub members : AreMembersInBounds left (symbol_members a (symbols_over (gone_over a.sorting keys) facts.symbols)) (past_the_end facts.symbols) text whole rest
+
+-- The same of the symbols that letters select of a file of a name.
+pub record AreSelectedMembers (letters : Option Letters) (is_raw : Bool) (file : List ℕ) (limit left : ℕ) (bytes : List ℕ) (text : List ℕ) (whole : Bool)
+    (rest : ℕ) : Type 0 where
+  pub name : Bor (List ℕ)
+  pub is_name : name.now ≡ file
+  pub members : AreImageSymbolMembers (selected_of letters is_raw name) left bytes text whole rest

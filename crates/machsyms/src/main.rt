@@ -15,6 +15,12 @@
 //! - Files that `llvm-nm` refuses as malformed are printed if the library opens them.
 #![tactic(auto)]
 
+ghost use Rattle.std.specs.Prelude.{◌≡◌, ◌^◌, ◌-◌, codes, false, true, IfOk};
+ghost use Rattle.mach_cli.specs.Bounds.{limit_of};
+ghost use Rattle.mach_cli.specs.ShownCalls.{ShowsJson, ShowsText};
+ghost use Rattle.machsyms.specs.ImageLines.{AreSelectedLines};
+ghost use Rattle.machsyms.specs.JsonSymbols.{AreSelectedMembers};
+
 // Which symbols are selected and shown, and how.
 mod arguments;
 mod json;
@@ -35,18 +41,17 @@ mod text;
 // The words of `nm -m` for a symbol.
 mod nm;
 
-use arguments::{Letters, names_files, selected_of, take_letters};
-use json::run_json;
-use mach_cli::{Call, Cpu, FileView, Files, ForTerminal, Misuse, Program, Titled, take_json};
-use selection::Request;
-use std::alloc::{Allocator, Global};
+use arguments::{Letters, names_files, take_letters};
+use json::SymbolObjectsOf;
+use mach_cli::{Call, ForTerminal, ImageFiles, Misuse, Others, Program, Titled, take_json};
+use std::alloc::Global;
 use std::io;
 use std::io::{BufWriter, IsTerminal, Write};
 use std::process::ExitCode;
-use symbol_view::{NAME, run};
+use symbol_view::SymbolLinesOf;
 
 const PROGRAM: Program = Program {
-    name: NAME,
+    name: "machsyms",
     usage: "usage: machsyms [-AUagjmnoprux] [--raw] [--json] [--limit N] [--arch NAME | --cputype 0xN] \
         [--names FILE [-0]] FILE..\n       machsyms -h | --help | --version\n",
     version: "machsyms 0.2.0\n",
@@ -91,60 +96,77 @@ fn start(rt: &HostRuntime) -> Result<u8, u8> {
         return Err(PROGRAM.out_of_memory(rt));
     };
     let call = PROGRAM.call(rt, &words)?;
-    let symbols = Symbols {
-        cpu: call.cpu,
-        letters,
-        is_raw,
-        limit: call.limit.unwrap_or(usize::MAX),
-        is_json,
-    };
-    show_files(rt, symbols, &call)
+    show_files(rt, letters, is_raw, is_json, &call)
 }
 
-// What is shown of each file: lines by some letters, or objects.
-#[derive(Clone, Copy)]
-struct Symbols {
-    cpu: Cpu,
+// Shows the selected symbols of files in order, and returns the worst status.
+fn show_files(
+    rt: &HostRuntime,
     letters: Option<Letters>,
     is_raw: bool,
-    limit: usize,
     is_json: bool,
-}
-
-impl<W: Write + Drop, B: Allocator> FileView<BufWriter<W, B>> for Symbols {
-    fn show(&self, rt: &HostRuntime, name: &str, bytes: &[u8], out: &mut BufWriter<W, B>) -> u8 {
-        let (alloc, err) = (rt.alloc(), &mut rt.stderr());
-        let Symbols {
-            cpu,
-            letters,
-            is_raw,
-            limit,
-            is_json,
-        } = *self;
-        let request = selected_of(letters, is_raw, name);
-        if is_json {
-            run_json(alloc, cpu, request, limit, name, bytes, out, err)
-        } else {
-            run(alloc, cpu, request, limit, name, bytes, out, err)
-        }
-    }
-}
-
-// Shows the selected images of files in order, and returns the worst status.
-fn show_files(rt: &HostRuntime, symbols: Symbols, call: &Call<'_, Global>) -> Result<u8, u8> {
+    call: &Call<'_, Global>,
+) -> Result<u8, u8> {
     let (files, others) = (&call.words, &call.others);
     if files.is_empty() && others.is_empty() {
         return Err(PROGRAM.bad_usage(rt, Misuse::Missing("FILE")));
     }
     let output = ForTerminal::new(io::writer(rt), rt.stdout().is_terminal());
-    let Ok(mut lines) = BufWriter::new(rt.alloc(), Titled::new(rt.alloc(), output)) else {
+    let Ok(mut out) = BufWriter::new(rt.alloc(), Titled::new(rt.alloc(), output)) else {
         return Err(PROGRAM.out_of_memory(rt));
     };
-    let shown = Files {
+    show(
+        rt,
+        &shown_by(call, letters, is_raw, is_json),
+        files,
+        others,
+        &mut out,
+    )
+}
+
+// Returns how a call shows its files: the symbols that letters select, as lines or as objects.
+fn shown_by(
+    call: &Call<'_, Global>,
+    letters: Option<Letters>,
+    is_raw: bool,
+    is_json: bool,
+) -> ImageFiles<SymbolLinesOf, SymbolObjectsOf>
+    ensures program { result.program.name.now ≡ codes "machsyms" }
+    ensures cpu { result.cpu ≡ call.now.cpu }
+    ensures limit { result.limit ≡ limit_of call.now.limit (2 ^ 64 - 1) }
+    ensures form { result.is_json ≡ is_json }
+    ensures lines { result.lines ≡ record { letters = letters; is_raw = is_raw } }
+    ensures objects { result.objects ≡ record { letters = letters; is_raw = is_raw } }
+{
+    ImageFiles {
         program: PROGRAM,
-        cpu: symbols.cpu,
-        has_titles: !symbols.is_json && !names_files(symbols.letters),
-        has_parts: true,
-    };
-    shown.show(rt, &symbols, files, others, &mut lines)
+        cpu: call.cpu,
+        limit: call.limit.unwrap_or(usize::MAX),
+        is_json,
+        has_titles: !names_files(letters),
+        lines: SymbolLinesOf { letters, is_raw },
+        objects: SymbolObjectsOf { letters, is_raw },
+    }
+}
+
+// Shows files in order, and returns the worst status.
+fn show<W: Write + Drop>(
+    rt: &HostRuntime,
+    shown: &ImageFiles<SymbolLinesOf, SymbolObjectsOf>,
+    files: &[&str],
+    others: &Others<'_, Global>,
+    out: &mut BufWriter<Titled<W>>,
+) -> Result<u8, u8>
+    ensures text { let s = shown.now in s.is_json ≡ false
+        → IfOk result (ShowsText s s.program.name.now (AreSelectedLines s.lines.letters s.lines.is_raw) W.contents files.now others.now out.old out.new) }
+    ensures json { let s = shown.now in s.is_json ≡ true
+        → IfOk result (ShowsJson s s.program.name.now (AreSelectedMembers s.objects.letters s.objects.is_raw) W.contents
+        files.now others.now out.old out.new) }
+{
+    let call = shown.files();
+    if shown.is_json {
+        call.show(rt, &shown.as_json(), files, others, out)
+    } else {
+        call.show(rt, &shown.as_text(), files, others, out)
+    }
 }

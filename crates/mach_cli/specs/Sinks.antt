@@ -1,0 +1,61 @@
+-- How a file and its images are written: as text, or as an object of JSON on a line (RFC 8259).
+use Rattle.std.specs.Prelude.{ℕ, List, [], ◌++◌, codes}
+use Rattle.mach_cli.specs.JsonArrays.{error_end}
+use Rattle.mach_cli.specs.JsonText.{json_string}
+use Rattle.mach_cli.specs.Labels.{LabelView, unlabelled, of_entry, of_member, label_line, object_front}
+
+pub record SinkTexts : Type 0 where
+  -- before the images of a file, and after them, by the kind and the name of the file
+  pub file_front : List ℕ
+  pub file_end : (kind name : List ℕ) → List ℕ
+  -- in place of both: why nothing is shown of the file
+  pub refused_file : (name words : List ℕ) → List ℕ
+  -- between two images
+  pub separator : List ℕ
+  -- before what a program shows of an image, and after it
+  pub image_front : LabelView → List ℕ
+  pub image_end : List ℕ
+  -- in place of that and its end: that it is an archive, which has no member; or why it isn't shown
+  pub archive : List ℕ
+  pub refused_image : LabelView → (words : List ℕ) → List ℕ
+
+-- an image that is the whole file is refused on the error output alone
+abbrev pub refused_text : LabelView → (words : List ℕ) → List ℕ
+refused_text unlabelled words = []
+refused_text (of_entry i) words = codes "refused: " ++ (words ++ codes "\n")
+refused_text (of_member i m) words = codes "refused: " ++ (words ++ codes "\n")
+
+-- Each image has a line with its label above it.
+abbrev pub text_texts : SinkTexts
+text_texts = record {
+  file_front = [];
+  file_end = λ kind name. [];
+  refused_file = λ name words. [];
+  separator = [];
+  image_front = label_line;
+  image_end = [];
+  archive = codes "archive\n";
+  refused_image = refused_text;
+}
+
+-- what follows the objects of the images of a file
+abbrev pub document_end : (kind name : List ℕ) → List ℕ
+document_end kind name = codes "],\"kind\":\"" ++ (kind ++ (codes "\",\"name\":" ++ (json_string name ++ codes "}\n")))
+
+-- the object of a file of which nothing is shown, and why
+abbrev pub refusal_object : (name words : List ℕ) → List ℕ
+refusal_object name words = codes "{\"error\":\"" ++ (words ++ (codes "\",\"images\":[],\"name\":" ++ (json_string name ++ codes "}\n")))
+
+-- Each file is an object, and each image an element of its array. The words of a refusal need no escapes: they are fixed texts
+-- and numbers.
+abbrev pub json_texts : SinkTexts
+json_texts = record {
+  file_front = codes "{\"images\":[";
+  file_end = document_end;
+  refused_file = refusal_object;
+  separator = codes ",";
+  image_front = object_front;
+  image_end = codes "}";
+  archive = codes "\"kind\":\"archive\"}";
+  refused_image = λ label words. error_end words;
+}

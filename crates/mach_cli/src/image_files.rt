@@ -1,0 +1,69 @@
+//! How a call shows the images of its files, as text or as JSON.
+
+ghost use Rattle.std.specs.Prelude.{◌≡◌};
+ghost use Rattle.mach_cli.specs.ShownCalls.{files_of};
+
+use crate::cpu::Cpu;
+use crate::files::Files;
+use crate::images_view::ImagesView;
+use crate::program::Program;
+use crate::sink::{Json, Text};
+
+/// How a call shows the images of its files: the lines of one view as text, or the objects of another as JSON.
+#[derive(Clone, Copy)]
+pub struct ImageFiles<T, J> {
+    /// The program that is called.
+    pub program: Program,
+    /// The cpu whose images are selected.
+    pub cpu: Cpu,
+    /// The number of lines or rows of a file.
+    pub limit: usize,
+    /// Whether objects are shown.
+    pub is_json: bool,
+    /// Whether text may have titles.
+    pub has_titles: bool,
+    /// The lines of an image.
+    pub lines: T,
+    /// The members of an image's object.
+    pub objects: J,
+}
+
+impl<T: Copy, J: Copy> ImageFiles<T, J> {
+    /// Returns how the files are shown: part by part, without titles if objects are shown.
+    pub fn files(&self) -> Files
+        ensures { result ≡ files_of self.now }
+    {
+        Files {
+            program: self.program,
+            cpu: self.cpu,
+            has_titles: self.has_titles & !self.is_json,
+            has_parts: true,
+        }
+    }
+
+    /// Returns what is shown of each file as text.
+    pub fn as_text(&self) -> ImagesView<T, Text>
+        ensures { let s = self.now in result ≡ record { program = s.program; cpu = s.cpu; limit = s.limit; view = s.lines; sink = record {} } }
+    {
+        ImagesView {
+            program: self.program,
+            cpu: self.cpu,
+            limit: self.limit,
+            view: self.lines,
+            sink: Text,
+        }
+    }
+
+    /// Returns what is shown of each file as JSON.
+    pub fn as_json(&self) -> ImagesView<J, Json>
+        ensures { let s = self.now in result ≡ record { program = s.program; cpu = s.cpu; limit = s.limit; view = s.objects; sink = record {} } }
+    {
+        ImagesView {
+            program: self.program,
+            cpu: self.cpu,
+            limit: self.limit,
+            view: self.objects,
+            sink: Json,
+        }
+    }
+}

@@ -1,0 +1,172 @@
+//! How a file and its images are written: as text, or as JSON (RFC 8259).
+
+ghost use Rattle.std.specs.Prelude.{◌≡◌, OnOk};
+ghost use Rattle.std.specs.Io.KnownBytes.{Appends};
+ghost use Rattle.mach_cli.specs.Labels.{label_view};
+ghost use Rattle.mach_cli.specs.Refusals.{refusal_reason};
+ghost use Rattle.mach_cli.specs.Sinks.{json_texts, text_texts};
+
+use crate::json::text::JsonString;
+use crate::label::{Label, LabelLine, ObjectFront};
+use crate::refusal::Refusal;
+use std::io;
+use std::io::Write;
+
+/// Writes what the images of a file are put into. The output of an image itself is a program's.
+pub trait Sink: Copy {
+    ghost use Rattle.std.specs.Prelude.{OnOk};
+    ghost use Rattle.std.specs.Io.KnownBytes.{Appends};
+    ghost use Rattle.mach_cli.specs.Labels.{label_view};
+    ghost use Rattle.mach_cli.specs.Refusals.{refusal_reason};
+    ghost use Rattle.mach_cli.specs.Sinks.{SinkTexts};
+
+    ghost texts: { SinkTexts };
+
+    /// Begins a file that has images.
+    fn begin_file<O: Write>(&self, out: &mut O) -> io::Result<()>
+        ensures { OnOk result (Appends (O.contents out.old) (O.contents out.new) texts.file_front) };
+
+    /// Ends a file of this kind and name.
+    fn end_file<O: Write>(&self, kind: &str, name: &str, out: &mut O) -> io::Result<()>
+        ensures { OnOk result (Appends (O.contents out.old) (O.contents out.new) (texts.file_end kind.now name.now)) };
+
+    /// Writes, in place of its images, why nothing is shown of a file of this name.
+    fn refuse_file<O: Write>(&self, name: &str, refusal: Refusal<'_>, out: &mut O) -> io::Result<()>
+        ensures { OnOk result (Appends (O.contents out.old) (O.contents out.new) (texts.refused_file name.now (refusal_reason refusal.entry))) };
+
+    /// Writes what is between two images.
+    fn separate<O: Write>(&self, out: &mut O) -> io::Result<()>
+        ensures { OnOk result (Appends (O.contents out.old) (O.contents out.new) texts.separator) };
+
+    /// Begins an image with this label.
+    fn begin_image<O: Write>(&self, label: Label<'_>, out: &mut O) -> io::Result<()>
+        ensures { OnOk result (Appends (O.contents out.old) (O.contents out.new) (texts.image_front (label_view label.entry))) };
+
+    /// Ends an image whose output is written.
+    fn end_image<O: Write>(&self, out: &mut O) -> io::Result<()>
+        ensures { OnOk result (Appends (O.contents out.old) (O.contents out.new) texts.image_end) };
+
+    /// Writes, in place of an image's output, that it is an archive without members, and ends it.
+    fn end_archive<O: Write>(&self, out: &mut O) -> io::Result<()>
+        ensures { OnOk result (Appends (O.contents out.old) (O.contents out.new) texts.archive) };
+
+    /// Writes, in place of its output, why an image with this label isn't shown, and ends it.
+    fn refuse_image<O: Write>(
+        &self,
+        label: Label<'_>,
+        refusal: Refusal<'_>,
+        out: &mut O,
+    ) -> io::Result<()>
+        ensures { OnOk result (Appends (O.contents out.old) (O.contents out.new)
+            (texts.refused_image (label_view label.entry) (refusal_reason refusal.entry))) };
+}
+
+/// Text: each image of a fat file has a line with its label above it.
+#[derive(Clone, Copy)]
+pub struct Text;
+
+impl Sink for Text {
+    ghost texts = { text_texts };
+
+    fn begin_file<O: Write>(&self, _out: &mut O) -> io::Result<()> {
+        Ok(())
+    }
+
+    fn end_file<O: Write>(&self, _kind: &str, _name: &str, _out: &mut O) -> io::Result<()> {
+        Ok(())
+    }
+
+    fn refuse_file<O: Write>(
+        &self,
+        _name: &str,
+        _refusal: Refusal<'_>,
+        _out: &mut O,
+    ) -> io::Result<()> {
+        Ok(())
+    }
+
+    fn separate<O: Write>(&self, _out: &mut O) -> io::Result<()> {
+        Ok(())
+    }
+
+    fn begin_image<O: Write>(&self, label: Label<'_>, out: &mut O) -> io::Result<()> {
+        let line = LabelLine(label);
+        write!(out, "{line}")
+    }
+
+    fn end_image<O: Write>(&self, _out: &mut O) -> io::Result<()> {
+        Ok(())
+    }
+
+    fn end_archive<O: Write>(&self, out: &mut O) -> io::Result<()> {
+        writeln!(out, "archive")
+    }
+
+    fn refuse_image<O: Write>(
+        &self,
+        label: Label<'_>,
+        refusal: Refusal<'_>,
+        out: &mut O,
+    ) -> io::Result<()> {
+        match label {
+            Label::None => Ok(()),
+            Label::Entry(_) | Label::Member(_, _) => writeln!(out, "refused: {refusal}"),
+        }
+    }
+}
+
+/// JSON: one object on a line for each file, with an array of the objects of its images.
+#[derive(Clone, Copy)]
+pub struct Json;
+
+impl Sink for Json {
+    ghost texts = { json_texts };
+
+    fn begin_file<O: Write>(&self, out: &mut O) -> io::Result<()> {
+        write!(out, "{{\"images\":[")
+    }
+
+    fn end_file<O: Write>(&self, kind: &str, name: &str, out: &mut O) -> io::Result<()> {
+        let name = JsonString(name);
+        writeln!(out, "],\"kind\":\"{kind}\",\"name\":{name}}}")
+    }
+
+    fn refuse_file<O: Write>(
+        &self,
+        name: &str,
+        refusal: Refusal<'_>,
+        out: &mut O,
+    ) -> io::Result<()> {
+        let name = JsonString(name);
+        writeln!(
+            out,
+            "{{\"error\":\"{refusal}\",\"images\":[],\"name\":{name}}}"
+        )
+    }
+
+    fn separate<O: Write>(&self, out: &mut O) -> io::Result<()> {
+        write!(out, ",")
+    }
+
+    fn begin_image<O: Write>(&self, label: Label<'_>, out: &mut O) -> io::Result<()> {
+        let front = ObjectFront(label);
+        write!(out, "{front}")
+    }
+
+    fn end_image<O: Write>(&self, out: &mut O) -> io::Result<()> {
+        write!(out, "}}")
+    }
+
+    fn end_archive<O: Write>(&self, out: &mut O) -> io::Result<()> {
+        write!(out, "\"kind\":\"archive\"}}")
+    }
+
+    fn refuse_image<O: Write>(
+        &self,
+        _label: Label<'_>,
+        refusal: Refusal<'_>,
+        out: &mut O,
+    ) -> io::Result<()> {
+        write!(out, "\"error\":\"{refusal}\"}}")
+    }
+}
