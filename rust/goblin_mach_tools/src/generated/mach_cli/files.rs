@@ -6,7 +6,7 @@ use crate::shim::rt::Eprint;
 use crate::shim::rt::HostRuntime;
 
 use crate::generated::mach_cli::cpu::Cpu;
-use crate::generated::mach_cli::file_sequence::Round;
+use crate::generated::mach_cli::label::Label;
 use crate::generated::mach_cli::named::{Others, names_of};
 use crate::generated::mach_cli::names::Names;
 use crate::generated::mach_cli::parts::parts_of;
@@ -14,12 +14,14 @@ use crate::generated::mach_cli::parts::selection::{is_for, is_missed};
 use crate::generated::mach_cli::parts::shown::{ShownPart, shown_part};
 use crate::generated::mach_cli::program::Program;
 use crate::generated::mach_cli::progress::Progress;
+use crate::generated::mach_cli::refusal::{Refusal, complain};
 use crate::generated::mach_cli::titled::{Titled, put_title, title_of};
 use crate::generated::mach_cli::word::NoText;
+use crate::shim::AllocError;
 use crate::shim::io::{BufWriter, IsTerminal, Write};
 use core::str;
 use goblin_mach::generated::mach::InputItem;
-use goblin_mach::generated::mach_base::{Error, describe};
+use goblin_mach::generated::mach_base::describe;
 
 /// What a program shows of a file.
 pub trait FileView<W> {
@@ -27,7 +29,8 @@ pub trait FileView<W> {
     ///
     /// # Proved
     ///
-    /// - `IsStatus result`
+    /// - *status*: `IsStatus result`
+    /// - *shown*: if `result ≤ 1`, `shows self name bytes out.old out.new result`
     fn show(&self, rt: &HostRuntime, name: &str, bytes: &[u8], out: &mut W) -> u8;
 }
 
@@ -44,13 +47,25 @@ pub struct Files {
     pub has_parts: bool,
 }
 
-// The state of a call: how far it has come.
+// A call over files.
 #[derive(Clone, Copy)]
-struct Going {
-    round: Round,
-    progress: Progress,
+struct Running {
+    files: Files,
     // Whether there may be several files.
     are_several: bool,
+}
+
+// Returns the status of a file that is shown. After a failed write nothing else is shown: its status is an error.
+fn unless_unwritten(status: u8) -> Result<u8, u8> {
+    if status > 1 {
+        return Err(status);
+    }
+    Ok(status)
+}
+
+// Returns the worse of two statuses.
+fn worse(worst: u8, status: u8) -> u8 {
+    worst.max(status)
 }
 
 impl Files {
@@ -59,7 +74,7 @@ impl Files {
     ///
     /// # Proved
     ///
-    /// - *worst*: if `Ok(status)`: `status ≤ 2`
+    /// - *shown*: if `Ok(worst)`: `ShowsFiles self (S.shows shows) files others out.old out.new worst`
     /// - *unwritten*: if `Err(status)`: `IsUnwritten status`
     pub fn show<S: FileView<BufWriter<Titled<W>>>, W: Write>(
         &self,
@@ -69,100 +84,190 @@ impl Files {
         others: &Others<'_>,
         out: &mut BufWriter<Titled<W>>,
     ) -> Result<u8, u8> {
-        let mut going = Going {
-            // (the output of a file has a title of its own)
-            round: Round::new(self.program, 1),
-            progress: Progress::new(rt, rt.stderr().is_terminal()),
+        let call = Running {
+            files: *self,
             are_several: others.are_several(files.len()),
         };
-        for word in others.no_texts.iter() {
-            going.round.note(self.refuse_word(rt, *word));
-        }
+        let mut progress = Progress::new(rt, rt.stderr().is_terminal());
+        let of_words = call.refuse_words(rt, others.no_texts.as_slice());
+        let of_files = call.show_files(rt, shows, &mut progress, files, out)?;
+        let (lists, end) = (others.lists.as_slice(), others.name_end());
+        let of_lists = call.show_lists(rt, shows, &mut progress, lists, end, out)?;
+        Ok(worse(worse(of_words, of_files), of_lists))
+    }
+}
+
+impl Running {
+    // Shows files in order, and returns the worst status.
+    fn show_files<S: FileView<BufWriter<Titled<W>>>, W: Write>(
+        &self,
+        rt: &HostRuntime,
+        shows: &S,
+        progress: &mut Progress,
+        files: &[&str],
+        out: &mut BufWriter<Titled<W>>,
+    ) -> Result<u8, u8> {
+        let mut worst = 0u8;
         for file in files {
-            self.show_file(rt, shows, &mut going, file, out)?;
+            let status = self.show_file(rt, shows, progress, file, out)?;
+            worst = worse(worst, status);
         }
-        for list in others.lists.iter() {
-            self.show_listed(rt, shows, &mut going, list, others.name_end(), out)?;
-        }
-        Ok(going.round.worst)
+        Ok(worst)
     }
 
-    // Shows the files of a list, and keeps the worst status. Empty names are skipped.
+    // Shows the files of some lists, each of whose names ends with a byte, and returns the worst status.
+    fn show_lists<S: FileView<BufWriter<Titled<W>>>, W: Write>(
+        &self,
+        rt: &HostRuntime,
+        shows: &S,
+        progress: &mut Progress,
+        lists: &[&str],
+        end: u8,
+        out: &mut BufWriter<Titled<W>>,
+    ) -> Result<u8, u8> {
+        let mut worst = 0u8;
+        for list in lists {
+            let status = self.show_listed(rt, shows, progress, list, end, out)?;
+            worst = worse(worst, status);
+        }
+        Ok(worst)
+    }
+
+    // Shows the files of a list, and returns the worst status. Empty names are skipped.
     fn show_listed<S: FileView<BufWriter<Titled<W>>>, W: Write>(
         &self,
         rt: &HostRuntime,
         shows: &S,
-        going: &mut Going,
+        progress: &mut Progress,
         list: &str,
         end: u8,
         out: &mut BufWriter<Titled<W>>,
-    ) -> Result<(), u8> {
-        let bytes = match self.program.read(rt, list) {
-            Ok(bytes) => bytes,
-            Err(status) => {
-                going.round.note(status);
-                return Ok(());
-            }
-        };
-        let Ok(names) = names_of(end, &bytes) else {
-            going.round.note(self.program.no_memory_for(rt, list));
-            return Ok(());
-        };
-        for (index, name) in names.iter().enumerate() {
-            match str::from_utf8(name) {
-                Ok("") => {}
-                Ok(file) => self.show_file(rt, shows, going, file, out)?,
-                Err(_) => going.round.note(self.refuse_name(rt, list, index, name)),
-            }
+    ) -> Result<u8, u8> {
+        match self.files.program.read(rt, list) {
+            Ok(bytes) => self.show_list(rt, shows, progress, list, end, &bytes, out),
+            Err(status) => Ok(status),
         }
-        Ok(())
     }
 
-    // Shows a file, and keeps the worst status. If a call of many files takes long, a terminal shows which file begins.
+    // Shows the files whose names are the bytes of a list, and returns the worst status.
+    fn show_list<S: FileView<BufWriter<Titled<W>>>, W: Write>(
+        &self,
+        rt: &HostRuntime,
+        shows: &S,
+        progress: &mut Progress,
+        list: &str,
+        end: u8,
+        bytes: &[u8],
+        out: &mut BufWriter<Titled<W>>,
+    ) -> Result<u8, u8> {
+        match names_of(end, bytes) {
+            Ok(names) => self.show_names(rt, shows, progress, list, names.as_slice(), out),
+            Err(AllocError) => Ok(self.files.program.no_memory_for(rt, list)),
+        }
+    }
+
+    // Shows the files of these names, which are in a list, and returns the worst status.
+    fn show_names<S: FileView<BufWriter<Titled<W>>>, W: Write>(
+        &self,
+        rt: &HostRuntime,
+        shows: &S,
+        progress: &mut Progress,
+        list: &str,
+        names: &[&[u8]],
+        out: &mut BufWriter<Titled<W>>,
+    ) -> Result<u8, u8> {
+        let mut worst = 0u8;
+        for (index, name) in names.iter().enumerate() {
+            let status = self.show_name(rt, shows, progress, list, index, name, out)?;
+            worst = worse(worst, status);
+        }
+        Ok(worst)
+    }
+
+    // Shows the file of this name, which has this index in a list, and returns the status.
+    fn show_name<S: FileView<BufWriter<Titled<W>>>, W: Write>(
+        &self,
+        rt: &HostRuntime,
+        shows: &S,
+        progress: &mut Progress,
+        list: &str,
+        index: usize,
+        name: &[u8],
+        out: &mut BufWriter<Titled<W>>,
+    ) -> Result<u8, u8> {
+        if name.is_empty() {
+            return Ok(0);
+        }
+        match str::from_utf8(name) {
+            Ok(file) => self.show_file(rt, shows, progress, file, out),
+            Err(_) => Ok(self.refuse_name(rt, list, index, name)),
+        }
+    }
+
+    // Shows a file, and returns the status. If a call of many files takes long, a terminal shows which file begins.
     fn show_file<S: FileView<BufWriter<Titled<W>>>, W: Write>(
         &self,
         rt: &HostRuntime,
         shows: &S,
-        going: &mut Going,
+        progress: &mut Progress,
         file: &str,
         out: &mut BufWriter<Titled<W>>,
-    ) -> Result<(), u8> {
-        going
-            .progress
-            .begin(rt, self.program.name, file, &mut rt.stderr());
-        let are_several = going.are_several;
-        match going.round.begin(rt, file, out) {
-            Some(bytes) if self.has_parts => {
-                self.show_parts(rt, shows, &mut going.round, file, &bytes, are_several, out)
-            }
-            Some(bytes) => {
-                let status = self.show_named(rt, shows, file, &bytes, are_several, out);
-                going.round.end(status)
-            }
-            None => Ok(()),
+    ) -> Result<u8, u8> {
+        progress.begin(rt, self.files.program.name, file, &mut rt.stderr());
+        match self.files.program.read(rt, file) {
+            Ok(bytes) => self.show_bytes(rt, shows, file, &bytes, out),
+            Err(status) => Ok(status),
         }
     }
 
-    // Shows the selected parts of a file, and keeps the worst status.
+    // Shows the bytes of a file, and returns the status.
+    fn show_bytes<S: FileView<BufWriter<Titled<W>>>, W: Write>(
+        &self,
+        rt: &HostRuntime,
+        shows: &S,
+        file: &str,
+        bytes: &[u8],
+        out: &mut BufWriter<Titled<W>>,
+    ) -> Result<u8, u8> {
+        if !self.files.has_parts {
+            return self.show_named(rt, shows, file, bytes, self.are_several, out);
+        }
+        if is_missed(self.files.cpu, bytes) {
+            return Ok(self.miss(rt, file));
+        }
+        self.show_parts(rt, shows, file, bytes, out)
+    }
+
+    // Shows the selected parts of a file, and returns the worst status.
     fn show_parts<S: FileView<BufWriter<Titled<W>>>, W: Write>(
         &self,
         rt: &HostRuntime,
         shows: &S,
-        round: &mut Round,
         file: &str,
         bytes: &[u8],
-        are_several: bool,
         out: &mut BufWriter<Titled<W>>,
-    ) -> Result<(), u8> {
-        if is_missed(self.cpu, bytes) {
-            return round.end(self.miss(rt, file));
-        }
+    ) -> Result<u8, u8> {
+        let mut worst = 0u8;
         for part in parts_of(bytes) {
-            if is_for(self.cpu, &part.place) {
-                round.end(self.show_part(rt, shows, file, part, are_several, out))?;
-            }
+            let status = self.show_selected(rt, shows, file, part, out)?;
+            worst = worse(worst, status);
         }
-        Ok(())
+        Ok(worst)
+    }
+
+    // Shows a part of a file, if it is selected, and returns the status.
+    fn show_selected<S: FileView<BufWriter<Titled<W>>>, W: Write>(
+        &self,
+        rt: &HostRuntime,
+        shows: &S,
+        file: &str,
+        part: InputItem<'_>,
+        out: &mut BufWriter<Titled<W>>,
+    ) -> Result<u8, u8> {
+        if !is_for(self.files.cpu, &part.place) {
+            return Ok(0);
+        }
+        self.show_part(rt, shows, file, part, out)
     }
 
     // Shows a part of a file, and returns the status.
@@ -172,23 +277,36 @@ impl Files {
         shows: &S,
         file: &str,
         part: InputItem<'_>,
-        are_several: bool,
         out: &mut BufWriter<Titled<W>>,
-    ) -> u8 {
-        let entry = part.place.entry;
+    ) -> Result<u8, u8> {
+        let label = Label::of(&part);
         match shown_part(file, part) {
-            Ok(ShownPart::Nothing) => 0,
-            Ok(ShownPart::Itself(bytes)) => {
-                self.show_named(rt, shows, file, bytes, are_several, out)
-            }
-            Ok(ShownPart::Within(name, bytes)) => {
-                self.show_named(rt, shows, &name, bytes, true, out)
-            }
-            Err(error) => self.refuse(rt, file, entry, &error),
+            Ok(shown) => self.show_content(rt, shows, file, shown, out),
+            Err(error) => Ok(self.refuse(rt, file, label, Refusal::Fault(describe(&error)))),
         }
     }
 
-    // Shows a file or a part of this name, and returns the status.
+    // Shows what is shown of a part of a file, and returns the status.
+    fn show_content<S: FileView<BufWriter<Titled<W>>>, W: Write>(
+        &self,
+        rt: &HostRuntime,
+        shows: &S,
+        file: &str,
+        part: ShownPart<'_>,
+        out: &mut BufWriter<Titled<W>>,
+    ) -> Result<u8, u8> {
+        match part {
+            ShownPart::Nothing => Ok(0),
+            ShownPart::Itself(bytes) => {
+                self.show_named(rt, shows, file, bytes, self.are_several, out)
+            }
+            ShownPart::Within(name, bytes) => {
+                self.show_named(rt, shows, name.as_str(), bytes, true, out)
+            }
+        }
+    }
+
+    // Shows bytes under a name, with a title if they may have one, and returns the status.
     fn show_named<S: FileView<BufWriter<Titled<W>>>, W: Write>(
         &self,
         rt: &HostRuntime,
@@ -197,34 +315,37 @@ impl Files {
         bytes: &[u8],
         is_titled: bool,
         out: &mut BufWriter<Titled<W>>,
-    ) -> u8 {
-        let Ok(title) = title_of(is_titled & self.has_titles, name) else {
-            return self.program.no_memory_for(rt, name);
-        };
-        put_title(out, title);
-        shows.show(rt, name, bytes, out)
+    ) -> Result<u8, u8> {
+        match title_of(is_titled & self.files.has_titles, name) {
+            Ok(title) => {
+                put_title(out, title);
+                unless_unwritten(shows.show(rt, name, bytes, out))
+            }
+            Err(AllocError) => Ok(self.files.program.no_memory_for(rt, name)),
+        }
     }
 
     // Reports that no part of a file is selected, and returns the status.
     fn miss(&self, rt: &HostRuntime, file: &str) -> u8 {
-        let (names, cpu) = (self.names(file), self.cpu);
-        let _ = rt.eprintln(format_args!("{names}: no entry of {cpu}"));
-        1
+        self.refuse(rt, file, Label::None, Refusal::NoEntry(self.files.cpu))
     }
 
-    // Reports that a part is refused, and returns the status.
-    fn refuse(&self, rt: &HostRuntime, file: &str, entry: Option<usize>, error: &Error) -> u8 {
-        let (names, words) = (self.names(file), describe(error));
-        let _ = match entry {
-            Some(index) => rt.eprintln(format_args!("{names}: arch {index}: {words}")),
-            None => rt.eprintln(format_args!("{names}: {words}")),
+    // Reports that a file, or a part with this label, is refused, and returns the status.
+    fn refuse(&self, rt: &HostRuntime, file: &str, label: Label<'_>, refusal: Refusal<'_>) -> u8 {
+        let names = Names {
+            program: self.files.program.name,
+            file,
         };
+        let _ = complain(names, label, refusal, &mut rt.stderr());
         1
     }
 
     // Reports that a name in a list isn't text, and returns the status.
     fn refuse_name(&self, rt: &HostRuntime, list: &str, index: usize, bytes: &[u8]) -> u8 {
-        let names = self.names(list);
+        let names = Names {
+            program: self.files.program.name,
+            file: list,
+        };
         let no_text = NoText {
             what: "name",
             number: index.saturating_add(1),
@@ -234,18 +355,12 @@ impl Files {
         2
     }
 
-    // Reports that an argument isn't text, and returns the status.
-    fn refuse_word(&self, rt: &HostRuntime, word: NoText<'_>) -> u8 {
-        let program = self.program.name;
-        let _ = rt.eprintln(format_args!("{program}: {word}"));
-        2
-    }
-
-    // Returns the prefix of a file's complaints.
-    fn names<'a>(&'a self, file: &'a str) -> Names<'a> {
-        Names {
-            program: self.program.name,
-            file,
+    // Reports each argument that isn't text, and returns the status.
+    fn refuse_words(&self, rt: &HostRuntime, words: &[NoText<'_>]) -> u8 {
+        let program = self.files.program.name;
+        for word in words {
+            let _ = rt.eprintln(format_args!("{program}: {word}"));
         }
+        if words.is_empty() { 0 } else { 2 }
     }
 }

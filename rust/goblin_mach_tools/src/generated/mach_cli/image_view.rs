@@ -3,8 +3,6 @@
 #![forbid(unsafe_code)]
 
 use crate::generated::mach_cli::failure::ShowFailure;
-use crate::generated::mach_cli::heading::Heading;
-use crate::generated::mach_cli::names::Names;
 use crate::shim::io::Write;
 use goblin_mach::generated::mach::MachO;
 
@@ -19,24 +17,18 @@ pub struct Outcome {
 
 /// A program's call: what it shows of an image.
 pub trait ImageView {
-    /// Returns the names of the program and of the file, with which complaints begin.
+    /// Shows an image of a file with at most `left` of the `limit` lines of the file, and returns whether it is whole, and how
+    /// many lines are left. It allocates all its memory before it writes.
     ///
     /// # Proved
     ///
-    /// - `names_text result.program result.file ≡ names self`
-    fn names(&self) -> Names<'_>;
-
-    /// Shows an image under its heading, with at most `left` lines, and returns whether it is whole, and how many lines are left.
-    /// It allocates all its memory before it writes the heading.
-    ///
-    /// # Proved
-    ///
-    /// - *shown*: for each `bytes : List ℕ`, if `IsImage bytes 0 image`, if `Ok(outcome)`: there is `text : List ℕ` with: `lines self left bytes text outcome.whole outcome.left × Appends (O.contents out.old) (O.contents out.new) (heading_text heading ++ text)`
+    /// - *shown*: for each `bytes : List ℕ`, if `IsImage bytes 0 image`, if `Ok(outcome)`: there is `text : List ℕ` with: `lines self file limit left bytes text outcome.whole outcome.left × Appends (O.contents out.old) (O.contents out.new) text`
     /// - *memory*: if `Err(e)`: `IfMemory (Appends (O.contents out.old) (O.contents out.new) []) e`
     fn show<O: Write>(
         &self,
+        file: &str,
         image: &MachO<'_>,
-        heading: Heading,
+        limit: usize,
         left: usize,
         out: &mut O,
     ) -> Result<Outcome, ShowFailure>;

@@ -26,6 +26,10 @@ impl Others<'_> {
     }
 
     /// Whether these files and `words` others may be several.
+    ///
+    /// # Proved
+    ///
+    /// - `result ≡ are_several words self.lists.items self.no_texts.items`
     pub fn are_several(&self, words: usize) -> bool {
         !self.lists.is_empty() || words.saturating_add(self.no_texts.len()) > 1
     }

@@ -8,6 +8,7 @@ use alloc::string::String;
 
 // The audit of a file: whether it opens, and each part that can't be read or lies where it must not.
 mod audit;
+mod audits;
 mod lists;
 mod overlaid;
 mod report;
@@ -24,16 +25,13 @@ mod output;
 mod signature_text;
 mod text;
 
-use crate::generated::mach_cli::output::failed;
-use crate::generated::mach_cli::{
-    Cpu, FileView, Files, ForTerminal, Misuse, Program, ShowFailure, Titled,
-};
+use crate::generated::mach_cli::{Files, ForTerminal, Misuse, Program, Titled};
+use crate::generated::machaudit::audits::Audits;
 use crate::generated::machaudit::options::{DEFAULT_LIMIT, Format, Options, take_format};
-use crate::generated::machaudit::output::{Call, NAME};
-use crate::generated::machaudit::selection::run_for;
+use crate::generated::machaudit::output::NAME;
 use crate::shim::AllocError;
 use crate::shim::io;
-use crate::shim::io::{BufWriter, IsTerminal, Write};
+use crate::shim::io::{BufWriter, IsTerminal};
 use std::process::ExitCode;
 
 const PROGRAM: Program = Program {
@@ -116,28 +114,4 @@ fn only_of(are_several: bool, files: &[&str]) -> Result<String, AllocError> {
         }
     }
     Ok(only)
-}
-
-// What is shown of each file: a report of what is for the cpu.
-struct Audits {
-    cpu: Cpu,
-    options: Options,
-    // The only file of the call, whose report has no heading; empty if there may be several.
-    only: String,
-}
-
-impl<W: Write> FileView<BufWriter<W>> for Audits {
-    fn show(&self, rt: &HostRuntime, name: &str, bytes: &[u8], out: &mut BufWriter<W>) -> u8 {
-        let call = Call {
-            options: self.options,
-            name,
-            heading: self.only.as_str() != name,
-        };
-        let mut err = rt.stderr();
-        match run_for(self.cpu, call, bytes, out, &mut err) {
-            Ok(status) => status,
-            Err(ShowFailure::Memory) => PROGRAM.no_memory_for(rt, name),
-            Err(ShowFailure::Unwritten(error)) => failed(NAME, "", error, &mut err),
-        }
-    }
 }

@@ -21,6 +21,7 @@ mod made;
 mod members;
 mod new_file;
 mod refusal;
+mod shown;
 mod text;
 mod thin;
 mod verify;
@@ -29,42 +30,24 @@ mod verify;
 mod archive;
 
 use crate::generated::mach_cli::{
-    Call, Cpu, FileView, Files, Misuse, Others, Program, Titled, Word, cputype_in, take_json,
+    Call, Cpu, Files, Misuse, Others, Program, Titled, Word, cputype_in, take_json,
 };
 use crate::shim::AllocError;
 use crate::shim::io;
 use crate::shim::io::{BufWriter, Write};
-use commands::{NAME, run_extract, run_list};
+use commands::{NAME, run_extract};
 use goblin_mach::generated::mach_fat_writer::Form;
-use json::run_list_json;
 use made::{one_file, run_create, run_remove, run_replace};
-use members::run_members;
 use new_file::is_same_file;
+use shown::{Selected, Shown};
 use std::process::ExitCode;
 use thin::run_thin;
-use verify::run_verify;
 
 // The option that selects a fat file of 64 bits.
 const WIDE: &str = "--fat64";
 
 // How many lines of a file are printed if no other limit is given.
 const DEFAULT_LIMIT: usize = 10_000_000;
-
-// What is printed of a file.
-#[derive(Clone, Copy)]
-enum Shown {
-    Records,
-    Object,
-    Faults,
-    Members,
-}
-
-// What is printed of each file, and how many lines at most.
-#[derive(Clone, Copy)]
-struct Selected {
-    shown: Shown,
-    limit: usize,
-}
 
 const PROGRAM: Program = Program {
     name: NAME,
@@ -182,18 +165,6 @@ fn write_file(rt: &HostRuntime, word: &str, form: Form, given: &[&str]) -> Resul
     }
 }
 
-impl<W: Write> FileView<BufWriter<W>> for Selected {
-    fn show(&self, rt: &HostRuntime, name: &str, bytes: &[u8], out: &mut BufWriter<W>) -> u8 {
-        let (limit, err) = (self.limit, &mut rt.stderr());
-        match self.shown {
-            Shown::Records => run_list(limit, name, bytes, out, err),
-            Shown::Object => run_list_json(limit, name, bytes, out, err),
-            Shown::Faults => run_verify(limit, name, bytes, out, err),
-            Shown::Members => run_members(limit, name, bytes, out, err),
-        }
-    }
-}
-
 // Shows files in order, and returns the worst status.
 fn show_files(
     rt: &HostRuntime,
@@ -205,16 +176,31 @@ fn show_files(
         return Err(PROGRAM.bad_usage(rt, Misuse::Missing("FILE")));
     }
     let output = Titled::new(io::writer(rt));
-    let Ok(mut lines) = BufWriter::new(output) else {
+    let Ok(mut out) = BufWriter::new(output) else {
         return Err(PROGRAM.out_of_memory(rt));
     };
-    let shown = Files {
+    show(rt, selected, files, others, &mut out)
+}
+
+// Shows what is selected of files in order, and returns the worst status. The status of a failed write is an error.
+fn show<W: Write>(
+    rt: &HostRuntime,
+    selected: Selected,
+    files: &[&str],
+    others: &Others<'_>,
+    out: &mut BufWriter<Titled<W>>,
+) -> Result<u8, u8> {
+    shown_whole(selected.shown).show(rt, &selected, files, others, out)
+}
+
+// Returns how files are shown: each as a whole, whatever its cpu.
+fn shown_whole(shown: Shown) -> Files {
+    Files {
         program: PROGRAM,
         cpu: Cpu::Any,
-        has_titles: !matches!(selected.shown, Shown::Object),
+        has_titles: !matches!(shown, Shown::Object),
         has_parts: false,
-    };
-    shown.show(rt, &selected, files, others, &mut lines)
+    }
 }
 
 // Removes the option from a call's words, if it is before `--`, and returns whether it was there.

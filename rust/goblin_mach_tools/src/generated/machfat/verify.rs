@@ -11,9 +11,10 @@ use crate::generated::machfat::refusal::{Refusal, WriteFailure, refused_by};
 use crate::shim::io;
 use crate::shim::io::{BufWriter, Write};
 use goblin_mach::generated::mach::fat::FatArch;
-use goblin_mach::generated::mach::{Mach, MultiArch64, peek};
+use goblin_mach::generated::mach::{Mach, MultiArch64};
+use goblin_mach::generated::mach_fat_writer::Form;
 use goblin_mach::generated::mach_layout::{LayoutFault, container_faults};
-use goblin_mach::generated::mach_parts::{FAT_MAGIC_64, FatArch64};
+use goblin_mach::generated::mach_parts::FatArch64;
 
 /// Prints the faults of a fat file's layout, a line each, no more than a limit.
 ///
@@ -48,8 +49,8 @@ fn verify<O: Write>(limit: usize, bytes: &[u8], out: &mut O) -> Result<bool, Wri
 
 // Returns the faults of a fat file's layout.
 fn fat_faults(bytes: &[u8]) -> Result<Vec<LayoutFault>, Refusal> {
-    match peek(bytes, 0) {
-        Ok(FAT_MAGIC_64) => wide_faults(bytes),
+    match Form::of(bytes) {
+        Some(Form::Bits64) => wide_faults(bytes),
         _ => narrow_faults(bytes),
     }
 }

@@ -34,13 +34,13 @@ mod stretches;
 mod text;
 
 use crate::generated::mach_cli::{
-    Call, Cpu, FileView, Files, ForTerminal, Misuse, Program, Titled, take_json,
+    Call, ForTerminal, ImageFiles, Misuse, Others, Program, Titled, take_json,
 };
 use crate::shim::io;
 use crate::shim::io::{BufWriter, IsTerminal, Write};
 use arguments::take_selection;
-use fixup_view::{NAME, run};
-use json::run_json;
+use fixup_view::FixupLines;
+use json::FixupObjects;
 use print::DEFAULT_LIMIT;
 use rows::Selection;
 use std::process::ExitCode;
@@ -49,7 +49,7 @@ const USAGE: &str = "usage: machfixups [--rebases] [--binds] [--weak] [--chains]
     [--arch NAME | --cputype 0xN] [--names FILE [-0]] FILE..\n       machfixups -h | --help | --version\n";
 
 const PROGRAM: Program = Program {
-    name: NAME,
+    name: "machfixups",
     usage: USAGE,
     version: "machfixups 0.2.0\n",
     has_limit: true,
@@ -86,56 +86,62 @@ fn start(rt: &HostRuntime) -> Result<u8, u8> {
         return Err(PROGRAM.out_of_memory(rt));
     };
     let call = PROGRAM.call(rt, &words)?;
-    let shown = Shown {
-        cpu: call.cpu,
-        selection,
-        limit: call.limit.unwrap_or(DEFAULT_LIMIT),
-        is_json,
-    };
-    show_files(rt, shown, &call)
+    show_files(rt, selection, is_json, &call)
 }
 
-// What is shown of each file: the selected lists, `limit` lines at most, or objects.
-#[derive(Clone, Copy)]
-struct Shown {
-    cpu: Cpu,
+// Shows the selected lists of files in order, and returns the worst status.
+fn show_files(
+    rt: &HostRuntime,
     selection: Selection,
-    limit: usize,
     is_json: bool,
-}
-
-impl<W: Write> FileView<BufWriter<W>> for Shown {
-    fn show(&self, rt: &HostRuntime, name: &str, bytes: &[u8], out: &mut BufWriter<W>) -> u8 {
-        let err = &mut rt.stderr();
-        let Shown {
-            cpu,
-            selection,
-            limit,
-            ..
-        } = *self;
-        if self.is_json {
-            run_json(cpu, selection, limit, name, bytes, out, err)
-        } else {
-            run(cpu, selection, limit, name, bytes, out, err)
-        }
-    }
-}
-
-// Shows the selected images of files in order, and returns the worst status.
-fn show_files(rt: &HostRuntime, shown: Shown, call: &Call<'_>) -> Result<u8, u8> {
+    call: &Call<'_>,
+) -> Result<u8, u8> {
     let (files, others) = (&call.words, &call.others);
     if files.is_empty() && others.is_empty() {
         return Err(PROGRAM.bad_usage(rt, Misuse::Missing("FILE")));
     }
     let output = ForTerminal::new(io::writer(rt), rt.stdout().is_terminal());
-    let Ok(mut lines) = BufWriter::new(Titled::new(output)) else {
+    let Ok(mut out) = BufWriter::new(Titled::new(output)) else {
         return Err(PROGRAM.out_of_memory(rt));
     };
-    let shows = Files {
+    show(
+        rt,
+        &shown_by(call, selection, is_json),
+        files,
+        others,
+        &mut out,
+    )
+}
+
+// Returns how a call shows its files: the selected lists, as lines or as objects.
+fn shown_by(
+    call: &Call<'_>,
+    selection: Selection,
+    is_json: bool,
+) -> ImageFiles<FixupLines, FixupObjects> {
+    ImageFiles {
         program: PROGRAM,
-        cpu: shown.cpu,
-        has_titles: !shown.is_json,
-        has_parts: true,
-    };
-    shows.show(rt, &shown, files, others, &mut lines)
+        cpu: call.cpu,
+        limit: call.limit.unwrap_or(DEFAULT_LIMIT),
+        is_json,
+        has_titles: true,
+        lines: FixupLines { selection },
+        objects: FixupObjects { selection },
+    }
+}
+
+// Shows files in order, and returns the worst status.
+fn show<W: Write>(
+    rt: &HostRuntime,
+    shown: &ImageFiles<FixupLines, FixupObjects>,
+    files: &[&str],
+    others: &Others<'_>,
+    out: &mut BufWriter<Titled<W>>,
+) -> Result<u8, u8> {
+    let call = shown.files();
+    if shown.is_json {
+        call.show(rt, &shown.as_json(), files, others, out)
+    } else {
+        call.show(rt, &shown.as_text(), files, others, out)
+    }
 }

@@ -66,12 +66,13 @@ impl SegmentStretches {
 }
 
 impl AllStretches {
-    /// Returns the segments of an image with their sections, at most `room` sections in all, in order.
+    /// Returns the segments of an image with their sections, in order. Of these there are no more than the image has bytes.
     ///
     /// # Proved
     ///
-    /// - for each `bytes : List ℕ`, `o : ℕ`, if `IsImage bytes o image`, if `Ok(parts)`: there is `segments : List SegmentView` with: `HasSegments bytes o segments × (parts_view parts ≡ parts_of room segments)`
-    pub fn of_image(image: &MachO<'_>, room: usize) -> Result<Self, AllocError> {
+    /// - for each `bytes : List ℕ`, `o : ℕ`, if `IsImage bytes o image`, if `Ok(parts)`: there is `segments : List SegmentView` with: `HasSegments bytes o segments × (parts_view parts ≡ parts_of (length bytes) segments)`
+    pub fn of_image(image: &MachO<'_>) -> Result<Self, AllocError> {
+        let room = image.bytes().len();
         Self::of_segments(image.segments.as_slice(), room)
     }
 

@@ -12,6 +12,21 @@ use core::fmt;
 use core::fmt::{Display, Formatter};
 use goblin_mach::generated::mach::MachO;
 
+/// The lists that are counted.
+pub const COUNTED: [Word; 11] = [
+    Word::Starts,
+    Word::Slots,
+    Word::Indirect,
+    Word::Data,
+    Word::Options,
+    Word::Tools,
+    Word::Notes,
+    Word::Providers,
+    Word::Libraries,
+    Word::Rebases,
+    Word::Weak,
+];
+
 /// The form in which counts are written.
 #[derive(Clone, Copy)]
 pub enum Form {

@@ -32,17 +32,20 @@ mod text;
 mod word;
 
 use crate::generated::mach_cli::{
-    Call, Cpu, FileView, Files, ForTerminal, Misuse, Others, Program, Titled, take_json,
+    Call, ForTerminal, ImageFiles, Misuse, Others, Program, Titled, take_json,
 };
 use crate::generated::machinfo::word::Word;
 use crate::shim::io;
 use crate::shim::io::{BufWriter, IsTerminal, Write};
-use json::{write_list, write_summary};
+use json::InfoObjects;
 use std::process::ExitCode;
-use views::{DEFAULT_LIMIT, NAME, run_list, run_summary};
+use views::InfoLines;
+
+/// How many rows of a file are printed if no limit is given.
+const DEFAULT_LIMIT: usize = 10_000_000;
 
 const PROGRAM: Program = Program {
-    name: NAME,
+    name: "machinfo",
     usage: "usage: machinfo [--json] [--limit N] [--arch NAME | --cputype 0xN] [--names FILE] [-0] [WORD] FILE..
        machinfo -h | --help | --version
 WORD: starts, slots, indirect, data, options, tools, notes, providers, libraries, rebases, weak
@@ -92,71 +95,57 @@ fn start(rt: &HostRuntime) -> Result<u8, u8> {
 
 // Runs a parsed call.
 fn answer(rt: &HostRuntime, is_json: bool, call: &Call<'_>) -> Result<u8, u8> {
-    let limit = call.limit.unwrap_or(DEFAULT_LIMIT);
-    show_files(rt, is_json, call.cpu, limit, &call.words, &call.others)
-}
-
-// Returns the list that the first word selects, if it does.
-fn word_of(words: &[&str]) -> Option<Word> {
-    let first = words.first()?;
-    Word::named(first)
-}
-
-// What is shown of each file: a list or the summary, as lines or as objects.
-#[derive(Clone, Copy)]
-struct Shown {
-    is_json: bool,
-    word: Option<Word>,
-    cpu: Cpu,
-    limit: usize,
-}
-
-impl<W: Write> FileView<BufWriter<W>> for Shown {
-    fn show(&self, rt: &HostRuntime, name: &str, bytes: &[u8], out: &mut BufWriter<W>) -> u8 {
-        let err = &mut rt.stderr();
-        let Shown { cpu, limit, .. } = *self;
-        match self.word {
-            Some(word) if self.is_json => write_list(word, cpu, limit, name, bytes, out, err),
-            Some(word) => run_list(word, cpu, limit, name, bytes, out, err),
-            None if self.is_json => write_summary(cpu, limit, name, bytes, out, err),
-            None => run_summary(cpu, limit, name, bytes, out, err),
-        }
-    }
-}
-
-// Shows the selected images of files in order: their summaries, or the list that the first word selects. Returns the worst
-// status.
-fn show_files(
-    rt: &HostRuntime,
-    is_json: bool,
-    cpu: Cpu,
-    limit: usize,
-    words: &[&str],
-    others: &Others<'_>,
-) -> Result<u8, u8> {
-    let word = word_of(words);
-    let begin = if word.is_some() { 1 } else { 0 };
-    let Some(files) = words.get(begin..) else {
-        return Err(PROGRAM.bad_usage(rt, Misuse::Missing("FILE")));
-    };
+    let (files, others) = (files_named(&call.words), &call.others);
     if files.is_empty() && others.is_empty() {
         return Err(PROGRAM.bad_usage(rt, Misuse::Missing("FILE")));
     }
     let output = ForTerminal::new(io::writer(rt), rt.stdout().is_terminal());
-    let Ok(mut lines) = BufWriter::new(Titled::new(output)) else {
+    let Ok(mut out) = BufWriter::new(Titled::new(output)) else {
         return Err(PROGRAM.out_of_memory(rt));
     };
-    let shown = Shown {
-        is_json,
-        word,
-        cpu,
-        limit,
-    };
-    let call = Files {
+    show(rt, &shown_by(call, is_json), files, others, &mut out)
+}
+
+// Returns the list that the first argument selects, if it does.
+fn selected_by(arguments: &[&str]) -> Option<Word> {
+    let first = arguments.first()?;
+    Word::named(first)
+}
+
+// Returns the arguments that are files: all but a first one that selects a list.
+fn files_named<'a, 'b>(arguments: &'a [&'b str]) -> &'a [&'b str] {
+    match arguments {
+        [_, files @ ..] if selected_by(arguments).is_some() => files,
+        _ => arguments,
+    }
+}
+
+// Returns how a call shows its files: the list that its first argument selects, or else the summary, as lines or as objects.
+fn shown_by(call: &Call<'_>, is_json: bool) -> ImageFiles<InfoLines, InfoObjects> {
+    let word = selected_by(&call.words);
+    ImageFiles {
         program: PROGRAM,
-        cpu,
-        has_titles: !is_json,
-        has_parts: true,
-    };
-    call.show(rt, &shown, files, others, &mut lines)
+        cpu: call.cpu,
+        limit: call.limit.unwrap_or(DEFAULT_LIMIT),
+        is_json,
+        has_titles: true,
+        lines: InfoLines { word },
+        objects: InfoObjects { word },
+    }
+}
+
+// Shows files in order, and returns the worst status.
+fn show<W: Write>(
+    rt: &HostRuntime,
+    shown: &ImageFiles<InfoLines, InfoObjects>,
+    files: &[&str],
+    others: &Others<'_>,
+    out: &mut BufWriter<Titled<W>>,
+) -> Result<u8, u8> {
+    let call = shown.files();
+    if shown.is_json {
+        call.show(rt, &shown.as_json(), files, others, out)
+    } else {
+        call.show(rt, &shown.as_text(), files, others, out)
+    }
 }

@@ -6,26 +6,25 @@ use crate::generated::mach_cli::{Escaped, Foreign, refused_kind};
 use crate::generated::machresolve::inputs::Given;
 use core::fmt;
 use core::fmt::{Display, Formatter};
-use goblin_mach::generated::mach::fat::{FAT_MAGIC, SIZEOF_FAT_ARCH, SIZEOF_FAT_HEADER};
-use goblin_mach::generated::mach::{Error, describe, peek};
+use goblin_mach::generated::mach::fat::{FatHeader, SIZEOF_FAT_ARCH, SIZEOF_FAT_HEADER};
+use goblin_mach::generated::mach::{Error, describe};
 
-// Whether the bytes hold the table of a fat file.
+// Whether the bytes hold all records that their header counts, if they are a fat file.
 fn has_table(bytes: &[u8]) -> bool {
-    match (peek(bytes, 0), peek(bytes, 4)) {
-        (Ok(magic), Ok(count)) => {
-            let table = SIZEOF_FAT_HEADER as u64 + SIZEOF_FAT_ARCH as u64 * u64::from(count);
-            magic == FAT_MAGIC && table <= bytes.len() as u64
+    match FatHeader::parse(bytes) {
+        Ok(header) => {
+            let records = SIZEOF_FAT_ARCH as u64 * u64::from(header.nfat_arch);
+            SIZEOF_FAT_HEADER as u64 + records <= bytes.len() as u64
         }
-        _ => false,
+        Err(_) => false,
     }
 }
 
 // Returns the kind of a file that is refused for this error, if it is not Mach-O.
 fn kind_reported(bytes: &[u8], error: &Error) -> Option<Foreign> {
-    if has_table(bytes) {
-        None
-    } else {
-        refused_kind(bytes, error)
+    match refused_kind(bytes, error) {
+        Some(Foreign::JavaClass) if has_table(bytes) => None,
+        kind => kind,
     }
 }
 

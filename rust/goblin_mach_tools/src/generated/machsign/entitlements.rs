@@ -3,15 +3,15 @@
 #![forbid(unsafe_code)]
 
 use crate::generated::mach_cli::output::failed;
-use crate::generated::mach_cli::{Cpu, Names, refused_kind};
-use crate::generated::machsign::signature_view::NAME;
+use crate::generated::mach_cli::{Cpu, Label, Names, Refusal, complain, refusal_of};
 use crate::shim::io;
 use crate::shim::io::{BufWriter, Write};
-use goblin_mach::generated::mach::{
-    Content, EntryCpu, Error, Input, InputItem, MachO, Result, describe,
-};
+use goblin_mach::generated::mach::{Content, EntryCpu, Error, Input, InputItem, MachO, Result};
 use goblin_mach::generated::mach_signature::CodeSignature;
 use goblin_mach::generated::mach_signature::image::code_signature;
+
+/// The program's name.
+pub const NAME: &str = "machsign";
 
 // Returns the entitlements of a signature, if there is one and has some that can be read.
 fn of_signature<'a>(signature: Result<Option<CodeSignature<'a>>>) -> Option<&'a [u8]> {
@@ -93,36 +93,13 @@ fn put<W: Write>(bytes: &[u8], out: &mut BufWriter<W>) -> io::Result<()> {
     Ok(())
 }
 
-// Reports that a file has no entitlements, and returns the status.
-fn none_there<E: Write>(file: &str, err: &mut E) -> u8 {
+// Reports why no entitlements of a file are written, and returns the status.
+fn refuse<E: Write>(file: &str, refusal: Refusal<'_>, err: &mut E) -> u8 {
     let names = Names {
         program: NAME,
         file,
     };
-    match writeln!(err, "{names}: no entitlements") {
-        Ok(()) => 1,
-        Err(error) => failed(NAME, "", error, err),
-    }
-}
-
-// Writes why a file is refused: its kind, if it is not Mach-O, else the error.
-fn say_refused<E: Write>(file: &str, bytes: &[u8], error: &Error, err: &mut E) -> io::Result<()> {
-    let names = Names {
-        program: NAME,
-        file,
-    };
-    match refused_kind(bytes, error) {
-        Some(kind) => writeln!(err, "{names}: {kind}"),
-        None => {
-            let words = describe(error);
-            writeln!(err, "{names}: {words}")
-        }
-    }
-}
-
-// Reports a refused file, and returns the status.
-fn refused<E: Write>(file: &str, bytes: &[u8], error: &Error, err: &mut E) -> u8 {
-    match say_refused(file, bytes, error, err) {
+    match complain(names, Label::None, refusal, err) {
         Ok(()) => 1,
         Err(error) => failed(NAME, "", error, err),
     }
@@ -152,7 +129,7 @@ pub fn run_entitlements<W: Write, E: Write>(
             Ok(()) => 0,
             Err(error) => failed(NAME, "", error, err),
         },
-        Ok(None) => none_there(file, err),
-        Err(error) => refused(file, bytes, &error, err),
+        Ok(None) => refuse(file, Refusal::Lacks("no entitlements"), err),
+        Err(error) => refuse(file, refusal_of(bytes, &error), err),
     }
 }

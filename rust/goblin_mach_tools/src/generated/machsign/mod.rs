@@ -24,14 +24,14 @@ mod special;
 mod text;
 
 use crate::generated::mach_cli::{
-    Call, Cpu, FileView, Files, ForTerminal, Misuse, Others, Program, Titled, take_json,
+    Call, Cpu, ForTerminal, ImageFiles, Misuse, Others, Program, Titled, take_json,
 };
 use crate::shim::io;
 use crate::shim::io::{BufWriter, IsTerminal, Write};
 use arguments::take_entitlements;
-use entitlements::run_entitlements;
-use json::run_json;
-use signature_view::{NAME, run};
+use entitlements::{NAME, run_entitlements};
+use json::SignatureObjects;
+use signature_view::SignatureLines;
 use std::process::ExitCode;
 
 const PROGRAM: Program = Program {
@@ -76,15 +76,18 @@ fn start(rt: &HostRuntime) -> Result<u8, u8> {
 
 // Runs a parsed call: writes entitlements, or shows each file.
 fn answer(rt: &HostRuntime, are_selected: bool, is_json: bool, call: &Call<'_>) -> Result<u8, u8> {
+    let (files, others) = (&call.words, &call.others);
     if are_selected {
-        return write_entitlements(rt, call.cpu, &call.words);
+        return write_entitlements(rt, call.cpu, files);
     }
-    let shown = Shown {
-        cpu: call.cpu,
-        limit: call.limit.unwrap_or(usize::MAX),
-        is_json,
+    if files.is_empty() && others.is_empty() {
+        return Err(PROGRAM.bad_usage(rt, Misuse::Missing("FILE")));
+    }
+    let output = ForTerminal::new(io::writer(rt), rt.stdout().is_terminal());
+    let Ok(mut out) = BufWriter::new(Titled::new(output)) else {
+        return Err(PROGRAM.out_of_memory(rt));
     };
-    show_files(rt, shown, &call.words, &call.others)
+    show_files(rt, &shown_by(call, is_json), files, others, &mut out)
 }
 
 // Writes the entitlements of the first image of a file that has them, and returns the status.
@@ -105,49 +108,30 @@ fn write_entitlements(rt: &HostRuntime, cpu: Cpu, files: &[&str]) -> Result<u8, 
     ))
 }
 
-// What is shown of each file: lines, at most `limit` of them of blobs and faults, or an object.
-#[derive(Clone, Copy)]
-struct Shown {
-    cpu: Cpu,
-    limit: usize,
-    is_json: bool,
-}
-
-impl<W: Write> FileView<BufWriter<W>> for Shown {
-    fn show(&self, rt: &HostRuntime, name: &str, bytes: &[u8], out: &mut BufWriter<W>) -> u8 {
-        let err = &mut rt.stderr();
-        let Shown {
-            cpu,
-            limit,
-            is_json,
-        } = *self;
-        if is_json {
-            run_json(cpu, limit, name, bytes, out, err)
-        } else {
-            run(cpu, limit, name, bytes, out, err)
-        }
+// Returns how a call shows its files: the signatures of the selected images, as lines or as objects.
+fn shown_by(call: &Call<'_>, is_json: bool) -> ImageFiles<SignatureLines, SignatureObjects> {
+    ImageFiles {
+        program: PROGRAM,
+        cpu: call.cpu,
+        limit: call.limit.unwrap_or(usize::MAX),
+        is_json,
+        has_titles: true,
+        lines: SignatureLines,
+        objects: SignatureObjects,
     }
 }
 
-// Shows the signatures of the selected images of files in order, and returns the worst status.
-fn show_files(
+// Shows the selected images of files in order, then those of the files named in other ways, and returns the worst status. The
+// status of a failed write is an error, since nothing is shown after it.
+fn show_files<W: Write>(
     rt: &HostRuntime,
-    shown: Shown,
+    shown: &ImageFiles<SignatureLines, SignatureObjects>,
     files: &[&str],
     others: &Others<'_>,
+    out: &mut BufWriter<Titled<W>>,
 ) -> Result<u8, u8> {
-    if files.is_empty() && others.is_empty() {
-        return Err(PROGRAM.bad_usage(rt, Misuse::Missing("FILE")));
+    if shown.is_json {
+        return shown.files().show(rt, &shown.as_json(), files, others, out);
     }
-    let output = ForTerminal::new(io::writer(rt), rt.stdout().is_terminal());
-    let Ok(mut lines) = BufWriter::new(Titled::new(output)) else {
-        return Err(PROGRAM.out_of_memory(rt));
-    };
-    let call = Files {
-        program: PROGRAM,
-        cpu: shown.cpu,
-        has_titles: !shown.is_json,
-        has_parts: true,
-    };
-    call.show(rt, &shown, files, others, &mut lines)
+    shown.files().show(rt, &shown.as_text(), files, others, out)
 }

@@ -38,17 +38,17 @@ mod text;
 mod nm;
 
 use crate::generated::mach_cli::{
-    Call, Cpu, FileView, Files, ForTerminal, Misuse, Program, Titled, take_json,
+    Call, ForTerminal, ImageFiles, Misuse, Others, Program, Titled, take_json,
 };
 use crate::shim::io;
 use crate::shim::io::{BufWriter, IsTerminal, Write};
-use arguments::{Letters, names_files, selected_of, take_letters};
-use json::run_json;
+use arguments::{Letters, names_files, take_letters};
+use json::SymbolObjectsOf;
 use std::process::ExitCode;
-use symbol_view::{NAME, run};
+use symbol_view::SymbolLinesOf;
 
 const PROGRAM: Program = Program {
-    name: NAME,
+    name: "machsyms",
     usage: "usage: machsyms [-AUagjmnoprux] [--raw] [--json] [--limit N] [--arch NAME | --cputype 0xN] \
         [--names FILE [-0]] FILE..\n       machsyms -h | --help | --version\n",
     version: "machsyms 0.2.0\n",
@@ -93,60 +93,64 @@ fn start(rt: &HostRuntime) -> Result<u8, u8> {
         return Err(PROGRAM.out_of_memory(rt));
     };
     let call = PROGRAM.call(rt, &words)?;
-    let symbols = Symbols {
-        cpu: call.cpu,
-        letters,
-        is_raw,
-        limit: call.limit.unwrap_or(usize::MAX),
-        is_json,
-    };
-    show_files(rt, symbols, &call)
+    show_files(rt, letters, is_raw, is_json, &call)
 }
 
-// What is shown of each file: lines by some letters, or objects.
-#[derive(Clone, Copy)]
-struct Symbols {
-    cpu: Cpu,
+// Shows the selected symbols of files in order, and returns the worst status.
+fn show_files(
+    rt: &HostRuntime,
     letters: Option<Letters>,
     is_raw: bool,
-    limit: usize,
     is_json: bool,
-}
-
-impl<W: Write> FileView<BufWriter<W>> for Symbols {
-    fn show(&self, rt: &HostRuntime, name: &str, bytes: &[u8], out: &mut BufWriter<W>) -> u8 {
-        let err = &mut rt.stderr();
-        let Symbols {
-            cpu,
-            letters,
-            is_raw,
-            limit,
-            is_json,
-        } = *self;
-        let request = selected_of(letters, is_raw, name);
-        if is_json {
-            run_json(cpu, request, limit, name, bytes, out, err)
-        } else {
-            run(cpu, request, limit, name, bytes, out, err)
-        }
-    }
-}
-
-// Shows the selected images of files in order, and returns the worst status.
-fn show_files(rt: &HostRuntime, symbols: Symbols, call: &Call<'_>) -> Result<u8, u8> {
+    call: &Call<'_>,
+) -> Result<u8, u8> {
     let (files, others) = (&call.words, &call.others);
     if files.is_empty() && others.is_empty() {
         return Err(PROGRAM.bad_usage(rt, Misuse::Missing("FILE")));
     }
     let output = ForTerminal::new(io::writer(rt), rt.stdout().is_terminal());
-    let Ok(mut lines) = BufWriter::new(Titled::new(output)) else {
+    let Ok(mut out) = BufWriter::new(Titled::new(output)) else {
         return Err(PROGRAM.out_of_memory(rt));
     };
-    let shown = Files {
+    show(
+        rt,
+        &shown_by(call, letters, is_raw, is_json),
+        files,
+        others,
+        &mut out,
+    )
+}
+
+// Returns how a call shows its files: the symbols that letters select, as lines or as objects.
+fn shown_by(
+    call: &Call<'_>,
+    letters: Option<Letters>,
+    is_raw: bool,
+    is_json: bool,
+) -> ImageFiles<SymbolLinesOf, SymbolObjectsOf> {
+    ImageFiles {
         program: PROGRAM,
-        cpu: symbols.cpu,
-        has_titles: !symbols.is_json && !names_files(symbols.letters),
-        has_parts: true,
-    };
-    shown.show(rt, &symbols, files, others, &mut lines)
+        cpu: call.cpu,
+        limit: call.limit.unwrap_or(usize::MAX),
+        is_json,
+        has_titles: !names_files(letters),
+        lines: SymbolLinesOf { letters, is_raw },
+        objects: SymbolObjectsOf { letters, is_raw },
+    }
+}
+
+// Shows files in order, and returns the worst status.
+fn show<W: Write>(
+    rt: &HostRuntime,
+    shown: &ImageFiles<SymbolLinesOf, SymbolObjectsOf>,
+    files: &[&str],
+    others: &Others<'_>,
+    out: &mut BufWriter<Titled<W>>,
+) -> Result<u8, u8> {
+    let call = shown.files();
+    if shown.is_json {
+        call.show(rt, &shown.as_json(), files, others, out)
+    } else {
+        call.show(rt, &shown.as_text(), files, others, out)
+    }
 }
