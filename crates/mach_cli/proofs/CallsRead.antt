@@ -3,12 +3,13 @@ use Rattle.std.proofs.Common.{◌≡◌, ◌+◌, ◌∙◌, ℕ, List, ◌∷�
 use Rattle.std.specs.Prelude.{◌<◌, ⊤}
 use Rattle.std.proofs.lemmas.List.{drop_more}
 use Rattle.std.specs.Str.Parse.{digits_value}
-use Rattle.mach_cli.specs.Calls.{ParsedCall, IsCputype, TakesValue, AddsWord, AddsWords, AreUntaken, Selects, kind_at, of_arch, of_number, TakesWord}
+use Rattle.mach_cli.specs.Calls.{ParsedCall, IsCputype, TakesOwn, TakesValue, AddsWord, AddsWords, AreUntaken, Selects, kind_at, of_arch, of_number, TakesWord}
 use Rattle.mach_cli.specs.CallWords.{word_text}
 use Rattle.mach_cli.specs.Cpus.{ArchRow}
 use Rattle.mach_cli.specs.declared.call.Kind.{Kind}
 use Rattle.mach_cli.specs.declared.call.Kind.TheVariants as kinds
-use Rattle.mach_cli.specs.declared.call.Options.{Options}
+use Rattle.mach_cli.specs.declared.options.Format.{Format}
+use Rattle.mach_cli.specs.declared.options.Options.{Options}
 use Rattle.mach_cli.specs.declared.call.Untaken.{Untaken}
 use Rattle.mach_cli.specs.declared.call.Untaken.TheVariants.{Misuse, Memory}
 use Rattle.mach_cli.specs.declared.call.Valued.{Valued}
@@ -17,10 +18,11 @@ use Rattle.mach_cli.specs.declared.word.Word.{Word}
 use Rattle.mach_cli.specs.declared.word.Word.TheVariants.{Text, Bytes}
 
 -- what arguments still add to a call, by where they are: after an option, after `--`, or elsewhere
-abbrev pub GoesOn : Options → Option Valued → (is_plain : Bool) → (old : ParsedCall) → List Word → (new : ParsedCall) → Type 0
-GoesOn options (Some option) is_plain old words new = Selects options (Some option) old words new
-GoesOn options None true old words new = AddsWords options old words new
-GoesOn options None false old words new = Selects options None old words new
+abbrev pub GoesOn : {O : Type 0} → (O → List ℕ → O × Bool) → Options → Option Valued → (is_plain : Bool) → (old : ParsedCall O) → List Word
+    → (new : ParsedCall O) → Type 0
+GoesOn taken options (Some option) is_plain old words new = Selects taken options (Some option) old words new
+GoesOn taken options None true old words new = AddsWords options old words new
+GoesOn taken options None false old words new = Selects taken options None old words new
 
 -- ---- an argument extends a call in one way only
 
@@ -37,20 +39,25 @@ number-one word m n a b =
     let same : a.0 ≡ b.0 = ap (drop 2) (sym a.1 ∙ b.1) in
     a.4 ∙ ap (digits_value 16) same ∙ sym b.4
 
-pub takes-one : (option : Valued) (word : List ℕ) (old x y : ParsedCall) → TakesValue option word old x → TakesValue option word old y → x ≡ y
+pub takes-one : {O : Type 0} (option : Valued) (word : List ℕ) (old x y : ParsedCall O) → TakesValue option word old x → TakesValue option word old y → x ≡ y
 takes-one valued.Limit word old x y a b = a.2 ∙ ap (λ (n : ℕ). record old { limit = Some n }) (a.1.2 ∙ sym b.1.2) ∙ sym b.2
 takes-one valued.Arch word old x y a b = a.2 ∙ ap (λ (row : ArchRow). record old { cpu = of_arch row }) (some-one a.0 b.0 (sym a.1 ∙ b.1)) ∙ sym b.2
 takes-one valued.Cputype word old x y a b =
     a.2 ∙ ap (λ (n : ℕ). record old { cpu = of_number n }) (number-one word a.0 b.0 a.1 b.1) ∙ sym b.2
 takes-one valued.Names word old x y a b = a ∙ sym b
 
-pub adds-one : (options : Options) (word : Word) (old x y : ParsedCall) → AddsWord options word old x → AddsWord options word old y → x ≡ y
+pub adds-one : {O : Type 0} (options : Options) (word : Word) (old x y : ParsedCall O) → AddsWord options word old x → AddsWord options word old y → x ≡ y
 adds-one options (Text text) old x y a b = a ∙ sym b
 adds-one options (Bytes number bytes) old x y a b = a.1 ∙ sym b.1
 
-pub word-one : (option : Valued) (word : Word) (old x y : ParsedCall) → TakesWord option word old x → TakesWord option word old y → x ≡ y
+pub word-one : {O : Type 0} (option : Valued) (word : Word) (old x y : ParsedCall O) → TakesWord option word old x → TakesWord option word old y → x ≡ y
 word-one option (Text text) old x y a b = takes-one option (string_bytes text) old x y a b
 word-one option (Bytes number bytes) old x y a b = absurd a
+
+pub own-one : {O : Type 0} (taken : O → List ℕ → O × Bool) (word : List ℕ) (old x y : ParsedCall O) → TakesOwn taken word old x → TakesOwn taken word old y
+    → x ≡ y
+own-one {O} taken word old x y a b =
+    a.2 ∙ ap (λ (own : O × Bool). record old { own = own.0 }) (sym a.1 ∙ b.1) ∙ sym b.2
 
 -- ---- and so do the arguments after it
 
@@ -66,20 +73,22 @@ some_none option same = subst IsThere same cc
 abbrev pub IsNoCall : Kind → Type 0
 IsNoCall kinds.Help = ⊤
 IsNoCall kinds.Version = ⊤
-IsNoCall kinds.Unknown = ⊤
 IsNoCall kinds.Plain = ⊥
 IsNoCall kinds.Nul = ⊥
+IsNoCall (kinds.Form format) = ⊥
 IsNoCall (kinds.Valued option) = ⊥
 IsNoCall kinds.Other = ⊥
+IsNoCall kinds.Own = ⊥
 
 abbrev IsOther : Kind → Type 0
 IsOther kinds.Help = ⊥
 IsOther kinds.Version = ⊥
-IsOther kinds.Unknown = ⊥
 IsOther kinds.Plain = ⊥
 IsOther kinds.Nul = ⊥
+IsOther (kinds.Form format) = ⊥
 IsOther (kinds.Valued option) = ⊥
 IsOther kinds.Other = ⊤
+IsOther kinds.Own = ⊥
 
 other-plain : kinds.Other ≡ kinds.Plain → ⊥
 other-plain same = subst IsOther same cc
@@ -87,8 +96,14 @@ other-plain same = subst IsOther same cc
 other-nul : kinds.Other ≡ kinds.Nul → ⊥
 other-nul same = subst IsOther same cc
 
+other-form : (format : Format) → kinds.Other ≡ kinds.Form format → ⊥
+other-form format same = subst IsOther same cc
+
 other-valued : (option : Valued) → kinds.Other ≡ kinds.Valued option → ⊥
 other-valued option same = subst IsOther same cc
+
+other-own : kinds.Other ≡ kinds.Own → ⊥
+other-own same = subst IsOther same cc
 
 IsFalse : Bool → Type 0
 IsFalse false = ⊤
@@ -102,76 +117,94 @@ option_open options text option true before kind same = absurd (other-valued opt
 option_open options text option false before kind same = absurd (subst IsFalse same cc)
 
 -- two conditions hold for the same calls
-abbrev pub Same : (ParsedCall → Type 0) → (ParsedCall → Type 0) → Type 0
-Same P Q = ((new : ParsedCall) → P new → Q new) × ((new : ParsedCall) → Q new → P new)
+abbrev pub Same : {C : Type 0} → (C → Type 0) → (C → Type 0) → Type 0
+Same {C} P Q = ((new : C) → P new → Q new) × ((new : C) → Q new → P new)
 
-pub same_over : (P Q R : ParsedCall → Type 0) → Same P Q → Same Q R → Same P R
+pub same_over : {C : Type 0} (P Q R : C → Type 0) → Same P Q → Same Q R → Same P R
 same_over P Q R one two = (λ new p. two.0 new (one.0 new p), λ new r. one.1 new (two.1 new r))
 
 -- a step with only one result can be replaced by that result
-pub next_one : (BindRules : ParsedCall → Type 0) (next : ParsedCall) → BindRules next → ((x : ParsedCall) → BindRules x → x ≡ next)
-    → (Then : ParsedCall → ParsedCall → Type 0)
-    → Same (λ new. (x : ParsedCall) × BindRules x × Then x new) (Then next)
-next_one BindRules next made only Then = (
-  λ new all. subst (λ (x : ParsedCall). Then x new) (only all.0 all.1) all.2,
+pub next_one : {C : Type 0} (Makes : C → Type 0) (next : C) → Makes next → ((x : C) → Makes x → x ≡ next) → (Then : C → C → Type 0)
+    → Same (λ new. (x : C) × Makes x × Then x new) (Then next)
+next_one {C} Makes next made only Then = (
+  λ new all. subst (λ (x : C). Then x new) (only all.0 all.1) all.2,
   λ new then. (next, made, then),
 )
 
-module _ (options : Options) (word : Word) (words : List Word) (old : ParsedCall) where
-  pub valued_step : (option : Valued) (is_plain : Bool) (next : ParsedCall) → TakesWord option word old next
-      → Same (GoesOn options (Some option) is_plain old (word ∷ words)) (GoesOn options None false next words)
+module _ {O : Type 0} (taken : O → List ℕ → O × Bool) (options : Options) (word : Word) (words : List Word) (old : ParsedCall O) where
+  pub valued_step : (option : Valued) (is_plain : Bool) (next : ParsedCall O) → TakesWord option word old next
+      → Same (GoesOn taken options (Some option) is_plain old (word ∷ words)) (GoesOn taken options None false next words)
   valued_step option is_plain next takes =
-      next_one (TakesWord option word old) next takes (λ x t. word-one option word old x next t takes) (λ x new. Selects options None x words new)
+      next_one (TakesWord option word old) next takes (λ x t. word-one option word old x next t takes) (λ x new. Selects taken options None x words new)
 
-  pub other_step : (is_plain : Bool) (next : ParsedCall) → kind_at is_plain options (word_text word) ≡ kinds.Other → AddsWord options word old next
-      → Same (GoesOn options None is_plain old (word ∷ words)) (GoesOn options None is_plain next words)
+  pub other_step : (is_plain : Bool) (next : ParsedCall O) → kind_at is_plain options (word_text word) ≡ kinds.Other → AddsWord options word old next
+      → Same (GoesOn taken options None is_plain old (word ∷ words)) (GoesOn taken options None is_plain next words)
   other_step true next kind adds =
       next_one (AddsWord options word old) next adds (λ x a. adds-one options word old x next a adds) (λ x new. AddsWords options x words new)
   other_step false next kind adds =
-      rw kind (next_one (AddsWord options word old) next adds (λ x a. adds-one options word old x next a adds) (λ x new. Selects options None x words new))
+      rw kind
+      (next_one (AddsWord options word old) next adds (λ x a. adds-one options word old x next a adds) (λ x new. Selects taken options None x words new))
+
+  pub own_step : (is_plain : Bool) (next : ParsedCall O) → kind_at is_plain options (word_text word) ≡ kinds.Own → TakesOwn taken (word_text word) old next
+      → Same (GoesOn taken options None is_plain old (word ∷ words)) (GoesOn taken options None is_plain next words)
+  own_step true next kind takes = absurd (other-own kind)
+  own_step false next kind takes =
+      rw kind (next_one (TakesOwn taken (word_text word) old) next takes (λ x t. own-one taken (word_text word) old x next t takes)
+      (λ x new. Selects taken options None x words new))
 
   pub plain_step : (is_plain : Bool) → kind_at is_plain options (word_text word) ≡ kinds.Plain
-      → Same (GoesOn options None is_plain old (word ∷ words)) (GoesOn options None true old words)
+      → Same (GoesOn taken options None is_plain old (word ∷ words)) (GoesOn taken options None true old words)
   plain_step true kind = absurd (other-plain kind)
   plain_step false kind = rw kind (λ new a. a, λ new a. a)
 
   pub nul_step : (is_plain : Bool) → kind_at is_plain options (word_text word) ≡ kinds.Nul
-      → Same (GoesOn options None is_plain old (word ∷ words)) (GoesOn options None is_plain (record old { ends_with_nul = true }) words)
+      → Same (GoesOn taken options None is_plain old (word ∷ words)) (GoesOn taken options None is_plain (record old { ends_with_nul = true }) words)
   nul_step true kind = absurd (other-nul kind)
   nul_step false kind = rw kind (λ new a. a, λ new a. a)
 
+  pub form_step : (format : Format) (is_plain : Bool) → kind_at is_plain options (word_text word) ≡ kinds.Form format
+      → Same (GoesOn taken options None is_plain old (word ∷ words)) (GoesOn taken options None is_plain (record old { format = format }) words)
+  form_step format true kind = absurd (other-form format kind)
+  form_step format false kind = rw kind (λ new a. a, λ new a. a)
+
   pub option_step : (option : Valued) (is_plain : Bool) → kind_at is_plain options (word_text word) ≡ kinds.Valued option
-      → Same (GoesOn options None is_plain old (word ∷ words)) (GoesOn options (Some option) is_plain old words)
+      → Same (GoesOn taken options None is_plain old (word ∷ words)) (GoesOn taken options (Some option) is_plain old words)
   option_step option true kind = absurd (other-valued option kind)
   option_step option false kind = rw kind (λ new a. a, λ new a. a)
 
   -- these arguments extend to no call
   pub selects_none : (is_plain : Bool) (kind : Kind) → kind_at is_plain options (word_text word) ≡ kind → IsNoCall kind
-      → (new : ParsedCall) → GoesOn options None is_plain old (word ∷ words) new → ⊥
+      → (new : ParsedCall O) → GoesOn taken options None is_plain old (word ∷ words) new → ⊥
   selects_none true kind is none new selects = subst IsNoCall (sym is) none
   selects_none false kinds.Help is none new selects = rw is at selects
   selects_none false kinds.Version is none new selects = rw is at selects
-  selects_none false kinds.Unknown is none new selects = rw is at selects
   selects_none false kinds.Plain is none new selects = none
   selects_none false kinds.Nul is none new selects = none
+  selects_none false (kinds.Form format) is none new selects = none
   selects_none false (kinds.Valued option) is none new selects = none
   selects_none false kinds.Other is none new selects = none
+  selects_none false kinds.Own is none new selects = none
 
-  -- an argument is taken as a value, or added
-  pub valued_made : (option : Valued) (is_plain : Bool) (new : ParsedCall) → GoesOn options (Some option) is_plain old (word ∷ words) new
-      → (x : ParsedCall) × TakesWord option word old x
+  -- an argument is taken as a value or as an own option, or added
+  pub valued_made : (option : Valued) (is_plain : Bool) (new : ParsedCall O) → GoesOn taken options (Some option) is_plain old (word ∷ words) new
+      → (x : ParsedCall O) × TakesWord option word old x
   valued_made option is_plain new selects = (selects.0, selects.1)
 
-  pub other_made : (is_plain : Bool) → kind_at is_plain options (word_text word) ≡ kinds.Other → (new : ParsedCall)
-      → GoesOn options None is_plain old (word ∷ words) new → (x : ParsedCall) × AddsWord options word old x
+  pub other_made : (is_plain : Bool) → kind_at is_plain options (word_text word) ≡ kinds.Other → (new : ParsedCall O)
+      → GoesOn taken options None is_plain old (word ∷ words) new → (x : ParsedCall O) × AddsWord options word old x
   other_made true kind new selects = (selects.0, selects.1)
   other_made false kind new selects = let all = rw kind at selects in (all.0, all.1)
 
+  pub own_made : (is_plain : Bool) → kind_at is_plain options (word_text word) ≡ kinds.Own → (new : ParsedCall O)
+      → GoesOn taken options None is_plain old (word ∷ words) new → (x : ParsedCall O) × TakesOwn taken (word_text word) old x
+  own_made true kind new selects = absurd (other-own kind)
+  own_made false kind new selects = let all = rw kind at selects in (all.0, all.1)
+
 -- if one argument isn't taken, the arguments extend to no call
-pub untaken_all : (BindRules All : ParsedCall → Type 0) (e : Untaken) → ((new : ParsedCall) → All new → (x : ParsedCall) × BindRules x) → AreUntaken BindRules e
-    → AreUntaken All e
-untaken_all BindRules All (Misuse misuse) made none = λ new all. let one = made new all in none one.0 one.1
-untaken_all BindRules All Memory made none = cc
+pub untaken_all : {O : Type 0} (Makes All : ParsedCall O → Type 0) (e : Untaken) → ((new : ParsedCall O) → All new → (x : ParsedCall O) × Makes x)
+    → AreUntaken Makes e → AreUntaken All e
+untaken_all Makes All (Misuse misuse) made none = λ new all. let one = made new all in none one.0 one.1
+untaken_all Makes All Memory made none = cc
 
 -- ---- the arguments that are left
 

@@ -14,4 +14,6 @@ pub mod FlagWords
 mod ListedNames
 mod TitleKept
 mod CallsRead
+mod Formed
+pub mod FieldLines
 mod Cputypes

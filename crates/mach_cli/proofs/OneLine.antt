@@ -163,6 +163,13 @@ pub no_feed-flat_map : {A : Type 0} (f : A → List ℕ) (xs : List A) → ((x :
 no_feed-flat_map f [] each = refl
 no_feed-flat_map f (x ∷ xs) each = no_feed-append (f x) (flat_map f xs) (each x) (no_feed-flat_map f xs each)
 
+pub no_feed-repeat : (n : ℕ) (text : List ℕ) → has_no_feed text ≡ true → has_no_feed (repeat n text) ≡ true
+no_feed-repeat zero text h = refl
+no_feed-repeat (suc n) text h = no_feed-append text (repeat n text) h (no_feed-repeat n text h)
+
+pub no_feed-space : has_no_feed (encode 32) ≡ true
+no_feed-space = rw (encode_ascii 32 (omega arith)) refl
+
 pub no_feed-decimal : (n : ℕ) → has_no_feed (decimal n) ≡ true
 no_feed-decimal n = no_feed-printed (decimal n) (printed-decimal n)
 

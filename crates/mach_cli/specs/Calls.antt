@@ -8,13 +8,15 @@ use Rattle.mach_cli.specs.CallWords.{word_text}
 use Rattle.mach_cli.specs.declared.call.Call.{Call}
 use Rattle.mach_cli.specs.declared.call.Kind.{Kind}
 use Rattle.mach_cli.specs.declared.call.Kind.TheVariants as kinds
-use Rattle.mach_cli.specs.declared.call.Options.{Options}
 use Rattle.mach_cli.specs.declared.call.Request.{Request}
 use Rattle.mach_cli.specs.declared.call.Request.TheVariants as requests
 use Rattle.mach_cli.specs.declared.call.Untaken.{Untaken}
 use Rattle.mach_cli.specs.declared.call.Untaken.TheVariants.{Misuse, Memory}
 use Rattle.mach_cli.specs.declared.call.Valued.{Valued}
 use Rattle.mach_cli.specs.declared.call.Valued.TheVariants as valued
+use Rattle.mach_cli.specs.declared.options.Format.{Format}
+use Rattle.mach_cli.specs.declared.options.Format.TheVariants as formats
+use Rattle.mach_cli.specs.declared.options.Options.{Options}
 use Rattle.mach_cli.specs.declared.cpu.Cpu.{Cpu}
 use Rattle.mach_cli.specs.declared.cpu.Cpu.TheVariants as cpus
 use Rattle.mach_cli.specs.declared.word.NoText.{NoText}
@@ -37,11 +39,17 @@ cpu_said cpus.Any = any_cpu
 cpu_said (cpus.Number number) = of_number number
 cpu_said (cpus.Arch arch) = of_arch (arch_row_of arch)
 
--- what arguments request: the number after `--limit`, the selected cpu, the other arguments, the lists after `--names`, whether
--- names in these end with NUL, and the arguments that aren't text
-pub record ParsedCall : Type 0 where
+abbrev pub is_json : Format → Bool
+is_json formats.Json = true
+is_json other = false
+
+-- what arguments request: the number after `--limit`, the selected cpu, the form of the output, the program's own options, the
+-- other arguments, the lists after `--names`, whether names in these end with NUL, and the arguments that aren't text
+pub record ParsedCall (O : Type 0) : Type 0 where
   pub limit : Option ℕ
   pub cpu : CpuSaid
+  pub format : Format
+  pub own : O
   pub words : List (List ℕ)
   pub lists : List (List ℕ)
   pub ends_with_nul : Bool
@@ -50,19 +58,22 @@ pub record ParsedCall : Type 0 where
 abbrev pub byte_word_of : NoText → ByteWord
 byte_word_of t = record { number = t.number; bytes = t.bytes.now }
 
-abbrev pub call_view : {A : Type 0} → Call A → ParsedCall
+abbrev pub call_view : {A O : Type 0} → Call A O → ParsedCall O
 call_view c = record {
   limit = c.limit;
   cpu = cpu_said c.cpu;
+  format = c.format;
+  own = c.own;
   words = texts c.words.items;
   lists = texts c.others.lists.items;
   ends_with_nul = c.others.ends_with_nul;
   no_texts = map byte_word_of c.others.no_texts.items;
 }
 
--- before the first argument
-abbrev pub empty_call : ParsedCall
-empty_call = record { limit = None; cpu = any_cpu; words = []; lists = []; ends_with_nul = false; no_texts = [] }
+-- before the first argument, with these options of the program's own
+abbrev pub empty_call : {O : Type 0} → O → ParsedCall O
+empty_call own =
+    record { limit = None; cpu = any_cpu; format = formats.Text; own = own; words = []; lists = []; ends_with_nul = false; no_texts = [] }
 
 -- The argument is a number of digits, perhaps after a plus, that fits 64 bits.
 abbrev pub IsLimit : List ℕ → ℕ → Type 0
@@ -74,7 +85,7 @@ abbrev pub IsCputype : List ℕ → ℕ → Type 0
 IsCputype word number = (digits : List ℕ) × (word ≡ codes "0x" ++ digits) × IsNumeral 16 digits × (length digits ≤ 8) × (number ≡ digits_value 16 digits)
 
 -- What an option and its value add to a call: the number of lines, the cpu of a name or a number, or one more list.
-abbrev pub TakesValue : Valued → List ℕ → (old new : ParsedCall) → Type 0
+abbrev pub TakesValue : {O : Type 0} → Valued → List ℕ → (old new : ParsedCall O) → Type 0
 TakesValue valued.Limit word old new = (number : ℕ) × IsLimit word number × (new ≡ record old { limit = Some number })
 TakesValue valued.Arch word old new =
     (row : ArchRow) × (arch_named arch_rows word ≡ Some row) × (new ≡ record old { cpu = of_arch row })
@@ -88,12 +99,14 @@ word_kind options word =
     else if bytes_eq word (codes "-h") || bytes_eq word (codes "--help") then kinds.Help
     else if bytes_eq word (codes "--version") then kinds.Version
     else if bytes_eq word (codes "-0") && options.has_files then kinds.Nul
+    else if bytes_eq word (codes "--json") && options.has_json then kinds.Form formats.Json
+    else if bytes_eq word (codes "--quiet") && options.has_quiet then kinds.Form formats.Quiet
     else if bytes_eq word (codes "--limit") && options.has_limit then kinds.Valued valued.Limit
-    else if bytes_eq word (codes "--arch") && options.has_cpu then kinds.Valued valued.Arch
-    else if bytes_eq word (codes "--cputype") && options.has_cpu then kinds.Valued valued.Cputype
+    else if bytes_eq word (codes "--arch") && options.has_arch then kinds.Valued valued.Arch
+    else if bytes_eq word (codes "--cputype") && options.has_cputype then kinds.Valued valued.Cputype
     else if bytes_eq word (codes "--names") && options.has_files then kinds.Valued valued.Names
     else if bytes_eq word (codes "-") then kinds.Other
-    else if get_or word 0 0 == 0x2d then kinds.Unknown
+    else if get_or word 0 0 == 0x2d then kinds.Own
     else kinds.Other
 
 -- the kind of an argument that is no option's value; after `--` it is no option
@@ -101,51 +114,62 @@ abbrev pub kind_at : (is_plain : Bool) → Options → List ℕ → Kind
 kind_at is_plain options word = if is_plain then kinds.Other else word_kind options word
 
 -- The value of an option is text.
-abbrev pub TakesWord : Valued → Word → (old new : ParsedCall) → Type 0
+abbrev pub TakesWord : {O : Type 0} → Valued → Word → (old new : ParsedCall O) → Type 0
 TakesWord option (Text text) old new = TakesValue option (string_bytes text) old new
 TakesWord option (Bytes number bytes) old new = ⊥
 
 -- An argument that is no option is added; if it isn't text, only where it may be one of several files.
-abbrev pub AddsWord : Options → Word → (old new : ParsedCall) → Type 0
+abbrev pub AddsWord : {O : Type 0} → Options → Word → (old new : ParsedCall O) → Type 0
 AddsWord options (Text text) old new = new ≡ record old { words = old.words ++ string_bytes text ∷ [] }
 AddsWord options (Bytes number bytes) old new = (options.has_files ≡ true)
     × (new ≡ record old { no_texts = old.no_texts ++ record { number = number; bytes = bytes.items } ∷ [] })
 
 -- Arguments are added in order; none is an option.
-abbrev pub AddsWords : Options → (old : ParsedCall) → List Word → (new : ParsedCall) → Type 0
+abbrev pub AddsWords : {O : Type 0} → Options → (old : ParsedCall O) → List Word → (new : ParsedCall O) → Type 0
 AddsWords options old [] new = new ≡ old
-AddsWords options old (word ∷ words) new = (next : ParsedCall) × AddsWord options word old next × AddsWords options next words new
+AddsWords {O} options old (word ∷ words) new = (next : ParsedCall O) × AddsWord options word old next × AddsWords options next words new
+
+-- The program has an option of its own, and takes it; `taken` says what its own options are after an argument, and whether it has
+-- that as an option.
+abbrev pub TakesOwn : {O : Type 0} → (taken : O → List ℕ → O × Bool) → List ℕ → (old new : ParsedCall O) → Type 0
+TakesOwn {O} taken word old new = (own : O) × (taken old.own word ≡ (own, true)) × (new ≡ record old { own = own })
 
 -- what holds for an argument, by its kind
-abbrev pub ByKind : Kind → (plain nul : Type 0) → (value : Valued → Type 0) → (other : Type 0) → Type 0
-ByKind kinds.Plain plain nul value other = plain
-ByKind kinds.Help plain nul value other = ⊥
-ByKind kinds.Version plain nul value other = ⊥
-ByKind kinds.Nul plain nul value other = nul
-ByKind (kinds.Valued option) plain nul value other = value option
-ByKind kinds.Other plain nul value other = other
-ByKind kinds.Unknown plain nul value other = ⊥
+abbrev pub ByKind : Kind → (plain nul : Type 0) → (form : Format → Type 0) → (value : Valued → Type 0) → (other own : Type 0) → Type 0
+ByKind kinds.Plain plain nul form value other own = plain
+ByKind kinds.Help plain nul form value other own = ⊥
+ByKind kinds.Version plain nul form value other own = ⊥
+ByKind kinds.Nul plain nul form value other own = nul
+ByKind (kinds.Form format) plain nul form value other own = form format
+ByKind (kinds.Valued option) plain nul form value other own = value option
+ByKind kinds.Other plain nul form value other own = other
+ByKind kinds.Own plain nul form value other own = own
 
 -- Arguments extend the call `old` to `new`. The last argument before them may be an option that lacks its value. An option takes
--- the argument after it; all arguments after `--` are others, and so is each argument that is no option.
-abbrev pub Selects : Options → (option : Option Valued) → (old : ParsedCall) → List Word → (new : ParsedCall) → Type 0
-Selects options None old [] new = new ≡ old
-Selects options (Some option) old [] new = ⊥
-Selects options (Some option) old (word ∷ words) new = (next : ParsedCall) × TakesWord option word old next × Selects options None next words new
-Selects options None old (word ∷ words) new =
+-- the argument after it; all arguments after `--` are others, and so is each argument that is no option. An option that isn't
+-- shared is one of the program's own.
+abbrev pub Selects : {O : Type 0} → (taken : O → List ℕ → O × Bool) → Options → (option : Option Valued) → (old : ParsedCall O) → List Word
+    → (new : ParsedCall O) → Type 0
+Selects taken options None old [] new = new ≡ old
+Selects taken options (Some option) old [] new = ⊥
+Selects {O} taken options (Some option) old (word ∷ words) new =
+    (next : ParsedCall O) × TakesWord option word old next × Selects taken options None next words new
+Selects {O} taken options None old (word ∷ words) new =
     ByKind (word_kind options (word_text word)) (AddsWords options old words new)
-    (Selects options None (record old { ends_with_nul = true }) words new)
-    (λ option. Selects options (Some option) old words new)
-    ((next : ParsedCall) × AddsWord options word old next × Selects options None next words new)
+    (Selects taken options None (record old { ends_with_nul = true }) words new)
+    (λ format. Selects taken options None (record old { format = format }) words new)
+    (λ option. Selects taken options (Some option) old words new)
+    ((next : ParsedCall O) × AddsWord options word old next × Selects taken options None next words new)
+    ((next : ParsedCall O) × TakesOwn taken (word_text word) old next × Selects taken options None next words new)
 
 -- The request is what the arguments add to a call: this call; or they request no call.
-abbrev pub IsRequest : {A : Type 0} → Options → (old : ParsedCall) → List Word → Request A → Type 0
-IsRequest options old words (requests.Call call) = Selects options None old words (call_view call)
-IsRequest options old words requests.Help = (new : ParsedCall) → Selects options None old words new → ⊥
-IsRequest options old words requests.Version = (new : ParsedCall) → Selects options None old words new → ⊥
-IsRequest options old words (requests.Nothing misuse) = (new : ParsedCall) → Selects options None old words new → ⊥
+abbrev pub IsRequest : {A O : Type 0} → (taken : O → List ℕ → O × Bool) → Options → (old : ParsedCall O) → List Word → Request A O → Type 0
+IsRequest taken options old words (requests.Call call) = Selects taken options None old words (call_view call)
+IsRequest {A} {O} taken options old words requests.Help = (new : ParsedCall O) → Selects taken options None old words new → ⊥
+IsRequest {A} {O} taken options old words requests.Version = (new : ParsedCall O) → Selects taken options None old words new → ⊥
+IsRequest {A} {O} taken options old words (requests.Nothing misuse) = (new : ParsedCall O) → Selects taken options None old words new → ⊥
 
 -- The arguments are at fault: they extend to no call.
-abbrev pub AreUntaken : (ParsedCall → Type 0) → Untaken → Type 0
-AreUntaken made (Misuse misuse) = (new : ParsedCall) → made new → ⊥
+abbrev pub AreUntaken : {O : Type 0} → (ParsedCall O → Type 0) → Untaken → Type 0
+AreUntaken {O} made (Misuse misuse) = (new : ParsedCall O) → made new → ⊥
 AreUntaken made Memory = ⊤

@@ -3,6 +3,7 @@ pub mod Cpus
 pub mod Failures
 pub mod Foreigners
 pub mod InOrder
+pub mod Kinds
 pub mod Labels
 pub mod Held
 pub mod Lines
@@ -18,6 +19,8 @@ pub mod PartsOf
 pub mod ShownParts
 pub mod JsonText
 pub mod JsonArrays
+pub mod Values
+pub mod Fields
 pub mod Signing
 pub mod Refusals
 pub mod Sinks

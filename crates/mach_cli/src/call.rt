@@ -1,21 +1,28 @@
 //! The arguments of a call.
 
 ghost use Rattle.std.specs.Prelude.{◌≡◌, ℕ, None, IfErr, IfNone, IfOk, IfSome, OnOk};
-ghost use Rattle.mach_cli.specs.Calls.{call_view, empty_call, kind_at, word_kind, AddsWord, AreUntaken, Selects, IsCputype, IsRequest, TakesValue, TakesWord};
+ghost use Rattle.mach_cli.specs.Calls.{call_view, empty_call, kind_at, word_kind, AddsWord, AreUntaken, Selects, IsCputype, IsRequest, TakesOwn, TakesValue};
+ghost use Rattle.mach_cli.specs.Calls.{TakesWord};
+ghost use Rattle.mach_cli.specs.CallWords.{word_text};
 
 use crate::cpu::{Arch, Cpu};
 use crate::misuse::Misuse;
 use crate::named::Others;
+use crate::options::{Format, Options, OwnOptions};
 use crate::word::{NoText, Word};
 use std::alloc::{AllocError, Allocator};
 
 /// The arguments of a call, after the program's name and the options.
 #[derive(Drop)]
-pub struct Call<'a, A: Allocator> {
+pub struct Call<'a, A: Allocator, O> {
     /// The number after `--limit`, if it is given.
     pub limit: Option<usize>,
     /// The cpu after `--arch` or `--cputype`; any, if neither is given.
     pub cpu: Cpu,
+    /// The form that the last of `--quiet` and `--json` selects; text, if neither is given.
+    pub format: Format,
+    /// The program's own options.
+    pub own: O,
     /// All other arguments that are text, in order.
     pub words: Vec<&'a str, A>,
     /// The files that are named in other ways.
@@ -24,26 +31,15 @@ pub struct Call<'a, A: Allocator> {
 
 /// What the arguments of a call request.
 #[derive(Drop)]
-pub enum Request<'a, A: Allocator> {
+pub enum Request<'a, A: Allocator, O> {
     /// `--help`: print the usage.
     Help,
     /// `--version`: print the version.
     Version,
     /// A run of the program, with its arguments.
-    Call(Call<'a, A>),
+    Call(Call<'a, A, O>),
     /// Nothing, because of this misuse.
     Nothing(Misuse<'a>),
-}
-
-/// The options that a program has.
-#[derive(Clone, Copy)]
-pub struct Options {
-    /// `--limit`.
-    pub has_limit: bool,
-    /// `--arch` and `--cputype`.
-    pub has_cpu: bool,
-    /// `--names` and `-0`, for programs that take several files.
-    pub has_files: bool,
 }
 
 // An option with a value.
@@ -64,12 +60,14 @@ enum Kind {
     Version,
     // `-0`: names in lists end with NUL.
     Nul,
+    // An option that selects a form.
+    Form(Format),
     // An option with a value.
     Valued(Valued),
     // No option.
     Other,
-    // An option that the program doesn't have.
-    Unknown,
+    // An option of the program's own, or one that it doesn't have.
+    Own,
 }
 
 // Why arguments request nothing, or aren't read.
@@ -81,11 +79,6 @@ enum Untaken<'a> {
     Memory,
 }
 
-/// Whether an option that programs share has a value.
-pub fn takes_word(option: &str) -> bool {
-    matches!(option, "--limit" | "--arch" | "--cputype" | "--names")
-}
-
 // Returns the kind of an argument that is no option's value and comes before `--`.
 fn kind_of(word: &str, options: Options) -> Kind
     ensures { result ≡ word_kind options word.now }
@@ -95,12 +88,14 @@ fn kind_of(word: &str, options: Options) -> Kind
         "-h" | "--help" => Kind::Help,
         "--version" => Kind::Version,
         "-0" if options.has_files => Kind::Nul,
+        "--json" if options.has_json => Kind::Form(Format::Json),
+        "--quiet" if options.has_quiet => Kind::Form(Format::Quiet),
         "--limit" if options.has_limit => Kind::Valued(Valued::Limit),
-        "--arch" if options.has_cpu => Kind::Valued(Valued::Arch),
-        "--cputype" if options.has_cpu => Kind::Valued(Valued::Cputype),
+        "--arch" if options.has_arch => Kind::Valued(Valued::Arch),
+        "--cputype" if options.has_cputype => Kind::Valued(Valued::Cputype),
         "--names" if options.has_files => Kind::Valued(Valued::Names),
         "-" => Kind::Other,
-        _ if word.starts_with('-') => Kind::Unknown,
+        _ if word.starts_with('-') => Kind::Own,
         _ => Kind::Other,
     }
 }
@@ -140,7 +135,7 @@ pub fn cputype_in(word: &str) -> Option<u32>
     u32::from_str_radix(digits, 16).ok()
 }
 
-impl<'a, A: Allocator> Call<'a, A> {
+impl<'a, A: Allocator, O: OwnOptions> Call<'a, A, O> {
     // Takes the value of an option; a value of `--names` is a list.
     fn take(&mut self, option: Valued, word: &'a str) -> Result<(), Untaken<'a>>
         ensures taken { OnOk result (TakesValue option word.now (call_view self.old) (call_view self.new)) }
@@ -198,6 +193,18 @@ impl<'a, A: Allocator> Call<'a, A> {
         };
         if pushed { Ok(()) } else { Err(Untaken::Memory) }
     }
+
+    // Takes an option that isn't shared.
+    fn take_own(&mut self, word: &'a Word) -> Result<(), Untaken<'a>>
+        ensures taken { OnOk result (TakesOwn O.taken (word_text word.now) (call_view self.old) (call_view self.new)) }
+        ensures untaken { IfErr result (AreUntaken (TakesOwn O.taken (word_text word.now) (call_view self.old))) }
+    {
+        let option = word.as_str();
+        if !self.own.take(option) {
+            return Err(Untaken::Misuse(Misuse::UnknownOption(option)));
+        }
+        Ok(())
+    }
 }
 
 // Returns the report that the argument of this number isn't text.
@@ -211,17 +218,21 @@ fn no_text(number: usize, bytes: &[u8]) -> NoText<'_>
     }
 }
 
-/// Parses the arguments after the program's name. An option may be anywhere before `--`; after it nothing is an option. `-` is no option.
-pub fn understand<'a, A: Allocator + Clone>(
+/// Parses the arguments after the program's name. An option may be anywhere before `--`; after it nothing is an option. `-` is no
+/// option.
+pub fn understand<'a, A: Allocator + Clone, O: OwnOptions>(
     alloc: &A,
     options: Options,
+    own: O,
     words: &'a [Word],
-) -> Result<Request<'a, A>, AllocError>
-    ensures { IfOk result (IsRequest options empty_call words.now) }
+) -> Result<Request<'a, A, O>, AllocError>
+    ensures { IfOk result (IsRequest O.taken options (empty_call own) words.now) }
 {
     let call = Call {
         limit: None,
         cpu: Cpu::Any,
+        format: Format::Text,
+        own,
         words: Vec::new(alloc.clone()?),
         others: Others {
             lists: Vec::new(alloc.clone()?),
@@ -237,13 +248,13 @@ pub fn understand<'a, A: Allocator + Clone>(
 }
 
 // Parses arguments into a call that has some already.
-fn read<'a, A: Allocator>(
-    mut call: Call<'a, A>,
+fn read<'a, A: Allocator, O: OwnOptions>(
+    mut call: Call<'a, A, O>,
     options: Options,
     words: &'a [Word],
-) -> Result<Request<'a, A>, Untaken<'a>>
-    ensures request { IfOk result (IsRequest options (call_view call.entry) words.now) }
-    ensures untaken { IfErr result (AreUntaken (Selects options None (call_view call.entry) words.now)) }
+) -> Result<Request<'a, A, O>, Untaken<'a>>
+    ensures request { IfOk result (IsRequest O.taken options (call_view call.entry) words.now) }
+    ensures untaken { IfErr result (AreUntaken (Selects O.taken options None (call_view call.entry) words.now)) }
 {
     let mut before: Option<Valued> = None;
     let mut is_plain = false;
@@ -260,14 +271,17 @@ fn read<'a, A: Allocator>(
             Kind::Help => return Ok(Request::Help),
             Kind::Version => return Ok(Request::Version),
             Kind::Nul => call.others.ends_with_nul = true,
+            Kind::Form(format) => call.format = format,
             Kind::Valued(option) => before = Some(option),
             Kind::Other => {
                 if let Err(untaken) = call.add(word, options) {
                     return Err(untaken);
                 }
             }
-            Kind::Unknown => {
-                return Err(Untaken::Misuse(Misuse::UnknownOption(word.as_str())));
+            Kind::Own => {
+                if let Err(untaken) = call.take_own(word) {
+                    return Err(untaken);
+                }
             }
         }
     }

@@ -1,12 +1,18 @@
-//! What a file is by its first bytes: whether it is divided into parts, or its kind if it isn't Mach-O.
+//! What a file is by its first bytes: whether it is divided into parts, what an entry or a member is, or its kind if it isn't Mach-O.
 
 ghost use Rattle.std.specs.Prelude.{◌≡◌, ◌∷◌, [], MatchOption};
 ghost use Rattle.mach_cli.specs.Foreigners.{foreign_kind, is_java_class, refused_kind};
 ghost use Rattle.mach_cli.specs.PartsOf.{itself, parts_in, IsDivided};
+ghost use Rattle.mach_cli.specs.Kinds.{entry_kind, is_image_magic};
+ghost use Rattle.mach_parts.specs.Magic.{begins_archive, magic_at};
 
 use goblin_mach::fat::FAT_MAGIC;
-use goblin_mach::{Error, FAT_MAGIC_64, Input, MultiArch64, begins_archive, peek};
+use goblin_mach::{
+    Error, FAT_MAGIC_64, Hint, Input, MultiArch64, begins_archive, peek, peek_bytes,
+    take_hint_bytes,
+};
 use mach_archive::Archive;
+use mach_parts::magic::parse_magic_and_ctx;
 use std::alloc::Global;
 use std::fmt;
 use std::fmt::{Display, Formatter, Write};
@@ -104,4 +110,36 @@ pub fn divided(alloc: Global, bytes: &[u8]) -> Option<Input<'_>>
         },
         _ => None,
     }
+}
+
+/// Returns the kind of a member or an entry, by its first 16 bytes.
+pub fn entry_kind(entry: &[u8]) -> &'static str
+    ensures { result.now ≡ entry_kind entry.now }
+{
+    let Some(front) = take_hint_bytes(entry) else {
+        return "too short";
+    };
+    match peek_bytes(front) {
+        Ok(Hint::Archive) => "archive",
+        Ok(Hint::Mach(_)) => "image",
+        Ok(Hint::MachFat(_)) => "fat file",
+        Ok(Hint::Unknown(_)) | Err(_) => "unknown",
+    }
+}
+
+/// Whether bytes begin as an image does.
+pub fn begins_image(bytes: &[u8]) -> bool
+    ensures { result ≡ is_image_magic (magic_at bytes.now 0) }
+{
+    match parse_magic_and_ctx(bytes, 0) {
+        Ok((_, Some(_))) => true,
+        _ => false,
+    }
+}
+
+/// Whether bytes begin as an archive does that has its members in it.
+pub fn begins_whole_archive(bytes: &[u8]) -> bool
+    ensures { result ≡ begins_archive bytes.now }
+{
+    bytes.starts_with(b"!<arch>\n")
 }

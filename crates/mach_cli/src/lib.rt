@@ -12,21 +12,26 @@ mod failure;
 mod first_bytes;
 mod misuse;
 mod named;
+mod options;
 pub mod output;
 mod program;
 mod word;
 
 // The output for a file, for an image, and for each entry.
 mod document;
+mod fields;
 mod image_files;
 mod image_view;
 mod images_view;
+mod items;
 mod label;
 mod listing;
 mod names;
 mod refusal;
+mod signing;
 mod sink;
 mod titled;
+mod values;
 
 // Archives and fat files of 64 bits: each member and each entry is shown as a file of its own.
 mod files;
@@ -46,24 +51,26 @@ mod progress;
 mod terminal;
 
 pub use crate::bounds::most_items;
-pub use crate::call::{Call, cputype_in, takes_word};
+pub use crate::call::{Call, cputype_in};
 pub use crate::complaint::{Complaint, Trouble};
 pub use crate::cpu::{Arch, Cpu};
 pub use crate::directory_name::print_name;
 pub use crate::document::Document;
 pub use crate::escaped::{Escaped, EscapedBytes, print_bytes, print_escaped};
 pub use crate::failure::ShowFailure;
+pub use crate::fields::{Field, FieldsForm, Line, Object, Pairs, Value, word_if};
 pub use crate::files::{FileView, Files};
-pub use crate::first_bytes::{Foreign, foreign_kind, refused_kind};
+pub use crate::first_bytes::{
+    Foreign, begins_image, begins_whole_archive, entry_kind, foreign_kind, refused_kind,
+};
 pub use crate::flags::{print_code_flags, print_segment_flags};
 pub use crate::image_files::ImageFiles;
 pub use crate::image_view::{ImageView, Outcome};
 pub use crate::images_view::ImagesView;
-pub use crate::json::arguments::take_json;
+pub use crate::items::{InForm, ItemList};
 pub use crate::json::array::{
     comma_before, print_array, print_empty, print_end, print_end_past, print_member, then,
 };
-pub use crate::json::signing::{AuthMembers, DiversityMembers, has_auth, key_by, rebase_type};
 pub use crate::json::text::JsonString;
 pub use crate::label::Label;
 pub use crate::listing::{
@@ -72,6 +79,7 @@ pub use crate::listing::{
 pub use crate::misuse::Misuse;
 pub use crate::named::{Others, names_of};
 pub use crate::names::Names;
+pub use crate::options::{Format, Options, OwnOptions, SharedOnly};
 pub use crate::parts::name::PartName;
 pub use crate::parts::selection::{is_for, is_missed};
 pub use crate::parts::shown::{ShownPart, shown_part};
@@ -79,7 +87,9 @@ pub use crate::parts::{Parts, parts_of};
 pub use crate::program::Program;
 pub use crate::progress::Progress;
 pub use crate::refusal::{Refusal, complain, refusal_of};
+pub use crate::signing::{diverse_by, diversity_by, has_auth, key_by, rebase_type};
 pub use crate::sink::{Json, Sink, Text};
 pub use crate::terminal::ForTerminal;
 pub use crate::titled::Titled;
+pub use crate::values::{SourceVersionText, UuidText, VersionText};
 pub use crate::word::{NoText, Word};

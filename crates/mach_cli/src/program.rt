@@ -1,14 +1,18 @@
 //! A program's call: its arguments and its files.
 
-ghost use Rattle.std.specs.Prelude.{◌≡◌, IfErr};
+ghost use Rattle.std.specs.Prelude.{◌≡◌, None, IfErr, IfOk, drop};
+ghost use Rattle.mach_cli.specs.Calls.{Selects, call_view, empty_call};
 ghost use Rattle.mach_cli.specs.FileTitles.{IsUnreadStatus};
 ghost use Rattle.mach_cli.specs.Statuses.{IsStatus};
 
-use crate::call::{Call, Options, Request, understand};
+use crate::call::{Call, Request, understand};
 use crate::complaint::{Complaint, Trouble};
+use crate::label::Label;
 use crate::misuse::Misuse;
 use crate::names::Names;
+use crate::options::{Options, OwnOptions};
 use crate::output::say;
+use crate::refusal::{Refusal, complain};
 use crate::word::{Word, call_words};
 use std::alloc::{AllocError, Global};
 use std::io::{ErrorKind, Read};
@@ -23,12 +27,8 @@ pub struct Program {
     pub usage: &'static str,
     /// What `--version` prints.
     pub version: &'static str,
-    /// Whether it has `--limit`.
-    pub has_limit: bool,
-    /// Whether it has `--arch` and `--cputype`.
-    pub has_cpu: bool,
-    /// Whether it takes several files. Then it has `--names` and `-0`, and an argument that isn't text doesn't stop the others.
-    pub has_files: bool,
+    /// The shared options that it has.
+    pub options: Options,
     /// The words that it knows: its options and its commands.
     pub known: &'static [&'static str],
 }
@@ -45,17 +45,18 @@ impl Program {
         }
     }
 
-    /// Parses the arguments of a call. `--help`, `--version` and misuse are answered here, and the error is the exit status.
-    pub fn call<'a>(&self, rt: &HostRuntime, words: &'a [Word]) -> Result<Call<'a, Global>, u8>
-        ensures { IfErr result IsStatus }
+    /// Parses the arguments of a call; the first is the program's name. `own` has the program's own options, of which none is
+    /// given yet. `--help`, `--version` and misuse are answered here, and the error is the exit status.
+    pub fn call<'a, O: OwnOptions>(
+        &self,
+        rt: &HostRuntime,
+        own: O,
+        words: &'a [Word],
+    ) -> Result<Call<'a, Global, O>, u8>
+        ensures selected { IfOk result (λ call. Selects O.taken self.now.options None (empty_call own) (drop 1 words.now) (call_view call)) }
+        ensures unread { IfErr result IsStatus }
     {
-        let following = words.get(1..).unwrap_or(&[]);
-        let options = Options {
-            has_limit: self.has_limit,
-            has_cpu: self.has_cpu,
-            has_files: self.has_files,
-        };
-        match understand(&rt.alloc(), options, following) {
+        match understand(&rt.alloc(), self.options, own, after_first(words)) {
             Ok(Request::Help) => Err(self.say(rt, self.usage)),
             Ok(Request::Version) => Err(self.say(rt, self.version)),
             Ok(Request::Call(call)) => Ok(call),
@@ -100,7 +101,7 @@ impl Program {
             program: self.name,
             file,
         };
-        let _ = rt.eprintln(format_args!("{names}: out of memory"));
+        let _ = complain(names, Label::None, Refusal::Memory, &mut rt.stderr());
         1
     }
 
@@ -128,6 +129,16 @@ impl Program {
             program: self.name,
             trouble,
         });
+    }
+}
+
+// Returns the words after the first.
+fn after_first(words: &[Word]) -> &[Word]
+    ensures { result.now ≡ drop 1 words.now }
+{
+    match words {
+        [_, following @ ..] => following,
+        [] => &[],
     }
 }
 

@@ -1,14 +1,14 @@
 use Rattle.std.proofs.Common.{◌≡◌, ◌+◌, false, drop, refl}
 use Rattle.std.proofs.lemmas.List.{drop_all}
 use Rattle.mach_cli.specs.CallWords.{word_text}
-use Rattle.mach_cli.specs.Calls.{call_view, kind_at, AddsWord, TakesWord}
+use Rattle.mach_cli.specs.Calls.{call_view, kind_at, AddsWord, TakesOwn, TakesWord}
 use Rattle.mach_cli.specs.declared.call.Kind.{Kind}
 use Rattle.mach_cli.specs.declared.call.Kind.TheVariants as kinds
-use Rattle.mach_cli.proofs.CallsRead.{IsNoCall, kind_of-word, option_open, same_over, selects_none}
-use Rattle.mach_cli.proofs.CallsRead.{nul_step, option_step, other_made, other_step, plain_step, untaken_all}
+use Rattle.mach_cli.proofs.CallsRead.{kind_of-word, option_open, same_over}
+use Rattle.mach_cli.proofs.CallsRead.{form_step, nul_step, option_step, other_made, other_step, own_made, own_step, plain_step, untaken_all}
 use Rattle.mach_cli.proofs.CallsRead.{valued_made, valued_step, words_more, not_plain}
 use Rattle.mach_cli.proofs.call.read.Goals as goal
-use Rattle.mach_cli.proofs.call.read.Goals.{in-Plain, in-Nul, in-Valued, in-Other+in_default-add}
+use Rattle.mach_cli.proofs.call.read.Goals.{in-Plain, in-Nul, in-Form, in-Valued, in-Other+in_default-add, in-Own+in_default-take_own}
 
 pub words-preserved-in-Some : goal.words-preserved-in-Some
 words-preserved-in-Some g c =
@@ -17,8 +17,8 @@ words-preserved-in-Some g c =
     let w = c.word-item.result in
     let plain : l.is_plain ≡ false = not_plain l.is_plain l.before c.in-Some.option l.invariant.1 c.in-Some.is in
     let before = rw (c.in-Some.is, words_more ws l.word-index w c.words-test.true c.word-item.is) at l.invariant.0 in
-    let step = valued_step c.args.options w (drop (l.word-index + 1) ws) (call_view l.call) c.in-Some.option l.is_plain (call_view c.take_word.new.self)
-    c.in_default-take_word.ensures.taken in
+    let step = valued_step g.O.OwnOptions.taken c.args.options w (drop (l.word-index + 1) ws) (call_view l.call) c.in-Some.option l.is_plain
+    (call_view c.take_word.new.self) c.in_default-take_word.ensures.taken in
     (rw plain (same_over _ _ _ before step), λ _. refl)
 
 pub returns-in-Err-clause-untaken : goal.returns-in-Err-clause-untaken
@@ -28,7 +28,8 @@ returns-in-Err-clause-untaken g c =
     let w = c.word-item.result in
     let before = rw (c.in-Some.is, words_more ws l.word-index w c.words-test.true c.word-item.is) at l.invariant.0 in
     untaken_all (TakesWord c.in-Some.option w (call_view l.call)) _ _
-    (λ new all. valued_made c.args.options w (drop (l.word-index + 1) ws) (call_view l.call) c.in-Some.option l.is_plain new (before.0 new all))
+    (λ new all. valued_made g.O.OwnOptions.taken c.args.options w (drop (l.word-index + 1) ws) (call_view l.call) c.in-Some.option l.is_plain new
+    (before.0 new all))
     c.in-Err.ensures.untaken
 
 pub returns-in-Err-add-clause-untaken : goal.returns-in-Err-add-clause-untaken
@@ -39,18 +40,19 @@ returns-in-Err-add-clause-untaken g c =
     let before = rw (c.in_default.is, words_more ws l.word-index w c.words-test.true c.word-item.is) at l.invariant.0 in
     let kind = kind_of-word l.is_plain c.args.options w c.as_str.result.now c.kind_at.result kinds.Other c.as_str.ensures c.kind_at.ensures c.in-Other.is in
     untaken_all (AddsWord c.args.options w (call_view l.call)) _ _
-    (λ new all. other_made c.args.options w (drop (l.word-index + 1) ws) (call_view l.call) l.is_plain kind new (before.0 new all))
+    (λ new all. other_made g.O.OwnOptions.taken c.args.options w (drop (l.word-index + 1) ws) (call_view l.call) l.is_plain kind new (before.0 new all))
     c.in-Err-add.ensures.untaken
 
-pub returns-in-Unknown-clause-untaken : goal.returns-in-Unknown-clause-untaken
-returns-in-Unknown-clause-untaken g c =
+pub returns-in-Err-take_own-clause-untaken : goal.returns-in-Err-take_own-clause-untaken
+returns-in-Err-take_own-clause-untaken g c =
     let l = c.words in
     let ws = c.args.words.now in
     let w = c.word-item.result in
     let before = rw (c.in_default.is, words_more ws l.word-index w c.words-test.true c.word-item.is) at l.invariant.0 in
-    let kind = kind_of-word l.is_plain c.args.options w c.as_str.result.now c.kind_at.result kinds.Unknown c.as_str.ensures c.kind_at.ensures c.in-Unknown.is in
-    let none : IsNoCall kinds.Unknown = cc in
-    λ new all. selects_none c.args.options w (drop (l.word-index + 1) ws) (call_view l.call) l.is_plain kinds.Unknown kind none new (before.0 new all)
+    let kind = kind_of-word l.is_plain c.args.options w c.as_str.result.now c.kind_at.result kinds.Own c.as_str.ensures c.kind_at.ensures c.in-Own.is in
+    untaken_all (TakesOwn g.O.OwnOptions.taken (word_text w) (call_view l.call)) _ _
+    (λ new all. own_made g.O.OwnOptions.taken c.args.options w (drop (l.word-index + 1) ws) (call_view l.call) l.is_plain kind new (before.0 new all))
+    c.in-Err-take_own.ensures.untaken
 
 pub words-preserved : goal.words-preserved
 words-preserved g c =
@@ -66,18 +68,31 @@ words-preserved g c =
     elim c.match-kind_at.branch [
       | in-Plain p ↦
           rw (p.call-is, p.before-is, p.is_plain-is, c.in_default.is)
-          (same_over _ _ _ before (plain_step o w rest view l.is_plain (kind kinds.Plain p.in-Plain.is)), λ _. refl)
+          (same_over _ _ _ before (plain_step g.O.OwnOptions.taken o w rest view l.is_plain (kind kinds.Plain p.in-Plain.is)), λ _. refl)
       | in-Nul p ↦
           rw (p.call-is, p.before-is, p.is_plain-is, c.in_default.is)
-          (same_over _ _ _ before (nul_step o w rest view l.is_plain (kind kinds.Nul p.in-Nul.is)), λ _. refl)
+          (same_over _ _ _ before (nul_step g.O.OwnOptions.taken o w rest view l.is_plain (kind kinds.Nul p.in-Nul.is)), λ _. refl)
+      | in-Form p ↦
+          let format = p.in-Form.format in
+          rw (p.call-is, p.before-is, p.is_plain-is, c.in_default.is)
+          (same_over _ _ _ before (form_step g.O.OwnOptions.taken o w rest view format l.is_plain (kind (kinds.Form format) p.in-Form.is)), λ _. refl)
       | in-Valued p ↦
           let option = p.in-Valued.option in
           let is = kind (kinds.Valued option) p.in-Valued.is in
-          rw (p.call-is, p.before-is, p.is_plain-is)
-          (same_over _ _ _ before (option_step o w rest view option l.is_plain is), λ same. option_open o (word_text w) option l.is_plain _ is same)
+          rw (p.call-is, p.before-is, p.is_plain-is) (
+            same_over _ _ _ before (option_step g.O.OwnOptions.taken o w rest view option l.is_plain is),
+            λ same. option_open o (word_text w) option l.is_plain _ is same,
+          )
       | in-Other+in_default-add p ↦
-          rw (p.call-is, p.before-is, p.is_plain-is, c.in_default.is)
-          (same_over _ _ _ before (other_step o w rest view l.is_plain _ (kind kinds.Other p.in-Other.is) p.in_default-add.ensures.added), λ _. refl)
+          rw (p.call-is, p.before-is, p.is_plain-is, c.in_default.is) (
+            same_over _ _ _ before (other_step g.O.OwnOptions.taken o w rest view l.is_plain _ (kind kinds.Other p.in-Other.is) p.in_default-add.ensures.added),
+            λ _. refl,
+          )
+      | in-Own+in_default-take_own p ↦
+          rw (p.call-is, p.before-is, p.is_plain-is, c.in_default.is) (
+            same_over _ _ _ before (own_step g.O.OwnOptions.taken o w rest view l.is_plain _ (kind kinds.Own p.in-Own.is) p.in_default-take_own.ensures.taken),
+            λ _. refl,
+          )
     ]
 
 pub returns-in-Some-before-clause-untaken : goal.returns-in-Some-before-clause-untaken
