@@ -1,15 +1,16 @@
 -- Files that are sound, and what they open as.
 use Rattle.std.proofs.Common.{◌++◌, below_more, nat_lt, length, ◌≡◌, ◌<◌, ◌≤◌, ◌+◌, ◌∙◌, ◌∷◌, [], ℕ, zero, suc, Bool, true, false, List}
-use Rattle.std.proofs.Common.{Result, Ok, Err, refl, sym, ap, subst, arith, inl, inr}
+use Rattle.std.proofs.Common.{Result, Ok, Err, refl, sym, subst, arith, inl, inr}
 use Rattle.std.proofs.Math.Dec.{eqb-suc-zero}
 use Rattle.std.proofs.lemmas.Bool.{ltb-true, ltb-false}
 use Rattle.std.specs.Borrow.{Bor}
-use Rattle.std.specs.Prelude.{◌⊎◌, ◌==◌, if◌then◌else◌, IsTrue, IsOk}
+use Rattle.std.specs.Prelude.{◌⊎◌, ◌==◌, if◌then◌else◌, IsOk}
 use Rattle.mach_base.proofs.Binds.{same_ok}
 use Rattle.mach_base.specs.Answer.{ErrorMeets, FailsAs}
 use Rattle.mach_base.specs.Fault.{Fault, fault_of}
 use Rattle.mach_base.specs.declared.error.Error.TheVariants as errors
 use Rattle.mach_base.specs.declared.error.Error.{Error}
+use Rattle.mach_archive.specs.Archives.{archive_in}
 use Rattle.mach_parts.specs.declared.fat.FatArch.{FatArch}
 use Rattle.goblin_mach.proofs.Files.{fat-excludes_image}
 use Rattle.goblin_mach.proofs.WholeFiles.{view_fault-excludes, entries_of_image}
@@ -28,13 +29,13 @@ use Rattle.goblin_mach.specs.View.{HasEntries, fat_table, of_file, IsReported}
 use Rattle.machaudit.proofs.EntryBytes.{arches_count}
 use Rattle.machaudit.proofs.Goes.{error_meets}
 use Rattle.machaudit.proofs.GoneOver.{overlaid_by, not_overlaid}
-use Rattle.machaudit.proofs.Verdicts.{sound_judged, unended_judged, faulty_judged, both_judged, both_faulty, both_assoc, both_sound, judged_as}
+use Rattle.machaudit.proofs.Verdicts.{all_push, sound_judged, cut_judged, faulty_judged, both_judged, both_faulty, judged_as}
 use Rattle.machaudit.specs.Overlaid.{AreGoneOver, AreOverlaid}
 use Rattle.machaudit.specs.Sound as sound
-use Rattle.machaudit.specs.Sound.{IsSound, IsSoundImage, IsSoundFat, IsSoundEntry, IsLongEntry, IsLong, IsLongFat, HasLongList}
-use Rattle.machaudit.specs.Verdicts.{Judges, verdict_of_both, verdict_of_entry, verdict_of_entries}
+use Rattle.machaudit.specs.Sound.{IsSound, IsSoundArchive, IsSoundImage, IsSoundFat, IsSoundEntry, IsLongArchive, IsLongEntry, IsLong, IsLongFat, HasLongList}
+use Rattle.machaudit.specs.Verdicts.{Judges, verdict_of_all, verdict_of_both, verdict_of_cut, verdict_of_entry}
 use Rattle.machaudit.specs.declared.report.EntryReport.{EntryReport}
-use Rattle.machaudit.specs.declared.verdict.Verdict.TheVariants.{Sound, Unended, Faulty}
+use Rattle.machaudit.specs.declared.verdict.Verdict.TheVariants.{Sound, Faulty}
 use Rattle.machaudit.specs.declared.verdict.Verdict.{Verdict}
 
 -- an image that opens is no fat file
@@ -98,10 +99,12 @@ AllSound file n = (k : ℕ) → k < n → IsSoundEntry (entry_at file k)
 abbrev pub SomeLong : ℕ → FatFile → ℕ → Type 0
 SomeLong limit file n = (k : ℕ) × (k < n) × IsLongEntry limit (entry_at file k)
 
-pub archive_judged : (A : Type 0) (limit : ℕ) (entry : Result FatEntry Fault) (e : FatEntry) (bytes : Bor (List ℕ)) → entry ≡ Ok e
-    → IsEntry {A = A} e (arches.Archive bytes) → Judges (IsSoundEntry entry) (IsLongEntry limit entry) Sound
-archive_judged A limit entry (archive slice) bytes is entry_is = sound_judged (rw is tt) (λ l. subst (λ (x : Result FatEntry Fault). IsLongEntry limit x) is l)
-archive_judged A limit entry (image slice) bytes is entry_is = absurd entry_is
+pub archive_judged : (A : Type 0) (limit : ℕ) (entry : Result FatEntry Fault) (e : FatEntry) (bytes : Bor (List ℕ)) (v : Verdict) → entry ≡ Ok e
+    → IsEntry {A = A} e (arches.Archive bytes) → Judges (IsSoundArchive (archive_in bytes.now)) (IsLongArchive limit (archive_in bytes.now)) v
+    → Judges (IsSoundEntry entry) (IsLongEntry limit entry) v
+archive_judged A limit entry (archive slice) bytes v is same judged =
+    rw is (subst (λ (xs : List ℕ). Judges (IsSoundArchive (archive_in xs)) (IsLongArchive limit (archive_in xs)) v) same judged)
+archive_judged A limit entry (image slice) bytes v is same judged = absurd same
 
 pub entry_judged : {A : Type 0} (limit : ℕ) (entry : Result FatEntry Fault) (e : FatEntry) (m : MachO A) (v : Verdict) → entry ≡ Ok e
     → IsEntry e (arches.MachO m) → ((slice : List ℕ) → IsImage slice 0 m → Judges (IsSoundImage slice) (HasLongList (most_items limit slice) slice) v)
@@ -110,33 +113,27 @@ entry_judged limit entry (archive slice) m v is entry_is judged = absurd entry_i
 entry_judged limit entry (image slice) m v is entry_is judged =
     subst (λ (x : Result FatEntry Fault). Judges (IsSoundEntry x) (IsLongEntry limit x) v) (sym is) (judged slice entry_is)
 
-entry_opens : (entry : Result FatEntry Fault) → IsSoundEntry entry → EntryOpens entry
+pub entry_opens : (entry : Result FatEntry Fault) → IsSoundEntry entry → EntryOpens entry
 entry_opens (Ok (archive slice)) s = tt
 entry_opens (Ok (image slice)) s = s.opens
 entry_opens (Err f) s = s
 
-pub no_entry_judged : {L : Type 0} (entry : Result FatEntry Fault) (e : Error) → (EntryOpens entry → ErrorMeets (λ _. ⊥) e) → IsReported e
-    → Judges (IsSoundEntry entry) L Faulty
-no_entry_judged entry e only reported = faulty_judged (λ s. error_meets (λ _. ⊥) e reported (only (entry_opens entry s)))
+-- what doesn't open isn't sound
+pub unopened_judged : {S O L : Type 0} (e : Error) → (S → O) → (O → ErrorMeets (λ _. ⊥) e) → IsReported e → Judges S L Faulty
+unopened_judged e opens only reported = faulty_judged (λ s. error_meets (λ _. ⊥) e reported (only (opens s)))
 
 -- ---- all entries
-
-pub verdict_push : {A : Type 0} (es : List (EntryReport A)) (e : EntryReport A)
-    → verdict_of_entries (es ++ e ∷ []) ≡ verdict_of_both (verdict_of_entries es) (verdict_of_entry e)
-verdict_push [] e = both_sound (verdict_of_entry e)
-verdict_push (x ∷ es) e =
-    ap (verdict_of_both (verdict_of_entry x)) (verdict_push es e) ∙ sym (both_assoc (verdict_of_entry x) (verdict_of_entries es) (verdict_of_entry e))
 
 pub no_entries_judged : (limit : ℕ) (file : FatFile) → Judges (AllSound file 0) (SomeLong limit file 0) Sound
 no_entries_judged limit file = sound_judged (λ k less. absurd (omega (arith, less))) (λ l. let less = l.1 in omega (arith, less))
 
 pub entries_more : {A : Type 0} (limit : ℕ) (file : FatFile) (n : ℕ) (es : List (EntryReport A)) (e : EntryReport A)
-    → Judges (AllSound file n) (SomeLong limit file n) (verdict_of_entries es)
+    → Judges (AllSound file n) (SomeLong limit file n) (verdict_of_all verdict_of_entry es)
     → Judges (IsSoundEntry (entry_at file n)) (IsLongEntry limit (entry_at file n)) (verdict_of_entry e)
-    → Judges (AllSound file (n + 1)) (SomeLong limit file (n + 1)) (verdict_of_entries (es ++ e ∷ []))
+    → Judges (AllSound file (n + 1)) (SomeLong limit file (n + 1)) (verdict_of_all verdict_of_entry (es ++ e ∷ []))
 entries_more limit file n es e before here =
-    subst (λ (v : Verdict). Judges (AllSound file (n + 1)) (SomeLong limit file (n + 1)) v) (sym (verdict_push es e))
-    (judged_as (verdict_of_both (verdict_of_entries es) (verdict_of_entry e)) (λ s. below_more _ _ s.0 s.1)
+    subst (λ (v : Verdict). Judges (AllSound file (n + 1)) (SomeLong limit file (n + 1)) v) (sym (all_push verdict_of_entry es e))
+    (judged_as (verdict_of_both (verdict_of_all verdict_of_entry es) (verdict_of_entry e)) (λ s. below_more _ _ s.0 s.1)
     (λ s. ((λ k less. s k (omega (arith, less))), s n (omega arith))) longer (λ l. nearer l (nat_lt l.0 n) refl) (both_judged _ _ before here))
   where
     nearer : (l : SomeLong limit file (n + 1)) (b : Bool) → nat_lt l.0 n ≡ b → SomeLong limit file n ⊎ IsLongEntry limit (entry_at file n)
@@ -153,7 +150,7 @@ entries_more limit file n es e before here =
 -- a fat file whose table can be read, of which n entries were audited
 pub fat_file_judged : (limit : ℕ) (file : FatFile) (archs : List FatArch) (n : ℕ) (cut : Bool) (v : Verdict) → arches_in file ≡ Ok archs
     → AreGoneOver Any limit file.bytes archs n → cut ≡ nat_lt n file.narches → Judges (AllSound file n) (SomeLong limit file n) v
-    → Judges (IsSoundFat file) (IsLongFat limit file) (if file.narches == 0 then Faulty else verdict_of_both (if cut then Unended else Sound) v)
+    → Judges (IsSoundFat file) (IsLongFat limit file) (if file.narches == 0 then Faulty else verdict_of_both (verdict_of_cut cut) v)
 fat_file_judged limit file archs n cut v table gone cut_is judged = by_count file.narches cut refl refl
   where
     count : length archs ≡ file.narches
@@ -177,15 +174,10 @@ fat_file_judged limit file archs n cut v table gone cut_is judged = by_count fil
     longer more true e = sound.of_overlaid archs table (overlaid_by Any file.bytes archs limit n gone (omega (arith, more, count)) (ltb-true n limit e))
     longer more false e = sound.of_entries (omega (arith, more, ltb-false n limit e))
 
-    cut_judged : IsTrue cut → (w : Verdict) → v ≡ w → Judges (IsSoundFat file) (IsLongFat limit file) (verdict_of_both Unended w)
-    cut_judged on Faulty e = faulty_judged (λ s. judged.faulty e (fewer s))
-    cut_judged on Unended e = unended_judged (longer (ltb-true n file.narches (sym cut_is ∙ on)) (nat_lt n limit) refl)
-    cut_judged on Sound e = unended_judged (longer (ltb-true n file.narches (sym cut_is ∙ on)) (nat_lt n limit) refl)
-
     by_count : (count : ℕ) (c : Bool) → file.narches ≡ count → cut ≡ c
-        → Judges (IsSoundFat file) (IsLongFat limit file) (if count == 0 then Faulty else verdict_of_both (if c then Unended else Sound) v)
+        → Judges (IsSoundFat file) (IsLongFat limit file) (if count == 0 then Faulty else verdict_of_both (verdict_of_cut c) v)
     by_count zero c e f = faulty_judged (λ s. let some = s.some in omega (arith, some, e))
-    by_count (suc k) true e f = rw (eqb-suc-zero k) (cut_judged f v refl)
+    by_count (suc k) true e f = rw (eqb-suc-zero k) (cut_judged v judged fewer (longer (ltb-true n file.narches (sym cut_is ∙ f)) (nat_lt n limit) refl))
     by_count (suc k) false e f =
         let short = ltb-false n file.narches (sym cut_is ∙ f) in
         rw (eqb-suc-zero k) (judged_as v (λ s. record { some = omega (arith, e); table = rw table refl; entries = λ j less. s j (omega (arith, less, short)) })

@@ -1,9 +1,9 @@
 -- What the bytes of an entry of a fat file say of the entry.
-use Rattle.std.proofs.Common.{◌≡◌, ◌<◌, ◌≤◌, ◌∙◌, ◌/◌, ◌∷◌, ◌++◌, [], ℕ, suc, Bool, true, false, cond, nat_le, List, map, length, take, drop}
-use Rattle.std.proofs.Common.{Option, Some, None, Result, Ok, Err, slice_get, refl, sym, ap, subst, arith}
-use Rattle.std.specs.Prelude.{◌==◌, codes, option_map}
+use Rattle.std.proofs.Common.{◌≡◌, ◌<◌, ◌≤◌, ◌∙◌, ◌/◌, ◌∷◌, ◌++◌, [], ℕ, suc, Bool, true, false, cond, nat_le, List, map, length, take}
+use Rattle.std.proofs.Common.{Option, Some, None, Result, Ok, Err, slice_get, refl, sym, ap, arith}
+use Rattle.std.specs.Prelude.{codes, option_map}
 use Rattle.std.specs.Cmp.Lexicographic.{same_text}
-use Rattle.std.proofs.lemmas.Bool.{le-leb, leb-true, lt-leb, lt-ltb, true≢false, false≢true}
+use Rattle.std.proofs.lemmas.Bool.{le-leb, lt-leb, lt-ltb, true≢false, false≢true}
 use Rattle.std.proofs.lemmas.List.{length-map, length-take-le}
 use Rattle.std.proofs.lemmas.Option.{slice_get-map}
 use Rattle.mach_base.proofs.Binds.{bind_ok, same_ok}
@@ -13,17 +13,15 @@ use Rattle.mach_base.specs.Fault.{Fault, malformed, too_short}
 use Rattle.mach_base.specs.Items.{all_read}
 use Rattle.mach_base.specs.Number.{number}
 use Rattle.mach_base.specs.declared.context.Ctx.{Ctx}
-use Rattle.mach_base.specs.declared.context.Endian.TheVariants.{Big, Little}
+use Rattle.mach_base.specs.declared.context.Endian.TheVariants.{Big}
 use Rattle.mach_base.specs.declared.hint.Hint.TheVariants as hints
 use Rattle.mach_base.specs.declared.hint.Hint.{Hint}
 use Rattle.mach_parts.specs.Fat.{part_of}
 use Rattle.mach_parts.specs.Magic.{magic_at, ctx_of, begins_archive, hint_by, hint_in}
 use Rattle.mach_parts.specs.declared.fat.FatArch.{FatArch}
 use Rattle.goblin_mach.specs.Image.{LossyOpens}
-use Rattle.goblin_mach.proofs.FatMagics.{fat_magic-other}
 use Rattle.goblin_mach.specs.FatEntry.{image, entry_by, fat_entry_of, entry_at}
 use Rattle.goblin_mach.specs.FatFile.{FatFile, arch_at, archs_of, arches_in}
-use Rattle.goblin_mach.specs.File.{HasFatMagic}
 use Rattle.machaudit.specs.Report.{named_bytes}
 
 -- ---- the magic of an entry
@@ -88,29 +86,6 @@ same_slice true (hints.Unknown n) bytes slice is = absurd (cc)
 -- the bytes of an image entry are those that it was found in
 pub same_bytes : (bytes slice : List ℕ) → fat_entry_of bytes ≡ Ok (image slice) → bytes ≡ slice
 same_bytes bytes slice is = same_slice (nat_le 16 (length bytes)) (hint_in (take 16 bytes)) bytes slice is
-
-long_by : (bytes slice : List ℕ) (room : Bool) → nat_le 16 (length bytes) ≡ room → fat_entry_of bytes ≡ Ok (image slice) → 16 ≤ length bytes
-long_by bytes slice true room is = leb-true 16 (length bytes) room
-long_by bytes slice false room is = let wrong = rw room at is in absurd (cc)
-
-fat_front : (room begins fat : Bool) (n m : ℕ) (bytes slice : List ℕ)
-    → cond room (entry_by (cond begins hints.Archive (cond fat (hints.MachFat n) (hints.Unknown m))) bytes) (Err malformed) ≡ Ok (image slice) → ⊥
-fat_front false begins fat n m bytes slice is = cc
-fat_front true true fat n m bytes slice is = cc
-fat_front true false true n m bytes slice is = cc
-fat_front true false false n m bytes slice is = cc
-
--- an image does not begin as a fat file
-pub image_no_fat : (bytes slice : List ℕ) → fat_entry_of bytes ≡ Ok (image slice) → ¬ (HasFatMagic bytes)
-image_no_fat bytes slice is =
-    let room = long_by bytes slice (nat_le 16 (length bytes)) refl is in
-    let four : 4 ≤ length bytes = omega (arith, room) in
-    let front = take 16 bytes in
-    fat_magic-other bytes four (λ magic.
-    fat_front (nat_le 16 (length bytes)) (begins_archive front) (number Big 4 front == 0xcafe_babe) (number Big 4 (drop 4 front)) (number Little 8 front)
-    bytes slice (subst
-    (λ (k : ℕ). cond (nat_le 16 (length bytes)) (entry_by (cond (begins_archive front) hints.Archive (hint_by (ctx_of k) front)) bytes) (Err malformed)
-    ≡ Ok (image slice)) (front_number 12 bytes four ∙ magic) is))
 
 -- ---- the record of an entry
 

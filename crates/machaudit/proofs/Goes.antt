@@ -1,7 +1,7 @@
 -- A count that visits a list, item by item.
 use Rattle.std.proofs.Common.{◌≡◌, ◌<◌, ◌≤◌, ◌+◌, ◌-◌, ◌^◌, arith, min, take, drop, length, get_or, ◌++◌, ◌∷◌, [], ◌∙◌, ℕ, List, map, refl, sym, ap}
-use Rattle.std.proofs.Common.{subst, inl, inr, Option, Result, Ok, Err}
-use Rattle.std.specs.Prelude.{IsTrue, option_map}
+use Rattle.std.proofs.Common.{subst, inl, inr, Option, Result, Ok}
+use Rattle.std.specs.Prelude.{IsTrue}
 use Rattle.std.specs.Result.{result_err}
 use Rattle.std.proofs.lemmas.Bool.{ltb-true}
 use Rattle.std.proofs.lemmas.List.{at_drop_more, append-nil, append_assoc, map-append, take_more, length-append, length-map, length-take-le}
@@ -11,11 +11,6 @@ use Rattle.mach_base.specs.Answer.{ErrorMeets}
 use Rattle.mach_base.specs.declared.error.Error.TheVariants as errors
 use Rattle.mach_base.specs.Fault.{Fault, fault_of}
 use Rattle.mach_base.specs.declared.error.Error.{Error}
-use Rattle.mach_dyld.specs.BindLeft.{import_read}
-use Rattle.mach_dyld.specs.declared.imports.Import.{Import}
-use Rattle.mach_parts.specs.Bindings.{binding_read}
-use Rattle.mach_base.specs.Items.{read_as}
-use Rattle.mach_parts.specs.declared.binding.Binding.{Binding}
 use Rattle.mach_dyld.specs.Trie.{Entry, Trie}
 use Rattle.mach_dyld.specs.TrieRange.{TrieRange}
 use Rattle.mach_dyld.specs.Views.{source_trie}
@@ -24,17 +19,17 @@ use Rattle.mach_dyld.specs.declared.export_walk.ExportWalk.{ExportWalk}
 use Rattle.mach_dyld.proofs.TrieBegins.{listed_there}
 use Rattle.goblin_mach.specs.View.{IsReported}
 use Rattle.machaudit.specs.Sound.{WalkMeets, AreExportItems, all_exports, past_limit}
-use Rattle.machaudit.specs.Reported.{FaultAt, HasMet, fault_read_at, faults_from, faults_each}
-use Rattle.machaudit.specs.declared.report.FaultPlace.{FaultPlace}
-use Rattle.machaudit.specs.declared.report.FaultPlace.TheVariants as places
+use Rattle.machaudit.specs.Reported.{FaultAt, HasMet, placed_fault, faults_each, faults_from, item_place, placed_from}
+use Rattle.machaudit.specs.declared.report.ItemList.{ItemList}
+use Rattle.machaudit.specs.declared.report.ItemList.TheVariants as lists
 use Rattle.machaudit.specs.declared.tally.Tally.{Tally}
 use Rattle.machaudit.proofs.Reported.{met_rest}
 
 -- of all items these are left; the n visited ones came after the items `before`
-pub record Goes {A X : Type 0} (limit : ℕ) (place : ℕ → FaultPlace) (before : List (Option FaultAt)) (all left : List (Result X Fault)) (n : ℕ)
+pub record Goes {A : Type 0} (limit : ℕ) (list : ItemList) (before : List (Option FaultAt)) (all left : List (Option Fault)) (n : ℕ)
     (t : Tally A) : Type 0 where
   pub done : List (Option FaultAt)
-  pub same : faults_from place 0 all ≡ done ++ faults_from place n left
+  pub same : placed_from list 0 all ≡ done ++ placed_from list n left
   pub met : HasMet limit (before ++ done) t
   pub count : length done ≡ n
 
@@ -42,60 +37,41 @@ pub record Goes {A X : Type 0} (limit : ℕ) (place : ℕ → FaultPlace) (befor
 abbrev pub Takes : {A : Type 0} → Option FaultAt → Tally A → Tally A → Type 0
 Takes item old new = (limit : ℕ) (items : List (Option FaultAt)) → HasMet limit items old → HasMet limit (items ++ item ∷ []) new
 
--- the error of an answer is the fault of its item
-pub err_reported : {X Y : Type 0} (view : X → Y) (place : FaultPlace) (item : Result X Error)
-    → option_map (λ e. (place, fault_of e)) (result_err item) ≡ fault_read_at place (read_as view item)
-err_reported view place (Ok x) = refl
-err_reported view place (Err e) = refl
-
--- the fault of an import, and that of a binding
-pub import_reported : (place : FaultPlace) (item : Result Import Error)
-    → option_map (λ e. (place, fault_of e)) (result_err item) ≡ fault_read_at place (import_read item)
-import_reported place (Ok x) = refl
-import_reported place (Err e) = refl
-
-pub binding_reported : (place : FaultPlace) (item : Result Binding Error)
-    → option_map (λ e. (place, fault_of e)) (result_err item) ≡ fault_read_at place (binding_read item)
-binding_reported place (Ok x) = refl
-binding_reported place (Err e) = refl
-
-module _ {A X : Type 0} (limit : ℕ) (place : ℕ → FaultPlace) (before : List (Option FaultAt)) (all : List (Result X Fault)) where
-  pub goes_init : (left : List (Result X Fault)) (t : Tally A) → left ≡ all → HasMet limit before t → Goes limit place before all left 0 t
-  goes_init left t is met = record {
+module _ {A : Type 0} (limit : ℕ) (list : ItemList) (before : List (Option FaultAt)) (all : List (Option Fault)) where
+  pub goes_init : (t : Tally A) → HasMet limit before t → Goes limit list before all all 0 t
+  goes_init t met = record {
     done = [];
-    same = ap (faults_from place 0) (sym is);
+    same = refl;
     met = subst (λ (xs : List (Option FaultAt)). HasMet limit xs t) (sym (append-nil before)) met;
     count = refl;
   }
 
-  pub goes_on : (left rest : List (Result X Fault)) (n m : ℕ) (item : Result X Fault) (reported : Option FaultAt) (t u : Tally A)
-      → Goes limit place before all left n t
-      → left ≡ item ∷ rest → reported ≡ fault_read_at (place n) item → Takes reported t u → m ≡ n + 1 → Goes limit place before all rest m u
-  goes_on left rest n m item reported t u goes steps is takes next =
-      let one = reported ∷ [] in record {
+  pub goes_on : (left rest : List (Option Fault)) (n m : ℕ) (fault : Option Fault) (t u : Tally A) → Goes limit list before all left n t
+      → left ≡ fault ∷ rest → Takes (placed_fault (item_place list n) fault) t u → m ≡ n + 1 → Goes limit list before all rest m u
+  goes_on left rest n m fault t u goes steps takes next =
+      let one = placed_fault (item_place list n) fault ∷ [] in record {
         done = goes.done ++ one;
-        same = goes.same ∙ ap (λ (xs : List (Result X Fault)). goes.done ++ faults_from place n xs) steps
-            ∙ ap (λ (o : Option FaultAt). goes.done ++ o ∷ faults_from place (n + 1) rest) (sym is)
-            ∙ ap (λ (k : ℕ). goes.done ++ reported ∷ faults_from place k rest) (sym next) ∙ sym (append_assoc goes.done one (faults_from place m rest));
+        same = goes.same ∙ ap (λ (xs : List (Option Fault)). goes.done ++ placed_from list n xs) steps
+            ∙ ap (λ (k : ℕ). goes.done ++ (one ++ placed_from list k rest)) (sym next) ∙ sym (append_assoc goes.done one (placed_from list m rest));
         met = subst (λ (xs : List (Option FaultAt)). HasMet limit xs u) (append_assoc before goes.done one) (takes limit (before ++ goes.done) goes.met);
         count = omega (arith, goes.count, next, length-append goes.done one);
       }
 
   -- if some of the limit is left, one more can be counted
-  pub goes_small : (left : List (Result X Fault)) (n : ℕ) (t : Tally A) → Goes limit place before all left n t → 1 ≤ t.left → n + 1 < 2 ^ 64
+  pub goes_small : (left : List (Option Fault)) (n : ℕ) (t : Tally A) → Goes limit list before all left n t → 1 ≤ t.left → n + 1 < 2 ^ 64
   goes_small left n t goes some = omega (arith, goes.met.small, goes.met.left, some, goes.count, length-append before goes.done)
 
-  pub goes_over : (left : List (Result X Fault)) (n : ℕ) (t : Tally A) → Goes limit place before all left n t → left ≡ []
-      → HasMet limit (before ++ faults_from place 0 all) t
+  pub goes_over : (left : List (Option Fault)) (n : ℕ) (t : Tally A) → Goes limit list before all left n t → left ≡ []
+      → HasMet limit (before ++ placed_from list 0 all) t
   goes_over left n t goes over =
-      let same = goes.same ∙ ap (λ (xs : List (Result X Fault)). goes.done ++ faults_from place n xs) over ∙ append-nil goes.done in
+      let same = goes.same ∙ ap (λ (xs : List (Option Fault)). goes.done ++ placed_from list n xs) over ∙ append-nil goes.done in
       subst (λ (xs : List (Option FaultAt)). HasMet limit (before ++ xs) t) (sym same) goes.met
 
-  pub goes_cut : (left : List (Result X Fault)) (n : ℕ) (t : Tally A) → Goes limit place before all left n t → IsTrue t.part.cut
-      → HasMet limit (before ++ faults_from place 0 all) t
+  pub goes_cut : (left : List (Option Fault)) (n : ℕ) (t : Tally A) → Goes limit list before all left n t → IsTrue t.part.cut
+      → HasMet limit (before ++ placed_from list 0 all) t
   goes_cut left n t goes cut =
-      let all_met = met_rest limit (before ++ goes.done) (faults_from place n left) t goes.met cut in
-      subst (λ (xs : List (Option FaultAt)). HasMet limit xs t) (append_assoc before goes.done (faults_from place n left)
+      let all_met = met_rest limit (before ++ goes.done) (placed_from list n left) t goes.met cut in
+      subst (λ (xs : List (Option FaultAt)). HasMet limit xs t) (append_assoc before goes.done (placed_from list n left)
       ∙ ap (λ (xs : List (Option FaultAt)). before ++ xs) (sym goes.same)) all_met
 
 -- the number that follows
@@ -178,26 +154,26 @@ one_part_more view part xs i d less =
     ∙ ap (λ (n : ℕ). faults_each part 0 front ++ (part n (view x) ++ [])) count
     ∙ ap (λ ys. faults_each part 0 front ++ ys) (append-nil (part i (view x)))
 
-pub length_from : {X : Type 0} (place : ℕ → FaultPlace) (n : ℕ) (items : List (Result X Fault)) → length (faults_from place n items) ≡ length items
-length_from place n [] = refl
-length_from place n (x ∷ items) = omega (arith, length_from place (n + 1) items)
+pub length_from : {X : Type 0} (list : ItemList) (n : ℕ) (items : List (Result X Fault)) → length (faults_from list n items) ≡ length items
+length_from list n [] = refl
+length_from list n (x ∷ items) = omega (arith, length_from list (n + 1) items)
 
-pub from_append : {X : Type 0} (place : ℕ → FaultPlace) (n : ℕ) (xs ys : List (Result X Fault))
-    → faults_from place n (xs ++ ys) ≡ faults_from place n xs ++ faults_from place (n + length xs) ys
-from_append place n [] ys =
+pub from_append : {X : Type 0} (list : ItemList) (n : ℕ) (xs ys : List (Result X Fault))
+    → faults_from list n (xs ++ ys) ≡ faults_from list n xs ++ faults_from list (n + length xs) ys
+from_append list n [] ys =
     let same : n ≡ n + 0 = omega arith in
-    ap (λ (m : ℕ). faults_from place m ys) same
-from_append place n (x ∷ xs) ys =
+    ap (λ (m : ℕ). faults_from list m ys) same
+from_append list n (x ∷ xs) ys =
     let same : n + 1 + length xs ≡ n + length (x ∷ xs) = omega arith in
-    ap (λ rest. fault_read_at (place n) x ∷ rest) (from_append place (n + 1) xs ys
-    ∙ ap (λ (m : ℕ). faults_from place (n + 1) xs ++ faults_from place m ys) same)
+    ap (λ rest. placed_fault (item_place list n) (result_err x) ∷ rest) (from_append list (n + 1) xs ys
+    ∙ ap (λ (m : ℕ). faults_from list (n + 1) xs ++ faults_from list m ys) same)
 
 -- one more item at the end of a list
-pub from_more : {X : Type 0} (place : ℕ → FaultPlace) (n : ℕ) (xs : List (Result X Fault)) (x : Result X Fault) → length xs ≡ n
-    → faults_from place 0 (xs ++ x ∷ []) ≡ faults_from place 0 xs ++ fault_read_at (place n) x ∷ []
-from_more place n xs x count =
+pub from_more : {X : Type 0} (list : ItemList) (n : ℕ) (xs : List (Result X Fault)) (x : Result X Fault) → length xs ≡ n
+    → faults_from list 0 (xs ++ x ∷ []) ≡ faults_from list 0 xs ++ placed_fault (item_place list n) (result_err x) ∷ []
+from_more list n xs x count =
     let same : 0 + length xs ≡ n = omega (arith, count) in
-    from_append place 0 xs (x ∷ []) ∙ ap (λ (m : ℕ). faults_from place 0 xs ++ fault_read_at (place m) x ∷ []) same
+    from_append list 0 xs (x ∷ []) ∙ ap (λ (m : ℕ). faults_from list 0 xs ++ placed_fault (item_place list m) (result_err x) ∷ []) same
 
 -- ---- exports, each of which can be read
 
@@ -211,16 +187,16 @@ pub ok_more : (found : List Entry) (x : Entry) → entries_ok (found ++ x ∷ []
 ok_more found x = map-append as_item found (x ∷ [])
 
 -- a count of exports, and one more item
-pub export_more : {A : Type 0} (limit n : ℕ) (found : List Entry) (item : Result Entry Fault) (reported : Option FaultAt) (t u : Tally A)
-    → HasMet limit (faults_from places.Export 0 (entries_ok found)) t → length found ≡ n → reported ≡ fault_read_at (places.Export n) item → Takes reported t u
-    → HasMet limit (faults_from places.Export 0 (entries_ok found ++ item ∷ [])) u
-export_more limit n found item reported t u met count is takes =
+pub export_more : {A : Type 0} (limit n : ℕ) (found : List Entry) (item : Result Entry Fault) (t u : Tally A)
+    → HasMet limit (faults_from lists.Exports 0 (entries_ok found)) t → length found ≡ n
+    → Takes (placed_fault (item_place lists.Exports n) (result_err item)) t u
+    → HasMet limit (faults_from lists.Exports 0 (entries_ok found ++ item ∷ [])) u
+export_more limit n found item t u met count takes =
     let same : length (entries_ok found) ≡ n = length-map found as_item ∙ count in
-    let more = from_more places.Export n (entries_ok found) item same in
-    let items = faults_from places.Export 0 (entries_ok found) in
-    subst (λ (xs : List (Option FaultAt)). HasMet limit xs u) (ap (λ (o : Option FaultAt). items ++ o ∷ []) is ∙ sym more) (takes limit items met)
+    subst (λ (xs : List (Option FaultAt)). HasMet limit xs u) (sym (from_more lists.Exports n (entries_ok found) item same))
+    (takes limit (faults_from lists.Exports 0 (entries_ok found)) met)
 
-pub export_small : {A : Type 0} (limit n : ℕ) (found : List Entry) (t : Tally A) → HasMet limit (faults_from places.Export 0 (entries_ok found)) t
+pub export_small : {A : Type 0} (limit n : ℕ) (found : List Entry) (t : Tally A) → HasMet limit (faults_from lists.Exports 0 (entries_ok found)) t
     → length found ≡ n → 1 ≤ t.left → n + 1 < 2 ^ 64
 export_small limit n found t met count some =
     omega (
@@ -229,16 +205,16 @@ export_small limit n found t met count some =
       met.left,
       some,
       count,
-      length_from places.Export 0 (entries_ok found),
+      length_from lists.Exports 0 (entries_ok found),
       length-map found as_item,
     )
 
 -- if a count of them was cut, there are more
-pub export_long : {A : Type 0} (limit : ℕ) (found : List Entry) (t : Tally A) → HasMet limit (faults_from places.Export 0 (entries_ok found)) t
+pub export_long : {A : Type 0} (limit : ℕ) (found : List Entry) (t : Tally A) → HasMet limit (faults_from lists.Exports 0 (entries_ok found)) t
     → IsTrue t.part.cut → limit < length found
 export_long limit found t met cut =
-    let long = ltb-true limit (length (faults_from places.Export 0 (entries_ok found))) (sym met.reports.cut ∙ cut) in
-    omega (arith, long, length_from places.Export 0 (entries_ok found), length-map found as_item)
+    let long = ltb-true limit (length (faults_from lists.Exports 0 (entries_ok found))) (sym met.reports.cut ∙ cut) in
+    omega (arith, long, length_from lists.Exports 0 (entries_ok found), length-map found as_item)
 
 -- what a walk has given, if that is more than the limit
 pub given_more : {A : Type 0} (limit : ℕ) (t : TrieRange) (libs : List (List ℕ)) (found : List Entry) (w : ExportWalk A) → HasGiven t libs found w

@@ -34,13 +34,13 @@ use Rattle.goblin_mach.specs.declared.macho.MachO.{MachO}
 use Rattle.machaudit.proofs.Begins.{Begins, each_begins, items_begin, symbols_begin}
 use Rattle.machaudit.proofs.Goes.{as_item}
 use Rattle.machaudit.proofs.SoundlySigned.{signature_judged_by}
-use Rattle.machaudit.proofs.Reported.{plain, faults_in, plain_from, plain_each, cut_is, reported_sound, reported_faulty, reported_long, reported_short}
-use Rattle.machaudit.proofs.Verdicts.{number, sound_judged, faulty_judged, part_judged, both_judged, judged_as}
+use Rattle.machaudit.proofs.Reported.{plain, plain_from, plain_each, cut_is, reported_sound, reported_faulty, reported_long, reported_short}
+use Rattle.machaudit.proofs.Verdicts.{after_first, number, sound_judged, faulty_judged, part_judged, both_judged, judged_as}
 use Rattle.machaudit.specs.Sound.{IsSoundImage, HasLongList, of_sections, of_relocations, of_symbols, of_exports, of_imports}
 use Rattle.machaudit.specs.Sound.{HasAllRelocations, HasExportItems, AreExportItems, all_exports, up_to_fault, past_limit}
 use Rattle.machaudit.specs.Sound.{are_all_ok, all_sections, all_relocations, relocations_by, of_fixups, of_bindings, IsSoundlySigned, HasSoundSignature}
 use Rattle.machaudit.specs.Signed.{ReportsSignature}
-use Rattle.machaudit.specs.Reported.{FaultAt, ReportsOf, ReportsOfTrie, ReportsRecords}
+use Rattle.machaudit.specs.Reported.{FaultAt, ReportsOf, ReportsOfTrie, ReportsRecords, faults_of_items}
 use Rattle.machaudit.specs.Reported.{ReportsRelocations, faults_from, more_than, section_faults_reported, sections_beyond}
 use Rattle.machaudit.specs.Reported.{relocations_in_bounds, relocation_faults, relocation_faults_by}
 use Rattle.machaudit.specs.Reported.{relocations_past, relocations_past_of, symbols_unread, symbols_beyond}
@@ -53,7 +53,7 @@ use Rattle.machaudit.specs.declared.report.PartReport.{PartReport}
 use Rattle.machaudit.specs.declared.report.Parts.{Parts}
 use Rattle.machaudit.specs.declared.report.Records.{Records}
 use Rattle.machaudit.specs.declared.report.SignatureReport.{SignatureReport}
-use Rattle.machaudit.specs.declared.report.FaultPlace.TheVariants as places
+use Rattle.machaudit.specs.declared.report.ItemList.TheVariants as lists
 use Rattle.machaudit.specs.declared.verdict.Verdict.TheVariants.{Sound, Unended, Faulty}
 use Rattle.machaudit.specs.declared.verdict.Verdict.{Verdict}
 
@@ -63,7 +63,7 @@ LongOf limit Has = (items : List (Result _ Fault)) × Has items × (limit < leng
 
 -- a verdict on a list
 pub judged_list : {A X : Type 0} (limit : ℕ) (items : List (Result X Fault)) (faults : List (Option FaultAt)) (q : PartReport A)
-    → map plain faults ≡ faults_in items → ReportsOf limit faults q → Judges (IsTrue (are_all_ok items)) (limit < length items) (verdict_of q)
+    → map plain faults ≡ faults_of_items items → ReportsOf limit faults q → Judges (IsTrue (are_all_ok items)) (limit < length items) (verdict_of q)
 judged_list limit items faults q same reports =
     part_judged q (reported_sound limit items faults same q reports) (reported_faulty limit items faults same q reports)
     (reported_long limit items faults same q reports)
@@ -71,13 +71,13 @@ judged_list limit items faults q same reports =
 
 -- a verdict on records, some of which begin within the bytes
 pub judged_records : {A X : Type 0} (limit : ℕ) (all in_bounds : List (Result X Fault)) (past : ℕ) (faults : List (Option FaultAt)) (r : Records A)
-    → Begins all in_bounds past → map plain faults ≡ faults_in in_bounds → ReportsRecords limit faults past r
+    → Begins all in_bounds past → map plain faults ≡ faults_of_items in_bounds → ReportsRecords limit faults past r
     → Judges (IsTrue (are_all_ok all)) (limit < length all) (verdict_of_records r)
 judged_records limit all in_bounds past faults r begins same reports = by_count r.past reports.past
   where
     by_count : (n : ℕ) → n ≡ min past (2 ^ 64 - 1)
         → Judges (IsTrue (are_all_ok all)) (limit < length all) (if n == 0 then verdict_of r.in_bounds else Faulty)
-    by_count zero is = judged_list limit all faults r.in_bounds (same ∙ ap faults_in (begins.whole (omega (arith, is)))) reports.in_bounds
+    by_count zero is = judged_list limit all faults r.in_bounds (same ∙ ap faults_of_items (begins.whole (omega (arith, is)))) reports.in_bounds
     by_count (suc n) is = rw (eqb-suc-zero n) (faulty_judged (λ ok. begins.broken (omega (arith, is)) ok))
 
 -- a verdict on the one list of a kind that some bytes have
@@ -90,7 +90,7 @@ judged_only limit Has items v has one judged =
 
 pub judged_one : {A X : Type 0} (limit : ℕ) (Has : List (Result X Fault)
     → Type 0) (items : List (Result X Fault)) (faults : List (Option FaultAt)) (q : PartReport A)
-    → Has items → ((others : List (Result X Fault)) → Has others → others ≡ items) → map plain faults ≡ faults_in items → ReportsOf limit faults q
+    → Has items → ((others : List (Result X Fault)) → Has others → others ≡ items) → map plain faults ≡ faults_of_items items → ReportsOf limit faults q
     → Judges ((found : List (Result X Fault)) × Has found × IsTrue (are_all_ok found)) (LongOf limit Has) (verdict_of q)
 judged_one limit Has items faults q has one same reports = judged_only limit Has items (verdict_of q) has one (judged_list limit items faults q same reports)
 
@@ -136,13 +136,9 @@ no_list : (t : Option TrieRange) (libs : List (List ℕ)) (f : Fault) (list : Li
 no_list None libs f list law fault lists = walked_fault None libs f fault
 no_list (Some t) libs f list law fault lists = law t libs f list fault lists
 
--- the right side of a choice whose left side never holds
-besides : {L : Type 0} → ⊥ ⊎ L → L
-besides (inl no_way) = absurd no_way
-besides (inr l) = l
-
+-- a verdict on something of which the first list is never long
 pub beside : {S L : Type 0} {v : Verdict} → Judges S (⊥ ⊎ L) v → Judges S L v
-beside {v = v} j = judged_as v (λ s. s) (λ s. s) besides (λ l. inr l) j
+beside {v = v} j = judged_as v (λ s. s) (λ s. s) (after_first (λ l. l)) (λ l. inr l) j
 
 -- a verdict on faults of layout, of which there is one list
 pub layout_judged : (Has : List LayoutFault → Type 0) (faults : List LayoutFault) → Has faults
@@ -201,42 +197,42 @@ module _ (limit : ℕ) (t : TrieRange) (libs : List (List ℕ)) where
       omega (arith, length-map found as_item, within_front found list front.0 front.1)
 
   module _ {A : Type 0} (q : PartReport A) where
-    short : (items : List (Result trie.Entry Fault)) → ReportsOf limit (faults_from places.Export 0 items) q → q.cut ≡ false → length items ≤ limit
+    short : (items : List (Result trie.Entry Fault)) → ReportsOf limit (faults_from lists.Exports 0 items) q → q.cut ≡ false → length items ≤ limit
     short items reports whole =
-        ltb-false limit (length items) (sym (cut_is limit items (faults_from places.Export 0 items) (plain_from places.Export 0 items) q reports) ∙ whole)
+        ltb-false limit (length items) (sym (cut_is limit items (faults_from lists.Exports 0 items) (plain_from lists.Exports 0 items) q reports) ∙ whole)
 
     -- all were met, and each can be read
-    list_met : (items : List (Result trie.Entry Fault)) → AreExportItems limit t libs items → ReportsOf limit (faults_from places.Export 0 items) q
+    list_met : (items : List (Result trie.Entry Fault)) → AreExportItems limit t libs items → ReportsOf limit (faults_from lists.Exports 0 items) q
         → q.faults ≡ 0 → q.cut ≡ false → (list : List trie.Entry) × ListsExports t libs list × (length list ≤ limit)
     list_met _ (all_exports list lists) reports none whole =
         let items = map as_item list in
         (list, lists, omega (arith, length-map list as_item, short items reports whole))
     list_met _ (up_to_fault found f ends fault) reports none whole =
         let items = map as_item found ++ Err f ∷ [] in
-        absurd (not_all_ok found f (reported_sound limit items (faults_from places.Export 0 items) (plain_from places.Export 0 items) q reports none whole))
+        absurd (not_all_ok found f (reported_sound limit items (faults_from lists.Exports 0 items) (plain_from lists.Exports 0 items) q reports none whole))
     list_met _ (past_limit found walk long) reports none whole =
         let items = map as_item found in
         absurd (omega (arith, long, length-map found as_item, short items reports whole))
 
     -- a reported fault holds of the trie
-    fault_met : (items : List (Result trie.Entry Fault)) → AreExportItems limit t libs items → ReportsOf limit (faults_from places.Export 0 items) q
+    fault_met : (items : List (Result trie.Entry Fault)) → AreExportItems limit t libs items → ReportsOf limit (faults_from lists.Exports 0 items) q
         → 0 < q.faults → (f : Fault) × ExportsFault t libs f
-    fault_met _ (all_exports list lists) reports some =
+    fault_met _ (all_exports list listed) reports some =
         let items = map as_item list in
-        absurd (reported_faulty limit items (faults_from places.Export 0 items) (plain_from places.Export 0 items) q reports some (oks_all list))
+        absurd (reported_faulty limit items (faults_from lists.Exports 0 items) (plain_from lists.Exports 0 items) q reports some (oks_all list))
     fault_met _ (up_to_fault found f ends fault) reports some = (f, fault)
     fault_met _ (past_limit found walk long) reports some =
         let items = map as_item found in
-        absurd (reported_faulty limit items (faults_from places.Export 0 items) (plain_from places.Export 0 items) q reports some (oks_all found))
+        absurd (reported_faulty limit items (faults_from lists.Exports 0 items) (plain_from lists.Exports 0 items) q reports some (oks_all found))
 
 module _ {A : Type 0} (bytes : List ℕ) (m : MachO A) (p : IsImage bytes 0 m) (limit : ℕ) where
   abbrev begun_of_segment : SegmentView → List (Result (Section × List ℕ) Fault)
   begun_of_segment s = items_in_bounds (sections_of s)
 
-  sections_plain : map plain (section_faults_reported (segments_view m)) ≡ faults_in (flat_map begun_of_segment (segments_view m))
+  sections_plain : map plain (section_faults_reported (segments_view m)) ≡ faults_of_items (flat_map begun_of_segment (segments_view m))
   sections_plain =
-      plain_each (λ n s. faults_from (places.Section n) 0 (begun_of_segment s)) begun_of_segment
-      (λ n s. plain_from (places.Section n) 0 (begun_of_segment s)) 0 (segments_view m)
+      plain_each (λ n s. faults_from (lists.Sections n) 0 (begun_of_segment s)) begun_of_segment
+      (λ n s. plain_from (lists.Sections n) 0 (begun_of_segment s)) 0 (segments_view m)
 
   sections_begin : Begins (all_sections (segments_view m)) (flat_map begun_of_segment (segments_view m)) (sections_beyond (segments_view m))
   sections_begin =
@@ -265,11 +261,11 @@ module _ {A : Type 0} (bytes : List ℕ) (m : MachO A) (p : IsImage bytes 0 m) (
   abbrev begun_within : SegmentView → List (Result RelocationInfo Fault)
   begun_within s = flat_map begun_of_section (sections_of s)
 
-  relocations_plain : map plain (relocation_faults (ctx_view m) (bytes_view m) (segments_view m)) ≡ faults_in (flat_map begun_within (segments_view m))
+  relocations_plain : map plain (relocation_faults (ctx_view m) (bytes_view m) (segments_view m)) ≡ faults_of_items (flat_map begun_within (segments_view m))
   relocations_plain =
       plain_each (λ n s. relocation_faults_by begun_of_section n (sections_of s)) begun_within
-      (λ n s. plain_each (λ k x. faults_from (places.Relocation n k) 0 (begun_of_section x)) begun_of_section
-      (λ k x. plain_from (places.Relocation n k) 0 (begun_of_section x)) 0 (sections_of s)) 0 (segments_view m)
+      (λ n s. plain_each (λ k x. faults_from (lists.Relocations n k) 0 (begun_of_section x)) begun_of_section
+      (λ k x. plain_from (lists.Relocations n k) 0 (begun_of_section x)) 0 (sections_of s)) 0 (segments_view m)
 
   relocations_begin : Begins (all_relocations (ctx_view m) (bytes_view m) (segments_view m)) (flat_map begun_within (segments_view m))
       (relocations_past (ctx_view m) (bytes_view m) (segments_view m))
@@ -302,7 +298,7 @@ module _ {A : Type 0} (bytes : List ℕ) (m : MachO A) (p : IsImage bytes 0 m) (
       let in_bounds = symbols_in (option_map table_in_bounds table) in
       let begins = symbols_begin table (λ some ok. broken (omega (arith, reports.past, some)) ok) in
       judged_only limit (HasSymbols bytes 0) rows (verdict_of_records q) ((is rows).1 refl) (λ others h. (is others).0 h)
-      (judged_records limit rows in_bounds (symbols_beyond table) (symbols_unread table) q begins (plain_from places.Symbol 0 in_bounds) reports)
+      (judged_records limit rows in_bounds (symbols_beyond table) (symbols_unread table) q begins (plain_from lists.Symbols 0 in_bounds) reports)
 
   export_items_are : (items : List (Result trie.Entry Fault))
       → HasExportItems limit bytes 0 items ↔ AreExportItems limit (trie_or_empty (trie_view m)) (texts m.libs.items) items
@@ -315,7 +311,7 @@ module _ {A : Type 0} (bytes : List ℕ) (m : MachO A) (p : IsImage bytes 0 m) (
       let is = (exports_are m).strict bytes 0 p in
       let t = trie_or_empty (trie_view m) in
       let libs = texts m.libs.items in
-      let faults = faults_from places.Export 0 reports.items in
+      let faults = faults_from lists.Exports 0 reports.items in
       part_judged q
       (λ none whole. let found = list_met limit t libs q reports.items reports.met reports.reports none whole in
       (found.0, (is found.0).1 (walked_list (trie_view m) libs found.0 found.1)))
@@ -325,7 +321,7 @@ module _ {A : Type 0} (bytes : List ℕ) (m : MachO A) (p : IsImage bytes 0 m) (
         reports.items,
         (export_items_are reports.items).1 reports.met,
         reported_long limit reports.items faults
-            (plain_from places.Export 0 reports.items) q reports.reports cut,
+            (plain_from lists.Exports 0 reports.items) q reports.reports cut,
       ))
       (λ none whole l. let found = list_met limit t libs q reports.items reports.met reports.reports none whole in
       let few = items_within limit t libs found.0 l.0 law found.1 ((export_items_are l.0).0 l.1) in
@@ -335,7 +331,7 @@ module _ {A : Type 0} (bytes : List ℕ) (m : MachO A) (p : IsImage bytes 0 m) (
 
   pub imports_judged : {B : Type 0} (items : List (Result Import Fault)) (q : PartReport B)
       → AreImageBindItems (binds_view m) (pointer_size (ctx_view m).container) (texts m.libs.items) (segments_view m) items
-      → ReportsOf limit (faults_from places.Import 0 items) q → HasImportItems bytes 0 items
+      → ReportsOf limit (faults_from lists.Imports 0 items) q → HasImportItems bytes 0 items
       → ((others : List (Result Import Fault)) → HasImportItems bytes 0 others
       → AreImageBindItems (binds_view m) (pointer_size (ctx_view m).container) (texts m.libs.items) (segments_view m) others)
       → Judges ((list : List Import) × HasImports bytes 0 list) (LongOf limit (HasImportItems bytes 0)) (verdict_of q)
@@ -345,8 +341,8 @@ module _ {A : Type 0} (bytes : List ℕ) (m : MachO A) (p : IsImage bytes 0 m) (
       let pointer = pointer_size (ctx_view m).container in
       let libs = texts m.libs.items in
       let segments = segments_view m in
-      let faults = faults_from places.Import 0 items in
-      let same = plain_from places.Import 0 items in
+      let faults = faults_from lists.Imports 0 items in
+      let same = plain_from lists.Imports 0 items in
       let listed = found_list b pointer libs segments items are in
       part_judged q
       (λ none whole. let list = listed (reported_sound limit items faults same q reports none whole) in (list.0, (is list.0).1 list.2))

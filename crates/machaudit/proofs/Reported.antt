@@ -1,15 +1,17 @@
 -- The report after one more item; what follows of a list from its report.
-use Rattle.std.proofs.Common.{◌≡◌, ◌<◌, ◌≤◌, ◌+◌, ◌-◌, ◌^◌, ◌++◌, ◌∷◌, [], ◌∙◌, subst, ℕ, zero, suc, true, false, List, map, take, length, refl}
+use Rattle.std.proofs.Common.{◌≡◌, ◌<◌, ◌≤◌, ◌+◌, ◌-◌, ◌^◌, ◌++◌, ◌∷◌, [], ◌∙◌, subst, ℕ, zero, suc, true, false, List, map, min, take, length, refl}
 use Rattle.std.proofs.Common.{sym, ap, arith, Option, Some, None, Result, Ok, Err}
 use Rattle.std.specs.Prelude.{is_ok, IsTrue, nat_lt}
 use Rattle.std.specs.List.{list_all, flat_map, filter_map}
+use Rattle.std.specs.Result.{result_err}
 use Rattle.std.proofs.lemmas.Bool.{false≢true, le-ltb, lt-ltb, ltb-true, ltb-false}
-use Rattle.std.proofs.lemmas.List.{take-append-le, take_all, length-append, length-map, map-append}
+use Rattle.std.proofs.lemmas.List.{take-append-le, take_all, length-append, length-map, length-take, map-append}
 use Rattle.std.proofs.lemmas.List.Elements.{filter_map-append}
 use Rattle.mach_base.specs.Fault.{Fault}
-use Rattle.machaudit.specs.Reported.{FaultAt, faults_from, faults_each, ReportsFirstFaults, ReportsOf, HasMet, faults_of}
+use Rattle.machaudit.specs.Reported.{FaultAt, fault_reported, faults_each, faults_from, faults_of_items, faults_of, ReportsFirstFaults, ReportsOf, HasMet}
+use Rattle.machaudit.specs.declared.report.Finding.{Finding}
 use Rattle.machaudit.specs.declared.report.PartReport.{PartReport}
-use Rattle.machaudit.specs.declared.report.FaultPlace.{FaultPlace}
+use Rattle.machaudit.specs.declared.report.ItemList.{ItemList}
 use Rattle.machaudit.specs.declared.tally.Tally.{Tally}
 
 -- ---- the first items
@@ -24,6 +26,31 @@ pub few_faults : (items : List (Option FaultAt)) → length (faults_of items) �
 few_faults [] = omega arith
 few_faults (None ∷ items) = omega (arith, few_faults items)
 few_faults (Some f ∷ items) = omega (arith, few_faults items)
+
+-- ---- a part that reports one more fault
+
+module _ {A : Type 0} (faults : List FaultAt) (found : Finding) (p q : PartReport A) (before : ReportsFirstFaults faults p)
+    (count : q.faults ≡ p.faults + 1) where
+  counted_more : q.faults ≡ length (faults ++ fault_reported found ∷ [])
+  counted_more = omega (arith, count, before.count, length-append faults (fault_reported found ∷ []))
+
+  taken : length p.reported.items ≡ min 10 (length faults)
+  taken = omega (arith, length-map p.reported.items fault_reported, ap length before.reported, length-take 10 faults)
+
+  -- it keeps the fault if it has fewer than ten
+  pub kept_fault : length p.reported.items < 10 → q.reported.items ≡ p.reported.items ++ found ∷ [] → ReportsFirstFaults (faults ++ fault_reported found ∷ []) q
+  kept_fault some push = record {
+    reported = ap (map fault_reported) push ∙ map-append fault_reported p.reported.items (found ∷ [])
+        ∙ ap (λ xs. xs ++ fault_reported found ∷ []) before.reported ∙ sym (take_one_more 10 faults (fault_reported found) (omega (arith, some, taken)));
+    count = counted_more;
+  }
+
+  -- it counts the fault if it has ten
+  pub counted_fault : 10 ≤ length p.reported.items → q.reported.items ≡ p.reported.items → ReportsFirstFaults (faults ++ fault_reported found ∷ []) q
+  counted_fault full same = record {
+    reported = ap (map fault_reported) same ∙ before.reported ∙ sym (take-append-le 10 faults (fault_reported found ∷ []) (omega (arith, full, taken)));
+    count = counted_more;
+  }
 
 -- ---- a count that takes one more item
 
@@ -80,14 +107,6 @@ met_rest limit items rest t met cut =
 
 -- ---- the faults without their places
 
--- the fault of an item, if it can't be read
-abbrev pub fault_in : {X : Type 0} → Result X Fault → Option Fault
-fault_in (Ok x) = None
-fault_in (Err f) = Some f
-
-abbrev pub faults_in : {X : Type 0} → List (Result X Fault) → List (Option Fault)
-faults_in items = map fault_in items
-
 abbrev pub plain : Option FaultAt → Option Fault
 plain None = None
 plain (Some f) = Some f.1
@@ -95,20 +114,20 @@ plain (Some f) = Some f.1
 abbrev pub occur : List (Option Fault) → List Fault
 occur items = filter_map (λ item. item) items
 
-pub plain_from : {X : Type 0} (place : ℕ → FaultPlace) (n : ℕ) (items : List (Result X Fault)) → map plain (faults_from place n items) ≡ faults_in items
-plain_from place n [] = refl
-plain_from place n (Ok x ∷ items) = ap (λ rest. None ∷ rest) (plain_from place (n + 1) items)
-plain_from place n (Err f ∷ items) = ap (λ rest. Some f ∷ rest) (plain_from place (n + 1) items)
+pub plain_from : {X : Type 0} (list : ItemList) (n : ℕ) (items : List (Result X Fault)) → map plain (faults_from list n items) ≡ faults_of_items items
+plain_from list n [] = refl
+plain_from list n (Ok x ∷ items) = ap (λ rest. None ∷ rest) (plain_from list (n + 1) items)
+plain_from list n (Err f ∷ items) = ap (λ rest. Some f ∷ rest) (plain_from list (n + 1) items)
 
 pub plain_each : {X Y : Type 0} (part : ℕ → X → List (Option FaultAt)) (list : X → List (Result Y Fault))
-    → ((n : ℕ) (x : X) → map plain (part n x) ≡ faults_in (list x)) → (n : ℕ) (xs : List X)
-    → map plain (faults_each part n xs) ≡ faults_in (flat_map list xs)
+    → ((n : ℕ) (x : X) → map plain (part n x) ≡ faults_of_items (list x)) → (n : ℕ) (xs : List X)
+    → map plain (faults_each part n xs) ≡ faults_of_items (flat_map list xs)
 plain_each part list same n [] = refl
 plain_each part list same n (x ∷ xs) =
     map-append plain (part n x) (faults_each part (n + 1) xs)
     ∙ ap (λ front. front ++ map plain (faults_each part (n + 1) xs)) (same n x)
-    ∙ ap (λ rest. faults_in (list x) ++ rest) (plain_each part list same (n + 1) xs)
-    ∙ sym (map-append fault_in (list x) (flat_map list xs))
+    ∙ ap (λ rest. faults_of_items (list x) ++ rest) (plain_each part list same (n + 1) xs)
+    ∙ sym (map-append result_err (list x) (flat_map list xs))
 
 count_plain : (n : ℕ) (faults : List (Option FaultAt)) → length (faults_of (take n faults)) ≡ length (occur (take n (map plain faults)))
 count_plain zero faults = refl
@@ -119,31 +138,31 @@ count_plain (suc n) (Some f ∷ faults) = omega (arith, count_plain n faults)
 -- ---- what follows from a report
 
 -- if all items can be read, none of the first ones is a fault
-pub none_reported : {X : Type 0} (n : ℕ) (items : List (Result X Fault)) → list_all is_ok items ≡ true → length (occur (take n (faults_in items))) ≡ 0
+pub none_reported : {X : Type 0} (n : ℕ) (items : List (Result X Fault)) → list_all is_ok items ≡ true → length (occur (take n (faults_of_items items))) ≡ 0
 none_reported zero items all = refl
 none_reported (suc n) [] all = refl
 none_reported (suc n) (Ok x ∷ items) all = none_reported n items all
 none_reported (suc n) (Err f ∷ items) all = absurd (false≢true all)
 
 -- if no fault is reported, each can be read
-all_there : {X : Type 0} (items : List (Result X Fault)) → length (occur (faults_in items)) ≡ 0 → list_all is_ok items ≡ true
+all_there : {X : Type 0} (items : List (Result X Fault)) → length (occur (faults_of_items items)) ≡ 0 → list_all is_ok items ≡ true
 all_there [] none = refl
 all_there (Ok x ∷ items) none = all_there items none
 all_there (Err f ∷ items) none = absurd (omega (arith, none))
 
 module _ {A X : Type 0} (limit : ℕ) (items : List (Result X Fault)) (faults : List (Option FaultAt)) (same : map plain faults
-    ≡ faults_in items) (p : PartReport A)
+    ≡ faults_of_items items) (p : PartReport A)
     (reports : ReportsOf limit faults p) where
-  counted : p.faults ≡ length (occur (take limit (faults_in items)))
+  counted : p.faults ≡ length (occur (take limit (faults_of_items items)))
   counted = reports.faults.count ∙ count_plain limit faults ∙ ap (λ (xs : List (Option Fault)). length (occur (take limit xs))) same
 
   pub cut_is : p.cut ≡ nat_lt limit (length items)
-  cut_is = reports.cut ∙ ap (λ (n : ℕ). nat_lt limit n) (sym (length-map faults plain) ∙ ap length same ∙ length-map items fault_in)
+  cut_is = reports.cut ∙ ap (λ (n : ℕ). nat_lt limit n) (sym (length-map faults plain) ∙ ap length same ∙ length-map items result_err)
 
   pub reported_sound : p.faults ≡ 0 → p.cut ≡ false → IsTrue (list_all is_ok items)
   reported_sound none whole =
       let short = ltb-false limit (length items) (sym cut_is ∙ whole) in
-      let all = take_all limit (faults_in items) (omega (arith, short, length-map items fault_in)) in
+      let all = take_all limit (faults_of_items items) (omega (arith, short, length-map items result_err)) in
       all_there items (sym (ap (λ (xs : List (Option Fault)). length (occur xs)) all) ∙ sym counted ∙ none)
 
   pub reported_faulty : 0 < p.faults → IsTrue (list_all is_ok items) → ⊥

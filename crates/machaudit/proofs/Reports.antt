@@ -4,6 +4,7 @@ use Rattle.std.specs.List.{AllZip}
 use Rattle.std.specs.Prelude.{option_map}
 use Rattle.std.proofs.lemmas.Slice.Zip.{all_zipped_more}
 use Rattle.std.specs.Borrow.{Bor}
+use Rattle.mach_archive.specs.Archives.{archive_in}
 use Rattle.mach_base.proofs.Faults.{ErrorMeets-in}
 use Rattle.mach_base.specs.Answer.{ErrorMeets}
 use Rattle.mach_base.specs.Fault.{Fault, fault_of}
@@ -27,20 +28,21 @@ use Rattle.goblin_mach.specs.declared.macho.MachO.{MachO}
 use Rattle.goblin_mach.specs.FatEntry.{FatEntry, FatEntryFault, IsEntry, archive, image, fat_entry_of, no_entry, no_image}
 use Rattle.goblin_mach.specs.declared.fat_file.entry.SingleArch.TheVariants as arches
 use Rattle.goblin_mach.proofs.Files.{fat-excludes_image}
-use Rattle.goblin_mach.specs.File.{HasFatMagic, MachFault, MachOpens, of_image}
+use Rattle.goblin_mach.specs.File.{HasFatMagic, MachOpens}
 use Rattle.goblin_mach.specs.View.{IsReported}
-use Rattle.machaudit.proofs.EntryBytes.{image_entry, image_no_fat, same_bytes}
+use Rattle.machaudit.proofs.EntryBytes.{image_entry, same_bytes}
 use Rattle.machaudit.proofs.Goes.{error_meets}
-use Rattle.machaudit.specs.Report.{ReportsImage, ReportsLossily, IsImageReport, IsEntryReport, IsRefusedFor, reason_of}
+use Rattle.machaudit.specs.Report.{ReportsImage, ReportsLossily, IsArchiveReport, IsImageReport, IsEntryReport, IsRefusedFor, reason_of}
 use Rattle.machaudit.specs.Signed.{ReportsSignature}
 use Rattle.machaudit.specs.Reported.{ReportsOf, ReportsOfTrie, ReportsRecords, ReportsRelocations, faults_from, section_faults_reported, sections_beyond}
 use Rattle.machaudit.specs.Reported.{relocation_faults, relocations_past, symbols_unread, symbols_beyond}
 use Rattle.machaudit.specs.Verdicts.{are_clean, verdict_of_image}
+use Rattle.machaudit.specs.declared.report.ArchiveReport.{ArchiveReport}
 use Rattle.machaudit.specs.declared.report.EntryReport.TheVariants as entries
 use Rattle.machaudit.specs.declared.report.ImageReport.TheVariants as images
 use Rattle.machaudit.specs.declared.report.ImageReport.{ImageReport}
 use Rattle.machaudit.specs.declared.report.Parts.{Parts}
-use Rattle.machaudit.specs.declared.report.FaultPlace.TheVariants as places
+use Rattle.machaudit.specs.declared.report.ItemList.TheVariants as lists
 use Rattle.machaudit.specs.declared.verdict.Verdict.TheVariants.{Faulty}
 
 -- the parts of an image
@@ -51,9 +53,9 @@ pub image_reported : {A B : Type 0} (limit : ℕ) (bytes : List ℕ) (m : MachO 
     (are_clean q.sections) q.relocations
     → ReportsRecords limit (symbols_unread (option_map table_of m.symbols)) (symbols_beyond (option_map table_of m.symbols)) q.symbols
     → ReportsOfTrie limit (trie_or_empty (trie_view m)) (texts m.libs.items) q.exports
-    → (items : List (Result Import Fault)) × HasImportItems bytes 0 items × ReportsOf limit (faults_from places.Import 0 items) q.imports
-    → (items : List (Result Fixup Fault)) × HasFixups bytes 0 items × ReportsOf limit (faults_from places.Fixup 0 items) q.fixups
-    → (items : List (Result Binding Fault)) × HasBindings bytes 0 items × ReportsOf limit (faults_from places.Binding 0 items) q.bindings
+    → (items : List (Result Import Fault)) × HasImportItems bytes 0 items × ReportsOf limit (faults_from lists.Imports 0 items) q.imports
+    → (items : List (Result Fixup Fault)) × HasFixups bytes 0 items × ReportsOf limit (faults_from lists.Fixups 0 items) q.fixups
+    → (items : List (Result Binding Fault)) × HasBindings bytes 0 items × ReportsOf limit (faults_from lists.Bindings 0 items) q.bindings
     → ReportsSignature (image_faults (bytes_view m) (commands_view m) (segments_view m)) q.signature
     → HasLayoutFaults bytes q.layout.items → ReportsImage limit bytes q
 image_reported limit bytes m p q sections relocations symbols exports imports fixups bindings signature layout = record {
@@ -88,11 +90,13 @@ not_lossy bytes only opens =
     fat-excludes_image bytes (only (record { magic = omega (arith, room); file = inr opens })) opens
 
 -- the report in lossy mode of bytes that don't open strictly
-pub refused_reported : {A : Type 0} (limit : ℕ) (bytes : List ℕ) (e : Error) (r : ImageReport A) → reason_of r ≡ Some e → IsReported e
-    → ErrorMeets (MachFault ImageFault bytes) e → ReportsLossily limit bytes r → IsImageReport limit bytes r
-refused_reported limit bytes e (images.Opens parts) is reported occurs reports = absurd reports
-refused_reported limit bytes e (images.OpensLossily x parts) is reported occurs reports = let same = same_some is in rw same (reported, occurs, reports)
-refused_reported limit bytes e (images.Refused x) is reported occurs reports = let same = same_some is in rw same (reported, occurs, not_lossy bytes reports)
+pub refused_reported : {A : Type 0} (Fails : Fault → Type 0) (limit : ℕ) (bytes : List ℕ) (e : Error) (r : ImageReport A) → reason_of r ≡ Some e
+    → IsReported e → ErrorMeets Fails e → ReportsLossily limit bytes r → IsImageReport Fails limit bytes r
+refused_reported Fails limit bytes e (images.Opens parts) is reported occurs reports = absurd reports
+refused_reported Fails limit bytes e (images.OpensLossily x parts) is reported occurs reports =
+    let same = same_some is in rw same (reported, occurs, reports)
+refused_reported Fails limit bytes e (images.Refused x) is reported occurs reports =
+    let same = same_some is in rw same (reported, occurs, not_lossy bytes reports)
 
 -- lossy mode opens the bytes whose parts it reports
 reported_opens : {A : Type 0} (limit : ℕ) (bytes : List ℕ) (parts : Parts A) → ReportsImage limit bytes parts → LossyOpens bytes 0
@@ -124,9 +128,8 @@ entry_refused limit bytes (Ok (archive slice)) e r here is reported occurs repor
     absurd (archive_fault slice (fault_of e) (error_meets (FatEntryFault (Ok (archive slice))) e reported occurs))
 entry_refused limit bytes (Ok (image slice)) e r here is reported occurs reports =
     let same = same_bytes bytes slice here in
-    let fault = ErrorMeets-in (FatEntryFault (Ok (image slice))) (MachFault ImageFault slice) e
-    (λ f one. of_image f (subst (λ (x : List ℕ). ¬ (HasFatMagic x)) same (image_no_fat bytes slice here)) (image_fault slice f one)) occurs in
-    refused_reported limit slice e r is reported fault (subst (λ (x : List ℕ). ReportsLossily limit x r) same reports)
+    let fault = ErrorMeets-in (FatEntryFault (Ok (image slice))) (ImageFault slice 0) e (λ f one. image_fault slice f one) occurs in
+    refused_reported (ImageFault slice 0) limit slice e r is reported fault (subst (λ (x : List ℕ). ReportsLossily limit x r) same reports)
 entry_refused limit bytes (Err f) e r here is reported occurs reports =
     refused_for limit bytes f e r here is reported (no_entry_fault f (fault_of e) (error_meets (FatEntryFault (Err f)) e reported occurs)) reports
 
@@ -137,10 +140,12 @@ pub entry_reported : {A B : Type 0} (limit : ℕ) (entry : Result FatEntry Fault
 entry_reported limit entry (archive slice) m parts is opened reported = absurd opened
 entry_reported limit entry (image slice) m parts is opened reported = rw is ((opened.ctx, commands_view m, opened.opens), reported slice opened)
 
-pub archive_reported : (A B : Type 0) (limit : ℕ) (entry : Result FatEntry Fault) (e : FatEntry) (bytes : Bor (List ℕ)) → entry ≡ Ok e
-    → IsEntry {A = A} e (arches.Archive bytes) → IsEntryReport {A = B} limit entry entries.Archive
-archive_reported A B limit entry (archive slice) bytes is opened = rw is tt
-archive_reported A B limit entry (image slice) bytes is opened = absurd opened
+pub archive_reported : (A : Type 0) {B : Type 0} (limit : ℕ) (entry : Result FatEntry Fault) (e : FatEntry) (bytes : Bor (List ℕ)) (r : ArchiveReport B)
+    → entry ≡ Ok e → IsEntry {A = A} e (arches.Archive bytes) → IsArchiveReport limit (archive_in bytes.now) r
+    → IsEntryReport limit entry (entries.Archive r)
+archive_reported A limit entry (archive slice) bytes r is same reported =
+    rw is (subst (λ (xs : List ℕ). IsArchiveReport limit (archive_in xs) r) same reported)
+archive_reported A limit entry (image slice) bytes r is same reported = absurd same
 
 -- one more entry
 items_from-last : {A : Type 0} (item : ℕ → A) (first count : ℕ) → items_from item first (count + 1) ≡ items_from item first count ++ item (first + count) ∷ []

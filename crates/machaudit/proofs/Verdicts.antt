@@ -1,8 +1,8 @@
 -- Verdicts, and what they say of the parts.
-use Rattle.std.proofs.Common.{◌≡◌, ◌<◌, ◌≤◌, ℕ, zero, suc, Bool, true, false, refl, ap, arith, inl, inr}
+use Rattle.std.proofs.Common.{◌≡◌, ◌<◌, ◌≤◌, ◌++◌, ◌∷◌, ◌∙◌, [], ℕ, zero, suc, Bool, true, false, List, refl, sym, ap, arith, inl, inr}
 use Rattle.std.proofs.Math.Dec.{eqb-suc-zero}
 use Rattle.std.specs.Prelude.{◌⊎◌, IsTrue, ◌==◌, if◌then◌else◌}
-use Rattle.machaudit.specs.Verdicts.{Judges, verdict_of_both, status_of, verdict_of}
+use Rattle.machaudit.specs.Verdicts.{Judges, verdict_of_all, verdict_of_both, status_of, verdict_of}
 use Rattle.machaudit.specs.declared.report.PartReport.{PartReport}
 use Rattle.machaudit.specs.declared.verdict.Verdict.TheVariants.{Sound, Unended, Faulty}
 use Rattle.machaudit.specs.declared.verdict.Verdict.{Verdict}
@@ -52,6 +52,11 @@ pub neither : {L M : Type 0} → (L → ⊥) → (M → ⊥) → L ⊎ M → ⊥
 neither p q (inl l) = p l
 neither p q (inr m) = q m
 
+-- the second, since the first is not so
+pub after_first : {L M : Type 0} → (L → ⊥) → L ⊎ M → M
+after_first p (inl l) = absurd (p l)
+after_first p (inr m) = m
+
 -- the verdict on two parts together
 pub both_judged : {S T L M : Type 0} (v w : Verdict) → Judges S L v → Judges T M w → Judges (S × T) (L ⊎ M) (verdict_of_both v w)
 both_judged Faulty w p q = faulty_judged (λ s. p.faulty refl s.0)
@@ -61,6 +66,12 @@ both_judged Unended Sound p q = unended_judged (inl (p.unended refl))
 both_judged Sound Faulty p q = faulty_judged (λ s. q.faulty refl s.1)
 both_judged Sound Unended p q = unended_judged (inr (q.unended refl))
 both_judged Sound Sound p q = sound_judged (p.sound refl, q.sound refl) (λ l. neither (p.whole refl) (q.whole refl) l)
+
+-- a verdict on the first ones, of which there are more
+pub cut_judged : {S T L M : Type 0} (v : Verdict) → Judges S L v → (T → S) → M → Judges T M (verdict_of_both Unended v)
+cut_judged Faulty j fewer long = faulty_judged (λ t. j.faulty refl (fewer t))
+cut_judged Unended j fewer long = unended_judged long
+cut_judged Sound j fewer long = unended_judged long
 
 -- a verdict on what is equivalent
 pub judged_as : {S T L M : Type 0} (v : Verdict) → (S → T) → (T → S) → (L → M) → (M → L) → Judges S L v → Judges T M v
@@ -110,3 +121,10 @@ pub both_faulty : (v : Verdict) → verdict_of_both v Faulty ≡ Faulty
 both_faulty Faulty = refl
 both_faulty Unended = refl
 both_faulty Sound = refl
+
+-- one more thing
+pub all_push : {X : Type 0} (verdict : X → Verdict) (xs : List X) (x : X)
+    → verdict_of_all verdict (xs ++ x ∷ []) ≡ verdict_of_both (verdict_of_all verdict xs) (verdict x)
+all_push verdict [] x = both_sound (verdict x)
+all_push verdict (y ∷ xs) x =
+    ap (verdict_of_both (verdict y)) (all_push verdict xs x) ∙ sym (both_assoc (verdict y) (verdict_of_all verdict xs) (verdict x))

@@ -1,10 +1,13 @@
 -- The report of a file: which items of its lists can't be read, by their numbers.
-use Rattle.std.specs.Prelude.{◌≡◌, ℕ, List, [], false, Result, Ok, Err, IsOk, Option, Some, None, length, nat_lt}
+use Rattle.std.specs.Prelude.{◌≡◌, ◌∷◌, ℕ, List, [], false, Result, Ok, Err, IsOk, Option, Some, None, length, nat_lt, take}
 use Rattle.std.specs.List.{AllZip}
 use Rattle.mach_base.specs.Answer.{ErrorMeets, FailsAs}
 use Rattle.mach_base.specs.Fault.{Fault, fault_of}
 use Rattle.mach_base.specs.Items.{items_from}
 use Rattle.mach_base.specs.declared.error.Error.{Error}
+use Rattle.mach_archive.specs.Archives.{ArchiveView, archive_in}
+use Rattle.mach_archive.specs.ArchiveViews.{member_view}
+use Rattle.mach_archive.specs.Members.{MemberView}
 use Rattle.mach_parts.specs.Fat.{part_of}
 use Rattle.mach_parts.specs.declared.fat.FatArch.{FatArch}
 use Rattle.mach_parts.specs.ArchForms.{arch_form_32}
@@ -21,6 +24,7 @@ use Rattle.mach_signature.specs.AsSigned.{SignatureFaultView}
 use Rattle.mach_signature.specs.SignedFacts.{HasSignatureFaults}
 use Rattle.goblin_mach.specs.Facts.{OfImage, HasSegments, HasSymbolTable, HasImportItems, HasFixups, HasBindings}
 use Rattle.goblin_mach.specs.Image.{Opens, ImageFault, LossyOpens}
+use Rattle.goblin_mach.specs.Items.{members_within}
 use Rattle.goblin_mach.specs.Subjects.{lossy_segments_in, libs_in, trie_in, trie_or_empty}
 use Rattle.goblin_mach.specs.FatEntry.{FatEntry, archive, image, entry_at}
 use Rattle.goblin_mach.specs.FatFile.{FatFile, fat_file_in, arches_in}
@@ -31,13 +35,16 @@ use Rattle.machaudit.specs.Signed.{ReportsSignature}
 use Rattle.machaudit.specs.Reported.{ReportsOf, ReportsOfTrie, ReportsRecords, ReportsRelocations, faults_from, section_faults_reported, sections_beyond}
 use Rattle.machaudit.specs.Reported.{relocation_faults, relocations_past, symbols_unread, symbols_beyond}
 use Rattle.machaudit.specs.Verdicts.{are_clean}
+use Rattle.machaudit.specs.declared.report.ArchiveReport.{ArchiveReport}
 use Rattle.machaudit.specs.declared.report.EntryReport.TheVariants as entries
 use Rattle.machaudit.specs.declared.report.EntryReport.{EntryReport}
 use Rattle.machaudit.specs.declared.report.FatReport.{FatReport}
 use Rattle.machaudit.specs.declared.report.ImageReport.TheVariants as images
 use Rattle.machaudit.specs.declared.report.ImageReport.{ImageReport}
+use Rattle.machaudit.specs.declared.report.MemberReport.TheVariants as member_reports
+use Rattle.machaudit.specs.declared.report.MemberReport.{MemberReport}
 use Rattle.machaudit.specs.declared.report.Parts.{Parts}
-use Rattle.machaudit.specs.declared.report.FaultPlace.TheVariants as places
+use Rattle.machaudit.specs.declared.report.ItemList.TheVariants as lists
 use Rattle.machaudit.specs.declared.report.Report.TheVariants as reports
 use Rattle.machaudit.specs.declared.report.Report.{Report}
 
@@ -52,20 +59,19 @@ pub record ReportsImage {A : Type 0} (limit : ℕ) (bytes : List ℕ) (p : Parts
       (are_clean p.sections) p.relocations)
   pub symbols : (table : Option SymbolTable) × HasSymbolTable bytes 0 table × ReportsRecords limit (symbols_unread table) (symbols_beyond table) p.symbols
   pub exports : OfImage bytes 0 (λ ctx cs. ReportsOfTrie limit (trie_or_empty (trie_in bytes cs)) (libs_in bytes cs) p.exports)
-  pub imports : (items : List (Result Import Fault)) × HasImportItems bytes 0 items × ReportsOf limit (faults_from places.Import 0 items) p.imports
-  pub fixups : (items : List (Result Fixup Fault)) × HasFixups bytes 0 items × ReportsOf limit (faults_from places.Fixup 0 items) p.fixups
-  pub bindings : (items : List (Result Binding Fault)) × HasBindings bytes 0 items × ReportsOf limit (faults_from places.Binding 0 items) p.bindings
+  pub imports : (items : List (Result Import Fault)) × HasImportItems bytes 0 items × ReportsOf limit (faults_from lists.Imports 0 items) p.imports
+  pub fixups : (items : List (Result Fixup Fault)) × HasFixups bytes 0 items × ReportsOf limit (faults_from lists.Fixups 0 items) p.fixups
+  pub bindings : (items : List (Result Binding Fault)) × HasBindings bytes 0 items × ReportsOf limit (faults_from lists.Bindings 0 items) p.bindings
   pub signature : (there : Result (Option (List SignatureFaultView)) Fault) × HasSignatureFaults bytes 0 there × ReportsSignature there p.signature
   pub layout : HasLayoutFaults bytes p.layout.items
 
--- The report of some bytes as an image. If they open strictly, it has the parts of the image. Otherwise it has a fault that holds
--- of them, and the parts that lossy mode reads, exactly if lossy mode opens them. At most as many items of a
--- list are visited as there are bytes.
-abbrev pub IsImageReport : {A : Type 0} → ℕ → List ℕ → ImageReport A → Type 0
-IsImageReport limit bytes (images.Opens parts) = Opens bytes 0 × ReportsImage (most_items limit bytes) bytes parts
-IsImageReport limit bytes (images.OpensLossily e parts) = IsReported e × ErrorMeets (MachFault ImageFault bytes) e
-    × ReportsImage (most_items limit bytes) bytes parts
-IsImageReport limit bytes (images.Refused e) = IsReported e × ErrorMeets (MachFault ImageFault bytes) e × ¬ (LossyOpens bytes 0)
+-- The report of some bytes as an image, whose faults are these. If they open strictly, it has the parts of the image. Otherwise it
+-- has a fault that holds of them, and the parts that lossy mode reads, exactly if lossy mode opens them. At most as many items of
+-- a list are visited as there are bytes.
+abbrev pub IsImageReport : {A : Type 0} → (Fault → Type 0) → ℕ → List ℕ → ImageReport A → Type 0
+IsImageReport Fails limit bytes (images.Opens parts) = Opens bytes 0 × ReportsImage (most_items limit bytes) bytes parts
+IsImageReport Fails limit bytes (images.OpensLossily e parts) = IsReported e × ErrorMeets Fails e × ReportsImage (most_items limit bytes) bytes parts
+IsImageReport Fails limit bytes (images.Refused e) = IsReported e × ErrorMeets Fails e × ¬ (LossyOpens bytes 0)
 
 -- the error for which some bytes don't open strictly as an image, if they don't
 abbrev pub reason_of : {A : Type 0} → ImageReport A → Option Error
@@ -85,14 +91,32 @@ IsRefusedFor f (images.Opens parts) = ⊥
 IsRefusedFor f (images.OpensLossily e parts) = ⊥
 IsRefusedFor f (images.Refused e) = IsReported e × (fault_of e ≡ f)
 
--- The report of an entry of a fat file. An archive is reported as one, an image has the report of its bytes as a file of their
--- own, and any other entry is refused for its fault.
+-- The report of an item of an archive: a member has the report of its bytes as an image, and the fault that ends the members is
+-- reported.
+abbrev pub IsMemberReport : {A : Type 0} → ℕ → Result MemberView Fault → MemberReport A → Type 0
+IsMemberReport limit (Ok m) (member_reports.Image member r) = (member_view member ≡ m) × IsImageReport (ImageFault m.bytes 0) limit m.bytes r
+IsMemberReport limit (Ok m) (member_reports.Refused e) = ⊥
+IsMemberReport limit (Err f) (member_reports.Image member r) = ⊥
+IsMemberReport limit (Err f) (member_reports.Refused e) = IsReported e × (fault_of e ≡ f)
+
+-- The report of an archive's members: those of the first `limit`, in order, and exactly whether there are more.
+pub record ReportsMembers {A : Type 0} (limit : ℕ) (items : List (Result MemberView Fault)) (r : ArchiveReport A) : Type 0 where
+  pub reports : AllZip (IsMemberReport limit) (take limit items) r.members.items
+  pub cut : r.cut ≡ nat_lt limit (length items)
+
+-- The report of an archive: that of its members, or the fault for which it doesn't open.
+abbrev pub IsArchiveReport : {A : Type 0} → ℕ → Result ArchiveView Fault → ArchiveReport A → Type 0
+IsArchiveReport limit (Ok a) r = ReportsMembers limit (members_within a) r
+IsArchiveReport limit (Err f) r = AllZip (IsMemberReport limit) (Err f ∷ []) r.members.items × (r.cut ≡ false)
+
+-- The report of an entry of a fat file. An archive has the reports of its members, an image has the report of its bytes as an
+-- image, and any other entry is refused for its fault.
 abbrev pub IsEntryReport : {A : Type 0} → ℕ → Result FatEntry Fault → EntryReport A → Type 0
-IsEntryReport limit (Ok (archive bytes)) entries.Archive = Unit {0}
+IsEntryReport limit (Ok (archive bytes)) (entries.Archive r) = IsArchiveReport limit (archive_in bytes) r
 IsEntryReport limit (Ok (archive bytes)) (entries.Image r) = ⊥
-IsEntryReport limit (Ok (image bytes)) entries.Archive = ⊥
-IsEntryReport limit (Ok (image bytes)) (entries.Image r) = IsImageReport limit bytes r
-IsEntryReport limit (Err f) entries.Archive = ⊥
+IsEntryReport limit (Ok (image bytes)) (entries.Archive r) = ⊥
+IsEntryReport limit (Ok (image bytes)) (entries.Image r) = IsImageReport (ImageFault bytes 0) limit bytes r
+IsEntryReport limit (Err f) (entries.Archive r) = ⊥
 IsEntryReport limit (Err f) (entries.Image r) = IsRefusedFor f r
 
 -- the bytes of a file that the record of an entry names; none without a record
@@ -129,5 +153,5 @@ pub record IsFatReport {A : Type 0} (limit : ℕ) (bytes : List ℕ) (file : Fat
 
 -- The report of a file.
 abbrev pub IsFileReport : {A : Type 0} → ℕ → List ℕ → Report A → Type 0
-IsFileReport limit bytes (reports.Image r) = IsImageReport limit bytes r
+IsFileReport limit bytes (reports.Image r) = IsImageReport (MachFault ImageFault bytes) limit bytes r
 IsFileReport limit bytes (reports.Fat r) = (file : FatFile) × HasFatMagic bytes × (fat_file_in bytes ≡ Ok file) × IsFatReport limit bytes file r

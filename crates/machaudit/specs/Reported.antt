@@ -1,7 +1,8 @@
 -- The report of a list: those of its first items that can't be read, each with its place.
-use Rattle.std.specs.Prelude.{◌≡◌, ◌<◌, ◌+◌, ◌-◌, ◌^◌, ◌++◌, ◌∷◌, ℕ, Bool, false, true, List, [], map, take, length, Option, Some, None, Result, Ok, Err}
+use Rattle.std.specs.Prelude.{◌≡◌, ◌<◌, ◌+◌, ◌-◌, ◌^◌, ◌++◌, ◌∷◌, ℕ, Bool, false, true, List, [], map, take, length, Option, Some, None, Result}
 use Rattle.std.specs.Prelude.{min, nat_lt, option_map}
 use Rattle.std.specs.List.{filter_map, sum_by}
+use Rattle.std.specs.Result.{result_err}
 use Rattle.mach_base.specs.Fault.{Fault, fault_of}
 use Rattle.mach_base.specs.Items.{items_in_bounds}
 use Rattle.mach_base.specs.declared.context.Ctx.{Ctx}
@@ -16,7 +17,8 @@ use Rattle.machaudit.specs.Sound.{relocations_by, AreExportItems}
 use Rattle.machaudit.specs.declared.report.Finding.{Finding}
 use Rattle.machaudit.specs.declared.report.PartReport.{PartReport}
 use Rattle.machaudit.specs.declared.report.FaultPlace.{FaultPlace}
-use Rattle.machaudit.specs.declared.report.FaultPlace.TheVariants as places
+use Rattle.machaudit.specs.declared.report.ItemList.{ItemList}
+use Rattle.machaudit.specs.declared.report.ItemList.TheVariants as lists
 use Rattle.machaudit.specs.declared.report.Records.{Records}
 use Rattle.machaudit.specs.declared.tally.Tally.{Tally}
 
@@ -24,15 +26,25 @@ use Rattle.machaudit.specs.declared.tally.Tally.{Tally}
 abbrev pub FaultAt : Type 0
 FaultAt = FaultPlace × Fault
 
--- the fault of an item and its place, if it can't be read
-abbrev pub fault_read_at : {X : Type 0} → FaultPlace → Result X Fault → Option FaultAt
-fault_read_at place (Ok x) = None
-fault_read_at place (Err f) = Some (place, f)
+-- a fault with its place
+abbrev pub placed_fault : FaultPlace → Option Fault → Option FaultAt
+placed_fault place fault = option_map (λ f. (place, f)) fault
 
--- the faults of items, the first of which has this number
-abbrev pub faults_from : {X : Type 0} → (ℕ → FaultPlace) → ℕ → List (Result X Fault) → List (Option FaultAt)
-faults_from place n [] = []
-faults_from place n (item ∷ items) = fault_read_at (place n) item ∷ faults_from place (n + 1) items
+abbrev pub item_place : ItemList → ℕ → FaultPlace
+item_place list n = record { list = list; index = n }
+
+-- the faults of items; none of an item that can be read
+abbrev pub faults_of_items : {X : Type 0} → List (Result X Fault) → List (Option Fault)
+faults_of_items items = map result_err items
+
+-- faults of items of a list, the first of which has this number, with their places
+abbrev pub placed_from : ItemList → ℕ → List (Option Fault) → List (Option FaultAt)
+placed_from list n [] = []
+placed_from list n (fault ∷ faults) = placed_fault (item_place list n) fault ∷ placed_from list (n + 1) faults
+
+-- the faults of items of a list, the first of which has this number
+abbrev pub faults_from : {X : Type 0} → ItemList → ℕ → List (Result X Fault) → List (Option FaultAt)
+faults_from list n items = placed_from list n (faults_of_items items)
 
 -- the faults of several lists, the first of which has this number
 abbrev pub faults_each : {X : Type 0} → (ℕ → X → List (Option FaultAt)) → ℕ → List X → List (Option FaultAt)
@@ -45,7 +57,7 @@ more_than first all = length all - length first
 
 -- the faults of the sections of all segments, of those that begin within the bytes
 abbrev pub section_faults_reported : List SegmentView → List (Option FaultAt)
-section_faults_reported segments = faults_each (λ n s. faults_from (places.Section n) 0 (items_in_bounds (sections_of s))) 0 segments
+section_faults_reported segments = faults_each (λ n s. faults_from (lists.Sections n) 0 (items_in_bounds (sections_of s))) 0 segments
 
 -- how many more sections the segments claim
 abbrev pub sections_beyond : List SegmentView → ℕ
@@ -57,7 +69,7 @@ relocations_in_bounds ctx bytes s = items_in_bounds (relocations_by ctx bytes s)
 
 -- the faults of the relocations of a segment's sections
 abbrev pub relocation_faults_by : {S : Type 0} → (S → List (Result RelocationInfo Fault)) → ℕ → List S → List (Option FaultAt)
-relocation_faults_by relocations n sections = faults_each (λ k s. faults_from (places.Relocation n k) 0 (relocations s)) 0 sections
+relocation_faults_by relocations n sections = faults_each (λ k s. faults_from (lists.Relocations n k) 0 (relocations s)) 0 sections
 
 -- the faults of the relocations of all segments, of those that begin within the bytes
 abbrev pub relocation_faults : Ctx → List ℕ → List SegmentView → List (Option FaultAt)
@@ -73,7 +85,7 @@ relocations_past ctx bytes segments = sum_by (λ s. sum_by (relocations_past_of 
 
 -- the faults of the symbols of a table, if there is one, of those that begin within the bytes
 abbrev pub symbols_unread : Option SymbolTable → List (Option FaultAt)
-symbols_unread table = faults_from places.Symbol 0 (symbols_in (option_map table_in_bounds table))
+symbols_unread table = faults_from lists.Symbols 0 (symbols_in (option_map table_in_bounds table))
 
 -- how many more symbols the table claims
 abbrev pub symbols_beyond : Option SymbolTable → ℕ
@@ -113,7 +125,7 @@ pub record HasMet {A : Type 0} (limit : ℕ) (items : List (Option FaultAt)) (t 
 pub record ReportsOfTrie {A : Type 0} (limit : ℕ) (t : TrieRange) (libs : List (List ℕ)) (p : PartReport A) : Type 0 where
   pub items : List (Result trie.Entry Fault)
   pub met : AreExportItems limit t libs items
-  pub reports : ReportsOf limit (faults_from places.Export 0 items) p
+  pub reports : ReportsOf limit (faults_from lists.Exports 0 items) p
 
 -- The report of the relocations. They are not read if the sections have a fault or too many items.
 abbrev pub ReportsRelocations : {A : Type 0} → ℕ → (items : List (Option FaultAt)) → (more : ℕ) → (clean : Bool) → Option (Records A) → Type 0

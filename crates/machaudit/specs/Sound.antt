@@ -1,8 +1,10 @@
 -- When a file is sound: everything in it opens and can be read.
-use Rattle.std.specs.Prelude.{◌≡◌, ◌<◌, ◌++◌, ◌∷◌, ℕ, Bool, IsTrue, is_ok, List, [], map, length, Result, Ok, Err, IsOk, None}
-use Rattle.std.specs.List.{list_all, flat_map}
+use Rattle.std.specs.Prelude.{◌≡◌, ◌<◌, ◌⊎◌, ◌++◌, ◌∷◌, ℕ, Bool, IsTrue, is_ok, List, [], map, length, Result, Ok, Err, IsOk, None}
+use Rattle.std.specs.List.{AllByRecursion, list_all, flat_map}
 use Rattle.mach_base.specs.Fault.{Fault}
 use Rattle.mach_base.specs.declared.context.Ctx.{Ctx}
+use Rattle.mach_archive.specs.Archives.{ArchiveView, archive_in}
+use Rattle.mach_archive.specs.Members.{MemberView}
 use Rattle.mach_load.specs.Command.{Command}
 use Rattle.mach_dyld.specs.Imports.{Import}
 use Rattle.mach_dyld.specs.Trie as trie
@@ -27,6 +29,7 @@ use Rattle.goblin_mach.specs.Facts.{OfImage, HasSegments, HasSymbols, HasExports
 use Rattle.goblin_mach.specs.FatEntry.{FatEntry, archive, image, entry_at}
 use Rattle.goblin_mach.specs.FatFile.{FatFile, fat_file_in, arches_in}
 use Rattle.goblin_mach.specs.Image.{Opens}
+use Rattle.goblin_mach.specs.Items.{members_within}
 use Rattle.goblin_mach.specs.File.{HasFatMagic}
 use Rattle.goblin_mach.specs.Subjects.{lossy_segments_in, libs_in, trie_in, trie_or_empty}
 
@@ -108,15 +111,44 @@ pub data HasLongList (limit : ℕ) (bytes : List ℕ) : Type 0 where
   of_fixups : (items : List (Result Fixup Fault)) → HasFixups bytes 0 items → limit < length items → HasLongList limit bytes
   of_bindings : (items : List (Result Binding Fault)) → HasBindings bytes 0 items → limit < length items → HasLongList limit bytes
 
--- an entry of a fat file is an archive, or an image that is sound
+-- a member of an archive is a sound image
+abbrev pub IsSoundMember : Result MemberView Fault → Type 0
+IsSoundMember (Ok m) = IsSoundImage m.bytes
+IsSoundMember (Err f) = ⊥
+
+-- an archive opens, each of its members is a sound image, and no fault ends them
+abbrev pub IsSoundArchive : Result ArchiveView Fault → Type 0
+IsSoundArchive (Ok a) = AllByRecursion IsSoundMember (members_within a)
+IsSoundArchive (Err f) = ⊥
+
+-- a member is an image with a list of more than `limit` items, or of more than the member has bytes
+abbrev pub IsLongMember : ℕ → Result MemberView Fault → Type 0
+IsLongMember limit (Ok m) = HasLongList (most_items limit m.bytes) m.bytes
+IsLongMember limit (Err f) = ⊥
+
+-- one of these members is such an image
+abbrev pub HasLongMember : ℕ → List (Result MemberView Fault) → Type 0
+HasLongMember limit [] = ⊥
+HasLongMember limit (m ∷ ms) = IsLongMember limit m ⊎ HasLongMember limit ms
+
+-- there are more than `limit` members, or one of them has a list of more items; the fault that ends them counts as a member
+abbrev pub AreLongMembers : ℕ → List (Result MemberView Fault) → Type 0
+AreLongMembers limit members = (limit < length members) ⊎ HasLongMember limit members
+
+-- the same of the members of an archive
+abbrev pub IsLongArchive : ℕ → Result ArchiveView Fault → Type 0
+IsLongArchive limit (Ok a) = AreLongMembers limit (members_within a)
+IsLongArchive limit (Err f) = ⊥
+
+-- an entry of a fat file is an archive or an image that is sound
 abbrev pub IsSoundEntry : Result FatEntry Fault → Type 0
-IsSoundEntry (Ok (archive bytes)) = Unit {0}
+IsSoundEntry (Ok (archive bytes)) = IsSoundArchive (archive_in bytes)
 IsSoundEntry (Ok (image bytes)) = IsSoundImage bytes
 IsSoundEntry (Err f) = ⊥
 
--- an entry is an image with a list of more than `limit` items, or of more than the image has bytes
+-- an entry is an archive that is too long, or an image with a list of more than `limit` items, or of more than the image has bytes
 abbrev pub IsLongEntry : ℕ → Result FatEntry Fault → Type 0
-IsLongEntry limit (Ok (archive bytes)) = ⊥
+IsLongEntry limit (Ok (archive bytes)) = IsLongArchive limit (archive_in bytes)
 IsLongEntry limit (Ok (image bytes)) = HasLongList (most_items limit bytes) bytes
 IsLongEntry limit (Err f) = ⊥
 

@@ -1,11 +1,14 @@
 -- Whether a file is sound, by its report.
 use Rattle.std.specs.Prelude.{◌≡◌, ◌==◌, ◌||◌, ◌&&◌, ℕ, Bool, not, List, [], ◌∷◌, Option, Some, None, is_some, if◌then◌else◌}
 use Rattle.mach_layout.specs.declared.fault.LayoutFault.{LayoutFault}
+use Rattle.machaudit.specs.declared.report.ArchiveReport.{ArchiveReport}
 use Rattle.machaudit.specs.declared.report.EntryReport.TheVariants as entries
 use Rattle.machaudit.specs.declared.report.EntryReport.{EntryReport}
 use Rattle.machaudit.specs.declared.report.FatReport.{FatReport}
 use Rattle.machaudit.specs.declared.report.ImageReport.TheVariants as images
 use Rattle.machaudit.specs.declared.report.ImageReport.{ImageReport}
+use Rattle.machaudit.specs.declared.report.MemberReport.TheVariants as member_reports
+use Rattle.machaudit.specs.declared.report.MemberReport.{MemberReport}
 use Rattle.machaudit.specs.declared.report.PartReport.{PartReport}
 use Rattle.machaudit.specs.declared.report.Parts.{Parts}
 use Rattle.machaudit.specs.declared.report.Records.{Records}
@@ -69,21 +72,34 @@ verdict_of_image (images.Opens parts) = verdict_of_parts parts
 verdict_of_image (images.OpensLossily e parts) = Faulty
 verdict_of_image (images.Refused e) = Faulty
 
+-- the verdict on whether there are more than were audited
+abbrev pub verdict_of_cut : Bool → Verdict
+verdict_of_cut cut = if cut then Unended else Sound
+
+-- the verdict on all of some things
+abbrev pub verdict_of_all : {X : Type 0} → (X → Verdict) → List X → Verdict
+verdict_of_all verdict [] = Sound
+verdict_of_all verdict (x ∷ xs) = verdict_of_both (verdict x) (verdict_of_all verdict xs)
+
+-- the verdict on an item of an archive
+abbrev pub verdict_of_member : {A : Type 0} → MemberReport A → Verdict
+verdict_of_member (member_reports.Image m image) = verdict_of_image image
+verdict_of_member (member_reports.Refused e) = Faulty
+
+-- the verdict on an archive
+abbrev pub verdict_of_archive : {A : Type 0} → ArchiveReport A → Verdict
+verdict_of_archive r = verdict_of_both (verdict_of_cut r.cut) (verdict_of_all verdict_of_member r.members.items)
+
 -- the verdict on an entry of a fat file
 abbrev pub verdict_of_entry : {A : Type 0} → EntryReport A → Verdict
-verdict_of_entry entries.Archive = Sound
+verdict_of_entry (entries.Archive archive) = verdict_of_archive archive
 verdict_of_entry (entries.Image image) = verdict_of_image image
-
--- the verdict on some entries
-abbrev pub verdict_of_entries : {A : Type 0} → List (EntryReport A) → Verdict
-verdict_of_entries [] = Sound
-verdict_of_entries (e ∷ es) = verdict_of_both (verdict_of_entry e) (verdict_of_entries es)
 
 -- the verdict on the entries of a fat file: faulty if its table can't be read, or it has no entries
 abbrev pub verdict_of_table : {A : Type 0} → FatReport A → Verdict
 verdict_of_table f =
     if is_some f.table || (f.count == 0) then Faulty
-    else verdict_of_both (if f.cut then Unended else Sound) (verdict_of_entries f.entries.items)
+    else verdict_of_both (verdict_of_cut f.cut) (verdict_of_all verdict_of_entry f.entries.items)
 
 -- the verdict on a fat file
 abbrev pub verdict_of_fat : {A : Type 0} → FatReport A → Verdict

@@ -15,25 +15,32 @@ ghost use Rattle.mach_layout.specs.Faults.{AreLayoutFaults};
 ghost use Rattle.goblin_mach.specs.Held.{laid_view};
 ghost use Rattle.goblin_mach.specs.ListFaults.{AreListFaults};
 ghost use Rattle.mach_cli.specs.Bounds.{most_items};
-ghost use Rattle.machaudit.specs.Report.{IsFileReport, IsEntryReport, IsFatReport, ReportsImage, ReportsLossily, named_bytes, reason_of};
-ghost use Rattle.machaudit.specs.Sound.{IsSound, IsSoundEntry, IsSoundFat, IsSoundImage, IsLong, IsLongEntry, IsLongFat, HasLongList};
+ghost use Rattle.machaudit.specs.Report.{IsArchiveReport, IsEntryReport, IsFatReport, IsFileReport, IsImageReport, IsMemberReport};
+ghost use Rattle.machaudit.specs.Report.{ReportsImage, ReportsLossily, ReportsMembers, named_bytes, reason_of};
+ghost use Rattle.machaudit.specs.Sound.{AreLongMembers, HasLongList, IsLong, IsLongArchive, IsLongEntry, IsLongFat, IsLongMember};
+ghost use Rattle.machaudit.specs.Sound.{IsSound, IsSoundArchive, IsSoundEntry, IsSoundFat, IsSoundImage, IsSoundMember};
 ghost use Rattle.machaudit.specs.Reported.{ReportsRelocations, relocation_faults, relocations_past};
 ghost use Rattle.machaudit.specs.Verdicts.{Judges, are_clean, verdict_of_parts, verdict_of_image, verdict_of_entry, verdict_of_fat, verdict_of_report};
+ghost use Rattle.machaudit.specs.Verdicts.{verdict_of_archive, verdict_of_member};
+ghost use Rattle.goblin_mach.specs.Image.{ImageFault};
+ghost use Rattle.mach_archive.specs.Archives.{archive_in};
+ghost use Rattle.mach_archive.specs.ArchiveViews.{member_read, members_left};
+ghost use Rattle.std.specs.List.{AllByRecursion};
 ghost use Rattle.machaudit.specs.declared.report.AuditFailure.TheVariants as failures;
 
-use crate::lists::{
-    audit_bindings, audit_exports, audit_fixups, audit_imports, audit_relocations, audit_sections,
-    audit_symbols,
-};
+use crate::items::Items;
+use crate::lists::{audit_exports, audit_list, audit_relocations, audit_sections, audit_symbols};
 use crate::overlaid::entries_within;
 use crate::report::{
-    AuditFailure, EntryReport, FatReport, ImageReport, Parts, Records, Report, no_memory,
+    ArchiveReport, AuditFailure, EntryReport, FatReport, ImageReport, ItemList, MemberReport,
+    Parts, Records, Report, no_memory,
 };
 use crate::signed::audit_signature;
 use goblin_mach::fat::FatArch;
 use goblin_mach::layout::layout_faults;
 use goblin_mach::segment::Segment;
 use goblin_mach::{Ctx, Error, Mach, MachO, MultiArch, SingleArch, laws, laws as layout_laws};
+use mach_archive::{Archive, Member, Members};
 use mach_cli::{Cpu, most_items};
 use mach_layout::{LayoutFault, container_faults};
 use std::alloc::Allocator;
@@ -104,9 +111,12 @@ fn audit_parts<A: Allocator, B: Allocator + Clone>(
     let relocations = audit_relocated(alloc.clone()?, bytes, ctx, segments, &sections, limit)?;
     let symbols = audit_symbols(alloc.clone()?, image, limit)?;
     let exports = audit_exports(alloc.clone()?, image, limit)?;
-    let imports = audit_imports(alloc.clone()?, image.iter_imports(), limit)?;
-    let fixups = audit_fixups(alloc.clone()?, image.fixups(), limit)?;
-    let bindings = audit_bindings(alloc.clone()?, image.bindings(), limit)?;
+    let imports = Items::Imports(image.iter_imports());
+    let imports = audit_list(alloc.clone()?, ItemList::Imports, imports, limit)?;
+    let fixups = Items::Fixups(image.fixups());
+    let fixups = audit_list(alloc.clone()?, ItemList::Fixups, fixups, limit)?;
+    let bindings = Items::Bindings(image.bindings());
+    let bindings = audit_list(alloc.clone()?, ItemList::Bindings, bindings, limit)?;
     let signature = audit_signature(alloc.clone()?, image)?;
     let layout = audit_layout(alloc.clone()?, image)?;
     layout_laws::layout_faults_of_image(image);
@@ -153,14 +163,106 @@ fn audit_refused<A: Allocator + Clone>(
     }
 }
 
-// Audits an entry of a fat file, which lies in these bytes.
-fn audit_entry<A: Allocator + Clone>(
+// Audits some bytes as an image.
+fn audit_image<A: Allocator + Clone>(
     alloc: &A,
-    container: &MultiArch<'_, A>,
+    bytes: &[u8],
+    limit: usize,
+) -> Result<ImageReport<A>, AuditFailure>
+    ensures reported { IfOk result (IsImageReport (ImageFault bytes.now 0) limit bytes.now) }
+    ensures judged { IfOk result (λ r. Judges (IsSoundImage bytes.now) (HasLongList (most_items limit bytes.now) bytes.now) (verdict_of_image r)) }
+    ensures memory { IfErr result (λ failure. failure ≡ failures.Memory) }
+{
+    match MachO::parse(alloc.clone()?, bytes, 0) {
+        Ok(image) => {
+            let parts = audit_parts(alloc, &image, limit)?;
+            Ok(ImageReport::Opens(parts))
+        }
+        Err(error) => {
+            let image = audit_refused(alloc, bytes, error, limit)?;
+            Ok(image)
+        }
+    }
+}
+
+// Audits an item of an archive: a member, or the error at which the members end.
+fn audit_member<'a, A: Allocator + Clone>(
+    alloc: &A,
+    member: goblin_mach::Result<Member<'a>>,
+    limit: usize,
+) -> Result<MemberReport<'a, A>, AuditFailure>
+    ensures reported { IfOk result (IsMemberReport limit (member_read member.entry)) }
+    ensures judged { let m = member_read member.entry in IfOk result (λ r. Judges (IsSoundMember m) (IsLongMember limit m) (verdict_of_member r)) }
+    ensures memory { IfErr result (λ failure. failure ≡ failures.Memory) }
+{
+    match member {
+        Ok(member) => {
+            let image = audit_image(alloc, member.bytes, limit)?;
+            Ok(MemberReport::Image(member, image))
+        }
+        Err(error) => {
+            let error = no_memory(error)?;
+            Ok(MemberReport::Refused(error))
+        }
+    }
+}
+
+// Audits members of an archive in order, at most `limit`.
+fn audit_members<'a, A: Allocator + Clone>(
+    alloc: &A,
+    members: Members<'a>,
+    limit: usize,
+) -> Result<ArchiveReport<'a, A>, AuditFailure>
+    ensures reported { IfOk result (ReportsMembers limit (members_left members.entry)) }
+    ensures judged { let ms = members_left members.entry in
+        IfOk result (λ r. Judges (AllByRecursion IsSoundMember ms) (AreLongMembers limit ms) (verdict_of_archive r)) }
+    ensures memory { IfErr result (λ failure. failure ≡ failures.Memory) }
+{
+    let mut reports = Vec::new(alloc.clone()?);
+    'members: for member in members {
+        if reports.len() >= limit {
+            return Ok(ArchiveReport {
+                members: reports,
+                cut: true,
+            });
+        }
+        reports.push(audit_member(alloc, member, limit)?)?;
+    }
+    Ok(ArchiveReport {
+        members: reports,
+        cut: false,
+    })
+}
+
+// Audits an archive: its members, or the error for which it doesn't open.
+fn audit_archive<'a, A: Allocator + Clone>(
+    alloc: &A,
+    bytes: &'a [u8],
+    limit: usize,
+) -> Result<ArchiveReport<'a, A>, AuditFailure>
+    ensures reported { IfOk result (IsArchiveReport limit (archive_in bytes.now)) }
+    ensures judged { let a = archive_in bytes.now in IfOk result (λ r. Judges (IsSoundArchive a) (IsLongArchive limit a) (verdict_of_archive r)) }
+    ensures memory { IfErr result (λ failure. failure ≡ failures.Memory) }
+{
+    match Archive::parse(bytes) {
+        Ok(archive) => audit_members(alloc, archive.members(), limit),
+        Err(error) => {
+            let mut members: Vec<MemberReport<'a, A>, A> = Vec::new(alloc.clone()?);
+            members.push(audit_member(alloc, Err(error), limit)?)?;
+            let cut = false;
+            Ok(ArchiveReport { members, cut })
+        }
+    }
+}
+
+// Audits an entry of a fat file, which lies in these bytes.
+fn audit_entry<'a, A: Allocator + Clone>(
+    alloc: &A,
+    container: &MultiArch<'a, A>,
     index: usize,
     bytes: &[u8],
     limit: usize,
-) -> Result<EntryReport<A>, AuditFailure>
+) -> Result<EntryReport<'a, A>, AuditFailure>
     ensures reported { fat_entry_of bytes.now ≡ entry_at (file_view container.now) index
         → IfOk result (IsEntryReport limit (entry_at (file_view container.now) index)) }
     ensures judged { IfOk result (λ r. Judges (IsSoundEntry (entry_at (file_view container.now) index))
@@ -169,7 +271,10 @@ fn audit_entry<A: Allocator + Clone>(
     ensures memory { IfErr result (λ failure. failure ≡ failures.Memory) }
 {
     match container.get(index) {
-        Ok(SingleArch::Archive(_)) => Ok(EntryReport::Archive),
+        Ok(SingleArch::Archive(bytes)) => {
+            let archive = audit_archive(alloc, bytes, limit)?;
+            Ok(EntryReport::Archive(archive))
+        }
         Ok(SingleArch::MachO(image)) => {
             let parts = audit_parts(alloc, &image, limit)?;
             Ok(EntryReport::Image(ImageReport::Opens(parts)))
@@ -193,12 +298,12 @@ fn named_bytes<'a>(bytes: &'a [u8], arches: &[FatArch], index: usize) -> &'a [u8
 
 // Audits a fat file: its table, and then its entries, as long as they have no more bytes together than the file. If the table
 // can't be read, no entry is audited.
-fn audit_fat<A: Allocator + Clone>(
+fn audit_fat<'a, A: Allocator + Clone>(
     alloc: &A,
-    container: &MultiArch<'_, A>,
+    container: &MultiArch<'a, A>,
     bytes: &[u8],
     limit: usize,
-) -> Result<FatReport<A>, AuditFailure>
+) -> Result<FatReport<'a, A>, AuditFailure>
     ensures reported { (file_view container.now).bytes ≡ bytes.now → IfOk result (IsFatReport limit bytes.now (file_view container.now)) }
     ensures judged { IfOk result (λ r. Judges (AreContainerFaults arch_form_32 bytes.now [] × IsSoundFat (file_view container.now))
         (IsLongFat limit (file_view container.now)) (verdict_of_fat r)) }
@@ -235,11 +340,11 @@ fn audit_fat<A: Allocator + Clone>(
 
 /// Audits a file and returns its report. Of each list it visits at most `limit` items, and of a list of an image no more than the
 /// image has bytes. Of the faults of a part it keeps the first ten.
-pub fn audit<A: Allocator + Clone>(
+pub fn audit<'a, A: Allocator + Clone>(
     alloc: &A,
-    bytes: &[u8],
+    bytes: &'a [u8],
     limit: usize,
-) -> Result<Report<A>, AuditFailure>
+) -> Result<Report<'a, A>, AuditFailure>
     ensures reported { IfOk result (IsFileReport limit bytes.now) }
     ensures judged { IfOk result (λ r. Judges (IsSound bytes.now) (IsLong limit bytes.now) (verdict_of_report r)) }
     ensures memory { IfErr result (λ failure. failure ≡ failures.Memory) }

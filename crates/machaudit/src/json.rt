@@ -8,9 +8,10 @@ pub mod part;
 
 use crate::json::fault::{NoImage, Refusal};
 use crate::json::part::{Unreported, write_layout, write_part, write_parts};
-use crate::report::{EntryReport, FatReport, ImageReport, Report};
+use crate::report::{ArchiveReport, EntryReport, FatReport, ImageReport, MemberReport, Report};
 use crate::verdict::Verdict;
 use goblin_mach::Error;
+use mach_archive::Member;
 use mach_cli::{JsonString, comma_before};
 use std::alloc::Allocator;
 use std::io;
@@ -19,7 +20,7 @@ use std::io::Write;
 /// Writes the object of a file on a line: its name, whether it is sound, what it is, and its images.
 pub fn print_object<A: Allocator, O: Write>(
     name: &str,
-    report: &Report<A>,
+    report: &Report<'_, A>,
     out: &mut O,
 ) -> io::Result<()> {
     write!(out, "{{\"container\":[")?;
@@ -30,7 +31,7 @@ pub fn print_object<A: Allocator, O: Write>(
 }
 
 // Writes the parts of a fat file's table; nothing for an image.
-fn write_container<A: Allocator, O: Write>(report: &Report<A>, out: &mut O) -> io::Result<()> {
+fn write_container<A: Allocator, O: Write>(report: &Report<'_, A>, out: &mut O) -> io::Result<()> {
     match report {
         Report::Image(_) => Ok(()),
         Report::Fat(fat) => write_fat(fat, out),
@@ -38,14 +39,14 @@ fn write_container<A: Allocator, O: Write>(report: &Report<A>, out: &mut O) -> i
 }
 
 // Writes the parts of a fat file's table.
-fn write_fat<A: Allocator, O: Write>(fat: &FatReport<A>, out: &mut O) -> io::Result<()> {
+fn write_fat<A: Allocator, O: Write>(fat: &FatReport<'_, A>, out: &mut O) -> io::Result<()> {
     write_table(fat, out)?;
     write!(out, ",")?;
     write_entries(fat, out)
 }
 
 // Writes the part of the table itself: why it can't be read, or its faults.
-fn write_table<A: Allocator, O: Write>(fat: &FatReport<A>, out: &mut O) -> io::Result<()> {
+fn write_table<A: Allocator, O: Write>(fat: &FatReport<'_, A>, out: &mut O) -> io::Result<()> {
     match &fat.table {
         Some(error) => write_part("table", &[Refusal(error)], Unreported::NOTHING, out),
         None => write_layout("table", fat.container.as_slice(), out),
@@ -53,7 +54,7 @@ fn write_table<A: Allocator, O: Write>(fat: &FatReport<A>, out: &mut O) -> io::R
 }
 
 // Writes the part of the entries: whether there is none, and whether there are more than were audited.
-fn write_entries<A: Allocator, O: Write>(fat: &FatReport<A>, out: &mut O) -> io::Result<()> {
+fn write_entries<A: Allocator, O: Write>(fat: &FatReport<'_, A>, out: &mut O) -> io::Result<()> {
     let unreported = Unreported {
         more: 0,
         past: 0,
@@ -67,7 +68,7 @@ fn write_entries<A: Allocator, O: Write>(fat: &FatReport<A>, out: &mut O) -> io:
 }
 
 // Writes the images of a file: its entries, or itself.
-fn write_images<A: Allocator, O: Write>(report: &Report<A>, out: &mut O) -> io::Result<()> {
+fn write_images<A: Allocator, O: Write>(report: &Report<'_, A>, out: &mut O) -> io::Result<()> {
     match report {
         Report::Image(image) => write_image(image, out),
         Report::Fat(fat) => write_each(fat.entries.as_slice(), out),
@@ -75,7 +76,10 @@ fn write_images<A: Allocator, O: Write>(report: &Report<A>, out: &mut O) -> io::
 }
 
 // Writes the entries of a fat file.
-fn write_each<A: Allocator, O: Write>(entries: &[EntryReport<A>], out: &mut O) -> io::Result<()> {
+fn write_each<A: Allocator, O: Write>(
+    entries: &[EntryReport<'_, A>],
+    out: &mut O,
+) -> io::Result<()> {
     let mut is_first = true;
     'entries: for entry in entries {
         write_entry(entry, is_first, out)?;
@@ -86,25 +90,85 @@ fn write_each<A: Allocator, O: Write>(entries: &[EntryReport<A>], out: &mut O) -
 
 // Writes an entry of a fat file, after a comma unless it is the first.
 fn write_entry<A: Allocator, O: Write>(
-    entry: &EntryReport<A>,
+    entry: &EntryReport<'_, A>,
     is_first: bool,
     out: &mut O,
 ) -> io::Result<()> {
     let comma = comma_before(is_first);
     write!(out, "{comma}")?;
     match entry {
-        EntryReport::Archive => write!(out, "{{\"kind\":\"archive\"}}"),
+        EntryReport::Archive(archive) => write_archive(archive, out),
         EntryReport::Image(image) => write_image(image, out),
+    }
+}
+
+// Writes an archive: its members, and the part that says whether they can be read to their end.
+fn write_archive<A: Allocator, O: Write>(
+    archive: &ArchiveReport<'_, A>,
+    out: &mut O,
+) -> io::Result<()> {
+    write!(out, "{{\"kind\":\"archive\",\"members\":[")?;
+    write_members(archive.members.as_slice(), out)?;
+    write!(out, "],\"parts\":[")?;
+    write_archive_part(archive, out)?;
+    write!(out, "]}}")
+}
+
+// Writes the part of an archive: the error at which its members end, and whether there are more than were audited.
+fn write_archive_part<A: Allocator, O: Write>(
+    archive: &ArchiveReport<'_, A>,
+    out: &mut O,
+) -> io::Result<()> {
+    let unreported = Unreported {
+        cut: archive.cut,
+        ..Unreported::NOTHING
+    };
+    match archive.error() {
+        Some(error) => write_part("archive", &[Refusal(error)], unreported, out),
+        None => write_part::<Refusal<'_>, O>("archive", &[], unreported, out),
+    }
+}
+
+// Writes the members of an archive.
+fn write_members<A: Allocator, O: Write>(
+    members: &[MemberReport<'_, A>],
+    out: &mut O,
+) -> io::Result<()> {
+    let mut is_first = true;
+    'members: for report in members {
+        if let MemberReport::Image(member, image) = report {
+            let comma = comma_before(is_first);
+            write!(out, "{comma}{{\"kind\":\"image\",\"member\":")?;
+            write_name(*member, out)?;
+            write!(out, ",")?;
+            write_opened(image, out)?;
+            is_first = false;
+        }
+    }
+    Ok(())
+}
+
+// Writes the name of a member, or the offset of its header.
+fn write_name<O: Write>(member: Member<'_>, out: &mut O) -> io::Result<()> {
+    match member.name() {
+        Ok(name) => {
+            let name = JsonString(name);
+            write!(out, "{name}")
+        }
+        Err(_) => write!(out, "\"at {}\"", member.offset),
     }
 }
 
 // Writes an image: how it opens, and its parts.
 fn write_image<A: Allocator, O: Write>(image: &ImageReport<A>, out: &mut O) -> io::Result<()> {
+    write!(out, "{{\"kind\":\"image\",")?;
+    write_opened(image, out)
+}
+
+// Writes how an image opens, and its parts, and the end of its object.
+fn write_opened<A: Allocator, O: Write>(image: &ImageReport<A>, out: &mut O) -> io::Result<()> {
     let opens = words_of_opening(image);
-    write!(
-        out,
-        "{{\"kind\":\"image\",\"opens\":\"{opens}\",\"parts\":["
-    )?;
+    write!(out, "\"opens\":\"{opens}\",\"parts\":[")?;
     match image {
         ImageReport::Opens(parts) => {
             write_part::<Refusal<'_>, O>("opens", &[], Unreported::NOTHING, out)?;
@@ -138,7 +202,7 @@ fn words_of_opening<A: Allocator>(image: &ImageReport<A>) -> &'static str
 // Writes the members after the images, and the end of the object.
 fn write_end<A: Allocator, O: Write>(
     name: &str,
-    report: &Report<A>,
+    report: &Report<'_, A>,
     out: &mut O,
 ) -> io::Result<()> {
     let kind = kind_of(report);
@@ -150,7 +214,7 @@ fn write_end<A: Allocator, O: Write>(
 }
 
 // Returns what a file is.
-fn kind_of<A: Allocator>(report: &Report<A>) -> &'static str
+fn kind_of<A: Allocator>(report: &Report<'_, A>) -> &'static str
     ensures { result.now ≡ defined.fault_kind_words report.now }
 {
     match report {

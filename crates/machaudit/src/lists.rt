@@ -2,31 +2,64 @@
 
 ghost use Rattle.std.specs.Prelude.{◌++◌, ◌-◌, ◌<◌, ◌^◌, ℕ, List, Option, IfOk, IfErr, IsTrue, OnOk, map, min, option_map, ◌≡◌};
 ghost use Rattle.std.specs.List.{sum_by};
-ghost use Rattle.mach_dyld.specs.BindLeft.{imports_left};
 ghost use Rattle.mach_base.specs.Text.{texts};
-ghost use Rattle.mach_parts.specs.RelocationItems.{relocations_left};
 ghost use Rattle.mach_parts.specs.SectionItems.{sections_left, section_read};
 ghost use Rattle.mach_parts.specs.Segment.{segment_view};
-ghost use Rattle.mach_parts.specs.SymbolViews.{symbols_left, table_of};
-ghost use Rattle.goblin_mach.specs.BindingsLeft.{bindings_left};
-ghost use Rattle.goblin_mach.specs.FixupsLeft.{image_fixups_left};
+ghost use Rattle.mach_parts.specs.SymbolViews.{table_of};
 ghost use Rattle.goblin_mach.specs.OpenImage.{trie_view};
 ghost use Rattle.goblin_mach.specs.Subjects.{symbols_view, trie_or_empty};
+ghost use Rattle.machaudit.specs.Items.{faults_left};
 ghost use Rattle.machaudit.specs.Sound.{are_all_ok};
-ghost use Rattle.machaudit.specs.Reported.{FaultAt, HasMet, ReportsOf, ReportsOfTrie, ReportsRecords, faults_from, section_faults_reported, sections_beyond};
+ghost use Rattle.machaudit.specs.Reported.{FaultAt, HasMet, ReportsOf, ReportsOfTrie, ReportsRecords, faults_from};
+ghost use Rattle.machaudit.specs.Reported.{placed_from, section_faults_reported, sections_beyond};
 ghost use Rattle.machaudit.specs.Reported.{relocations_in_bounds, relocation_faults, relocation_faults_by, relocations_past, relocations_past_of};
 ghost use Rattle.machaudit.specs.Reported.{symbols_unread, symbols_beyond};
 ghost use Rattle.machaudit.specs.declared.report.AuditFailure.TheVariants as failures;
-ghost use Rattle.machaudit.specs.declared.report.FaultPlace.TheVariants as places;
+ghost use Rattle.machaudit.specs.declared.report.ItemList.TheVariants as lists;
 
-use crate::report::{AuditFailure, FaultPlace, PartReport, Records, no_memory};
+use crate::items::Items;
+use crate::report::{AuditFailure, FaultPlace, ItemList, PartReport, Records, no_memory};
 use crate::tally::Tally;
-use goblin_mach::imports::BindIterator;
-use goblin_mach::segment::{RelocationIterator, Section, SectionData, SectionIterator, Segment};
-use goblin_mach::symbols::SymbolIterator;
-use goblin_mach::{BindingIterator, Ctx, FixupIterator, MachO};
+use goblin_mach::segment::{Section, SectionData, SectionIterator, Segment};
+use goblin_mach::{Ctx, MachO};
 use mach_parts::laws::symbols_past_the_end;
 use std::alloc::Allocator;
+
+/// Audits a list, at most `limit` items.
+pub fn audit_list<A: Allocator>(
+    alloc: A,
+    list: ItemList,
+    items: Items<'_>,
+    limit: usize,
+) -> Result<PartReport<A>, AuditFailure>
+    ensures reported { IfOk result (ReportsOf limit (placed_from list 0 (faults_left items.entry))) }
+    ensures memory { IfErr result (λ failure. failure ≡ failures.Memory) }
+{
+    let mut tally = Tally::new(alloc, limit);
+    add_list(list, items, &mut tally)?;
+    Ok(tally.part())
+}
+
+// Adds the items of a list.
+fn add_list<A: Allocator>(
+    list: ItemList,
+    mut items: Items<'_>,
+    tally: &mut Tally<A>,
+) -> Result<(), AuditFailure>
+    ensures reported { OnOk result ((limit : ℕ) (met : List (Option FaultAt)) → HasMet limit met tally.old
+        → HasMet limit (met ++ placed_from list 0 (faults_left items.entry)) tally.new) }
+    ensures memory { IfErr result (λ failure. failure ≡ failures.Memory) }
+{
+    let mut index = 0usize;
+    'items: while let Some(error) = items.next_error() {
+        let place = FaultPlace { list, index };
+        if !tally.take(place, error)? {
+            return Ok(());
+        }
+        index = index.saturating_add(1);
+    }
+    Ok(())
+}
 
 /// Audits the sections of all segments that begin within the bytes, at most `limit`.
 pub fn audit_sections<A: Allocator>(
@@ -44,31 +77,12 @@ pub fn audit_sections<A: Allocator>(
         let sections = segment.into_iter();
         let in_bounds = sections.in_bounds();
         past = past.saturating_add(sections.len().saturating_sub(in_bounds.len()));
-        add_sections(number, in_bounds, &mut tally)?;
+        let list = ItemList::Sections(number);
+        add_list(list, Items::Sections(in_bounds), &mut tally)?;
         number = number.saturating_add(1);
     }
     let in_bounds = tally.part();
     Ok(Records { in_bounds, past })
-}
-
-// Adds the sections of the segment with this number.
-fn add_sections<A: Allocator>(
-    segment: usize,
-    sections: SectionIterator<'_>,
-    tally: &mut Tally<A>,
-) -> Result<(), AuditFailure>
-    ensures reported { OnOk result ((limit : ℕ) (items : List (Option FaultAt)) → HasMet limit items tally.old
-        → HasMet limit (items ++ faults_from (places.Section segment) 0 (sections_left sections.entry)) tally.new) }
-    ensures memory { IfErr result (λ failure. failure ≡ failures.Memory) }
-{
-    let mut index = 0usize;
-    'sections: for section in sections {
-        if !tally.take(FaultPlace::Section { segment, index }, section.err())? {
-            return Ok(());
-        }
-        index = index.saturating_add(1);
-    }
-    Ok(())
 }
 
 /// Audits the relocations of all sections that begin within the bytes, at most `limit`.
@@ -153,7 +167,7 @@ fn add_relocations_by<A: Allocator>(
     tally: &mut Tally<A>,
 ) -> Result<(), AuditFailure>
     ensures reported { OnOk result ((limit : ℕ) (items : List (Option FaultAt)) → HasMet limit items tally.old
-        → HasMet limit (items ++ faults_from (places.Relocation numbers.0 numbers.1) 0 (relocations_in_bounds ctx bytes.now
+        → HasMet limit (items ++ faults_from (lists.Relocations numbers.0 numbers.1) 0 (relocations_in_bounds ctx bytes.now
         (section_read item.now))) tally.new) }
     ensures memory { IfErr result (λ failure. failure ≡ failures.Memory) }
 {
@@ -161,33 +175,8 @@ fn add_relocations_by<A: Allocator>(
         return Ok(());
     };
     let relocations = section.iter_relocations(bytes, ctx);
-    add_relocations_of(numbers.0, numbers.1, relocations.in_bounds(), tally)
-}
-
-// Adds the relocations of one section.
-fn add_relocations_of<A: Allocator>(
-    segment: usize,
-    section: usize,
-    relocations: RelocationIterator<'_>,
-    tally: &mut Tally<A>,
-) -> Result<(), AuditFailure>
-    ensures reported { OnOk result ((limit : ℕ) (items : List (Option FaultAt)) → HasMet limit items tally.old
-        → HasMet limit (items ++ faults_from (places.Relocation segment section) 0 (relocations_left relocations.entry)) tally.new) }
-    ensures memory { IfErr result (λ failure. failure ≡ failures.Memory) }
-{
-    let mut index = 0usize;
-    'relocations: for relocation in relocations {
-        let place = FaultPlace::Relocation {
-            segment,
-            section,
-            index,
-        };
-        if !tally.take(place, relocation.err())? {
-            return Ok(());
-        }
-        index = index.saturating_add(1);
-    }
-    Ok(())
+    let list = ItemList::Relocations(numbers.0, numbers.1);
+    add_list(list, Items::Relocations(relocations.in_bounds()), tally)
 }
 
 /// Audits the exports of the trie, at most `limit`, up to the first fault.
@@ -205,7 +194,10 @@ pub fn audit_exports<A: Allocator, B: Allocator + Clone>(
     };
     let mut index = 0usize;
     'exports: while let Some(export) = walk.next() {
-        let place = FaultPlace::Export(index);
+        let place = FaultPlace {
+            list: ItemList::Exports,
+            index,
+        };
         match export {
             Err(error) => {
                 tally.take(place, Some(no_memory(error)?))?;
@@ -237,7 +229,8 @@ pub fn audit_symbols<A: Allocator, B: Allocator>(
             symbols_past_the_end();
             let in_bounds = table.in_bounds();
             let past = table.len().saturating_sub(in_bounds.len());
-            let in_bounds = audit_table(alloc, in_bounds.iter(), limit)?;
+            let symbols = Items::Symbols(in_bounds.iter());
+            let in_bounds = audit_list(alloc, ItemList::Symbols, symbols, limit)?;
             Ok(Records { in_bounds, past })
         }
         None => {
@@ -245,84 +238,4 @@ pub fn audit_symbols<A: Allocator, B: Allocator>(
             Ok(Records { in_bounds, past: 0 })
         }
     }
-}
-
-// Adds the symbols of a table, at most `limit`.
-fn audit_table<A: Allocator>(
-    alloc: A,
-    symbols: SymbolIterator<'_>,
-    limit: usize,
-) -> Result<PartReport<A>, AuditFailure>
-    ensures reported { IfOk result (ReportsOf limit (faults_from places.Symbol 0 (symbols_left symbols.entry))) }
-    ensures memory { IfErr result (λ failure. failure ≡ failures.Memory) }
-{
-    let mut tally = Tally::new(alloc, limit);
-    let mut index = 0usize;
-    'symbols: for symbol in symbols {
-        if !tally.take(FaultPlace::Symbol(index), symbol.err())? {
-            return Ok(tally.part());
-        }
-        index = index.saturating_add(1);
-    }
-    Ok(tally.part())
-}
-
-/// Audits the imports of the opcodes, at most `limit`, up to the first fault.
-pub fn audit_imports<A: Allocator>(
-    alloc: A,
-    imports: BindIterator<'_, '_>,
-    limit: usize,
-) -> Result<PartReport<A>, AuditFailure>
-    ensures reported { IfOk result (ReportsOf limit (faults_from places.Import 0 (imports_left imports.entry))) }
-    ensures memory { IfErr result (λ failure. failure ≡ failures.Memory) }
-{
-    let mut tally = Tally::new(alloc, limit);
-    let mut index = 0usize;
-    'imports: for import in imports {
-        if !tally.take(FaultPlace::Import(index), import.err())? {
-            return Ok(tally.part());
-        }
-        index = index.saturating_add(1);
-    }
-    Ok(tally.part())
-}
-
-/// Audits the fixups of the chains, at most `limit`, up to the first fault.
-pub fn audit_fixups<A: Allocator>(
-    alloc: A,
-    fixups: FixupIterator<'_, '_>,
-    limit: usize,
-) -> Result<PartReport<A>, AuditFailure>
-    ensures reported { IfOk result (ReportsOf limit (faults_from places.Fixup 0 (image_fixups_left fixups.entry))) }
-    ensures memory { IfErr result (λ failure. failure ≡ failures.Memory) }
-{
-    let mut tally = Tally::new(alloc, limit);
-    let mut index = 0usize;
-    'fixups: for fixup in fixups {
-        if !tally.take(FaultPlace::Fixup(index), fixup.err())? {
-            return Ok(tally.part());
-        }
-        index = index.saturating_add(1);
-    }
-    Ok(tally.part())
-}
-
-/// Audits the bindings of the opcodes and the chains, at most `limit`, up to the first fault.
-pub fn audit_bindings<A: Allocator>(
-    alloc: A,
-    bindings: BindingIterator<'_, '_>,
-    limit: usize,
-) -> Result<PartReport<A>, AuditFailure>
-    ensures reported { IfOk result (ReportsOf limit (faults_from places.Binding 0 (bindings_left bindings.entry))) }
-    ensures memory { IfErr result (λ failure. failure ≡ failures.Memory) }
-{
-    let mut tally = Tally::new(alloc, limit);
-    let mut index = 0usize;
-    'bindings: for binding in bindings {
-        if !tally.take(FaultPlace::Binding(index), binding.err())? {
-            return Ok(tally.part());
-        }
-        index = index.saturating_add(1);
-    }
-    Ok(tally.part())
 }

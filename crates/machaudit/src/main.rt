@@ -4,6 +4,7 @@
 // The audit of a file: whether it opens, and each part that can't be read or lies where it must not.
 mod audit;
 mod audits;
+mod items;
 mod lists;
 mod overlaid;
 mod report;
@@ -21,9 +22,9 @@ mod signature_text;
 mod text;
 
 use crate::audits::Audits;
-use crate::options::{DEFAULT_LIMIT, Format, Options, take_format};
+use crate::options::{DEFAULT_LIMIT, Options};
 use crate::output::NAME;
-use mach_cli::{Files, ForTerminal, Misuse, Program, Titled};
+use mach_cli::{Call, Files, ForTerminal, Misuse, Program, SharedOnly, Titled};
 use std::alloc::{AllocError, Global};
 use std::io;
 use std::io::{BufWriter, IsTerminal};
@@ -35,9 +36,10 @@ const PROGRAM: Program = Program {
        machaudit -h | --help | --version
 ",
     version: "machaudit 0.2.0\n",
-    has_limit: true,
-    has_cpu: true,
-    has_files: true,
+    options: mach_cli::Options {
+        has_quiet: true,
+        ..mach_cli::Options::OF_IMAGES
+    },
     known: &[
         "--arch",
         "--cputype",
@@ -59,19 +61,12 @@ fn main(rt: HostRuntime) -> ExitCode {
 // Runs the program with its words. The error is the exit status if nothing was audited, or if a write failed.
 fn start(rt: &HostRuntime) -> Result<u8, u8> {
     let words = PROGRAM.words(rt)?;
-    let Ok((format, words)) = take_format(rt.alloc(), words) else {
-        return Err(PROGRAM.out_of_memory(rt));
-    };
-    let call = PROGRAM.call(rt, &words)?;
-    audit_files(rt, format, &call)
+    let call = PROGRAM.call(rt, SharedOnly, &words)?;
+    audit_files(rt, &call)
 }
 
 // Audits what is for the call's cpu of its files in order, and returns the worst status.
-fn audit_files(
-    rt: &HostRuntime,
-    format: Format,
-    call: &mach_cli::Call<'_, Global>,
-) -> Result<u8, u8> {
+fn audit_files(rt: &HostRuntime, call: &Call<'_, Global, SharedOnly>) -> Result<u8, u8> {
     let (files, others) = (&call.words, &call.others);
     if files.is_empty() && others.is_empty() {
         return Err(PROGRAM.bad_usage(rt, Misuse::Missing("FILE")));
@@ -82,7 +77,7 @@ fn audit_files(
     let audits = Audits {
         cpu: call.cpu,
         options: Options {
-            format,
+            format: call.format,
             limit: call.limit.unwrap_or(DEFAULT_LIMIT),
         },
         only,

@@ -1,6 +1,6 @@
 //! What the program prints, and its exit status.
 
-ghost use Rattle.std.specs.Prelude.{◌≡◌, ◌≤◌, ◌⊎◌, [], IfOk, OnOk};
+ghost use Rattle.std.specs.Prelude.{◌≡◌, ◌≤◌, ◌⊎◌, [], codes, IfOk, OnOk};
 ghost use Rattle.std.specs.Io.Buffered.{writer_buffer, writer_contents};
 ghost use Rattle.std.specs.Io.KnownBytes.{Appends};
 ghost use Rattle.machaudit.specs.Sound.{IsSound, IsLong};
@@ -9,17 +9,17 @@ ghost use Rattle.mach_cli.specs.Foreigners.{refused_kind};
 ghost use Rattle.machaudit.specs.Foreign.{SaysForeign, foreign_message, kind_message, refusal_in};
 ghost use Rattle.machaudit.specs.Quiet.{quiet_line};
 ghost use Rattle.machaudit.specs.Verdicts.{Judges, status_of, verdict_of_report};
-ghost use Rattle.machaudit.specs.declared.options.Format.TheVariants as formats;
+ghost use Rattle.mach_cli.specs.declared.options.Format.TheVariants as formats;
 ghost use Rattle.machaudit.specs.declared.verdict.Verdict.{Verdict};
 
 use crate::audit::audit;
 use crate::json::print_object;
-use crate::options::{Format, Options};
+use crate::options::Options;
 use crate::report::Report;
 use crate::text::print_report;
 use crate::verdict::Verdict;
 use goblin_mach::Error;
-use mach_cli::{Escaped, Names, ShowFailure, refused_kind};
+use mach_cli::{Escaped, Format, Label, Names, Refusal, ShowFailure, complain, refused_kind};
 use std::alloc::Allocator;
 use std::io;
 use std::io::{BufWriter, Write};
@@ -72,7 +72,7 @@ pub fn run<A: Allocator + Clone, W: Write + Drop, B: Allocator, E: Write>(
 fn say_refusal<A: Allocator, E: Write>(
     file: &str,
     bytes: &[u8],
-    report: &Report<A>,
+    report: &Report<'_, A>,
     err: &mut E,
 ) -> io::Result<()>
     ensures { OnOk result (Appends (E.contents err.old) (E.contents err.new) (foreign_message file.now bytes.now (refusal_in report.now))) }
@@ -90,11 +90,26 @@ fn say_foreign<E: Write>(file: &str, bytes: &[u8], error: &Error, err: &mut E) -
     let Some(kind) = refused_kind(bytes, error) else {
         return Ok(());
     };
-    let names = Names {
+    complain(names_of(file), Label::None, Refusal::Kind(kind), err)
+}
+
+// Returns the names with which complaints about a file begin.
+fn names_of(file: &str) -> Names<'_>
+    ensures program { result.program.now ≡ codes "machaudit" }
+    ensures file { result.file.now ≡ file.now }
+{
+    Names {
         program: NAME,
         file,
-    };
-    writeln!(err, "{names}: {kind}")
+    }
+}
+
+/// Reports that a file is refused, and returns the exit status.
+pub fn refuse<E: Write>(file: &str, refusal: Refusal<'_>, err: &mut E) -> u8
+    ensures { result ≡ 1 }
+{
+    let _ = complain(names_of(file), Label::None, refusal, err);
+    1
 }
 
 // Returns the exit status of a verdict.
@@ -110,7 +125,7 @@ fn status(verdict: Verdict) -> u8
 // Prints the report of a file and flushes it.
 fn write_report<A: Allocator, W: Write + Drop, B: Allocator>(
     call: Call<'_>,
-    report: &Report<A>,
+    report: &Report<'_, A>,
     out: &mut BufWriter<W, B>,
 ) -> io::Result<()>
     ensures quiet { OnOk result (call.entry.options.format ≡ formats.Quiet
@@ -122,7 +137,11 @@ fn write_report<A: Allocator, W: Write + Drop, B: Allocator>(
 }
 
 // Prints the report of a file.
-fn print<A: Allocator, O: Write>(call: Call<'_>, report: &Report<A>, out: &mut O) -> io::Result<()>
+fn print<A: Allocator, O: Write>(
+    call: Call<'_>,
+    report: &Report<'_, A>,
+    out: &mut O,
+) -> io::Result<()>
     ensures { OnOk result (call.entry.options.format ≡ formats.Quiet
         → Appends (O.contents out.old) (O.contents out.new) (quiet_line call.entry.name.now (verdict_of_report report.now))) }
 {

@@ -6,6 +6,7 @@ ghost use Rattle.machaudit.specs.declared.report.AuditFailure.TheVariants as fai
 ghost use Rattle.goblin_mach.specs.View.{IsReported};
 
 use goblin_mach::Error;
+use mach_archive::Member;
 use mach_layout::LayoutFault;
 use mach_signature::SignatureFault;
 use std::alloc::{AllocError, AllocFailed, Allocator, Global};
@@ -65,30 +66,32 @@ pub fn no_memory(error: Error) -> Result<Error, AuditFailure>
     }
 }
 
+/// A list of an image, whose items have numbers.
+#[derive(Clone, Copy, Debug)]
+pub enum ItemList {
+    /// The sections of the segment with this number.
+    Sections(usize),
+    /// The relocations of a section: the number of its segment, and its own in this.
+    Relocations(usize, usize),
+    /// The symbols.
+    Symbols,
+    /// The exports.
+    Exports,
+    /// The imports.
+    Imports,
+    /// The fixups.
+    Fixups,
+    /// The bindings.
+    Bindings,
+}
+
 /// The place of an item that can't be read.
 #[derive(Clone, Copy, Debug)]
-pub enum FaultPlace {
-    /// A section of a segment, both by their numbers.
-    Section {
-        segment: usize,
-        index: usize,
-    },
-    /// A relocation of a section, all by their numbers.
-    Relocation {
-        segment: usize,
-        section: usize,
-        index: usize,
-    },
-    /// A symbol.
-    Symbol(usize),
-    /// The export of this number.
-    Export(usize),
-    /// The import of this number.
-    Import(usize),
-    /// The fixup of this number.
-    Fixup(usize),
-    /// The binding of this number.
-    Binding(usize),
+pub struct FaultPlace {
+    /// The list.
+    pub list: ItemList,
+    /// The item's number in it.
+    pub index: usize,
 }
 
 /// An item that can't be read.
@@ -174,18 +177,46 @@ pub enum ImageReport<A: Allocator = Global> {
     Refused(Error),
 }
 
+/// The report of an item of an archive.
+#[derive(Drop)]
+pub enum MemberReport<'a, A: Allocator = Global> {
+    /// A member, with the report of its bytes as an image.
+    Image(Member<'a>, ImageReport<A>),
+    /// The error at which the members end, or for which the archive doesn't open.
+    Refused(Error),
+}
+
+/// The report of an archive.
+#[derive(Drop)]
+pub struct ArchiveReport<'a, A: Allocator = Global> {
+    /// The reports of its members, in order.
+    pub members: Vec<MemberReport<'a, A>, A>,
+    /// Whether it has more members than were audited.
+    pub cut: bool,
+}
+
+impl<'a, A: Allocator> ArchiveReport<'a, A> {
+    /// Returns the error at which the members end, or for which the archive doesn't open.
+    pub fn error(&self) -> Option<&Error> {
+        match self.members.last() {
+            Some(MemberReport::Refused(error)) => Some(error),
+            Some(MemberReport::Image(_, _)) | None => None,
+        }
+    }
+}
+
 /// The report of an entry of a fat file.
 #[derive(Drop)]
-pub enum EntryReport<A: Allocator = Global> {
+pub enum EntryReport<'a, A: Allocator = Global> {
     /// It is an archive.
-    Archive,
-    /// It is an image.
+    Archive(ArchiveReport<'a, A>),
+    /// It is an image, or nothing that opens.
     Image(ImageReport<A>),
 }
 
 /// The report of a fat file.
 #[derive(Drop)]
-pub struct FatReport<A: Allocator = Global> {
+pub struct FatReport<'a, A: Allocator = Global> {
     /// The number of entries in its header.
     pub count: usize,
     /// The error of its table, if it can't be read.
@@ -193,21 +224,21 @@ pub struct FatReport<A: Allocator = Global> {
     /// The faults of its table, if it can be read.
     pub container: Vec<LayoutFault, A>,
     /// The reports of its entries, in order.
-    pub entries: Vec<EntryReport<A>, A>,
+    pub entries: Vec<EntryReport<'a, A>, A>,
     /// Whether it has more entries than were audited.
     pub cut: bool,
 }
 
 /// The report of a file.
 #[derive(Drop)]
-pub enum Report<A: Allocator = Global> {
+pub enum Report<'a, A: Allocator = Global> {
     /// It is an image, or nothing that opens.
     Image(ImageReport<A>),
     /// It is a fat file.
-    Fat(FatReport<A>),
+    Fat(FatReport<'a, A>),
 }
 
-impl<A: Allocator> Report<A> {
+impl<A: Allocator> Report<'_, A> {
     /// Returns the error for which the whole file is refused, if it is: it opens in no mode, or is a fat file whose table can't
     /// be read.
     pub fn refusal(&self) -> Option<&Error>

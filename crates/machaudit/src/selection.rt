@@ -8,11 +8,11 @@ ghost use Rattle.machaudit.specs.Overlaid.{AreOverlaid};
 ghost use Rattle.machaudit.specs.Sound.{IsSound};
 ghost use Rattle.goblin_mach.specs.OpenImage.{IsImage};
 
-use crate::output::{Call, NAME, run};
+use crate::output::{Call, NAME, refuse, run};
 use crate::overlaid::entries_within;
 use goblin_mach::fat::FatArch;
 use goblin_mach::{Error, Mach, MachO, MultiArch};
-use mach_cli::{Cpu, Names, ShowFailure};
+use mach_cli::{Cpu, Names, Refusal, ShowFailure};
 use std::alloc::{AllocError, Allocator};
 use std::io::{BufWriter, Write};
 
@@ -47,10 +47,10 @@ pub fn run_for<A: Allocator + Clone, W: Write + Drop, B: Allocator, E: Write>(
 {
     match selected_of(alloc, cpu, bytes)? {
         Selected::Whole => run(alloc, call, bytes, out, err),
-        Selected::Other => Ok(missed(call.name, "no image of", cpu, err)),
+        Selected::Other => Ok(refuse(call.name, Refusal::OtherImage(cpu), err)),
         Selected::Entries(archs) => {
             if cpu.misses(&archs) {
-                return Ok(missed(call.name, "no entry of", cpu, err));
+                return Ok(refuse(call.name, Refusal::NoEntry(cpu), err));
             }
             run_within(alloc, cpu, call, bytes, &archs, out, err)
         }
@@ -188,16 +188,4 @@ fn run_entry<A: Allocator + Clone, W: Write + Drop, B: Allocator, E: Write>(
 // Returns the name of a file's entry.
 fn entry_name<A: Allocator>(alloc: A, file: &str, index: usize) -> Result<String<A>, AllocError> {
     format!(in alloc; "{file}: arch {index}")
-}
-
-// Reports that nothing of a file is for a cpu, and returns the exit status.
-fn missed<E: Write>(file: &str, words: &str, cpu: Cpu, err: &mut E) -> u8
-    ensures { result ≡ 1 }
-{
-    let names = Names {
-        program: NAME,
-        file,
-    };
-    let _ = writeln!(err, "{names}: {words} {cpu}");
-    1
 }

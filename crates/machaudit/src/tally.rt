@@ -3,7 +3,7 @@
 ghost use Rattle.std.specs.Prelude.{◌≡◌, ◌<◌, ◌≤◌, ◌+◌, ◌^◌, ◌++◌, ◌∷◌, ℕ, List, [], length, IsTrue, false, true, IfOk, IfErr, OnOk, Option, option_map};
 ghost use Rattle.mach_base.specs.Fault.{fault_of};
 ghost use Rattle.machaudit.specs.declared.report.AuditFailure.TheVariants as failures;
-ghost use Rattle.machaudit.specs.Reported.{FaultAt, ReportsFirstFaults, ReportsOf, HasMet};
+ghost use Rattle.machaudit.specs.Reported.{FaultAt, ReportsFirstFaults, ReportsOf, HasMet, placed_fault};
 
 use crate::report::{AuditFailure, FaultPlace, Finding, PartReport};
 use goblin_mach::Error;
@@ -38,7 +38,7 @@ impl<A: Allocator> Tally<A> {
     /// the limit. A refused allocation is no fault of an item.
     pub fn take(&mut self, place: FaultPlace, error: Option<Error>) -> Result<bool, AuditFailure>
         ensures met { OnOk result ((limit : ℕ) (items : List (Option FaultAt)) → HasMet limit items self.old
-            → HasMet limit (items ++ option_map (λ e. (place, fault_of e)) error ∷ []) self.new) }
+            → HasMet limit (items ++ placed_fault place (option_map fault_of error) ∷ []) self.new) }
         ensures over { IfOk result (λ more. more ≡ false → IsTrue self.new.part.cut) }
         ensures memory { IfErr result (λ failure. failure ≡ failures.Memory) }
         ensures on { IfOk result (λ more. more ≡ true → 1 ≤ self.old.left) }

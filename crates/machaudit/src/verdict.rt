@@ -1,12 +1,14 @@
 //! Whether a file is sound, by its report.
 
 ghost use Rattle.std.specs.Prelude.{◌≡◌};
-ghost use Rattle.machaudit.specs.Verdicts.{verdict_of_both, verdict_of, verdict_of_read, verdict_of_entries, is_clean, verdict_of_parts, verdict_of_image};
-ghost use Rattle.machaudit.specs.Verdicts.{verdict_of_entry, verdict_of_fat, verdict_of_table, verdict_of_layout, verdict_of_report};
+ghost use Rattle.machaudit.specs.Verdicts.{verdict_of_all, verdict_of_both, verdict_of, verdict_of_read, is_clean, verdict_of_parts, verdict_of_image};
+ghost use Rattle.machaudit.specs.Verdicts.{verdict_of_archive, verdict_of_cut, verdict_of_entry, verdict_of_fat, verdict_of_member};
+ghost use Rattle.machaudit.specs.Verdicts.{verdict_of_table, verdict_of_layout, verdict_of_report};
 ghost use Rattle.machaudit.specs.Verdicts.{are_clean, verdict_of_records, verdict_of_signature};
 
 use crate::report::{
-    EntryReport, FatReport, ImageReport, PartReport, Parts, Records, Report, SignatureReport,
+    ArchiveReport, EntryReport, FatReport, ImageReport, MemberReport, PartReport, Parts, Records,
+    Report, SignatureReport,
 };
 use mach_layout::LayoutFault;
 use std::alloc::Allocator;
@@ -137,19 +139,50 @@ impl<A: Allocator> ImageReport<A> {
     }
 }
 
-impl<A: Allocator> EntryReport<A> {
-    // Returns the verdict on the entry.
+// Something of which there are several, each with a verdict of its own.
+trait Judged {
+    ghost use Rattle.std.specs.Prelude.{◌≡◌};
+    ghost use Rattle.machaudit.specs.declared.verdict.Verdict.{Verdict};
+
+    ghost judgement: { Self → Verdict };
+
+    // Returns the verdict on it.
     fn verdict(&self) -> Verdict
-        ensures { result ≡ verdict_of_entry self.now }
-    {
+        ensures { result ≡ judgement self.now };
+}
+
+impl<A: Allocator> Judged for MemberReport<'_, A> {
+    ghost judgement = { verdict_of_member };
+
+    fn verdict(&self) -> Verdict {
         match self {
-            EntryReport::Archive => Verdict::Sound,
+            MemberReport::Image(_, image) => image.verdict(),
+            MemberReport::Refused(_) => Verdict::Faulty,
+        }
+    }
+}
+
+impl<A: Allocator> ArchiveReport<'_, A> {
+    // Returns the verdict on the archive.
+    fn verdict(&self) -> Verdict
+        ensures { result ≡ verdict_of_archive self.now }
+    {
+        cut_verdict(self.cut).and(all_verdict(self.members.as_slice()))
+    }
+}
+
+impl<A: Allocator> Judged for EntryReport<'_, A> {
+    ghost judgement = { verdict_of_entry };
+
+    fn verdict(&self) -> Verdict {
+        match self {
+            EntryReport::Archive(archive) => archive.verdict(),
             EntryReport::Image(image) => image.verdict(),
         }
     }
 }
 
-impl<A: Allocator> FatReport<A> {
+impl<A: Allocator> FatReport<'_, A> {
     // Returns the verdict on the fat file.
     fn verdict(&self) -> Verdict
         ensures { result ≡ verdict_of_fat self.now }
@@ -164,12 +197,7 @@ impl<A: Allocator> FatReport<A> {
         if self.table.is_some() || self.count == 0 {
             return Verdict::Faulty;
         }
-        let gone_over = if self.cut {
-            Verdict::Unended
-        } else {
-            Verdict::Sound
-        };
-        gone_over.and(entries_verdict(self.entries.as_slice()))
+        cut_verdict(self.cut).and(all_verdict(self.entries.as_slice()))
     }
 }
 
@@ -183,18 +211,29 @@ fn layout_verdict(faults: &[LayoutFault]) -> Verdict
     }
 }
 
-// Returns the verdict on some entries.
-fn entries_verdict<A: Allocator>(entries: &[EntryReport<A>]) -> Verdict
-    ensures { result ≡ verdict_of_entries entries.now }
+// Returns the verdict on whether there are more than were audited.
+fn cut_verdict(cut: bool) -> Verdict
+    ensures { result ≡ verdict_of_cut cut }
+{
+    if cut {
+        Verdict::Unended
+    } else {
+        Verdict::Sound
+    }
+}
+
+// Returns the verdict on all of some things.
+fn all_verdict<T: Judged>(things: &[T]) -> Verdict
+    ensures { result ≡ verdict_of_all T.judgement things.now }
 {
     let mut verdict = Verdict::Sound;
-    'entries: for entry in entries {
-        verdict = verdict.and(entry.verdict());
+    'things: for thing in things {
+        verdict = verdict.and(thing.verdict());
     }
     verdict
 }
 
-impl<A: Allocator> Report<A> {
+impl<A: Allocator> Report<'_, A> {
     /// Returns the verdict on the file.
     pub fn verdict(&self) -> Verdict
         ensures { result ≡ verdict_of_report self.now }

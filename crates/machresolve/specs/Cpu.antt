@@ -12,6 +12,14 @@ use Rattle.goblin_mach.specs.Image.{Opens}
 use Rattle.goblin_mach.specs.File.{HasFatMagic}
 use Rattle.mach_parts.specs.FatRecords.{HasFat64Magic}
 use Rattle.goblin_mach.specs.Inputs.{InputFault, begins_any_archive}
+use Rattle.mach_cli.specs.declared.cpu.Cpu as selected
+use Rattle.mach_cli.specs.declared.cpu.Cpu.TheVariants as cpus
+
+-- the number of the selected cpu, if not all are selected
+abbrev pub cputype_of : selected.Cpu → Option ℕ
+cputype_of cpus.Any = None
+cputype_of (cpus.Number number) = Some number
+cputype_of (cpus.Arch arch) = Some arch.cputype
 
 -- the bytes are an image for this cpu, which opens
 pub record IsOfCpu (bytes : List ℕ) (cputype : ℕ) : Type 0 where

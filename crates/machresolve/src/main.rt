@@ -28,10 +28,10 @@ mod output;
 mod refusal;
 mod report;
 
-use crate::arguments::{DEFAULT_LIMIT, Mistake, Words};
+use crate::arguments::{DEFAULT_LIMIT, cputype_of};
 use crate::inputs::Given;
 use crate::output::{NAME, run};
-use mach_cli::{ForTerminal, Misuse, Program, Progress};
+use mach_cli::{ForTerminal, Misuse, Options, Program, Progress, SharedOnly};
 use std::io;
 use std::io::{BufWriter, IsTerminal};
 use std::process::ExitCode;
@@ -42,9 +42,11 @@ const PROGRAM: Program = Program {
        machresolve -h | --help | --version
 ",
     version: "machresolve 0.2.0\n",
-    has_limit: true,
-    has_cpu: false,
-    has_files: false,
+    options: Options {
+        has_limit: true,
+        has_cputype: true,
+        ..Options::NONE
+    },
     known: &["--cputype", "--help", "--limit", "--version"],
 };
 
@@ -56,13 +58,9 @@ fn main(rt: HostRuntime) -> ExitCode {
 
 // Runs the program with its words. The error is the exit status if nothing was resolved.
 fn start(rt: &HostRuntime) -> Result<u8, u8> {
-    let Words { others, wanted } = match Words::of(rt.alloc(), PROGRAM.words(rt)?) {
-        Ok(words) => words,
-        Err(Mistake::Misuse(misuse)) => return Err(PROGRAM.bad_usage(rt, misuse)),
-        Err(Mistake::Memory) => return Err(PROGRAM.out_of_memory(rt)),
-    };
-    let call = PROGRAM.call(rt, &others)?;
-    let limit = call.limit.unwrap_or(DEFAULT_LIMIT);
+    let words = PROGRAM.words(rt)?;
+    let call = PROGRAM.call(rt, SharedOnly, &words)?;
+    let (wanted, limit) = (cputype_of(call.cpu), call.limit.unwrap_or(DEFAULT_LIMIT));
     match call.words.as_slice() {
         [] => Err(PROGRAM.bad_usage(rt, Misuse::Missing("PROGRAM"))),
         [program, libraries @ ..] => resolve_files(rt, wanted, limit, program, libraries),

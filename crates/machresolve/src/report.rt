@@ -15,6 +15,7 @@ use crate::failure::ResolveFailure;
 use crate::inputs::{Given, archive_error};
 use crate::resolve::{Resolved, resolve};
 use goblin_mach::{ArchRecord, Error, FatTable, Input};
+use mach_cli::begins_whole_archive;
 use std::alloc::Allocator;
 
 /// The outcome for one program.
@@ -127,7 +128,7 @@ fn entry_outcome<'a, R: ArchRecord, A: Allocator + Copy>(
 {
     let Given { path, bytes } = program;
     let bytes = arch.entry_slice(bytes);
-    if bytes.starts_with(b"!<arch>\n") {
+    if begins_whole_archive(bytes) {
         Ok(Outcome::Archive)
     } else {
         outcome_for(alloc, limit, Given { path, bytes }, libraries)

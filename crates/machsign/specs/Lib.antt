@@ -1,3 +1,4 @@
+pub mod Arguments
 pub mod Texts
 pub mod Special
 pub mod SpecialLeft

@@ -1,27 +1,30 @@
 //! The option of a call that selects entitlements.
 
-use mach_cli::{Word, takes_word};
-use std::alloc::{AllocError, Allocator};
+use mach_cli::OwnOptions;
 
-/// Returns whether the words of a call select entitlements, and all other words, in order. The first word is the program's name.
-/// A word after `--`, or after an option that takes one, does not select them.
-pub fn take_entitlements<A: Allocator>(
-    alloc: A,
-    words: Vec<Word>,
-) -> Result<(bool, Vec<Word, A>), AllocError> {
-    let mut are_selected = false;
-    let mut others = Vec::new(alloc);
-    let mut is_taken = true;
-    let mut is_plain = false;
-    'words: for word in words {
-        let text = word.as_str();
-        if !is_taken && !is_plain && text == "--entitlements" {
-            are_selected = true;
-            continue;
+/// Whether `--entitlements` is given.
+#[derive(Clone, Copy, Drop)]
+pub struct Entitlements {
+    pub are_selected: bool,
+}
+
+impl Entitlements {
+    /// It is not given.
+    pub const UNSELECTED: Entitlements = Entitlements {
+        are_selected: false,
+    };
+}
+
+impl OwnOptions for Entitlements {
+    ghost use Rattle.machsign.specs.Arguments.{entitlements_taken};
+
+    ghost taken = { entitlements_taken };
+
+    fn take(&mut self, argument: &str) -> bool {
+        if argument != "--entitlements" {
+            return false;
         }
-        is_taken = !is_taken && takes_word(text);
-        is_plain = is_plain || text == "--";
-        others.push(word)?;
+        self.are_selected = true;
+        true
     }
-    Ok((are_selected, others))
 }

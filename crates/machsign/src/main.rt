@@ -9,6 +9,7 @@
 
 ghost use Rattle.std.specs.Prelude.{◌≡◌, ◌^◌, ◌-◌, codes, false, true, IfErr, IfOk};
 ghost use Rattle.mach_cli.specs.Bounds.{limit_of};
+ghost use Rattle.mach_cli.specs.Calls.{is_json};
 ghost use Rattle.mach_cli.specs.ShownCalls.{ShowsJson, ShowsText};
 ghost use Rattle.mach_cli.specs.Statuses.{IsUnwritten};
 ghost use Rattle.machsign.specs.ImageLines.{AreImageSignatureLines};
@@ -28,10 +29,10 @@ mod signed;
 mod special;
 mod text;
 
-use arguments::take_entitlements;
+use arguments::Entitlements;
 use entitlements::{NAME, run_entitlements};
 use json::SignatureObjects;
-use mach_cli::{Call, Cpu, ForTerminal, ImageFiles, Misuse, Others, Program, Titled, take_json};
+use mach_cli::{Call, Cpu, ForTerminal, ImageFiles, Misuse, Options, Others, Program, Titled};
 use signature_view::SignatureLines;
 use std::alloc::{Allocator, Global};
 use std::io;
@@ -43,9 +44,7 @@ const PROGRAM: Program = Program {
     usage: "usage: machsign [--json] [--limit N] [--arch NAME | --cputype 0xN] [--names FILE] [-0] FILE..\n\
         \x20      machsign --entitlements [--arch NAME | --cputype 0xN] FILE\n       machsign -h | --help | --version\n",
     version: "machsign 0.2.0\n",
-    has_limit: true,
-    has_cpu: true,
-    has_files: true,
+    options: Options::OF_IMAGES,
     known: &[
         "-0",
         "--arch",
@@ -68,25 +67,14 @@ fn main(rt: HostRuntime) -> ExitCode {
 // Runs the program with its words.
 fn start(rt: &HostRuntime) -> Result<u8, u8> {
     let words = PROGRAM.words(rt)?;
-    let Ok((is_json, words)) = take_json(rt.alloc(), words) else {
-        return Err(PROGRAM.out_of_memory(rt));
-    };
-    let Ok((are_selected, words)) = take_entitlements(rt.alloc(), words) else {
-        return Err(PROGRAM.out_of_memory(rt));
-    };
-    let call = PROGRAM.call(rt, &words)?;
-    answer(rt, are_selected, is_json, &call)
+    let call = PROGRAM.call(rt, Entitlements::UNSELECTED, &words)?;
+    answer(rt, &call)
 }
 
 // Runs a parsed call: writes entitlements, or shows each file.
-fn answer(
-    rt: &HostRuntime,
-    are_selected: bool,
-    is_json: bool,
-    call: &Call<'_, Global>,
-) -> Result<u8, u8> {
+fn answer(rt: &HostRuntime, call: &Call<'_, Global, Entitlements>) -> Result<u8, u8> {
     let (files, others) = (&call.words, &call.others);
-    if are_selected {
+    if call.own.are_selected {
         return write_entitlements(rt, call.cpu, files);
     }
     if files.is_empty() && others.is_empty() {
@@ -96,7 +84,7 @@ fn answer(
     let Ok(mut out) = BufWriter::new(rt.alloc(), Titled::new(rt.alloc(), output)) else {
         return Err(PROGRAM.out_of_memory(rt));
     };
-    show_files(rt, &shown_by(call, is_json), files, others, &mut out)
+    show_files(rt, &shown_by(call), files, others, &mut out)
 }
 
 // Writes the entitlements of the first image of a file that has them, and returns the status.
@@ -112,8 +100,8 @@ fn write_entitlements(rt: &HostRuntime, cpu: Cpu, files: &[&str]) -> Result<u8, 
 }
 
 // Returns how a call shows its files: the signatures of the selected images, as lines or as objects.
-fn shown_by(call: &Call<'_, Global>, is_json: bool) -> ImageFiles<SignatureLines, SignatureObjects>
-    ensures call { (result.cpu ≡ call.now.cpu) × (result.limit ≡ limit_of call.now.limit (2 ^ 64 - 1)) × (result.is_json ≡ is_json) }
+fn shown_by(call: &Call<'_, Global, Entitlements>) -> ImageFiles<SignatureLines, SignatureObjects>
+    ensures call { (result.cpu ≡ call.now.cpu) × (result.limit ≡ limit_of call.now.limit (2 ^ 64 - 1)) × (result.is_json ≡ is_json call.now.format) }
     ensures view { (result.lines ≡ record {}) × (result.objects ≡ record {}) }
     ensures names { (result.program.name.now ≡ codes "machsign") × (result.has_titles ≡ true) }
 {
@@ -121,7 +109,7 @@ fn shown_by(call: &Call<'_, Global>, is_json: bool) -> ImageFiles<SignatureLines
         program: PROGRAM,
         cpu: call.cpu,
         limit: call.limit.unwrap_or(usize::MAX),
-        is_json,
+        is_json: call.format.is_json(),
         has_titles: true,
         lines: SignatureLines,
         objects: SignatureObjects,

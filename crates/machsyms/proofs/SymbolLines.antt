@@ -12,7 +12,7 @@ use Rattle.std.specs.List.{All, list_all, repeat}
 use Rattle.mach_base.specs.Fault.{Fault}
 use Rattle.mach_base.specs.Named.{Named}
 use Rattle.mach_cli.specs.Escapes.{escaped_text, has_no_feed, IsOneLine, IsPrinted}
-use Rattle.mach_cli.proofs.OneLine.{no_feeds, no_feed-append, no_feed-if, no_feed-printed, printed-ascii, line-end}
+use Rattle.mach_cli.proofs.OneLine.{no_feeds, no_feed-append, no_feed-if, no_feed-printed, no_feed-repeat, no_feed-space, printed-ascii, line-end}
 use Rattle.mach_parts.specs.Bindings.{Provider, of_library, itself, main_executable, flat, weak_lookup}
 use Rattle.mach_parts.specs.Symbols.{is_stab}
 use Rattle.mach_parts.specs.declared.segment.section.Section.{Section}
@@ -100,10 +100,6 @@ no_feed-symbol_letter xs s =
 
 -- ---- debugging entries
 
-no_feed-repeat : (n : ℕ) (text : List ℕ) → has_no_feed text ≡ true → has_no_feed (repeat n text) ≡ true
-no_feed-repeat zero text h = refl
-no_feed-repeat (suc n) text h = no_feed-append text (repeat n text) h (no_feed-repeat n text h)
-
 no_feed-cons : (b : ℕ) (text : List ℕ) → has_no_feed (b ∷ text) ≡ true → (has_no_feed (b ∷ []) ≡ true) × (has_no_feed text ≡ true)
 no_feed-cons b text h = elim (b == 0x0a) as (λ (t : Bool). (not t && list_all (λ c. not (c == 0x0a)) text) ≡ true
     → ((not t && true) ≡ true) × (list_all (λ c. not (c == 0x0a)) text ≡ true)) [ true ↦ λ e. cc | false ↦ λ e. (refl, e) ] h
@@ -118,9 +114,6 @@ no_feed-take_chars n (b ∷ text) h =
     no_feed-if (is_char_start b) (if n == 0 then [] else b ∷ take_chars (n - 1) text) (b ∷ take_chars n text)
     (no_feed-if (n == 0) [] (b ∷ take_chars (n - 1) text) refl (no_feed-append (b ∷ []) (take_chars (n - 1) text) first (no_feed-take_chars (n - 1) text rest)))
     (no_feed-append (b ∷ []) (take_chars n text) first (no_feed-take_chars n text rest))
-
-no_feed-space : has_no_feed (encode_utf8 32) ≡ true
-no_feed-space = no_feed-letter 32 (omega arith, omega arith)
 
 -- a text with leading blanks has no line feed
 no_feed-right : (width : ℕ) (text : List ℕ) → has_no_feed text ≡ true → has_no_feed (right width text) ≡ true

@@ -17,6 +17,7 @@
 
 ghost use Rattle.std.specs.Prelude.{◌≡◌, ◌^◌, ◌-◌, codes, false, true, IfOk};
 ghost use Rattle.mach_cli.specs.Bounds.{limit_of};
+ghost use Rattle.mach_cli.specs.Calls.{is_json};
 ghost use Rattle.mach_cli.specs.ShownCalls.{ShowsJson, ShowsText};
 ghost use Rattle.machsyms.specs.ImageLines.{AreSelectedLines};
 ghost use Rattle.machsyms.specs.JsonSymbols.{AreSelectedMembers};
@@ -41,9 +42,9 @@ mod text;
 // The words of `nm -m` for a symbol.
 mod nm;
 
-use arguments::{Letters, names_files, take_letters};
+use arguments::{SymbolOptions, names_files};
 use json::SymbolObjectsOf;
-use mach_cli::{Call, ForTerminal, ImageFiles, Misuse, Others, Program, Titled, take_json};
+use mach_cli::{Call, ForTerminal, ImageFiles, Misuse, Options, Others, Program, Titled};
 use std::alloc::Global;
 use std::io;
 use std::io::{BufWriter, IsTerminal, Write};
@@ -55,9 +56,7 @@ const PROGRAM: Program = Program {
     usage: "usage: machsyms [-AUagjmnoprux] [--raw] [--json] [--limit N] [--arch NAME | --cputype 0xN] \
         [--names FILE [-0]] FILE..\n       machsyms -h | --help | --version\n",
     version: "machsyms 0.2.0\n",
-    has_limit: true,
-    has_cpu: true,
-    has_files: true,
+    options: Options::OF_IMAGES,
     known: &[
         "--arch",
         "--cputype",
@@ -89,24 +88,12 @@ fn main(rt: HostRuntime) -> ExitCode {
 // Runs the program with its words.
 fn start(rt: &HostRuntime) -> Result<u8, u8> {
     let words = PROGRAM.words(rt)?;
-    let Ok((is_json, words)) = take_json(rt.alloc(), words) else {
-        return Err(PROGRAM.out_of_memory(rt));
-    };
-    let Ok((letters, is_raw, words)) = take_letters(rt.alloc(), words) else {
-        return Err(PROGRAM.out_of_memory(rt));
-    };
-    let call = PROGRAM.call(rt, &words)?;
-    show_files(rt, letters, is_raw, is_json, &call)
+    let call = PROGRAM.call(rt, SymbolOptions::NONE, &words)?;
+    show_files(rt, &call)
 }
 
 // Shows the selected symbols of files in order, and returns the worst status.
-fn show_files(
-    rt: &HostRuntime,
-    letters: Option<Letters>,
-    is_raw: bool,
-    is_json: bool,
-    call: &Call<'_, Global>,
-) -> Result<u8, u8> {
+fn show_files(rt: &HostRuntime, call: &Call<'_, Global, SymbolOptions>) -> Result<u8, u8> {
     let (files, others) = (&call.words, &call.others);
     if files.is_empty() && others.is_empty() {
         return Err(PROGRAM.bad_usage(rt, Misuse::Missing("FILE")));
@@ -115,34 +102,24 @@ fn show_files(
     let Ok(mut out) = BufWriter::new(rt.alloc(), Titled::new(rt.alloc(), output)) else {
         return Err(PROGRAM.out_of_memory(rt));
     };
-    show(
-        rt,
-        &shown_by(call, letters, is_raw, is_json),
-        files,
-        others,
-        &mut out,
-    )
+    show(rt, &shown_by(call), files, others, &mut out)
 }
 
 // Returns how a call shows its files: the symbols that letters select, as lines or as objects.
-fn shown_by(
-    call: &Call<'_, Global>,
-    letters: Option<Letters>,
-    is_raw: bool,
-    is_json: bool,
-) -> ImageFiles<SymbolLinesOf, SymbolObjectsOf>
+fn shown_by(call: &Call<'_, Global, SymbolOptions>) -> ImageFiles<SymbolLinesOf, SymbolObjectsOf>
     ensures program { result.program.name.now ≡ codes "machsyms" }
     ensures cpu { result.cpu ≡ call.now.cpu }
     ensures limit { result.limit ≡ limit_of call.now.limit (2 ^ 64 - 1) }
-    ensures form { result.is_json ≡ is_json }
-    ensures lines { result.lines ≡ record { letters = letters; is_raw = is_raw } }
-    ensures objects { result.objects ≡ record { letters = letters; is_raw = is_raw } }
+    ensures form { result.is_json ≡ is_json call.now.format }
+    ensures lines { let o = call.now.own in result.lines ≡ record { letters = o.letters; is_raw = o.is_raw } }
+    ensures objects { let o = call.now.own in result.objects ≡ record { letters = o.letters; is_raw = o.is_raw } }
 {
+    let SymbolOptions { letters, is_raw } = call.own;
     ImageFiles {
         program: PROGRAM,
         cpu: call.cpu,
         limit: call.limit.unwrap_or(usize::MAX),
-        is_json,
+        is_json: call.format.is_json(),
         has_titles: !names_files(letters),
         lines: SymbolLinesOf { letters, is_raw },
         objects: SymbolObjectsOf { letters, is_raw },

@@ -1,6 +1,8 @@
 use Rattle.std.proofs.Common.{ap, sym}
 use Rattle.goblin_mach.proofs.FatNumbers.{file_is}
 use Rattle.goblin_mach.specs.FatFile.{FatFile, file_view}
+use Rattle.goblin_mach.specs.File.{MachFault}
+use Rattle.goblin_mach.specs.Image.{ImageFault}
 use Rattle.goblin_mach.specs.OpenImage.{commands_view}
 use Rattle.goblin_mach.proofs.ImageFacts.{strict-lossy}
 use Rattle.machaudit.proofs.Entries.{image_judged, fat_judged, refused_judged}
@@ -39,8 +41,8 @@ returns-in_ok-fat-in-Ok-Fat-clause-reported g c =
 pub returns-in_ok-image-in-Err-clause-reported : goal.returns-in_ok-image-in-Err-clause-reported
 returns-in_ok-image-in-Err-clause-reported g c =
     let reason = c.in_ok-image-in-Err.ensures.reason in
-    refused_reported c.args.limit c.args.bytes.now c.in-Err.error c.in_ok-image-in-Err.image reason.0 reason.1 c.in-Err.ensures.refused
-    c.in_ok-image-in-Err.ensures.reported
+    refused_reported (MachFault ImageFault c.args.bytes.now) c.args.limit c.args.bytes.now c.in-Err.error c.in_ok-image-in-Err.image reason.0 reason.1
+    c.in-Err.ensures.refused c.in_ok-image-in-Err.ensures.reported
 
 pub returns-in_ok-image-in-Err-clause-judged : goal.returns-in_ok-image-in-Err-clause-judged
 returns-in_ok-image-in-Err-clause-judged g c =

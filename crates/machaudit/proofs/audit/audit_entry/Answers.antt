@@ -1,15 +1,22 @@
 use Rattle.goblin_mach.specs.FatEntry.{entry_at}
 use Rattle.goblin_mach.specs.FatFile.{file_view}
 use Rattle.goblin_mach.proofs.ImageFacts.{strict-lossy}
-use Rattle.machaudit.proofs.Entries.{entry_judged, no_entry_judged}
+use Rattle.machaudit.proofs.Entries.{archive_judged, entry_judged, entry_opens, unopened_judged}
 use Rattle.machaudit.proofs.Reports.{archive_reported, entry_reported, entry_refused, refused_faulty}
 use Rattle.machaudit.specs.Verdicts.{verdict_of_parts}
 use Rattle.machaudit.proofs.audit.audit_entry.Goals as goal
 
-pub returns-in-Ok-Archive-clause-reported : goal.returns-in-Ok-Archive-clause-reported
-returns-in-Ok-Archive-clause-reported g c = λ here.
+pub returns-in_ok-archive-in-Ok-Archive-clause-reported : goal.returns-in_ok-archive-in-Ok-Archive-clause-reported
+returns-in_ok-archive-in-Ok-Archive-clause-reported g c = λ here.
     let opened = rw c.in-Ok-Archive.field-0-is at c.in-Ok-Archive.ensures.opened in
-    archive_reported _ _ c.args.limit (entry_at (file_view c.args.container.now) c.args.index) opened.0 _ opened.1 opened.2
+    archive_reported _ c.args.limit (entry_at (file_view c.args.container.now) c.args.index) opened.0 _ c.in_ok-archive-in-Ok-Archive.archive opened.1 opened.2
+    c.in_ok-archive-in-Ok-Archive.ensures.reported
+
+pub returns-in_ok-archive-in-Ok-Archive-clause-judged : goal.returns-in_ok-archive-in-Ok-Archive-clause-judged
+returns-in_ok-archive-in-Ok-Archive-clause-judged g c =
+    let opened = rw c.in-Ok-Archive.field-0-is at c.in-Ok-Archive.ensures.opened in
+    archive_judged _ c.args.limit (entry_at (file_view c.args.container.now) c.args.index) opened.0 _ _ opened.1 opened.2
+    c.in_ok-archive-in-Ok-Archive.ensures.judged
 
 pub returns-in_ok-parts-in-Ok-MachO-clause-reported : goal.returns-in_ok-parts-in-Ok-MachO-clause-reported
 returns-in_ok-parts-in-Ok-MachO-clause-reported g c = λ here.
@@ -35,4 +42,5 @@ pub returns-in_ok-image-in-Err-clause-judged : goal.returns-in_ok-image-in-Err-c
 returns-in_ok-image-in-Err-clause-judged g c =
     let reason = c.in_ok-image-in-Err.ensures.reason in
     rw (refused_faulty c.in-Err.error c.in_ok-image-in-Err.image reason.0)
-    (no_entry_judged (entry_at (file_view c.args.container.now) c.args.index) c.in-Err.error (λ opens. rw c.in-Err.is at (c.get.ensures.only opens)) reason.1)
+    (unopened_judged c.in-Err.error (entry_opens (entry_at (file_view c.args.container.now) c.args.index))
+    (λ opens. rw c.in-Err.is at (c.get.ensures.only opens)) reason.1)

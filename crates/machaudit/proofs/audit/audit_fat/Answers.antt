@@ -14,7 +14,7 @@ use Rattle.machaudit.proofs.Reports.{one_entry_more}
 use Rattle.machaudit.proofs.Verdicts.{both_judged}
 use Rattle.machaudit.specs.Overlaid.{AreGoneOver}
 use Rattle.machaudit.specs.Report.{IsEntryReport, named_bytes}
-use Rattle.machaudit.specs.Verdicts.{verdict_of_entries}
+use Rattle.machaudit.specs.Verdicts.{verdict_of_all, verdict_of_entry}
 use Rattle.machaudit.proofs.audit.audit_fat.Goals as goal
 
 pub returns-in-Err-clause-judged : goal.returns-in-Err-clause-judged
@@ -59,7 +59,7 @@ returns-clause-judged g c =
     let most = c.entries_within-most.result in
     let all : c.loop-index.index ≡ most = omega (arith, c.loop-index.auto.index-end, c.loop-index-test.false) in
     let gone = gone_over file limit most _ _ xs c.bytes.ensures c.as_slice.ensures.value c.entries_within-most.ensures in
-    let judged = fat_file_judged limit file xs most (nat_lt most file.narches) (verdict_of_entries c.loop-index.entries.items) c.in-Ok.ensures gone
+    let judged = fat_file_judged limit file xs most (nat_lt most file.narches) (verdict_of_all verdict_of_entry c.loop-index.entries.items) c.in-Ok.ensures gone
     refl (rw all at c.loop-index.invariant.1) in
     let bytes = c.args.bytes.now in
     let faults = c.in_ok-container_faults.container_faults in

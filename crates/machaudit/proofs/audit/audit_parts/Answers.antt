@@ -14,7 +14,7 @@ use Rattle.machaudit.specs.Report.{ReportsImage}
 use Rattle.machaudit.specs.Sound.{IsSoundImage, HasLongList}
 use Rattle.machaudit.specs.Reported.{faults_from, relocation_faults, relocations_past}
 use Rattle.machaudit.specs.Verdicts.{Judges, verdict_of_parts}
-use Rattle.machaudit.specs.declared.report.FaultPlace.TheVariants as places
+use Rattle.machaudit.specs.declared.report.ItemList.TheVariants as lists
 use Rattle.machaudit.specs.declared.report.Parts.{Parts}
 use Rattle.machaudit.proofs.audit.audit_parts.Goals as goal
 
@@ -53,10 +53,10 @@ returns-clause-judged g c = λ bytes image.
     (exports_judged bytes m image limit parts.exports c.in_ok-exports.ensures.reported c.faulty_tries_have_no_list.ensures)
     (imports_judged bytes m image limit items parts.imports c.iter_imports.ensures c.in_ok-imports.ensures.reported ((are_items items).1 c.iter_imports.ensures)
     (λ others h. (are_items others).0 h))
-    (judged_one limit (HasFixups bytes 0) fixups (faults_from places.Fixup 0 fixups) parts.fixups has_fixups
-    (λ others h. c.one_list_of_image_fixups.ensures bytes 0 others fixups h has_fixups) (plain_from places.Fixup 0 fixups) c.in_ok-fixups.ensures.reported)
-    (judged_one limit (HasBindings bytes 0) bindings (faults_from places.Binding 0 bindings) parts.bindings has_bindings
-    (λ others h. c.one_list_of_image_bindings.ensures bytes 0 others bindings h has_bindings) (plain_from places.Binding 0 bindings)
+    (judged_one limit (HasFixups bytes 0) fixups (faults_from lists.Fixups 0 fixups) parts.fixups has_fixups
+    (λ others h. c.one_list_of_image_fixups.ensures bytes 0 others fixups h has_fixups) (plain_from lists.Fixups 0 fixups) c.in_ok-fixups.ensures.reported)
+    (judged_one limit (HasBindings bytes 0) bindings (faults_from lists.Bindings 0 bindings) parts.bindings has_bindings
+    (λ others h. c.one_list_of_image_bindings.ensures bytes 0 others bindings h has_bindings) (plain_from lists.Bindings 0 bindings)
     c.in_ok-bindings.ensures.reported)
     (layout_judged (HasLayoutFaults bytes) parts.layout.items ((c.layout_faults_of_image.ensures.strict bytes image parts.layout.items).1
     c.in_ok-layout.ensures.reported)

@@ -6,13 +6,13 @@ use Rattle.mach_parts.specs.Section.{section_item}
 use Rattle.mach_parts.specs.SectionItems.{sections_left, section_read}
 use Rattle.machaudit.proofs.Goes.{each_on, next_number}
 use Rattle.machaudit.specs.Reported.{FaultAt, relocations_in_bounds, faults_from}
-use Rattle.machaudit.specs.declared.report.FaultPlace.TheVariants as places
+use Rattle.machaudit.specs.declared.report.ItemList.TheVariants as lists
 use Rattle.machaudit.proofs.lists.add_relocations.Goals as goal
 
 pub sections-preserved : goal.sections-preserved
 sections-preserved g c = λ limit items met.
     let all = c.args.sections in
-    let part : ℕ → Result (Section × List ℕ) Fault → List (Option FaultAt) = λ k s. faults_from (places.Relocation c.args.segment k) 0
+    let part : ℕ → Result (Section × List ℕ) Fault → List (Option FaultAt) = λ k s. faults_from (lists.Relocations c.args.segment k) 0
     (relocations_in_bounds c.args.ctx c.args.bytes.now s) in
     let n = c.sections.section in
     let m = c.saturating_add-section.result in

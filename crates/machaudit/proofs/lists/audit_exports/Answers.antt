@@ -1,4 +1,4 @@
-use Rattle.std.proofs.Common.{◌∙◌, ◌++◌, ◌∷◌, [], List, Result, Some, None, Ok, Err, ap, arith, refl, subst, sym}
+use Rattle.std.proofs.Common.{◌∙◌, ◌++◌, ◌∷◌, [], List, Result, Some, Ok, Err, ap, arith, refl, subst, sym}
 use Rattle.std.proofs.lemmas.List.{length-append}
 use Rattle.mach_base.specs.Fault.{Fault, fault_of}
 use Rattle.mach_base.specs.Text.{texts}
@@ -10,7 +10,7 @@ use Rattle.goblin_mach.specs.Subjects.{trie_or_empty}
 use Rattle.machaudit.proofs.Goes.{entries_ok, ok_more, export_more, export_small, export_long, given_more, next_number, error_meets}
 use Rattle.machaudit.specs.Sound.{all_exports, up_to_fault}
 use Rattle.machaudit.specs.Reported.{HasMet, faults_from}
-use Rattle.machaudit.specs.declared.report.FaultPlace.TheVariants as places
+use Rattle.machaudit.specs.declared.report.ItemList.TheVariants as lists
 use Rattle.machaudit.proofs.lists.audit_exports.Goals as goal
 
 pub exports-init : goal.exports-init
@@ -28,8 +28,8 @@ returns-in-Err-clause-reported g c =
     let occurs = error_meets (ExportsFault t libs) c.in-Err.error (rw reported.0 at reported.1) says in
     let cut = rw (c.in-Some.is ∙ ap Some c.in-Err.is) at (c.next.ensures.cut t libs found.0 found.1) in
     let ends = error_meets (ExportsEnd t libs found.0) c.in-Err.error (rw reported.0 at reported.1) cut in
-    let met = export_more c.args.limit c.exports.index found.0 (Err f) (Some (places.Export c.exports.index, f)) c.exports.tally c.take.new.self
-    found.2 found.3 refl (rw reported.0 at c.in_ok-take-in-Err.ensures.met) in
+    let met = export_more c.args.limit c.exports.index found.0 (Err f) c.exports.tally c.take.new.self found.2 found.3
+    (rw reported.0 at c.in_ok-take-in-Err.ensures.met) in
     rw c.part.ensures (record {
       items = entries_ok found.0 ++ Err f ∷ [];
       met = up_to_fault found.0 f ends occurs;
@@ -47,9 +47,9 @@ returns-then-not-branch-clause-reported g c =
     let all = found.0 ++ one ∷ [] in
     let goes = rw (c.in-Some.is ∙ ap Some c.in-Ok-export.is) at c.next.follows.holds-at-none in
     let tally = c.take-in-Ok-export.new.self in
-    let one_more = export_more c.args.limit c.exports.index found.0 (Ok one) None c.exports.tally tally found.2 found.3 refl
+    let one_more = export_more c.args.limit c.exports.index found.0 (Ok one) c.exports.tally tally found.2 found.3
     c.in_ok-take-in-Ok-export.ensures.met in
-    let met = subst (λ (items : List (Result Entry Fault)). HasMet c.args.limit (faults_from places.Export 0 items) tally)
+    let met = subst (λ (items : List (Result Entry Fault)). HasMet c.args.limit (faults_from lists.Exports 0 items) tally)
     (sym (ok_more found.0 one)) one_more in
     rw c.part-then-not-branch.ensures (record {
       items = entries_ok all;
@@ -67,12 +67,12 @@ exports-preserved g c =
     let n = c.exports.index in
     let tally = c.take-in-Ok-export.new.self in
     let goes = rw (c.in-Some.is ∙ ap Some c.in-Ok-export.is) at c.next.follows.holds-at-none in
-    let met = export_more c.args.limit n found.0 (Ok one) None c.exports.tally tally found.2 found.3 refl c.in_ok-take-in-Ok-export.ensures.met in
+    let met = export_more c.args.limit n found.0 (Ok one) c.exports.tally tally found.2 found.3 c.in_ok-take-in-Ok-export.ensures.met in
     let small = export_small c.args.limit n found.0 c.exports.tally found.2 found.3 (c.in_ok-take-in-Ok-export.ensures.on c.if-not-branch.false) in
     let next = next_number n c.saturating_add-index.result small c.saturating_add-index.ensures in (
       found.0 ++ one ∷ [],
       goes.1 (trie_or_empty (trie_view image)) (texts image.libs.items) found.0 found.1,
-      subst (λ (items : List (Result Entry Fault)). HasMet c.args.limit (faults_from places.Export 0 items) tally) (sym (ok_more found.0 one)) met,
+      subst (λ (items : List (Result Entry Fault)). HasMet c.args.limit (faults_from lists.Exports 0 items) tally) (sym (ok_more found.0 one)) met,
       omega (arith, next, found.3, length-append found.0 (one ∷ [])),
     )
 

@@ -5,7 +5,7 @@ use Rattle.mach_parts.specs.SectionItems.{sections_left}
 use Rattle.mach_parts.specs.Segment.{SegmentView, segment_view, sections_of}
 use Rattle.machaudit.proofs.Goes.{one_part_more, next_number, one_past_more, past_over}
 use Rattle.machaudit.specs.Reported.{FaultAt, HasMet, faults_from, more_than, section_faults_reported, sections_beyond}
-use Rattle.machaudit.specs.declared.report.FaultPlace.TheVariants as places
+use Rattle.machaudit.specs.declared.report.ItemList.TheVariants as lists
 use Rattle.machaudit.proofs.lists.audit_sections.Goals as goal
 
 abbrev past_of : SegmentView → ℕ
@@ -16,8 +16,8 @@ loop-segment-preserved g c =
     let segments = c.args.segments.now in
     let i = c.loop-segment.segment-index in
     let before = c.loop-segment.invariant in
-    let part : ℕ → SegmentView → List (Option FaultAt) = λ n s. faults_from (places.Section n) 0 (items_in_bounds (sections_of s)) in
-    let added = c.in_ok-add_sections.ensures.reported c.args.limit (section_faults_reported (map segment_view (take i segments))) before.0 in
+    let part : ℕ → SegmentView → List (Option FaultAt) = λ n s. faults_from (lists.Sections n) 0 (items_in_bounds (sections_of s)) in
+    let added = c.in_ok-add_list.ensures.reported c.args.limit (section_faults_reported (map segment_view (take i segments))) before.0 in
     let here = rw (c.in_bounds-in_bounds.ensures, c.into_iter-sections.ensures.into_iter_gives, before.1) at added in
     let left = sections_left c.into_iter-sections.result in
     let counted : c.saturating_add-past.result ≡ min (c.loop-segment.past + more_than (items_in_bounds left) left) (2 ^ 64 - 1) =
@@ -29,7 +29,7 @@ loop-segment-preserved g c =
       c.len-in-loop-segment.ensures.value,
       ap length c.in_bounds-in_bounds.ensures,
     ) in (
-      subst (λ (xs : List (Option FaultAt)). HasMet c.args.limit xs c.add_sections.new.tally)
+      subst (λ (xs : List (Option FaultAt)). HasMet c.args.limit xs c.add_list.new.tally)
           (sym (one_part_more segment_view part segments i _ c.loop-segment-test.true)) here,
       rw before.1 at (next_number c.loop-segment.number c.saturating_add-number.result
           (omega (arith, before.1, c.loop-segment-test.true)) c.saturating_add-number.ensures),

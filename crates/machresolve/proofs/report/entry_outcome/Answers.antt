@@ -7,14 +7,14 @@ use Rattle.machresolve.specs.ResolveViews.{outcome_view}
 use Rattle.machresolve.proofs.Reports.{entry_image}
 use Rattle.machresolve.proofs.report.entry_outcome.Goals as goal
 
-pub returns-then-starts_with-clause-reported : goal.returns-then-starts_with-clause-reported
-returns-then-starts_with-clause-reported g c =
-    an_archive (ap begins_archive (sym c.entry_slice-bytes.ensures) ∙ (sym c.starts_with.ensures.value ∙ c.if-starts_with.true))
+pub returns-then-begins_whole_archive-clause-reported : goal.returns-then-begins_whole_archive-clause-reported
+returns-then-begins_whole_archive-clause-reported g c =
+    an_archive (ap begins_archive (sym c.entry_slice-bytes.ensures) ∙ (sym c.begins_whole_archive.ensures ∙ c.if-begins_whole_archive.true))
 
-pub returns-else-starts_with-clause-reported : goal.returns-else-starts_with-clause-reported
-returns-else-starts_with-clause-reported g c =
+pub returns-else-begins_whole_archive-clause-reported : goal.returns-else-begins_whole_archive-clause-reported
+returns-else-begins_whole_archive-clause-reported g c =
     IfOk-weaker c.outcome_for.result _ _
     (λ o is. entry_image c.args.limit c.args.program.path.now c.entry_slice-bytes.result.now _ (map given_view c.args.libraries.now)
     (outcome_view o) c.entry_slice-bytes.ensures
-    (sym c.starts_with.ensures.value ∙ c.if-starts_with.false) is)
+    (sym c.begins_whole_archive.ensures ∙ c.if-begins_whole_archive.false) is)
     c.outcome_for.ensures.reported
