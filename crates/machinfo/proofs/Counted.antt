@@ -6,7 +6,7 @@ use Rattle.mach_base.specs.Fault.{Fault}
 use Rattle.mach_cli.specs.Listings.{CountsRows}
 use Rattle.mach_cli.specs.declared.listing.ListProgress.{ListProgress}
 use Rattle.machinfo.specs.Counts.{are_counted_whole, count_reported, AreCounts, counts_more}
-use Rattle.machinfo.specs.RowTexts.{row_texts}
+use Rattle.machinfo.specs.RowFields.{row_texts}
 use Rattle.machinfo.specs.Lists.{HasRows}
 use Rattle.machinfo.specs.Rows.{RowView}
 use Rattle.machinfo.specs.declared.word.Word.{Word}

@@ -23,10 +23,11 @@ use Rattle.goblin_mach.proofs.ImageFacts.{facts_are, libraries_by_kind_are, stri
 use Rattle.goblin_mach.proofs.SlotFacts.{indirect_symbols_are, slots_are}
 use Rattle.goblin_mach.proofs.StreamFacts.{rebases_are, weak_binds_are}
 use Rattle.goblin_mach.proofs.TableFacts.{function_starts_are, data_in_code_are, linker_options_are, build_tools_are}
+use Rattle.machinfo.specs.NumberedCommands.{NumberedCommandView, numbered_commands_from}
 use Rattle.machinfo.specs.NumberedNotes.{NumberedNoteView, numbered_notes_from}
 use Rattle.machinfo.specs.ProvidedSymbols.{ProvidedView, provided_in, symbols_past_in}
-use Rattle.machinfo.specs.Lists.{HasRows, as_rows, libraries_there}
-use Rattle.machinfo.specs.Rows.{start_row, slot_row, indirect_row, data_row, option_row, tool_row, note_row}
+use Rattle.machinfo.specs.Lists.{HasRows, as_rows, commands_there, libraries_there}
+use Rattle.machinfo.specs.Rows.{command_row, start_row, slot_row, indirect_row, data_row, option_row, tool_row, note_row}
 use Rattle.machinfo.specs.Rows.{provided_row, library_row, rebase_row, weak_row}
 use Rattle.machinfo.specs.declared.word.Word.TheVariants as words
 
@@ -56,6 +57,11 @@ module _ {A : Type 0} (m : MachO A) (bytes : List ℕ) (o : ℕ) (p : IsImage by
   pub tool_rows : (items : List (Result (ℕ × BuildToolVersion) Fault)) → items ≡ build_tools_in (ctx_view m).le (bytes_view m) (commands_view m)
       → HasRows words.Tools bytes o (as_rows tool_row items) 0
   tool_rows items is = ((items, ((build_tools_are m).strict bytes o p items).1 is, refl), refl)
+
+  pub command_rows : (items : List NumberedCommandView) → items ≡ numbered_commands_from (bytes_view m) 0 (commands_view m)
+      → HasRows words.Commands bytes o (as_rows command_row (commands_there items)) 0
+  command_rows items is =
+      (items, (facts_are bytes o m (strict-lossy bytes o m p) (λ f. items ≡ numbered_commands_from f.bytes 0 f.commands)).1 is, refl, refl)
 
   pub note_rows : (items : List (Result NumberedNoteView Fault)) → items ≡ numbered_notes_from (bytes_view m) 0 (commands_view m)
       → HasRows words.Notes bytes o (as_rows note_row items) 0

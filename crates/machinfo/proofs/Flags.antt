@@ -1,6 +1,6 @@
 -- The names of a header's flags without their prefix, proved bit by bit.
 use Rattle.std.proofs.Common.{◌≡◌, ◌++◌, ◌∷◌, [], ◌∙◌, ℕ, zero, suc, ◌+◌, ◌*◌, ◌%◌, ◌^◌}
-use Rattle.std.proofs.Common.{◌<◌, List, Option, Some, None, refl, sym, ap, take, drop, add-one, append-nil, arith}
+use Rattle.std.proofs.Common.{◌<◌, List, Some, None, refl, sym, ap, take, drop, add-one, append-nil, arith}
 use Rattle.std.specs.Prelude.{bit_and, bytes_eq, codes, true, false}
 use Rattle.std.specs.List.{flat_map, range_with_len}
 use Rattle.std.proofs.lemmas.Grind.{flat_map-append}

@@ -1,5 +1,5 @@
 -- No more items begin within the bytes than there are.
-use Rattle.std.proofs.Common.{◌≡◌, refl, ℕ, ◌≤◌, [], ◌∷◌, List, length, Result, arith}
+use Rattle.std.proofs.Common.{◌≡◌, refl, ◌≤◌, [], ◌∷◌, List, length, Result, arith}
 use Rattle.std.specs.Prelude.{true, false}
 use Rattle.mach_base.specs.Fault.{Fault}
 use Rattle.mach_base.specs.Items.{items_in_bounds, is_past_the_end}

@@ -1,11 +1,12 @@
 -- How many items the lists of an image have.
-use Rattle.std.specs.Prelude.{◌≡◌, ◌==◌, ◌-◌, ◌&&◌, if◌then◌else◌, ℕ, List, [], ◌∷◌, ◌++◌, codes, Bool, true, not, Result}
+use Rattle.std.specs.Prelude.{◌==◌, ◌-◌, ◌&&◌, if◌then◌else◌, ℕ, List, [], ◌∷◌, ◌++◌, codes, Bool, true, not, Result}
 use Rattle.std.specs.Fmt.{decimal}
 use Rattle.mach_base.specs.Fault.{Fault}
+use Rattle.mach_cli.specs.Fields.{word_if}
 use Rattle.mach_cli.specs.Listings.{CountsRows}
 use Rattle.mach_cli.specs.declared.listing.ListProgress.{ListProgress}
 use Rattle.mach_cli.specs.JsonText.{json_bool}
-use Rattle.machinfo.specs.RowTexts.{row_texts, line_if}
+use Rattle.machinfo.specs.RowFields.{row_texts}
 use Rattle.machinfo.specs.Lists.{HasRows}
 use Rattle.machinfo.specs.Rows.{RowView}
 use Rattle.machinfo.specs.Words.{spelling_of}
@@ -21,7 +22,7 @@ past_text past = if past == 0 then [] else codes ", and " ++ (decimal past ++ co
 -- the count of rows up to the limit, whether there are more, whether some can't be read, and how many more are claimed
 abbrev pub count_text : ℕ → ListProgress → ℕ → List ℕ
 count_text limit reported past =
-    line_if reported.more (codes "more than ") ++ decimal (limit - reported.left) ++ line_if (not reported.whole) (codes ", not all readable") ++ past_text past
+    word_if reported.more (codes "more than ") [] ++ decimal (limit - reported.left) ++ word_if reported.whole [] (codes ", not all readable") ++ past_text past
 
 abbrev pub count_line : Word → ℕ → ListProgress → ℕ → List ℕ
 count_line word limit reported past = spelling_of word ++ codes ": " ++ count_text limit reported past ++ codes "\n"

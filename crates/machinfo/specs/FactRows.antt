@@ -1,15 +1,35 @@
--- What single commands give for an image: its UUID, and its platforms.
-use Rattle.std.specs.Prelude.{ℕ, List, Option, Some, None, option_map, drop, map}
+-- The rows of the summary's lists: UUIDs, platforms, tools, libraries, and run paths.
+use Rattle.std.specs.Prelude.{ℕ, List, Option, Some, None, option_map, drop, map, Result, Ok}
 use Rattle.std.specs.List.{filter_map}
+use Rattle.std.specs.Slice.Iter.{iter_rest}
+use Rattle.mach_base.specs.Answer.{◌>>=◌}
+use Rattle.mach_base.specs.Fault.{Fault}
+use Rattle.mach_base.specs.Items.{read_as}
+use Rattle.mach_base.specs.Text.{texts}
+use Rattle.mach_base.specs.declared.error.Error.{Error}
+use Rattle.mach_records.specs.declared.versions.BuildToolVersion.{BuildToolVersion}
 use Rattle.mach_base.specs.Record.{Value, number_among, bytes_among}
 use Rattle.mach_load.specs.Command.{Command}
 use Rattle.mach_load.specs.Commands.{Kind, uuid, build_version, version_min_macosx, version_min_iphoneos, version_min_tvos, version_min_watchos}
 use Rattle.mach_load.specs.Variants.{command_of}
-use Rattle.machinfo.specs.Rows.{RowView, uuid_row, platform_row}
+use Rattle.mach_load.specs.TablesLeft.{build_tools_left}
+use Rattle.goblin_mach.specs.Libraries.{LibraryView, libraries_left, library_view}
 use Rattle.machinfo.specs.declared.command_facts.PlatformFact.{PlatformFact}
 use Rattle.machinfo.specs.declared.command_facts.Question.{Question}
 use Rattle.machinfo.specs.declared.command_facts.Question.TheVariants.{Uuid, Platform}
 use Rattle.machinfo.specs.declared.command_facts.CommandFacts.{CommandFacts}
+use Rattle.machinfo.specs.declared.fact.Fact.{Fact}
+use Rattle.machinfo.specs.declared.fact.Fact.TheVariants as facts
+use Rattle.machinfo.specs.declared.fact.FactList.{FactList}
+use Rattle.machinfo.specs.declared.fact.FactList.TheVariants as lists
+
+-- a row of a list of the summary
+pub data FactView : Type 0 where
+  uuid_fact : (uuid : List ℕ) → FactView
+  platform_fact : (platform : PlatformFact) → FactView
+  tool_fact : (tool : BuildToolVersion) → FactView
+  library_fact : (library : LibraryView) → FactView
+  path_fact : (path : List ℕ) → FactView
 
 -- the UUID of the image (struct uuid_command)
 abbrev pub uuid_of : Kind → List Value → Option (List ℕ)
@@ -38,14 +58,33 @@ abbrev pub platform_by : Command → Option PlatformFact
 platform_by c = platform_of c.kind c.values
 
 -- the answer of a command to a question, if it has one
-abbrev pub fact_of : Question → Command → Option RowView
-fact_of Uuid c = option_map uuid_row (uuid_by c)
-fact_of Platform c = option_map platform_row (platform_by c)
+abbrev pub fact_of : Question → Command → Option FactView
+fact_of Uuid c = option_map uuid_fact (uuid_by c)
+fact_of Platform c = option_map platform_fact (platform_by c)
 
 -- the answers of some commands, in order
-abbrev pub facts_within : Question → List Command → List RowView
+abbrev pub facts_within : Question → List Command → List FactView
 facts_within question cs = filter_map (fact_of question) cs
 
+-- ---- what the code's values stand for
+
+abbrev pub fact_view : Fact → FactView
+fact_view (facts.Uuid bytes) = uuid_fact bytes
+fact_view (facts.Platform platform) = platform_fact platform
+fact_view (facts.Tool tool) = tool_fact tool
+fact_view (facts.Library library) = library_fact (library_view library)
+fact_view (facts.RunPath path) = path_fact path.now
+
+abbrev pub fact_read : Result Fact Error → Result FactView Fault
+fact_read answer = read_as fact_view answer
+
 -- the answers that are left
-abbrev pub facts_left : CommandFacts → List RowView
+abbrev pub facts_left : CommandFacts → List FactView
 facts_left it = facts_within it.question (map command_of (drop it.number it.commands.now))
+
+-- the rows that are left of a list
+abbrev pub fact_rows_left : FactList → List (Result FactView Fault)
+fact_rows_left (lists.Commands it) = map (λ fact. Ok fact) (facts_left it)
+fact_rows_left (lists.Tools it) = map (λ item. item >>= (λ found. Ok (tool_fact found.1))) (build_tools_left it)
+fact_rows_left (lists.Libraries it) = map (λ library. Ok (library_fact library)) (libraries_left it)
+fact_rows_left (lists.Paths it) = map (λ path. Ok (path_fact path)) (texts (iter_rest it))

@@ -11,8 +11,7 @@ use Rattle.mach_signature.specs.Directories.{Directory}
 use Rattle.mach_signature.specs.SignedFacts.{HasCodeDirectory}
 use Rattle.machinfo.specs.Counts.{AreCounts, counted_words}
 use Rattle.machinfo.specs.Lists.{HasRows, past_name}
-use Rattle.machinfo.specs.RowObjects.{row_objects}
-use Rattle.machinfo.specs.RowTexts.{row_texts}
+use Rattle.machinfo.specs.RowFields.{row_objects, list_texts}
 use Rattle.machinfo.specs.Rows.{RowView}
 use Rattle.machinfo.specs.Words.{spelling_of}
 use Rattle.machinfo.specs.Signed.{AreSignatureLinesOf, is_readable}
@@ -28,7 +27,7 @@ pub record AreImageListLines (word : Word) (limit left : ℕ) (bytes : List ℕ)
   pub rows : List (Result RowView Fault)
   pub past : ℕ
   pub has_rows : HasRows word bytes 0 rows past
-  pub lines : AreFirstLines (codes "refused") limit left (row_texts rows) (past_name word) past text whole rest
+  pub lines : AreFirstLines (codes "refused") limit left (list_texts word rows) (past_name word) past text whole rest
 
 -- The text is the members of the image at the start of the bytes: exactly one object for each row of the word's list, in order,
 -- as many as are left of the limit; whether there are more; and how many more are claimed past the end of the bytes. It is whole

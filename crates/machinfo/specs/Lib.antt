@@ -2,6 +2,9 @@ pub mod Counts
 pub mod Signed
 pub mod ImageLines
 pub mod Words
+pub mod Platforms
+pub mod CommandFields
+pub mod NumberedCommands
 pub mod NumberedNotes
 pub mod ProvidedSymbols
 pub mod Rows
@@ -10,5 +13,5 @@ pub mod Lists
 pub mod States
 pub mod Segments
 pub mod Summary
-pub mod RowTexts
-pub mod RowObjects
+pub mod RowFields
+pub mod FactTexts

@@ -1,10 +1,8 @@
 -- The lists of an image, as rows.
 use Rattle.std.specs.Prelude.{◌≡◌, ℕ, ◌-◌, List, [], length, map, codes, Result, Ok}
-use Rattle.std.specs.Slice.Iter.{iter_rest}
 use Rattle.mach_base.specs.Answer.{◌>>=◌}
 use Rattle.mach_base.specs.Fault.{Fault}
 use Rattle.mach_base.specs.Items.{items_in_bounds}
-use Rattle.mach_base.specs.Text.{texts}
 use Rattle.mach_parts.specs.SlotViews.{indirect_left}
 use Rattle.mach_parts.specs.SlotsLeft.{slots_left}
 use Rattle.mach_dyld.specs.WeakBindsLeft.{weak_binds_left}
@@ -15,12 +13,12 @@ use Rattle.goblin_mach.specs.RebasesLeft.{rebases_left}
 use Rattle.goblin_mach.specs.SlotFacts.{HasIndirectSymbols, HasSymbolSlots}
 use Rattle.goblin_mach.specs.StreamFacts.{HasRebases, HasWeakBinds}
 use Rattle.goblin_mach.specs.TableFacts.{HasFunctionStarts, HasDataInCode, HasLinkerOptions, HasBuildTools}
+use Rattle.machinfo.specs.NumberedCommands.{NumberedCommandView, HasNumberedCommands, numbered_commands_left}
 use Rattle.machinfo.specs.NumberedNotes.{HasNumberedNotes, notes_numbered_left}
 use Rattle.goblin_mach.specs.ImageFacts.{OfFacts}
 use Rattle.machinfo.specs.ProvidedSymbols.{HasProvidedSymbols, provided_left, symbols_past_in}
-use Rattle.machinfo.specs.Rows.{RowView, start_row, slot_row, indirect_row, data_row, option_row, tool_row, note_row, provided_row, library_row}
-use Rattle.machinfo.specs.Rows.{rebase_row, weak_row, path_row}
-use Rattle.machinfo.specs.FactRows.{facts_left}
+use Rattle.machinfo.specs.Rows.{RowView, command_row, start_row, slot_row, indirect_row, data_row, option_row, tool_row, note_row}
+use Rattle.machinfo.specs.Rows.{provided_row, library_row, rebase_row, weak_row}
 use Rattle.machinfo.specs.declared.list.ImageList.{ImageList}
 use Rattle.machinfo.specs.declared.list.ImageList.TheVariants as lists
 use Rattle.machinfo.specs.declared.word.Word.{Word}
@@ -38,6 +36,10 @@ AreRowsOf {X} row Has found = (items : List (Result X Fault)) × Has items × (f
 abbrev pub libraries_there : List LibraryView → List (Result LibraryView Fault)
 libraries_there libraries = map (λ l. Ok l) libraries
 
+-- commands, as items that can all be read
+abbrev pub commands_there : List NumberedCommandView → List (Result NumberedCommandView Fault)
+commands_there commands = map (λ c. Ok c) commands
+
 -- these are the items of a table whose records begin within the bytes, as rows, and `past` more are claimed
 abbrev pub AreBegunRowsOf : {X : Type 0} → (X → RowView) → (List (Result X Fault) → Type 0) → List (Result RowView Fault) → (past : ℕ) → Type 0
 AreBegunRowsOf {X} row Has found past =
@@ -46,6 +48,8 @@ AreBegunRowsOf {X} row Has found past =
 -- The rows of a word's list, of the image at an offset: one for each item of the list, in order, or the fault in its place if it
 -- can't be read. Of a table they are the rows that begin within the bytes, and `past` more are claimed.
 abbrev pub HasRows : Word → List ℕ → ℕ → List (Result RowView Fault) → (past : ℕ) → Type 0
+HasRows words.Commands bytes o found past =
+    (commands : List NumberedCommandView) × HasNumberedCommands bytes o commands × (found ≡ as_rows command_row (commands_there commands)) × (past ≡ 0)
 HasRows words.Starts bytes o found past = AreRowsOf start_row (HasFunctionStarts bytes o) found × (past ≡ 0)
 HasRows words.Slots bytes o found past = AreRowsOf slot_row (HasSymbolSlots bytes o) found × (past ≡ 0)
 HasRows words.Indirect bytes o found past = AreBegunRowsOf indirect_row (HasIndirectSymbols bytes o) found past
@@ -71,6 +75,7 @@ past_name _ = []
 
 -- the rows that are left of a list
 abbrev pub list_rows_left : {A : Type 0} → ImageList A → List (Result RowView Fault)
+list_rows_left (lists.Commands it) = as_rows command_row (commands_there (numbered_commands_left it))
 list_rows_left (lists.Starts it) = as_rows start_row (starts_left it)
 list_rows_left (lists.Slots it) = as_rows slot_row (slots_left it)
 list_rows_left (lists.Indirect it past) = as_rows indirect_row (indirect_left it)
@@ -82,8 +87,6 @@ list_rows_left (lists.Providers it) = as_rows provided_row (provided_left it)
 list_rows_left (lists.Libraries it) = as_rows library_row (libraries_there (libraries_left it))
 list_rows_left (lists.Rebases it) = as_rows rebase_row (rebases_left it)
 list_rows_left (lists.Weak it) = as_rows weak_row (weak_binds_left it)
-list_rows_left (lists.FactRows it) = map (λ r. Ok r) (facts_left it)
-list_rows_left (lists.Paths it) = map (λ path. Ok (path_row path)) (texts (iter_rest it))
 
 -- how many more rows a list claims past the end of the bytes, and their name
 abbrev pub list_rows_past : {A : Type 0} → ImageList A → ℕ

@@ -1,8 +1,5 @@
 -- A row of a list of an image.
-use Rattle.std.specs.Prelude.{ℕ, List, Result}
-use Rattle.mach_base.specs.Fault.{Fault}
-use Rattle.mach_base.specs.Items.{read_as}
-use Rattle.mach_base.specs.declared.error.Error.{Error}
+use Rattle.std.specs.Prelude.{ℕ, List}
 use Rattle.mach_records.specs.declared.linkedit.DataInCodeEntry.{DataInCodeEntry}
 use Rattle.mach_records.specs.declared.versions.BuildToolVersion.{BuildToolVersion}
 use Rattle.mach_parts.specs.Slots.{Slot}
@@ -13,14 +10,15 @@ use Rattle.mach_dyld.specs.RebasesLeft.{rebase_view}
 use Rattle.mach_dyld.specs.WeakBinds.{WeakBind}
 use Rattle.mach_dyld.specs.WeakBindsLeft.{weak_bind_view}
 use Rattle.goblin_mach.specs.Libraries.{LibraryView, library_view}
+use Rattle.machinfo.specs.NumberedCommands.{NumberedCommandView, numbered_command_view}
 use Rattle.machinfo.specs.NumberedNotes.{NumberedNoteView, numbered_note_view}
 use Rattle.machinfo.specs.ProvidedSymbols.{ProvidedView, provided_view}
 use Rattle.machinfo.specs.declared.row.Row.{Row}
 use Rattle.machinfo.specs.declared.row.Row.TheVariants as rows
-use Rattle.machinfo.specs.declared.command_facts.PlatformFact.{PlatformFact}
 
 -- a row of a list
 pub data RowView : Type 0 where
+  command_row : (command : NumberedCommandView) → RowView
   start_row : (address : ℕ) → RowView
   slot_row : (slot : Slot) → RowView
   indirect_row : (entry : IndirectSymbol) → RowView
@@ -34,14 +32,11 @@ pub data RowView : Type 0 where
   library_row : (library : LibraryView) → RowView
   rebase_row : (rebase : Rebase) → RowView
   weak_row : (bind : WeakBind) → RowView
-  -- rows of the summary: the UUID, a platform, and a run path
-  uuid_row : (uuid : List ℕ) → RowView
-  platform_row : (platform : PlatformFact) → RowView
-  path_row : (path : List ℕ) → RowView
 
 -- ---- what the code's values stand for
 
 abbrev pub list_row_view : Row → RowView
+list_row_view (rows.Command command) = command_row (numbered_command_view command)
 list_row_view (rows.Start address) = start_row address
 list_row_view (rows.Slot slot) = slot_row (slot_view slot)
 list_row_view (rows.Indirect entry) = indirect_row entry
@@ -53,9 +48,3 @@ list_row_view (rows.Provided provided) = provided_row (provided_view provided)
 list_row_view (rows.Library library) = library_row (library_view library)
 list_row_view (rows.Rebase rebase) = rebase_row (rebase_view rebase)
 list_row_view (rows.Weak bind) = weak_row (weak_bind_view bind)
-list_row_view (rows.Uuid uuid) = uuid_row uuid
-list_row_view (rows.Platform platform) = platform_row platform
-list_row_view (rows.RunPath path) = path_row path.now
-
-abbrev pub list_row_read : Result Row Error → Result RowView Fault
-list_row_read answer = read_as list_row_view answer

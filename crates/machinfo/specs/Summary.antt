@@ -1,7 +1,6 @@
 -- The summary of an image before its counts, but for its signature and its state.
-use Rattle.std.specs.Prelude.{◌≡◌, ◌==◌, ◌&&◌, ◌^◌, ℕ, List, [], ◌∷◌, ◌++◌, codes, map, take, drop, bit_and, bytes_eq, Bool, Option, Some, None}
-use Rattle.std.specs.Prelude.{Result, Ok, if◌then◌else◌}
-use Rattle.std.specs.Fmt.{decimal}
+use Rattle.std.specs.Prelude.{◌==◌, ◌&&◌, ◌^◌, ℕ, List, [], ◌∷◌, ◌++◌, codes, take, drop, bit_and, bytes_eq, Bool, Option, Some, None}
+use Rattle.std.specs.Prelude.{Result, if◌then◌else◌}
 use Rattle.std.specs.Io.KnownBytes.{Appends}
 use Rattle.std.specs.List.{flat_map, range_with_len}
 use Rattle.mach_base.specs.Fault.{Fault}
@@ -10,14 +9,9 @@ use Rattle.mach_parts.specs.HeaderNames.{filetype_name, flag_name}
 use Rattle.mach_parts.specs.declared.header.Header.{Header}
 use Rattle.mach_cli.specs.Cpus.{ArchRow, arch_rows}
 use Rattle.mach_cli.specs.Escapes.{escaped_text}
-use Rattle.mach_cli.specs.Listings.{hex_text, reported_by, AreFirstLines}
-use Rattle.machinfo.specs.Lists.{list_rows_left}
-use Rattle.machinfo.specs.RowObjects.{object_of}
-use Rattle.machinfo.specs.RowTexts.{library_row_text, list_row_text, version_text}
-use Rattle.machinfo.specs.Rows.{RowView, tool_row, library_row, list_row_view}
-use Rattle.machinfo.specs.declared.members.SummaryObjects.{SummaryObjects}
-use Rattle.machinfo.specs.declared.row.Row.{Row}
-use Rattle.machinfo.specs.declared.summary.SummaryLines.{SummaryLines}
+use Rattle.mach_cli.specs.Listings.{hex_text, AreFirstLines}
+use Rattle.machinfo.specs.FactRows.{FactView}
+use Rattle.machinfo.specs.FactTexts.{fact_texts}
 
 -- ---- the header
 
@@ -64,50 +58,15 @@ flags_line flags = codes "flags:" ++ (flat_map (λ bit. flag_word (bit_and flags
 
 -- ---- lists
 
--- the text of a row in the summary: tools and libraries have their versions
-abbrev pub summary_text : RowView → List ℕ
-summary_text (tool_row found) = codes "tool: " ++ decimal found.1.tool ++ codes " " ++ version_text found.1.version
-summary_text (library_row l) =
-    codes "library: " ++ library_row_text l ++ codes " " ++ version_text l.current_version ++ codes ", at least " ++ version_text l.compatibility_version
-summary_text row = list_row_text row
-
-abbrev pub summary_texts : List (Result RowView Fault) → List (Result (List ℕ) Fault)
-summary_texts found = map (reported_by summary_text) found
-
 -- A line was written for each of these rows in order, up to the limit, and a line if there are more. It is whole if there are no
 -- more, and all can be read.
-pub record WritesSummary (word : List ℕ) (limit : ℕ) (rows : List (Result RowView Fault)) (name : List ℕ) (past : ℕ) (whole : Bool) (old new : Option (List ℕ))
-    : Type 0 where
+pub record WritesSummary (word : List ℕ) (limit : ℕ) (rows : List (Result FactView Fault)) (whole : Bool) (old new : Option (List ℕ)) : Type 0 where
   pub text : List ℕ
   pub rest : ℕ
-  pub lines : AreFirstLines word limit limit (summary_texts rows) name past text whole rest
+  pub lines : AreFirstLines word limit limit (fact_texts rows) [] 0 text whole rest
   pub written : Appends old new text
 
 -- Some text was written.
 pub record WritesSome (old new : Option (List ℕ)) : Type 0 where
   pub text : List ℕ
   pub written : Appends old new text
-
--- ---- as objects
-
-abbrev pub summary_object : RowView → List ℕ
-summary_object (tool_row found) =
-    codes "{\"tool\":" ++ (decimal found.1.tool ++ (codes ",\"version\":\"" ++ (version_text found.1.version ++ codes "\"}")))
-summary_object row = object_of row
-
-abbrev pub summary_objects : List (Result RowView Fault) → List (Result (List ℕ) Fault)
-summary_objects found = map (reported_by summary_object) found
-
--- ---- what the code's values stand for
-
-abbrev pub summary_shown : Row → List ℕ
-summary_shown row = summary_text (list_row_view row)
-
-abbrev pub summary_lines_left : {A : Type 0} → SummaryLines A → List (Result (List ℕ) Fault)
-summary_lines_left it = summary_texts (list_rows_left it.0)
-
-abbrev pub summary_object_shown : Row → List ℕ
-summary_object_shown row = summary_object (list_row_view row)
-
-abbrev pub summary_objects_left : {A : Type 0} → SummaryObjects A → List (Result (List ℕ) Fault)
-summary_objects_left it = summary_objects (list_rows_left it.0)

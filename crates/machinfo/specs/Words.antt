@@ -2,7 +2,7 @@
 use Rattle.std.specs.Prelude.{ℕ, List, [], ◌∷◌, codes, Option, Some, None, bytes_eq, drop, if◌then◌else◌}
 use Rattle.std.specs.Borrow.{Bor}
 use Rattle.machinfo.specs.declared.word.Word.{Word}
-use Rattle.machinfo.specs.declared.word.Word.TheVariants.{Starts, Slots, Indirect, Data, Options, Tools, Notes, Providers, Libraries, Rebases, Weak}
+use Rattle.machinfo.specs.declared.word.Word.TheVariants.{Commands, Starts, Slots, Indirect, Data, Options, Tools, Notes, Providers, Libraries, Rebases, Weak}
 
 -- a word, and how it is spelled
 pub record SpelledWord : Type 0 where
@@ -11,7 +11,8 @@ pub record SpelledWord : Type 0 where
 
 abbrev pub list_words : List SpelledWord
 list_words =
-    record { spelling = codes "starts"; word = Starts }
+    record { spelling = codes "commands"; word = Commands }
+    ∷ record { spelling = codes "starts"; word = Starts }
     ∷ record { spelling = codes "slots"; word = Slots }
     ∷ record { spelling = codes "indirect"; word = Indirect }
     ∷ record { spelling = codes "data"; word = Data }
@@ -34,6 +35,7 @@ word_named text = word_among list_words text
 
 -- how a word is spelled
 abbrev pub spelling_of : Word → List ℕ
+spelling_of Commands = codes "commands"
 spelling_of Starts = codes "starts"
 spelling_of Slots = codes "slots"
 spelling_of Indirect = codes "indirect"

@@ -4,11 +4,10 @@ ghost use Rattle.std.specs.Prelude.{◌≡◌, option_map};
 ghost use Rattle.std.specs.Iterator.{YieldsFirstBy};
 ghost use Rattle.goblin_mach.specs.OpenImage.{commands_view};
 ghost use Rattle.mach_load.specs.Variants.{command_of};
-ghost use Rattle.machinfo.specs.Rows.{list_row_view};
-ghost use Rattle.machinfo.specs.FactRows.{platform_by, facts_within, facts_left};
+ghost use Rattle.machinfo.specs.FactRows.{fact_view, platform_by, facts_within, facts_left};
 ghost use Rattle.machinfo.specs.FactRows as defined;
 
-use crate::row::Row;
+use crate::fact::Fact;
 use goblin_mach::MachO;
 use goblin_mach::load_command::{
     CommandVariant, LoadCommand, PLATFORM_IOS, PLATFORM_MACOS, PLATFORM_TVOS, PLATFORM_WATCHOS,
@@ -71,12 +70,12 @@ fn uuid_by(command: &LoadCommand) -> Option<[u8; 16]>
 }
 
 // Returns the answer of a command to a question, if it has one.
-fn fact_of<'a>(question: Question, command: &LoadCommand) -> Option<Row<'a>>
-    ensures { option_map list_row_view result ≡ defined.fact_of question (command_of command.now) }
+fn fact_of<'a>(question: Question, command: &LoadCommand) -> Option<Fact<'a>>
+    ensures { option_map fact_view result ≡ defined.fact_of question (command_of command.now) }
 {
     match question {
-        Question::Uuid => Some(Row::Uuid(uuid_by(command)?)),
-        Question::Platform => Some(Row::Platform(platform_by(command)?)),
+        Question::Uuid => Some(Fact::Uuid(uuid_by(command)?)),
+        Question::Platform => Some(Fact::Platform(platform_by(command)?)),
     }
 }
 
@@ -104,13 +103,13 @@ impl<'b> CommandFacts<'b> {
     }
 
     /// Returns the next answer.
-    pub fn take_next<'a>(&mut self) -> Option<Row<'a>>
-        ensures { YieldsFirstBy list_row_view facts_left self.old result self.new }
+    pub fn take_next<'a>(&mut self) -> Option<Fact<'a>>
+        ensures { YieldsFirstBy fact_view facts_left self.old result self.new }
     {
         'commands: while let Some(command) = self.commands.get(self.number) {
             self.number += 1;
-            if let Some(row) = fact_of(self.question, command) {
-                return Some(row);
+            if let Some(fact) = fact_of(self.question, command) {
+                return Some(fact);
             }
         }
         None

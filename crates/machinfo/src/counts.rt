@@ -4,15 +4,14 @@ ghost use Rattle.std.specs.Prelude.{◌≡◌, ℕ, List, Bool, IfOk, OnOk, Some
 ghost use Rattle.std.specs.Io.KnownBytes.{Appends};
 ghost use Rattle.goblin_mach.specs.OpenImage.{IsImage};
 ghost use Rattle.mach_cli.specs.Listings.{CountsRows};
-ghost use Rattle.machinfo.specs.RowTexts.{row_texts};
+ghost use Rattle.machinfo.specs.RowFields.{row_texts};
 ghost use Rattle.machinfo.specs.Lists.{HasRows};
 ghost use Rattle.machinfo.specs.Counts.{are_counted_whole, count_members, count_text, count_reported, past_text, AreCounts};
 
 use crate::list::ImageList;
-use crate::text::line_if;
 use crate::word::Word;
 use goblin_mach::MachO;
-use mach_cli::{ListProgress, count_rows};
+use mach_cli::{InForm, ItemList, Line, ListProgress, count_rows, word_if};
 use std::alloc::Allocator;
 use std::fmt::{Display, Formatter};
 use std::io::Write;
@@ -70,9 +69,10 @@ impl Display for CountText {
     ghost output = { λ t. Some (count_text t.limit t.reported t.past) };
 
     fn fmt<W: fmt::Write>(&self, f: &mut Formatter<W>) -> fmt::Result {
-        let more = line_if(self.reported.more, "more than ");
-        let count = self.limit.saturating_sub(self.reported.left);
-        let refused = line_if(!self.reported.whole, ", not all readable");
+        let ListProgress { left, whole, more } = self.reported;
+        let more = word_if(more, "more than ", "");
+        let count = self.limit.saturating_sub(left);
+        let refused = word_if(whole, "", ", not all readable");
         let past = PastText(self.past);
         write!(f, "{more}{count}{refused}{past}")
     }
@@ -132,8 +132,11 @@ fn print_count<A: Allocator, O: Write>(
         × CountsRows limit (row_texts rows) reported × (whole ≡ are_counted_whole reported past)
         × Appends (O.contents out.old) (O.contents out.new) (count_reported form word limit reported past)) }
 {
-    let mut list = ImageList::of(word, image);
-    let past = list.past_rows();
+    let mut list = InForm {
+        list: ImageList::of(word, image),
+        form: Line,
+    };
+    let past = list.list.items_past();
     let reported = count_rows(&mut list, limit);
     write_count(form, word, limit, reported, past, out)?;
     Ok(reported.whole & !reported.more & (past == 0))

@@ -8,10 +8,11 @@ ghost use Rattle.machinfo.specs.ImageLines.{AreImageListMembers, AreImageSummary
 use crate::counts::{COUNTED, Form, print_counts};
 use crate::list::ImageList;
 use crate::members::write_front;
-use crate::object::ObjectList;
 use crate::word::Word;
 use goblin_mach::MachO;
-use mach_cli::{ImageView, Outcome, ShowFailure, print_end_past, print_member};
+use mach_cli::{
+    ImageView, InForm, ItemList, Object, Outcome, ShowFailure, print_end_past, print_member,
+};
 use std::alloc::Allocator;
 use std::io;
 use std::io::Write;
@@ -52,9 +53,12 @@ fn write_rows<A: Allocator, O: Write>(
     ensures { (bytes : List ℕ) → IsImage bytes 0 image.now → IfOk result (λ outcome. (text : List ℕ)
         × AreImageListMembers word left bytes text outcome.whole outcome.left × Appends (O.contents out.old) (O.contents out.new) text) }
 {
-    let mut list = ObjectList(ImageList::of(word, image));
+    let mut list = InForm {
+        list: ImageList::of(word, image),
+        form: Object,
+    };
     let name = word.name();
-    let past = list.0.past_rows();
+    let past = list.list.items_past();
     let reported = print_member(name, &mut list, left, out)?;
     print_end_past(reported, past, out)
 }

@@ -1,19 +1,15 @@
 //! The lists of an image.
 
-ghost use Rattle.std.specs.Prelude.{◌≡◌, ◌-◌, ℕ, List, Ok, length, map};
+ghost use Rattle.std.specs.Prelude.{◌≡◌, ◌-◌, ℕ, List, length};
 ghost use Rattle.mach_base.specs.Items.{items_in_bounds};
 ghost use Rattle.mach_load.specs.TablesLeft.{data_in_code_left};
 ghost use Rattle.mach_parts.specs.SlotViews.{indirect_left};
-ghost use Rattle.std.specs.Iterator.{YieldsFirstBy};
 ghost use Rattle.goblin_mach.specs.OpenImage.{IsImage};
-ghost use Rattle.machinfo.specs.RowTexts.{listed_rows_left, row_shown};
+ghost use Rattle.machinfo.specs.RowFields.{fields_shown, list_fields_left};
 ghost use Rattle.machinfo.specs.Lists.{HasRows, list_rows_left, list_rows_past, past_name, rows_name_of};
-ghost use Rattle.machinfo.specs.Rows.{list_row_read, path_row};
-ghost use Rattle.machinfo.specs.FactRows.{facts_within};
-ghost use Rattle.goblin_mach.specs.OpenImage.{commands_view};
-ghost use Rattle.mach_base.specs.Text.{texts};
 
-use crate::command_facts::{CommandFacts, Question};
+use crate::commands::NumberedCommands;
+use crate::fields::write_fields;
 use crate::notes::NumberedNotes;
 use crate::providers::ProvidedSymbols;
 use crate::row::Row;
@@ -21,18 +17,18 @@ use crate::word::Word;
 use goblin_mach::slots::{IndirectSymbolIterator, SlotIterator};
 use goblin_mach::{
     BuildToolIterator, DataInCodeIterator, FunctionStartIterator, LibraryIterator,
-    LinkerOptionIterator, MachO, RebaseIterator, Result, WeakBindIterator, laws,
+    LinkerOptionIterator, MachO, RebaseIterator, Result, WeakBindIterator,
 };
-use mach_cli::Listing;
+use mach_cli::{FieldsForm, ItemList};
 use std::alloc::Allocator;
 use std::io;
 use std::io::Write;
-use std::slice::Iter;
 
 /// What is left of a list of an image. Of a table these are the rows that begin within the bytes, and the number of those claimed
 /// past their end.
 #[derive(Drop)]
 pub enum ImageList<'a, 'b, A: Allocator> {
+    Commands(NumberedCommands<'a, 'b>),
     Starts(FunctionStartIterator<'a>),
     Slots(SlotIterator<'a, 'b>),
     Indirect(IndirectSymbolIterator<'a>, usize),
@@ -44,8 +40,6 @@ pub enum ImageList<'a, 'b, A: Allocator> {
     Libraries(LibraryIterator<'a, 'b>),
     Rebases(RebaseIterator<'a, 'b>),
     Weak(WeakBindIterator<'a, 'b>),
-    FactRows(CommandFacts<'b>),
-    Paths(Iter<'b, &'a str>),
 }
 
 // Returns the indirect symbols that begin within the bytes, and how many more are claimed.
@@ -77,6 +71,7 @@ impl<'a, 'b, A: Allocator> ImageList<'a, 'b, A> {
         ensures name { rows_name_of result ≡ past_name word }
     {
         match word {
+            Word::Commands => ImageList::Commands(NumberedCommands::of(image)),
             Word::Starts => ImageList::Starts(image.function_starts()),
             Word::Slots => ImageList::Slots(image.symbol_slots()),
             Word::Indirect => {
@@ -96,28 +91,22 @@ impl<'a, 'b, A: Allocator> ImageList<'a, 'b, A> {
             Word::Weak => ImageList::Weak(image.weak_binds()),
         }
     }
+}
 
-    /// Returns the answers of an image's commands to a question.
-    pub fn facts(question: Question, image: &'b MachO<'a, A>) -> Self
-        ensures left { list_rows_left result ≡ map (λ r. Ok r) (facts_within question (commands_view image.now)) }
-        ensures past { list_rows_past result ≡ 0 }
-    {
-        ImageList::FactRows(CommandFacts::of(question, image))
-    }
+impl<'a, 'b, A: Allocator> ItemList for ImageList<'a, 'b, A> {
+    type Item = Row<'a, 'b>;
 
-    /// Returns the run paths of an image.
-    pub fn run_paths(image: &'b MachO<'a, A>) -> Self
-        ensures left { list_rows_left result ≡ map (λ path. Ok (path_row path)) (texts image.now.rpaths.items) }
-        ensures past { list_rows_past result ≡ 0 }
-    {
-        ImageList::Paths(image.rpaths.iter())
-    }
+    ghost fields = { fields_shown };
 
-    /// Returns the next row, or the error if it can't be read.
-    pub fn take_next(&mut self) -> Option<Result<Row<'a>>>
-        ensures { YieldsFirstBy list_row_read list_rows_left self.old result self.new }
-    {
+    ghost items_left = { list_fields_left };
+
+    ghost items_past = { list_rows_past };
+
+    ghost items_name = { rows_name_of };
+
+    fn next_item(&mut self) -> Option<Result<Row<'a, 'b>>> {
         match self {
+            ImageList::Commands(list) => Some(Ok(Row::Command(list.take_next()?))),
             ImageList::Starts(list) => match list.next()? {
                 Ok(address) => Some(Ok(Row::Start(address))),
                 Err(error) => Some(Err(error)),
@@ -159,15 +148,10 @@ impl<'a, 'b, A: Allocator> ImageList<'a, 'b, A> {
                 Ok(bind) => Some(Ok(Row::Weak(bind))),
                 Err(error) => Some(Err(error)),
             },
-            ImageList::FactRows(list) => Some(Ok(list.take_next()?)),
-            ImageList::Paths(list) => Some(Ok(Row::RunPath(*list.next()?))),
         }
     }
 
-    /// Returns how many more rows the whole list claims, whose records begin past the end of the bytes.
-    pub fn past_rows(&self) -> usize
-        ensures { result ≡ list_rows_past self.now }
-    {
+    fn items_past(&self) -> usize {
         match self {
             ImageList::Indirect(_, past) | ImageList::Data(_, past) => *past,
             ImageList::Providers(list) => list.past,
@@ -175,10 +159,7 @@ impl<'a, 'b, A: Allocator> ImageList<'a, 'b, A> {
         }
     }
 
-    /// Returns the name of those rows.
-    pub fn rows_name(&self) -> &'static str
-        ensures { result.now ≡ rows_name_of self.now }
-    {
+    fn items_name(&self) -> &'static str {
         match self {
             ImageList::Indirect(..) => "indirect symbols",
             ImageList::Data(..) => "data in code entries",
@@ -186,35 +167,8 @@ impl<'a, 'b, A: Allocator> ImageList<'a, 'b, A> {
             _ => "",
         }
     }
-}
 
-impl<'a, A: Allocator> Listing for ImageList<'a, '_, A> {
-    type Row = Row<'a>;
-
-    ghost text = { row_shown };
-
-    ghost left = { listed_rows_left };
-
-    ghost past = { list_rows_past };
-
-    ghost past_name = { rows_name_of };
-
-    fn next_row(&mut self) -> Option<Result<Row<'a>>> {
-        match self.take_next()? {
-            Ok(row) => Some(Ok(row)),
-            Err(error) => Some(Err(error)),
-        }
-    }
-
-    fn past(&self) -> usize {
-        self.past_rows()
-    }
-
-    fn past_name(&self) -> &'static str {
-        self.rows_name()
-    }
-
-    fn write_row<O: Write>(row: &Row<'a>, out: &mut O) -> io::Result<()> {
-        write!(out, "{row}")
+    fn write_item<F: FieldsForm, O: Write>(row: &Row<'a, 'b>, out: &mut O) -> io::Result<()> {
+        write_fields::<F, O>(row, out)
     }
 }

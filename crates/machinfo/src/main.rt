@@ -1,42 +1,48 @@
 //! Prints a summary of a Mach-O image: what it is, how it is signed, and how many items its lists have.
 //!
-//! With a word it prints one list instead, an item a line: function starts, stubs and pointers, indirect symbols, data in code,
-//! linker options, tools, notes, providers of symbols, libraries, rebases or weak binds. Of a fat file it prints that of each
-//! entry, or of the entries for one cpu, under a line that says which.
+//! With a word it prints one list instead, an item a line: load commands, function starts, stubs and pointers, indirect symbols,
+//! data in code, linker options, tools, notes, providers of symbols, libraries, rebases or weak binds. Of a fat file it prints that
+//! of each entry, or of the entries for one cpu, under a line that says which.
 //!
 //! It prints at most as many rows of a file as `--limit` says, and a line after those of an image that has more. A row that can't
 //! be read is a line with the error. With `--json` it writes one object for each file instead, on a line.
 #![tactic(auto)]
 
-ghost use Rattle.std.specs.Prelude.{◌≡◌, codes, false, true, IfOk};
+ghost use Rattle.std.specs.Prelude.{◌≡◌, codes, false, true, None, IfOk, IfSome};
 ghost use Rattle.mach_cli.specs.Bounds.{limit_of};
+ghost use Rattle.mach_cli.specs.Calls.{is_json};
 ghost use Rattle.mach_cli.specs.ShownCalls.{ShowsJson, ShowsText};
 ghost use Rattle.machinfo.specs.ImageLines.{AreInfoLines, AreInfoMembers};
 ghost use Rattle.machinfo.specs.Words as words;
 
 // The summary of an image.
+mod command_facts;
 mod counts;
+mod fact;
 mod json;
 mod members;
 mod segments;
 mod signed;
 mod state;
 mod summary;
+mod text;
 mod views;
 
-// The lists of an image: an item is a row, which is shown as a line or as an object of JSON.
-mod command_facts;
+// The lists of an image: an item is a row, whose fields are shown as a line or as an object of JSON.
+mod command_fields;
+mod commands;
+mod fields;
 mod list;
 mod notes;
-mod object;
 mod providers;
 mod row;
-mod text;
 mod word;
 
 use crate::word::Word;
 use json::InfoObjects;
-use mach_cli::{Call, ForTerminal, ImageFiles, Misuse, Others, Program, Titled, take_json};
+use mach_cli::{
+    Call, ForTerminal, ImageFiles, Misuse, Options, Others, Program, SharedOnly, Titled,
+};
 use std::alloc::Global;
 use std::io;
 use std::io::{BufWriter, IsTerminal, Write};
@@ -50,12 +56,10 @@ const PROGRAM: Program = Program {
     name: "machinfo",
     usage: "usage: machinfo [--json] [--limit N] [--arch NAME | --cputype 0xN] [--names FILE] [-0] [WORD] FILE..
        machinfo -h | --help | --version
-WORD: starts, slots, indirect, data, options, tools, notes, providers, libraries, rebases, weak
+WORD: commands, starts, slots, indirect, data, options, tools, notes, providers, libraries, rebases, weak
 ",
     version: "machinfo 0.2.0\n",
-    has_limit: true,
-    has_cpu: true,
-    has_files: true,
+    options: Options::OF_IMAGES,
     known: &[
         "-0",
         "--arch",
@@ -65,6 +69,7 @@ WORD: starts, slots, indirect, data, options, tools, notes, providers, libraries
         "--limit",
         "--names",
         "--version",
+        "commands",
         "data",
         "indirect",
         "libraries",
@@ -88,24 +93,40 @@ fn main(rt: HostRuntime) -> ExitCode {
 // Runs the program with its words.
 fn start(rt: &HostRuntime) -> Result<u8, u8> {
     let words = PROGRAM.words(rt)?;
-    let Ok((is_json, words)) = take_json(rt.alloc(), words) else {
-        return Err(PROGRAM.out_of_memory(rt));
-    };
-    let call = PROGRAM.call(rt, &words)?;
-    answer(rt, is_json, &call)
+    let call = PROGRAM.call(rt, SharedOnly, &words)?;
+    answer(rt, &call)
 }
 
 // Runs a parsed call.
-fn answer(rt: &HostRuntime, is_json: bool, call: &Call<'_, Global>) -> Result<u8, u8> {
+fn answer(rt: &HostRuntime, call: &Call<'_, Global, SharedOnly>) -> Result<u8, u8> {
     let (files, others) = (files_named(&call.words), &call.others);
     if files.is_empty() && others.is_empty() {
         return Err(PROGRAM.bad_usage(rt, Misuse::Missing("FILE")));
+    }
+    if let Some(misuse) = misspelled(rt, &call.words) {
+        return Err(PROGRAM.bad_usage(rt, misuse));
     }
     let output = ForTerminal::new(io::writer(rt), rt.stdout().is_terminal());
     let Ok(mut out) = BufWriter::new(rt.alloc(), Titled::new(rt.alloc(), output)) else {
         return Err(PROGRAM.out_of_memory(rt));
     };
-    show(rt, &shown_by(call, is_json), files, others, &mut out)
+    show(rt, &shown_by(call), files, others, &mut out)
+}
+
+// Returns what is wrong with a first argument before others that is nearly a word: one of small letters alone that is no word,
+// but similar to one.
+fn misspelled<'a>(rt: &HostRuntime, arguments: &[&'a str]) -> Option<Misuse<'a>>
+    ensures { IfSome result (λ _. words.word_selected arguments.now ≡ None) }
+{
+    let [first, _, ..] = arguments else {
+        return None;
+    };
+    if selected_by(arguments).is_some() || !first.bytes().all(|byte| byte >= b'a' && byte <= b'z') {
+        return None;
+    }
+    let misuse = Misuse::UnknownWord(first);
+    let meant = misuse.meant(rt.alloc(), PROGRAM.known).unwrap_or(None);
+    if meant.is_some() { Some(misuse) } else { None }
 }
 
 // Returns the list that the first argument selects, if it does.
@@ -127,9 +148,9 @@ fn files_named<'a, 'b>(arguments: &'a [&'b str]) -> &'a [&'b str]
 }
 
 // Returns how a call shows its files: the list that its first argument selects, or else the summary, as lines or as objects.
-fn shown_by(call: &Call<'_, Global>, is_json: bool) -> ImageFiles<InfoLines, InfoObjects>
+fn shown_by(call: &Call<'_, Global, SharedOnly>) -> ImageFiles<InfoLines, InfoObjects>
     ensures program { (result.program.name.now ≡ codes "machinfo") × (result.has_titles ≡ true) }
-    ensures call { (result.cpu ≡ call.now.cpu) × (result.limit ≡ limit_of call.now.limit 10000000) × (result.is_json ≡ is_json) }
+    ensures call { (result.cpu ≡ call.now.cpu) × (result.limit ≡ limit_of call.now.limit 10000000) × (result.is_json ≡ is_json call.now.format) }
     ensures view { let word = words.word_selected call.now.words.items in (result.lines ≡ record { word = word }) × (result.objects ≡ record { word = word }) }
 {
     let word = selected_by(&call.words);
@@ -137,7 +158,7 @@ fn shown_by(call: &Call<'_, Global>, is_json: bool) -> ImageFiles<InfoLines, Inf
         program: PROGRAM,
         cpu: call.cpu,
         limit: call.limit.unwrap_or(DEFAULT_LIMIT),
-        is_json,
+        is_json: call.format.is_json(),
         has_titles: true,
         lines: InfoLines { word },
         objects: InfoObjects { word },

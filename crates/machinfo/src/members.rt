@@ -1,73 +1,24 @@
 //! The members of an image's object that say what it is, before those of its counts.
 
-ghost use Rattle.machinfo.specs.Lists.{list_rows_past, rows_name_of};
 ghost use Rattle.std.specs.Prelude.{OnOk};
 ghost use Rattle.std.specs.Io.KnownBytes.{Appends};
 ghost use Rattle.mach_parts.specs.HeaderNames.{flag_name};
-ghost use Rattle.machinfo.specs.Summary.{flag_text, flag_short_name, summary_object_shown, summary_objects_left, WritesSome};
+ghost use Rattle.machinfo.specs.Summary.{flag_text, flag_short_name, WritesSome};
 
-use crate::command_facts::Question;
-use crate::list::ImageList;
-use crate::object::RowObject;
-use crate::row::Row;
+use crate::command_facts::{CommandFacts, Question};
+use crate::fact::{FactList, FactObjects};
 use crate::segments::{TextOrNull, write_segments};
 use crate::signed::{is_ad_hoc, is_readable};
 use crate::state::{State, state_of};
 use crate::summary::{cpu_name, flag_short_name};
-use crate::text::VersionText;
-use crate::word::Word;
 use goblin_mach::header::{Header, filetype_to_str};
 use goblin_mach::{Error, MachO, Result, describe};
-use mach_cli::{ListProgress, Listing, comma_before, print_member, then};
+use mach_cli::{ListProgress, comma_before, print_member, then};
 use mach_signature::CodeDirectory;
 use mach_signature::image::code_directory;
 use std::alloc::Allocator;
 use std::io;
 use std::io::Write;
-
-// What is left of a list of an image, whose rows are objects of the summary.
-#[derive(Drop)]
-struct SummaryObjects<'a, 'b, A: Allocator>(ImageList<'a, 'b, A>);
-
-impl<'a, A: Allocator> Listing for SummaryObjects<'a, '_, A> {
-    type Row = Row<'a>;
-
-    ghost text = { summary_object_shown };
-
-    ghost left = { summary_objects_left };
-
-    ghost past = { λ list. list_rows_past list.0 };
-
-    ghost past_name = { λ list. rows_name_of list.0 };
-
-    fn next_row(&mut self) -> Option<Result<Row<'a>>> {
-        match self.0.take_next()? {
-            Ok(row) => Some(Ok(row)),
-            Err(error) => Some(Err(error)),
-        }
-    }
-
-    fn past(&self) -> usize {
-        self.0.past_rows()
-    }
-
-    fn past_name(&self) -> &'static str {
-        self.0.rows_name()
-    }
-
-    fn write_row<O: Write>(row: &Row<'a>, out: &mut O) -> io::Result<()> {
-        match *row {
-            Row::Tool(_, tool) => {
-                let (number, version) = (tool.tool, VersionText(tool.version));
-                write!(out, "{{\"tool\":{number},\"version\":\"{version}\"}}")
-            }
-            row => {
-                let object = RowObject(row);
-                write!(out, "{object}")
-            }
-        }
-    }
-}
 
 /// Writes the members of an image but for its counts and its kind, each with a comma after it, and of each list the rows up to
 /// the limit.
@@ -99,33 +50,31 @@ fn write_lists<A: Allocator, O: Write>(
 ) -> io::Result<ListProgress>
     ensures { OnOk result (WritesSome (O.contents out.old) (O.contents out.new)) }
 {
-    let libraries = write_list(
-        "libraries",
-        ImageList::of(Word::Libraries, image),
-        limit,
-        out,
-    )?;
-    let paths = write_list("run_paths", ImageList::run_paths(image), limit, out)?;
-    let list = ImageList::facts(Question::Platform, image);
+    let list = FactList::Libraries(image.libraries());
+    let libraries = write_list("libraries", list, limit, out)?;
+    let list = FactList::Paths(image.rpaths.iter());
+    let paths = write_list("run_paths", list, limit, out)?;
+    let list = FactList::Commands(CommandFacts::of(Question::Platform, image));
     let platforms = write_list("platforms", list, limit, out)?;
     let segments = write_segments(image.segments.as_slice(), limit, out)?;
-    let tools = write_list("tools", ImageList::of(Word::Tools, image), limit, out)?;
-    let list = ImageList::facts(Question::Uuid, image);
+    let list = FactList::Tools(image.build_tools());
+    let tools = write_list("tools", list, limit, out)?;
+    let list = FactList::Commands(CommandFacts::of(Question::Uuid, image));
     let uuids = write_list("uuids", list, limit, out)?;
     let used = then(then(libraries, paths), platforms);
     Ok(then(then(used, segments), then(tools, uuids)))
 }
 
 // Writes a list as a member with this name.
-fn write_list<A: Allocator, O: Write>(
+fn write_list<O: Write>(
     name: &str,
-    list: ImageList<'_, '_, A>,
+    list: FactList<'_, '_>,
     limit: usize,
     out: &mut O,
 ) -> io::Result<ListProgress>
     ensures { OnOk result (WritesSome (O.contents out.old) (O.contents out.new)) }
 {
-    let reported = print_member(name, &mut SummaryObjects(list), limit, out)?;
+    let reported = print_member(name, &mut FactObjects(list), limit, out)?;
     Ok(reported)
 }
 

@@ -3,75 +3,25 @@
 ghost use Rattle.std.specs.Prelude.{◌≡◌, IfOk, OnOk};
 ghost use Rattle.std.specs.Io.KnownBytes.{Appends};
 ghost use Rattle.mach_dyld.specs.Exports.{text_in};
-ghost use Rattle.machinfo.specs.Lists.{list_rows_left, list_rows_past, rows_name_of};
+ghost use Rattle.machinfo.specs.FactRows.{fact_rows_left};
 ghost use Rattle.mach_cli.specs.Cpus.{arch_rows};
 ghost use Rattle.machinfo.specs.Summary.{cpu_line, cpu_named, entry_point_line, flag_word, flags_line, kind_lines, own_name_line};
 ghost use Rattle.mach_parts.specs.HeaderNames.{flag_name};
-ghost use Rattle.machinfo.specs.Summary.{flag_short_name, summary_lines_left, summary_shown, WritesSummary, WritesSome};
+ghost use Rattle.machinfo.specs.Summary.{flag_short_name, WritesSummary, WritesSome};
 
-use crate::command_facts::Question;
-use crate::list::ImageList;
-use crate::row::Row;
+use crate::command_facts::{CommandFacts, Question};
+use crate::fact::{FactLines, FactList};
 use crate::segments::print_segments;
-use crate::text::{LibraryText, VersionText};
-use crate::word::Word;
+use goblin_mach::MachO;
 use goblin_mach::cputype::{
     CPU_TYPE_ARM, CPU_TYPE_ARM64, CPU_TYPE_ARM64_32, CPU_TYPE_POWERPC, CPU_TYPE_X86,
     CPU_TYPE_X86_64,
 };
 use goblin_mach::header::{Header, filetype_to_str, flag_to_str};
-use goblin_mach::{MachO, Result};
-use mach_cli::{Escaped, Listing, print_listing};
+use mach_cli::{Escaped, print_listing};
 use std::alloc::Allocator;
 use std::io;
 use std::io::Write;
-
-// What is left of a list of an image, whose rows are lines of the summary.
-#[derive(Drop)]
-struct SummaryLines<'a, 'b, A: Allocator>(ImageList<'a, 'b, A>);
-
-impl<'a, A: Allocator> Listing for SummaryLines<'a, '_, A> {
-    type Row = Row<'a>;
-
-    ghost text = { summary_shown };
-
-    ghost left = { summary_lines_left };
-
-    ghost past = { λ list. list_rows_past list.0 };
-
-    ghost past_name = { λ list. rows_name_of list.0 };
-
-    fn next_row(&mut self) -> Option<Result<Row<'a>>> {
-        match self.0.take_next()? {
-            Ok(row) => Some(Ok(row)),
-            Err(error) => Some(Err(error)),
-        }
-    }
-
-    fn past(&self) -> usize {
-        self.0.past_rows()
-    }
-
-    fn past_name(&self) -> &'static str {
-        self.0.rows_name()
-    }
-
-    fn write_row<O: Write>(row: &Row<'a>, out: &mut O) -> io::Result<()> {
-        match *row {
-            Row::Tool(_, tool) => {
-                let (number, version) = (tool.tool, VersionText(tool.version));
-                write!(out, "tool: {number} {version}")
-            }
-            Row::Library(library) => {
-                let version = VersionText(library.current_version);
-                let least = VersionText(library.compatibility_version);
-                let library = LibraryText(library);
-                write!(out, "library: {library} {version}, at least {least}")
-            }
-            row => write!(out, "{row}"),
-        }
-    }
-}
 
 /// Prints the lines of an image before those of its signature, each list up to the limit. Returns whether all was printed and can
 /// be read.
@@ -100,11 +50,11 @@ fn print_facts<A: Allocator, O: Write>(
 ) -> io::Result<bool>
     ensures { OnOk result (WritesSome (O.contents out.old) (O.contents out.new)) }
 {
-    let list = ImageList::facts(Question::Uuid, image);
+    let list = FactList::Commands(CommandFacts::of(Question::Uuid, image));
     let uuids = print_list(list, "uuid", limit, out)?;
-    let list = ImageList::facts(Question::Platform, image);
+    let list = FactList::Commands(CommandFacts::of(Question::Platform, image));
     let platforms = print_list(list, "platform", limit, out)?;
-    let list = ImageList::of(Word::Tools, image);
+    let list = FactList::Tools(image.build_tools());
     let tools = print_list(list, "tool: refused", limit, out)?;
     Ok(uuids & platforms & tools)
 }
@@ -117,24 +67,23 @@ fn print_used<A: Allocator, O: Write>(
 ) -> io::Result<bool>
     ensures { OnOk result (WritesSome (O.contents out.old) (O.contents out.new)) }
 {
-    let list = ImageList::of(Word::Libraries, image);
+    let list = FactList::Libraries(image.libraries());
     let libraries = print_list(list, "library", limit, out)?;
-    let list = ImageList::run_paths(image);
+    let list = FactList::Paths(image.rpaths.iter());
     let paths = print_list(list, "run path", limit, out)?;
     Ok(libraries & paths)
 }
 
 // Prints a line for each row of a list, up to a limit. Returns whether it has no more, and all can be read.
-fn print_list<A: Allocator, O: Write>(
-    list: ImageList<'_, '_, A>,
+fn print_list<O: Write>(
+    list: FactList<'_, '_>,
     word: &str,
     limit: usize,
     out: &mut O,
 ) -> io::Result<bool>
-    ensures { IfOk result (λ whole. WritesSummary word.now limit (list_rows_left list.entry) (rows_name_of list.entry) (list_rows_past list.entry) whole
-        (O.contents out.old) (O.contents out.new)) }
+    ensures { IfOk result (λ whole. WritesSummary word.now limit (fact_rows_left list.entry) whole (O.contents out.old) (O.contents out.new)) }
 {
-    let mut lines = SummaryLines(list);
+    let mut lines = FactLines(list);
     let outcome = print_listing(&mut lines, word, limit, limit, out)?;
     Ok(outcome.whole)
 }

@@ -1,9 +1,10 @@
 //! What the program prints of an image.
 
-ghost use Rattle.std.specs.Prelude.{ℕ, List, IfOk};
+ghost use Rattle.std.specs.Prelude.{◌≡◌, ℕ, List, IfOk};
 ghost use Rattle.std.specs.Io.KnownBytes.{Appends};
 ghost use Rattle.goblin_mach.specs.OpenImage.{IsImage};
 ghost use Rattle.machinfo.specs.ImageLines.{AreImageListLines, AreImageSummaryLines, AreInfoLines};
+ghost use Rattle.machinfo.specs.RowFields.{has_names};
 
 use crate::counts::{COUNTED, Form, print_counts};
 use crate::list::ImageList;
@@ -12,7 +13,7 @@ use crate::state::{print_state, state_of};
 use crate::summary::print_front;
 use crate::word::Word;
 use goblin_mach::MachO;
-use mach_cli::{ImageView, Outcome, ShowFailure, print_listing};
+use mach_cli::{ImageView, InForm, Line, Outcome, Pairs, ShowFailure, print_listing};
 use std::alloc::Allocator;
 use std::io;
 use std::io::Write;
@@ -54,8 +55,34 @@ fn print_list<A: Allocator, O: Write>(
     ensures { (bytes : List ℕ) → IsImage bytes 0 image.now → IfOk result (λ outcome. (text : List ℕ)
         × AreImageListLines word limit left bytes text outcome.whole outcome.left × Appends (O.contents out.old) (O.contents out.new) text) }
 {
-    let mut list = ImageList::of(word, image);
-    print_listing(&mut list, "refused", limit, left, out)
+    let list = ImageList::of(word, image);
+    if has_names(word) {
+        let mut lines = InForm { list, form: Pairs };
+        print_listing(&mut lines, "refused", limit, left, out)
+    } else {
+        let mut lines = InForm { list, form: Line };
+        print_listing(&mut lines, "refused", limit, left, out)
+    }
+}
+
+// Whether the lines of a word's list have the names of fields.
+fn has_names(word: Word) -> bool
+    ensures { result ≡ has_names word }
+{
+    match word {
+        Word::Commands => true,
+        Word::Starts => false,
+        Word::Slots => false,
+        Word::Indirect => false,
+        Word::Data => false,
+        Word::Options => false,
+        Word::Tools => false,
+        Word::Notes => false,
+        Word::Providers => false,
+        Word::Libraries => false,
+        Word::Rebases => false,
+        Word::Weak => false,
+    }
 }
 
 // Prints the summary: what the image is, how it is signed, and how many items each of its lists has, counted up to `limit`.

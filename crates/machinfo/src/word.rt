@@ -6,6 +6,8 @@ ghost use Rattle.machinfo.specs.Words.{spelling_of, word_named};
 /// A list of an image.
 #[derive(Clone, Copy, PartialEq)]
 pub enum Word {
+    /// Its load commands.
+    Commands,
     /// The addresses of its functions.
     Starts,
     /// Its stubs and pointers that stand for symbols.
@@ -36,6 +38,7 @@ impl Word {
         ensures { result ≡ word_named text.now }
     {
         match text {
+            "commands" => Some(Word::Commands),
             "starts" => Some(Word::Starts),
             "slots" => Some(Word::Slots),
             "indirect" => Some(Word::Indirect),
@@ -56,6 +59,7 @@ impl Word {
         ensures { result.now ≡ spelling_of self }
     {
         match self {
+            Word::Commands => "commands",
             Word::Starts => "starts",
             Word::Slots => "slots",
             Word::Indirect => "indirect",

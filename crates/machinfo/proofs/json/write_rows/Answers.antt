@@ -5,7 +5,7 @@ use Rattle.goblin_mach.specs.OpenImage.{commands_view}
 use Rattle.mach_cli.proofs.Arrays.{one_list}
 use Rattle.mach_cli.specs.JsonArrays.{AreArrayMembers, NamedRows, WritesMember}
 use Rattle.machinfo.specs.Lists.{HasRows, list_rows_left}
-use Rattle.machinfo.specs.RowObjects.{row_objects}
+use Rattle.machinfo.specs.RowFields.{row_objects}
 use Rattle.machinfo.specs.Words.{spelling_of}
 use Rattle.machinfo.proofs.json.write_rows.Goals as goal
 
@@ -25,8 +25,8 @@ returns g c = λ bytes opened.
       record {
         opens = (opened.ctx, commands_view c.args.image.now, opened.opens);
         rows = rows;
-        past = c.past_rows-past.result;
-        has_rows = subst (λ (n : ℕ). HasRows word bytes 0 rows n) (sym c.past_rows-past.ensures) (c.of.ensures.rows bytes 0 opened);
+        past = c.items_past-past.result;
+        has_rows = subst (λ (n : ℕ). HasRows word bytes 0 rows n) (sym c.items_past-past.ensures) (c.of.ensures.rows bytes 0 opened);
         members = record {
           front = written.text;
           readable = reported.whole;

@@ -4,11 +4,17 @@ use Rattle.mach_parts.specs.SlotViews.{indirect_left}
 use Rattle.mach_parts.specs.SlotsLeft.{slots_left}
 use Rattle.mach_dyld.specs.WeakBindsLeft.{weak_binds_left}
 use Rattle.mach_load.specs.TablesLeft.{starts_left, data_in_code_left, options_left, build_tools_left}
+use Rattle.machinfo.specs.NumberedCommands.{numbered_commands_left}
 use Rattle.machinfo.specs.NumberedNotes.{notes_numbered_left}
 use Rattle.machinfo.specs.ProvidedSymbols.{provided_left}
-use Rattle.machinfo.proofs.Facts.{starts_are, slot_rows, indirect_rows, data_rows, option_rows, tool_rows, note_rows, provider_rows, library_rows}
+use Rattle.machinfo.proofs.Facts.{command_rows, starts_are, slot_rows, indirect_rows, data_rows, option_rows, tool_rows, note_rows, provider_rows, library_rows}
 use Rattle.machinfo.proofs.Facts.{rebase_rows, weak_rows}
 use Rattle.machinfo.proofs.list.ImageList.of.Goals as goal
+
+pub returns-in-Commands-clause-rows : goal.returns-in-Commands-clause-rows
+returns-in-Commands-clause-rows g c =
+    rw c.in-Commands.is
+    (λ bytes o p. command_rows c.args.image.now bytes o p (numbered_commands_left c.of.result) c.of.ensures)
 
 pub returns-in-Starts-clause-rows : goal.returns-in-Starts-clause-rows
 returns-in-Starts-clause-rows g c =
@@ -39,7 +45,8 @@ returns-in-Tools-clause-rows g c =
     rw c.in-Tools.is (λ bytes o p. tool_rows c.args.image.now bytes o p (build_tools_left c.build_tools.result) c.build_tools.ensures)
 
 pub returns-in-Notes-clause-rows : goal.returns-in-Notes-clause-rows
-returns-in-Notes-clause-rows g c = rw c.in-Notes.is (λ bytes o p. note_rows c.args.image.now bytes o p (notes_numbered_left c.of.result) c.of.ensures)
+returns-in-Notes-clause-rows g c =
+    rw c.in-Notes.is (λ bytes o p. note_rows c.args.image.now bytes o p (notes_numbered_left c.of-in-Notes.result) c.of-in-Notes.ensures)
 
 pub returns-in-Providers-clause-rows : goal.returns-in-Providers-clause-rows
 returns-in-Providers-clause-rows g c =

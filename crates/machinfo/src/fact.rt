@@ -1,0 +1,169 @@
+//! The rows of the summary's lists, as lines and as objects of JSON.
+
+ghost use Rattle.std.specs.Prelude.{OnOk};
+ghost use Rattle.std.specs.Io.KnownBytes.{Appends};
+ghost use Rattle.std.specs.Iterator.{YieldsFirstBy};
+ghost use Rattle.goblin_mach.specs.Libraries.{library_view};
+ghost use Rattle.machinfo.specs.FactRows.{fact_read, fact_rows_left};
+ghost use Rattle.machinfo.specs.FactTexts.{fact_lines_left, fact_object_shown, fact_objects_left, fact_shown, library_fact_text, versions_text};
+
+use crate::command_facts::{CommandFacts, PlatformFact};
+use crate::fields::write_library;
+use crate::text::{PlatformObject, PlatformText};
+use goblin_mach::load_command::BuildToolVersion;
+use goblin_mach::{BuildToolIterator, Library, LibraryIterator, Result};
+use mach_cli::{Escaped, FieldsForm, JsonString, Line, Listing, Object, UuidText, VersionText};
+use std::io;
+use std::io::Write;
+use std::slice::Iter;
+
+/// A row of a list of the summary.
+#[derive(Clone, Copy)]
+pub enum Fact<'a> {
+    Uuid([u8; 16]),
+    Platform(PlatformFact),
+    Tool(BuildToolVersion),
+    Library(Library<'a>),
+    RunPath(&'a str),
+}
+
+/// What is left of a list of the summary.
+#[derive(Drop)]
+pub enum FactList<'a, 'b> {
+    Commands(CommandFacts<'b>),
+    Tools(BuildToolIterator<'a, 'b>),
+    Libraries(LibraryIterator<'a, 'b>),
+    Paths(Iter<'b, &'a str>),
+}
+
+impl<'a> FactList<'a, '_> {
+    // Returns the next row, or the error if it can't be read.
+    fn take_next(&mut self) -> Option<Result<Fact<'a>>>
+        ensures { YieldsFirstBy fact_read fact_rows_left self.old result self.new }
+    {
+        match self {
+            FactList::Commands(list) => Some(Ok(list.take_next()?)),
+            FactList::Tools(list) => match list.next()? {
+                Ok((_, tool)) => Some(Ok(Fact::Tool(tool))),
+                Err(error) => Some(Err(error)),
+            },
+            FactList::Libraries(list) => Some(Ok(Fact::Library(list.next()?))),
+            FactList::Paths(list) => Some(Ok(Fact::RunPath(*list.next()?))),
+        }
+    }
+}
+
+/// The rows of a list as lines.
+#[derive(Drop)]
+pub struct FactLines<'a, 'b>(pub FactList<'a, 'b>);
+
+impl<'a> Listing for FactLines<'a, '_> {
+    type Row = Fact<'a>;
+
+    ghost text = { fact_shown };
+
+    ghost left = { fact_lines_left };
+
+    fn next_row(&mut self) -> Option<Result<Fact<'a>>> {
+        match self.0.take_next()? {
+            Ok(fact) => Some(Ok(fact)),
+            Err(error) => Some(Err(error)),
+        }
+    }
+
+    fn past(&self) -> usize {
+        0
+    }
+
+    fn past_name(&self) -> &'static str {
+        ""
+    }
+
+    fn write_row<O: Write>(fact: &Fact<'a>, out: &mut O) -> io::Result<()> {
+        match *fact {
+            Fact::Uuid(uuid) => {
+                let uuid = UuidText(&uuid);
+                write!(out, "uuid: {uuid}")
+            }
+            Fact::Platform(platform) => {
+                let platform = PlatformText(platform);
+                write!(out, "{platform}")
+            }
+            Fact::Tool(tool) => {
+                let (number, version) = (tool.tool, VersionText(tool.version));
+                write!(out, "tool: {number} {version}")
+            }
+            Fact::Library(library) => print_library::<Line, O>(library, out),
+            Fact::RunPath(path) => {
+                let path = Escaped(path);
+                write!(out, "run path: {path}")
+            }
+        }
+    }
+}
+
+// Prints the fields of a library in a form, and its versions.
+fn print_library<F: FieldsForm, O: Write>(library: Library<'_>, out: &mut O) -> io::Result<()>
+    ensures { OnOk result (Appends (O.contents out.old) (O.contents out.new) (library_fact_text F.fields_text (library_view library.entry))) }
+{
+    write!(out, "library: ")?;
+    write_library::<F, O>(library, out)?;
+    print_versions(library.current_version, library.compatibility_version, out)
+}
+
+// Prints the version of a library, and the oldest one that the image accepts.
+fn print_versions<O: Write>(current: u32, least: u32, out: &mut O) -> io::Result<()>
+    ensures { OnOk result (Appends (O.contents out.old) (O.contents out.new) (versions_text current least)) }
+{
+    let (current, least) = (VersionText(current), VersionText(least));
+    write!(out, " {current}, at least {least}")
+}
+
+/// The rows of a list as objects.
+#[derive(Drop)]
+pub struct FactObjects<'a, 'b>(pub FactList<'a, 'b>);
+
+impl<'a> Listing for FactObjects<'a, '_> {
+    type Row = Fact<'a>;
+
+    ghost text = { fact_object_shown };
+
+    ghost left = { fact_objects_left };
+
+    fn next_row(&mut self) -> Option<Result<Fact<'a>>> {
+        match self.0.take_next()? {
+            Ok(fact) => Some(Ok(fact)),
+            Err(error) => Some(Err(error)),
+        }
+    }
+
+    fn past(&self) -> usize {
+        0
+    }
+
+    fn past_name(&self) -> &'static str {
+        ""
+    }
+
+    fn write_row<O: Write>(fact: &Fact<'a>, out: &mut O) -> io::Result<()> {
+        match *fact {
+            Fact::Uuid(uuid) => {
+                let uuid = UuidText(&uuid);
+                write!(out, "\"{uuid}\"")
+            }
+            Fact::Platform(platform) => {
+                let platform = PlatformObject(platform);
+                write!(out, "{platform}")
+            }
+            Fact::Tool(tool) => {
+                let (number, version) = (tool.tool, VersionText(tool.version));
+                write!(out, "{{\"tool\":{number},\"version\":\"{version}\"}}")
+            }
+            Fact::Library(library) => write_library::<Object, O>(library, out),
+            Fact::RunPath(path) => {
+                let path = JsonString(path);
+                write!(out, "{path}")
+            }
+        }
+    }
+}
