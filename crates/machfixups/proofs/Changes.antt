@@ -1,5 +1,5 @@
 -- Tables of changes, and the holder at an address.
-use Rattle.std.proofs.Common.{◌≡◌, ◌⊎◌, ◌++◌, ◌∷◌, [], ◌∙◌, ℕ, ◌+◌, ◌-◌, ◌<◌, ◌≤◌, List, Option}
+use Rattle.std.proofs.Common.{◌≡◌, ◌++◌, ◌∷◌, [], ◌∙◌, ℕ, ◌+◌, ◌-◌, ◌<◌, ◌≤◌, List, Option}
 use Rattle.std.proofs.Common.{Some, None, length, take, drop, get_or, refl, sym, ap, subst, arith, inl, inr}
 use Rattle.std.proofs.Common.{Bool, true, false}
 use Rattle.std.specs.Prelude.{nat_le, if◌then◌else◌}

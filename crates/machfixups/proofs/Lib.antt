@@ -1,6 +1,5 @@
-mod Limit
 mod Facts
-mod JsonMembers
 mod Changes
 mod PartLists
-mod RowLines
+mod ShortNames
+mod KeptFixups

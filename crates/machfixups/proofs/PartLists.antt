@@ -1,5 +1,5 @@
 -- The segments of an image as they are looked up: what holds of a result, and their ranges of memory.
-use Rattle.std.proofs.Common.{◌≡◌, List, [], ◌∷◌, map, option_map, Option, Some, None, Result, Ok, Err, IfOk, refl, ap}
+use Rattle.std.proofs.Common.{◌≡◌, List, [], ◌∷◌, map, Result, Ok, Err, IfOk, refl, ap}
 use Rattle.machfixups.specs.AllStretches.{part_view}
 use Rattle.machfixups.specs.declared.section_names.SegmentStretches.{SegmentStretches}
 

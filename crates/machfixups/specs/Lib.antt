@@ -1,10 +1,12 @@
 pub mod Stretches
 pub mod AllStretches
 pub mod Lists
+pub mod KeptFixups
+pub mod KeptLeft
+pub mod Origins
 pub mod Rows
 pub mod PickWords
 pub mod RowsLeft
-pub mod Lines
+pub mod RowFields
 pub mod ImageLines
-pub mod JsonRows
 pub mod JsonImages

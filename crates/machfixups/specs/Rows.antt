@@ -4,7 +4,7 @@ use Rattle.std.specs.Prelude.{Option, Some, None, option_map, Result, Ok, Err}
 use Rattle.mach_base.specs.Answer.{◌>>=◌}
 use Rattle.mach_base.specs.Fault.{Fault, malformed}
 use Rattle.mach_base.specs.declared.error.Error.{Error}
-use Rattle.mach_parts.specs.Bindings.{Binding, Provider, of_library, itself, main_executable, flat, weak_lookup}
+use Rattle.mach_parts.specs.Bindings.{Binding, Provider, of_library, itself, main_executable, flat, weak_lookup, provider_of}
 use Rattle.mach_base.specs.Items.{read_as}
 use Rattle.mach_chained.specs.Fixups.{Fixup}
 use Rattle.mach_chained.specs.Header.{Fixups}
@@ -19,7 +19,11 @@ use Rattle.mach_dyld.specs.WeakBinds.{WeakBind, strong_name, weakly_bound}
 use Rattle.mach_dyld.specs.declared.rebases.RebaseKind.{RebaseKind}
 use Rattle.mach_dyld.specs.declared.rebases.RebaseKind.TheVariants.{Pointer}
 use Rattle.machfixups.specs.Lists.{PointerLists}
+use Rattle.machfixups.specs.Origins.{origin_of, provider_name}
 use Rattle.machfixups.specs.AllStretches.{SegmentStretches, part_with, section_with, stretch_name}
+use Rattle.machfixups.specs.KeptFixups.{kept_fixups, kinds_in_lines, kinds_in_objects}
+use Rattle.machfixups.specs.declared.kept_fixups.KindsOfLists.{KindsOfLists}
+use Rattle.machfixups.specs.declared.kept_fixups.ShownKinds.{ShownKinds}
 use Rattle.machfixups.specs.declared.row.Action as declared_action
 use Rattle.machfixups.specs.declared.row.Action.TheVariants as variants
 use Rattle.machfixups.specs.declared.row.Bind as declared_bind
@@ -39,6 +43,8 @@ pub record PointerPlace : Type 0 where
 pub record PointerBind : Type 0 where
   pub name : List ℕ
   pub ordinal : ℤ
+  -- the short name of the image that it comes from, if there is one
+  pub from : Option (List ℕ)
   pub addend : ℤ
   pub is_weak : Bool
   pub is_lazy : Bool
@@ -83,6 +89,7 @@ abbrev pub bind_of_binding : Binding → PointerBind
 bind_of_binding b = record {
   name = b.name;
   ordinal = ordinal_of b.provider;
+  from = provider_name b.provider;
   addend = b.addend;
   is_weak = b.is_weak;
   is_lazy = b.is_lazy;
@@ -109,25 +116,26 @@ abbrev pub import_in : Option Fixups → ℕ → Result FixupImport Fault
 import_in None k = Err malformed
 import_in (Some table) k = import_at table k
 
--- the bind of an import; its addend is the sum of the table's and the pointer's
-abbrev pub bind_of_import : FixupImport → ℤ → Option Auth → PointerBind
-bind_of_import i inline auth = record {
+-- the bind of an import, by the image's libraries; its addend is the sum of the table's and the pointer's
+abbrev pub bind_of_import : (libs : List (List ℕ)) → FixupImport → ℤ → Option Auth → PointerBind
+bind_of_import libs i inline auth = record {
   name = i.name;
   ordinal = i.library;
+  from = origin_of (provider_of libs i.library);
   addend = i.addend +ℤ inline;
   is_weak = i.is_weak;
   is_lazy = false;
   auth = auth;
 }
 
-abbrev pub action_of : Option Fixups → KindOfFixup → Option Auth → Result Action Fault
-action_of table (rebase target) auth = Ok (rebases target Pointer auth)
-action_of table (value number) auth = Ok (is_value number)
-action_of table (bind import inline) auth = import_in table import >>= (λ i. Ok (binds (bind_of_import i inline auth)))
+abbrev pub action_of : (libs : List (List ℕ)) → Option Fixups → KindOfFixup → Option Auth → Result Action Fault
+action_of libs table (rebase target) auth = Ok (rebases target Pointer auth)
+action_of libs table (value number) auth = Ok (is_value number)
+action_of libs table (bind import inline) auth = import_in table import >>= (λ i. Ok (binds (bind_of_import libs i inline auth)))
 
 -- the row of a fixup, in its segment
-abbrev pub row_of_fixup : List SegmentStretches → Option Fixups → Fixup → Result PointerRow Fault
-row_of_fixup parts table f = action_of table f.kind f.auth >>= (λ action. Ok (row_by_segment parts f.segment f.address action))
+abbrev pub row_of_fixup : List SegmentStretches → (libs : List (List ℕ)) → Option Fixups → Fixup → Result PointerRow Fault
+row_of_fixup parts libs table f = action_of libs table f.kind f.auth >>= (λ action. Ok (row_by_segment parts f.segment f.address action))
 
 -- ---- all rows
 
@@ -140,8 +148,8 @@ row_for_weak parts item = item >>= (λ w. Ok (row_of_weak parts w))
 abbrev pub row_for_binding : List SegmentStretches → Result Binding Fault → Result PointerRow Fault
 row_for_binding parts item = item >>= (λ b. Ok (row_of_binding parts b))
 
-abbrev pub row_for_fixup : List SegmentStretches → Option Fixups → Result Fixup Fault → Result PointerRow Fault
-row_for_fixup parts table item = item >>= row_of_fixup parts table
+abbrev pub row_for_fixup : List SegmentStretches → (libs : List (List ℕ)) → Option Fixups → Result Fixup Fault → Result PointerRow Fault
+row_for_fixup parts libs table item = item >>= row_of_fixup parts libs table
 
 -- the chained fixups, if they can be read
 abbrev pub readable_table : Result (Option Fixups) Fault → Option Fixups
@@ -164,14 +172,39 @@ shown_picks p = record {
 abbrev pub picked : Bool → List (Result PointerRow Fault) → List (Result PointerRow Fault)
 picked is_shown rows = if is_shown then rows else []
 
--- A row, or its fault, for each rebase of the opcodes in order, then for each of their binds, then for each weak bind, and then
--- for each fixup of the chains, of the lists that are shown.
-abbrev pub rows_in_order : Selection → List SegmentStretches → Option Fixups → PointerLists → List (Result PointerRow Fault)
-rows_in_order p parts table lists =
-    picked (shown_picks p).rebases (map (row_for_rebase parts) lists.rebases)
-    ++ (picked (shown_picks p).binds (map (row_for_binding parts) lists.bindings)
-    ++ (picked (shown_picks p).weak (map (row_for_weak parts) lists.weak_binds)
-    ++ picked (shown_picks p).chains (map (row_for_fixup parts table) lists.fixups)))
+-- the rows of each list of an image, or their faults, in order
+pub record PointerRows : Type 0 where
+  pub rebases : List (Result PointerRow Fault)
+  pub binds : List (Result PointerRow Fault)
+  pub weak : List (Result PointerRow Fault)
+  pub chains : List (Result PointerRow Fault)
+
+-- a row, or its fault, for each fixup of the chains that is shown
+abbrev pub chain_rows : List SegmentStretches → (libs : List (List ℕ)) → Option Fixups → ShownKinds → List (Result Fixup Fault)
+    → List (Result PointerRow Fault)
+chain_rows parts libs table kinds fixups = map (row_for_fixup parts libs table) (kept_fixups kinds fixups)
+
+-- A row, or its fault, for each rebase of the opcodes, each of their binds, and each weak bind, of the lists that are shown; and for
+-- each fixup of the chains that a list has, after those of the opcodes.
+abbrev pub rows_shown : (shown : Selection) → KindsOfLists → List SegmentStretches → (libs : List (List ℕ)) → Option Fixups → PointerLists → PointerRows
+rows_shown shown kinds parts libs table lists = record {
+  rebases = picked shown.rebases (map (row_for_rebase parts) lists.rebases) ++ chain_rows parts libs table kinds.rebases lists.fixups;
+  binds = picked shown.binds (map (row_for_binding parts) lists.bindings) ++ chain_rows parts libs table kinds.binds lists.fixups;
+  weak = picked shown.weak (map (row_for_weak parts) lists.weak_binds);
+  chains = chain_rows parts libs table kinds.chains lists.fixups;
+}
+
+-- the rows that have lines, by what is selected
+abbrev pub line_rows : Selection → List SegmentStretches → (libs : List (List ℕ)) → Option Fixups → PointerLists → PointerRows
+line_rows p parts libs table lists = rows_shown (shown_picks p) (kinds_in_lines (shown_picks p)) parts libs table lists
+
+-- the rows that have objects, by what is selected
+abbrev pub object_rows : Selection → List SegmentStretches → (libs : List (List ℕ)) → Option Fixups → PointerLists → PointerRows
+object_rows p parts libs table lists = rows_shown (shown_picks p) (kinds_in_objects (shown_picks p)) parts libs table lists
+
+-- one list after the other
+abbrev pub rows_in_order : PointerRows → List (Result PointerRow Fault)
+rows_in_order rows = rows.rebases ++ (rows.binds ++ (rows.weak ++ rows.chains))
 
 -- ---- what the code's values stand for
 
@@ -185,6 +218,7 @@ abbrev pub bind_view : declared_bind.Bind → PointerBind
 bind_view b = record {
   name = b.name.now;
   ordinal = b.ordinal;
+  from = option_map (λ name. name.now) b.from;
   addend = b.addend;
   is_weak = b.is_weak;
   is_lazy = b.is_lazy;

@@ -1,22 +1,36 @@
--- What is left of an iterator over the rows of a list.
-use Rattle.std.specs.Prelude.{List, map, Option, Result}
+-- What is left of the rows of a list, and of the lists of an image.
+use Rattle.std.specs.Prelude.{List, [], ◌++◌, map, Result}
 use Rattle.mach_base.specs.Fault.{Fault}
-use Rattle.mach_chained.specs.Header.{Fixups}
+use Rattle.mach_base.specs.Text.{texts}
 use Rattle.mach_dyld.specs.BindingsLeft.{opcode_bindings_left}
 use Rattle.mach_dyld.specs.RebasesLeft.{opcode_rebases_left}
 use Rattle.mach_dyld.specs.WeakBindsLeft.{weak_binds_left}
-use Rattle.goblin_mach.specs.FixupsLeft.{image_fixups_left}
 use Rattle.machfixups.specs.AllStretches.{SegmentStretches, parts_view}
-use Rattle.machfixups.specs.Rows.{PointerRow, row_for_rebase, row_for_binding, row_for_weak, row_for_fixup, fixups_table_view}
+use Rattle.machfixups.specs.KeptLeft.{kept_left}
+use Rattle.machfixups.specs.Rows.{PointerRow, PointerRows, row_for_rebase, row_for_binding, row_for_weak, row_for_fixup, fixups_table_view}
+use Rattle.machfixups.specs.declared.lists.ImageRows as image
 use Rattle.machfixups.specs.declared.rows.Items as declared
 use Rattle.machfixups.specs.declared.rows.Items.TheVariants as variants
 use Rattle.machfixups.specs.declared.rows.Rows as over
 
-abbrev pub rows_of_items : List SegmentStretches → Option Fixups → declared.Items → List (Result PointerRow Fault)
-rows_of_items parts table (variants.Rebases items) = map (row_for_rebase parts) (opcode_rebases_left items)
-rows_of_items parts table (variants.Binds items) = map (row_for_binding parts) (opcode_bindings_left items)
-rows_of_items parts table (variants.Weak items) = map (row_for_weak parts) (weak_binds_left items)
-rows_of_items parts table (variants.Chains items) = map (row_for_fixup parts table) (image_fixups_left items)
+-- those of the opcodes
+abbrev pub rows_of_items : List SegmentStretches → declared.Items → List (Result PointerRow Fault)
+rows_of_items parts variants.Hidden = []
+rows_of_items parts (variants.Rebases items) = map (row_for_rebase parts) (opcode_rebases_left items)
+rows_of_items parts (variants.Binds items) = map (row_for_binding parts) (opcode_bindings_left items)
+rows_of_items parts (variants.Weak items) = map (row_for_weak parts) (weak_binds_left items)
 
+-- those of the opcodes, then those of the chains
 abbrev pub rows_left : {A : Type 0} → over.Rows A → List (Result PointerRow Fault)
-rows_left rows = rows_of_items (parts_view rows.parts.now) (fixups_table_view rows.table.now) rows.items
+rows_left rows =
+    rows_of_items (parts_view rows.parts.now) rows.items
+    ++ map (row_for_fixup (parts_view rows.parts.now) (texts rows.libs.now) (fixups_table_view rows.table)) (kept_left rows.fixups)
+
+-- what is left of each list of an image
+abbrev pub image_rows_left : {A : Type 0} → image.ImageRows A → PointerRows
+image_rows_left rows = record {
+  rebases = rows_left rows.rebases;
+  binds = rows_left rows.binds;
+  weak = rows_left rows.weak;
+  chains = rows_left rows.chains;
+}

@@ -2,11 +2,11 @@
 
 ghost use Rattle.machfixups.specs.ImageLines.{image_pointer_lines};
 
-use crate::print::print_fixups;
+use crate::lists::ImageRows;
 use crate::rows::Selection;
 use crate::section_names::AllStretches;
 use goblin_mach::MachO;
-use mach_cli::{ImageView, Outcome, ShowFailure};
+use mach_cli::{ImageView, InForm, Line, Outcome, ShowFailure, print_listing};
 use std::alloc::Allocator;
 use std::io::Write;
 
@@ -29,6 +29,9 @@ impl ImageView for FixupLines {
         out: &mut O,
     ) -> Result<Outcome, ShowFailure> {
         let parts = AllStretches::of_image(alloc, image)?;
-        Ok(print_fixups(image, &parts, self.selection, limit, left, out)?)
+        let shown = self.selection.shown();
+        let list = ImageRows::of(image, &parts, shown, shown.kinds_in_lines());
+        let mut lines = InForm { list, form: Line };
+        Ok(print_listing(&mut lines, "unreadable", limit, left, out)?)
     }
 }

@@ -2,6 +2,7 @@
 
 ghost use Rattle.machfixups.specs.JsonImages.{image_pointer_members};
 
+use crate::lists::ImageRows;
 use crate::members::write_members;
 use crate::rows::Selection;
 use crate::section_names::AllStretches;
@@ -29,6 +30,8 @@ impl ImageView for FixupObjects {
         out: &mut O,
     ) -> Result<Outcome, ShowFailure> {
         let parts = AllStretches::of_image(alloc, image)?;
-        Ok(write_members(image, &parts, self.selection, left, out)?)
+        let shown = self.selection.shown();
+        let rows = ImageRows::of(image, &parts, shown, shown.kinds_in_objects());
+        Ok(write_members(rows, left, out)?)
     }
 }

@@ -2,10 +2,11 @@
 
 ghost use Rattle.std.specs.Prelude.{◌++◌, codes};
 ghost use Rattle.mach_cli.specs.Escapes.{IsOneLine};
-ghost use Rattle.machfixups.specs.Lines.{row_text};
+ghost use Rattle.mach_cli.specs.Fields.{fields_line};
+ghost use Rattle.machfixups.specs.RowFields.{pointer_fields};
 ghost use Rattle.machfixups.specs.Rows.{PointerRow};
 
 /// The line of a row is one line, whatever names the file has.
 pub fn a_row_is_one_line()
-    ensures { (row : PointerRow) → IsOneLine (row_text row ++ codes "\n") }
+    ensures { (row : PointerRow) → IsOneLine (fields_line (pointer_fields row) ++ codes "\n") }
 {}

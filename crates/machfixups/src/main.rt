@@ -1,52 +1,66 @@
 //! Prints what dyld fixes up in a Mach-O file, a line each: the rebases of the opcodes in order, then the binds of the bind
-//! opcodes, then the weak binds, then the fixups of the chains, or those of these lists that are selected. Of a fat file it
-//! prints those of each entry, under a line that says which. It prints at most as many of them as `--limit` says, and a line
-//! after those of an image that has more. With `--json` it writes one object for each file instead, on a line.
+//! opcodes, then the weak binds, then the fixups of the chains, or those of them that are selected. Of a fat file it prints those
+//! of each entry, under a line that says which. It prints at most as many of them as `--limit` says, and a line after those of an
+//! image that has more. With `--json` it writes one object for each file instead, on a line.
 //!
-//! A line has the address, the names of the segment and of the section, and what is stored there: `bind` with the ordinal of the
-//! library, the addend, flags and the symbol's name; `weak` with addend, flags and name; `rebase` with the address that moves
-//! with the image, and flags if the pointer is signed; or `value` with a number. A strong definition of the image's own has a
-//! line `- - - strong` with its name.
+//! `--rebases` selects every rebase, and `--binds` every bind, both of the opcodes and of the chains; `--weak` selects the weak
+//! binds, and `--chains` every fixup of the chains. So a number is shown with `--chains` alone, or if nothing is selected. A line
+//! shows a fixup of the chains once, in their order. In an object the array `rebases` has the rebases of the opcodes and then
+//! those of the chains, `binds` the same of the binds, and `chains` every fixup of the chains: if nothing is selected, a rebase
+//! or a bind of the chains is in two arrays.
+//!
+//! A line has the address, the names of the segment and of the section, and what is stored there: `bind` with the short name of the
+//! image that the symbol comes from, the addend, flags and the symbol's name; `weak` with addend, flags and name; `rebase` with the
+//! address that moves with the image, and flags if the pointer is signed; or `value` with a number. A strong definition of the
+//! image's own has a line `- - - strong` with its name.
+//!
+//! The short name of a library is the last component of its path, without `.dylib` at its end. Other names are `itself`,
+//! `main-executable`, `flat` for any image, and `weak-lookup`. The ordinal takes its place if the image's list has no library with
+//! it, or if the name would be empty. An object has the ordinal as `library`, and the name, if there is one, as `from`.
 //!
 //! Its lines differ from those of `llvm-objdump --rebase --bind --lazy-bind --weak-bind --dyld-info`:
-//! - A library is printed by its ordinal: 0 is the image itself, -1 the main executable, -2 any image, -3 weak lookup.
+//! - A library is printed by its short name.
 //! - A rebase of the opcodes has its target, and its type unless it is a pointer.
 //! - A count of 0 gives no line, and a place has its segment even if no section holds all of it.
 //! - An addend is printed in decimal, with its sign, and it is the sum of the table's and the pointer's.
 //! - A bind or a fixup that can't be read has a line with the error. Those after it in the opcodes or in the chains can't be
-//!   read, unless it is a bind and only its import can't be read.
+//!   read, unless it is a bind and only its import can't be read. A fixup of the chains whose kind can't be read has the line
+//!   if rebases, binds or chains are selected.
 #![tactic(auto)]
 
 ghost use Rattle.std.specs.Prelude.{◌≡◌, codes, true, false, IfOk};
 ghost use Rattle.mach_cli.specs.Bounds.{limit_of};
+ghost use Rattle.mach_cli.specs.Calls.{is_json};
 ghost use Rattle.mach_cli.specs.ShownCalls.{ShowsJson, ShowsText};
 ghost use Rattle.machfixups.specs.ImageLines.{image_pointer_lines};
 ghost use Rattle.machfixups.specs.JsonImages.{image_pointer_members};
 
 mod arguments;
+mod fields;
 mod fixup_view;
 mod json;
+mod kept_fixups;
 mod laws;
+mod lists;
 mod members;
 mod memory;
-mod object;
-mod print;
+mod origins;
 mod row;
 mod rows;
 mod section_names;
 mod stretches;
-mod text;
 
-use arguments::take_selection;
 use fixup_view::FixupLines;
 use json::FixupObjects;
-use mach_cli::{Call, ForTerminal, ImageFiles, Misuse, Others, Program, Titled, take_json};
-use print::DEFAULT_LIMIT;
+use mach_cli::{Call, ForTerminal, ImageFiles, Misuse, Options, Others, Program, Titled};
 use rows::Selection;
 use std::alloc::Global;
 use std::io;
 use std::io::{BufWriter, IsTerminal, Write};
 use std::process::ExitCode;
+
+// How many lines of a file are printed if no limit is given.
+const DEFAULT_LIMIT: usize = 10_000_000;
 
 const USAGE: &str =
     "usage: machfixups [--rebases] [--binds] [--weak] [--chains] [--json] [--limit N] \
@@ -56,9 +70,7 @@ const PROGRAM: Program = Program {
     name: "machfixups",
     usage: USAGE,
     version: "machfixups 0.2.0\n",
-    has_limit: true,
-    has_cpu: true,
-    has_files: true,
+    options: Options::OF_IMAGES,
     known: &[
         "--arch",
         "--binds",
@@ -83,23 +95,12 @@ fn main(rt: HostRuntime) -> ExitCode {
 // Runs the program with its words.
 fn start(rt: &HostRuntime) -> Result<u8, u8> {
     let words = PROGRAM.words(rt)?;
-    let Ok((is_json, words)) = take_json(rt.alloc(), words) else {
-        return Err(PROGRAM.out_of_memory(rt));
-    };
-    let Ok((selection, words)) = take_selection(rt.alloc(), words) else {
-        return Err(PROGRAM.out_of_memory(rt));
-    };
-    let call = PROGRAM.call(rt, &words)?;
-    show_files(rt, selection, is_json, &call)
+    let call = PROGRAM.call(rt, Selection::NONE, &words)?;
+    show_files(rt, &call)
 }
 
 // Shows the selected lists of files in order, and returns the worst status.
-fn show_files(
-    rt: &HostRuntime,
-    selection: Selection,
-    is_json: bool,
-    call: &Call<'_, Global>,
-) -> Result<u8, u8> {
+fn show_files(rt: &HostRuntime, call: &Call<'_, Global, Selection>) -> Result<u8, u8> {
     let (files, others) = (&call.words, &call.others);
     if files.is_empty() && others.is_empty() {
         return Err(PROGRAM.bad_usage(rt, Misuse::Missing("FILE")));
@@ -108,34 +109,25 @@ fn show_files(
     let Ok(mut out) = BufWriter::new(rt.alloc(), Titled::new(rt.alloc(), output)) else {
         return Err(PROGRAM.out_of_memory(rt));
     };
-    show(
-        rt,
-        &shown_by(call, selection, is_json),
-        files,
-        others,
-        &mut out,
-    )
+    show(rt, &shown_by(call), files, others, &mut out)
 }
 
 // Returns how a call shows its files: the selected lists, as lines or as objects.
-fn shown_by(
-    call: &Call<'_, Global>,
-    selection: Selection,
-    is_json: bool,
-) -> ImageFiles<FixupLines, FixupObjects>
+fn shown_by(call: &Call<'_, Global, Selection>) -> ImageFiles<FixupLines, FixupObjects>
     ensures program { result.program.name.now ≡ codes "machfixups" }
     ensures cpu { result.cpu ≡ call.now.cpu }
     ensures limit { result.limit ≡ limit_of call.now.limit 10000000 }
-    ensures form { result.is_json ≡ is_json }
+    ensures form { result.is_json ≡ is_json call.now.format }
     ensures titles { result.has_titles ≡ true }
-    ensures lines { result.lines ≡ record { selection = selection } }
-    ensures objects { result.objects ≡ record { selection = selection } }
+    ensures lines { result.lines ≡ record { selection = call.now.own } }
+    ensures objects { result.objects ≡ record { selection = call.now.own } }
 {
+    let selection = call.own;
     ImageFiles {
         program: PROGRAM,
         cpu: call.cpu,
         limit: call.limit.unwrap_or(DEFAULT_LIMIT),
-        is_json,
+        is_json: call.format.is_json(),
         has_titles: true,
         lines: FixupLines { selection },
         objects: FixupObjects { selection },

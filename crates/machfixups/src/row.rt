@@ -2,6 +2,7 @@
 
 ghost use Rattle.std.specs.Prelude.{◌≡◌, ℤ, option_map, slice_get};
 ghost use Rattle.mach_base.specs.Answer.{Reads};
+ghost use Rattle.mach_base.specs.Text.{texts};
 ghost use Rattle.mach_dyld.specs.RebasesLeft.{rebase_read};
 ghost use Rattle.mach_dyld.specs.WeakBindsLeft.{weak_bind_read};
 ghost use Rattle.mach_parts.specs.Bindings.{binding_view, binding_read, provider_view};
@@ -14,6 +15,7 @@ ghost use Rattle.machfixups.specs.Rows.{place_in, ordinal_of, bind_of_binding, r
 ghost use Rattle.machfixups.specs.Rows.{row_for_binding, row_for_rebase, row_for_weak, row_for_fixup, place_view, bind_view, action_view, row_view};
 ghost use Rattle.machfixups.specs.Rows.{row_of_fixup, row_read, fixups_table_view};
 
+use crate::origins::{origin_of, provider_name};
 use crate::section_names::{AllStretches, SegmentStretches};
 use goblin_mach::chained_fixups::{ChainedFixups, ChainedImport, Fixup, FixupKind, PointerAuth};
 use goblin_mach::{Binding, Error, Provider, Rebase, RebaseKind, Result, WeakBind};
@@ -35,6 +37,8 @@ pub struct Bind<'a> {
     /// 0 for the image itself, above 0 for a library of the image's list, -1 for the main executable, -2 for any image, -3 for
     /// weak lookup.
     pub ordinal: i128,
+    /// The short name of the image that it comes from, if there is one.
+    pub from: Option<&'a str>,
     pub addend: i128,
     pub is_weak: bool,
     pub is_lazy: bool,
@@ -108,6 +112,7 @@ fn bind_of_binding<'a>(binding: &Binding<'a>) -> Bind<'a>
     Bind {
         name: binding.name,
         ordinal: ordinal_of(&binding.provider),
+        from: provider_name(&binding.provider),
         addend: i128::from(binding.addend),
         is_weak: binding.is_weak,
         is_lazy: binding.is_lazy,
@@ -155,17 +160,19 @@ fn import_in<'a>(table: &Option<ChainedFixups<'a>>, index: u32) -> Result<Chaine
     }
 }
 
-// Returns the bind of an import; its addend is the sum of the table's and the pointer's.
+// Returns the bind of an import, by the image's libraries; its addend is the sum of the table's and the pointer's.
 fn bind_of_import<'a>(
+    libs: &[&'a str],
     import: &ChainedImport<'a>,
     inline: i32,
     auth: Option<PointerAuth>,
 ) -> Bind<'a>
-    ensures { bind_view result ≡ bind_of_import (import_view import.now) inline (auth_option_view auth) }
+    ensures { bind_view result ≡ bind_of_import (texts libs.now) (import_view import.now) inline (auth_option_view auth) }
 {
     Bind {
         name: import.name,
         ordinal: i128::from(import.library),
+        from: origin_of(libs, import.library),
         addend: i128::from(import.addend) + i128::from(inline),
         is_weak: import.is_weak,
         is_lazy: false,
@@ -174,8 +181,13 @@ fn bind_of_import<'a>(
 }
 
 // Returns what a fixup stores.
-fn action_of<'a>(table: &Option<ChainedFixups<'a>>, fixup: &Fixup) -> Result<Action<'a>>
-    ensures { Reads action_view result (action_of (fixups_table_view table.now) (kind_view fixup.now.kind) (auth_option_view fixup.now.auth)) }
+fn action_of<'a>(
+    libs: &[&'a str],
+    table: &Option<ChainedFixups<'a>>,
+    fixup: &Fixup,
+) -> Result<Action<'a>>
+    ensures { Reads action_view result (action_of (texts libs.now) (fixups_table_view table.now) (kind_view fixup.now.kind)
+        (auth_option_view fixup.now.auth)) }
 {
     let auth = fixup.auth;
     match fixup.kind {
@@ -187,7 +199,7 @@ fn action_of<'a>(table: &Option<ChainedFixups<'a>>, fixup: &Fixup) -> Result<Act
         FixupKind::Value { value } => Ok(Action::Value(value)),
         FixupKind::Bind { import, addend } => {
             let found = import_in(table, import)?;
-            Ok(Action::Bind(bind_of_import(&found, addend, auth)))
+            Ok(Action::Bind(bind_of_import(libs, &found, addend, auth)))
         }
     }
 }
@@ -195,12 +207,13 @@ fn action_of<'a>(table: &Option<ChainedFixups<'a>>, fixup: &Fixup) -> Result<Act
 // Returns the row of a fixup of the chains, in its segment; an error if the import of a bind can't be read.
 fn row_of_fixup<'b, 'a, A: Allocator>(
     parts: &'b AllStretches<A>,
+    libs: &[&'a str],
     table: &Option<ChainedFixups<'a>>,
     fixup: &Fixup,
 ) -> Result<Row<'b, 'a>>
-    ensures { Reads row_view result (row_of_fixup (parts_view parts.now) (fixups_table_view table.now) (fixup_view fixup.now)) }
+    ensures { Reads row_view result (row_of_fixup (parts_view parts.now) (texts libs.now) (fixups_table_view table.now) (fixup_view fixup.now)) }
 {
-    let action = action_of(table, fixup)?;
+    let action = action_of(libs, table, fixup)?;
     Ok(row_by_segment(parts, fixup.segment, fixup.address, action))
 }
 
@@ -248,16 +261,17 @@ pub fn binding_row<'b, 'a, A: Allocator>(
     Ok(row_by_address(parts, binding.address, action))
 }
 
-/// Returns the row of a fixup of the chains.
+/// Returns the row of a fixup of the chains, given the image's libraries.
 pub fn fixup_row<'b, 'a, A: Allocator>(
     parts: &'b AllStretches<A>,
+    libs: &[&'a str],
     table: &Option<ChainedFixups<'a>>,
     item: Result<Fixup>,
 ) -> Result<Row<'b, 'a>>
-    ensures { row_read result ≡ row_for_fixup (parts_view parts.now) (fixups_table_view table.now) (fixup_read item) }
+    ensures { row_read result ≡ row_for_fixup (parts_view parts.now) (texts libs.now) (fixups_table_view table.now) (fixup_read item) }
 {
     match item {
-        Ok(fixup) => row_of_fixup(parts, table, &fixup),
+        Ok(fixup) => row_of_fixup(parts, libs, table, &fixup),
         Err(error) => Err(error),
     }
 }

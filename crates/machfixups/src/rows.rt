@@ -1,19 +1,21 @@
 //! The lists of an image's rebases, binds and fixups, as rows.
 
 ghost use Rattle.std.specs.Prelude.{◌≡◌};
+ghost use Rattle.std.specs.Iterator.{YieldsFirstBy};
+ghost use Rattle.machfixups.specs.AllStretches.{parts_view};
+ghost use Rattle.machfixups.specs.KeptFixups.{kinds_in_lines, kinds_in_objects};
 ghost use Rattle.machfixups.specs.Rows.{row_read, shown_picks};
-ghost use Rattle.machfixups.specs.RowsLeft.{rows_left};
+ghost use Rattle.machfixups.specs.RowsLeft.{rows_left, rows_of_items};
 
+use crate::kept_fixups::{KeptFixups, KindsOfLists, ShownKinds};
 use crate::row::{Row, binding_row, fixup_row, rebase_row, weak_row};
 use crate::section_names::AllStretches;
 use goblin_mach::chained_fixups::ChainedFixups;
-use goblin_mach::{
-    FixupIterator, OpcodeBindingIterator, OpcodeRebaseIterator, Result, WeakBindIterator,
-};
+use goblin_mach::{OpcodeBindingIterator, OpcodeRebaseIterator, Result, WeakBindIterator};
 use std::alloc::Allocator;
 
 /// Which lists are selected.
-#[derive(Clone, Copy)]
+#[derive(Clone, Copy, Drop)]
 pub struct Selection {
     pub rebases: bool,
     pub binds: bool,
@@ -42,39 +44,68 @@ impl Selection {
             chains: self.chains || is_all,
         }
     }
+
+    /// Returns the lists that have the fixups of the chains, if they are lines and these lists are shown: that of the chains has
+    /// each of them once. With the chains these are all of them, else the rebases with the rebases, and the binds with the binds.
+    pub fn kinds_in_lines(self) -> KindsOfLists
+        ensures { result ≡ kinds_in_lines self }
+    {
+        KindsOfLists {
+            rebases: ShownKinds::NONE,
+            binds: ShownKinds::NONE,
+            chains: ShownKinds {
+                rebases: self.rebases || self.chains,
+                binds: self.binds || self.chains,
+                numbers: self.chains,
+            },
+        }
+    }
+
+    /// Returns the lists that have the fixups of the chains, if they are objects and these lists are shown: a rebase and a bind
+    /// are in that of their kind, and every fixup is in that of the chains.
+    pub fn kinds_in_objects(self) -> KindsOfLists
+        ensures { result ≡ kinds_in_objects self }
+    {
+        KindsOfLists {
+            rebases: ShownKinds {
+                rebases: self.rebases,
+                binds: false,
+                numbers: false,
+            },
+            binds: ShownKinds {
+                rebases: false,
+                binds: self.binds,
+                numbers: false,
+            },
+            chains: ShownKinds {
+                rebases: self.chains,
+                binds: self.chains,
+                numbers: self.chains,
+            },
+        }
+    }
 }
 
-/// A list of rebases, binds, weak binds or fixups.
+/// The rebases, the binds or the weak binds of the opcodes.
 #[derive(Drop)]
 pub enum Items<'a, 'b> {
+    /// None of them.
+    Hidden,
     Rebases(OpcodeRebaseIterator<'a, 'b>),
     Binds(OpcodeBindingIterator<'a, 'b>),
     Weak(WeakBindIterator<'a, 'b>),
-    Chains(FixupIterator<'a, 'b>),
 }
 
-/// The rows of a list, one at a time.
-#[derive(Drop)]
-pub struct Rows<'p, 'a, 'b, A: Allocator> {
-    /// The segments that hold its items.
-    pub parts: &'p AllStretches<A>,
-    /// The chained fixups with the imports of its binds.
-    pub table: &'p Option<ChainedFixups<'a>>,
-    pub items: Items<'a, 'b>,
-}
-
-impl<'p, 'a, A: Allocator> Iterator for Rows<'p, 'a, '_, A> {
-    type Item = Result<Row<'p, 'a>>;
-
-    ghost use Rattle.std.specs.Iterator.{YieldsFirstBy, item_count};
-
-    ghost next_gives = { YieldsFirstBy row_read rows_left };
-
-    ghost remaining = { item_count rows_left };
-
-    fn next(&mut self) -> Option<Result<Row<'p, 'a>>> {
-        let (parts, table) = (self.parts, self.table);
-        match &mut self.items {
+impl<'a, 'b> Items<'a, 'b> {
+    // Returns the next row.
+    fn next_row<'p, A: Allocator>(
+        &mut self,
+        parts: &'p AllStretches<A>,
+    ) -> Option<Result<Row<'p, 'a>>>
+        ensures { YieldsFirstBy row_read (rows_of_items (parts_view parts.now)) self.old result self.new }
+    {
+        match self {
+            Items::Hidden => None,
             Items::Rebases(items) => match items.next() {
                 Some(item) => Some(rebase_row(parts, item)),
                 None => None,
@@ -87,8 +118,38 @@ impl<'p, 'a, A: Allocator> Iterator for Rows<'p, 'a, '_, A> {
                 Some(item) => Some(weak_row(parts, item)),
                 None => None,
             },
-            Items::Chains(items) => match items.next() {
-                Some(item) => Some(fixup_row(parts, table, item)),
+        }
+    }
+}
+
+/// The rows of a list, one at a time: those of the opcodes, then those of the chains.
+#[derive(Drop)]
+pub struct Rows<'p, 'a, 'b, A: Allocator> {
+    /// The segments that hold its items.
+    pub parts: &'p AllStretches<A>,
+    /// The image's libraries, by ordinal.
+    pub libs: &'b [&'a str],
+    /// The chained fixups with the imports of its binds.
+    pub table: Option<ChainedFixups<'a>>,
+    pub items: Items<'a, 'b>,
+    pub fixups: KeptFixups<'a, 'b>,
+}
+
+impl<'p, 'a, A: Allocator> Iterator for Rows<'p, 'a, '_, A> {
+    type Item = Result<Row<'p, 'a>>;
+
+    ghost use Rattle.std.specs.Iterator.{item_count};
+
+    ghost next_gives = { YieldsFirstBy row_read rows_left };
+
+    ghost remaining = { item_count rows_left };
+
+    fn next(&mut self) -> Option<Result<Row<'p, 'a>>> {
+        let (parts, libs, table) = (self.parts, self.libs, self.table);
+        match self.items.next_row(parts) {
+            Some(row) => Some(row),
+            None => match self.fixups.next() {
+                Some(item) => Some(fixup_row(parts, libs, &table, item)),
                 None => None,
             },
         }

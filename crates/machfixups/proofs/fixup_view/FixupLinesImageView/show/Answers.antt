@@ -1,29 +1,37 @@
 use Rattle.std.proofs.Common.{List, subst}
 use Rattle.goblin_mach.specs.OpenImage.{commands_view}
-use Rattle.machfixups.specs.Lines.{AreLinesTo}
-use Rattle.machfixups.specs.AllStretches.{SegmentStretches}
-use Rattle.machfixups.specs.Rows.{rows_in_order, readable_table}
+use Rattle.machfixups.specs.AllStretches.{SegmentStretches, parts_view}
+use Rattle.machfixups.specs.ImageLines.{ArePointerLines}
+use Rattle.machfixups.specs.KeptFixups.{kinds_in_lines}
+use Rattle.machfixups.specs.Rows.{PointerRows, line_rows, readable_table, rows_shown}
+use Rattle.machfixups.specs.declared.kept_fixups.KindsOfLists.{KindsOfLists}
+use Rattle.machfixups.specs.declared.rows.Selection.{Selection}
 use Rattle.machfixups.proofs.fixup_view.FixupLinesImageView.show.Goals as goal
 
 pub returns-clause-shown : goal.returns-clause-shown
 returns-clause-shown g c = λ bytes opened.
-    let limit = c.args.limit in
-    let outcome = c.in_ok-print_fixups.field-0 in
+    let outcome = c.in_ok-print_listing.field-0 in
     let known = c.in_ok-parts.ensures bytes 0 opened in
-    let listed = c.in_ok-print_fixups.ensures bytes 0 opened in
-    let lines = listed.4 in
-    let rows = λ (parts : List SegmentStretches). rows_in_order c.args.self.now.selection parts (readable_table listed.2) listed.0 in
-    let over = λ (parts : List SegmentStretches). AreLinesTo limit c.args.left (rows parts) lines.text outcome.whole outcome.left in (
-      lines.text,
+    let listed = c.of-list.ensures bytes 0 opened in
+    let written = c.in_ok-print_listing.ensures in
+    let over = λ (rows : PointerRows). ArePointerLines c.args.limit c.args.left rows written.text outcome.whole outcome.left in
+    let parts = parts_view c.in_ok-parts.parts in
+    let table = readable_table listed.4 in
+    let in_kinds = λ (kinds : KindsOfLists). over (rows_shown c.shown-shown.result kinds parts listed.2 table listed.0) in
+    let by_shown = λ (shown : Selection). over (rows_shown shown (kinds_in_lines shown) parts listed.2 table listed.0) in
+    let in_parts = λ (parts : List SegmentStretches). over (line_rows c.args.self.now.selection parts listed.2 table listed.0) in (
+      written.text,
       record {
         opens = (opened.ctx, commands_view c.args.image.now, opened.opens);
         segments = known.0;
         has_segments = known.1;
         lists = listed.0;
         has_lists = listed.1;
-        chained = listed.2;
-        has_chained = listed.3;
-        lines = subst over known.2 lines.lines;
+        libs = listed.2;
+        has_libs = listed.3;
+        chained = listed.4;
+        has_chained = listed.5;
+        lines = subst in_parts known.2 (subst by_shown c.shown-shown.ensures (subst in_kinds c.kinds_in_lines.ensures (subst over listed.6 written.lines)));
       },
-      lines.written,
+      written.written,
     )

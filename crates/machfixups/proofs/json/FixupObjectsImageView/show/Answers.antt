@@ -1,19 +1,26 @@
 use Rattle.std.proofs.Common.{List, subst}
 use Rattle.goblin_mach.specs.OpenImage.{commands_view}
 use Rattle.mach_cli.specs.JsonArrays.{AreListMembers}
-use Rattle.machfixups.specs.JsonRows.{pointer_members}
-use Rattle.machfixups.specs.AllStretches.{SegmentStretches}
-use Rattle.machfixups.specs.Rows.{readable_table}
+use Rattle.machfixups.specs.AllStretches.{SegmentStretches, parts_view}
+use Rattle.machfixups.specs.JsonImages.{pointer_members}
+use Rattle.machfixups.specs.KeptFixups.{kinds_in_objects}
+use Rattle.machfixups.specs.Rows.{PointerRows, object_rows, readable_table, rows_shown}
+use Rattle.machfixups.specs.declared.kept_fixups.KindsOfLists.{KindsOfLists}
+use Rattle.machfixups.specs.declared.rows.Selection.{Selection}
 use Rattle.machfixups.proofs.json.FixupObjectsImageView.show.Goals as goal
 
 pub returns-clause-shown : goal.returns-clause-shown
 returns-clause-shown g c = λ bytes opened.
     let outcome = c.in_ok-write_members.field-0 in
     let known = c.in_ok-parts.ensures bytes 0 opened in
-    let listed = c.in_ok-write_members.ensures bytes 0 opened in
-    let written = listed.4 in
-    let made = λ (parts : List SegmentStretches). pointer_members c.args.self.now.selection parts (readable_table listed.2) listed.0 in
-    let over = λ (parts : List SegmentStretches). AreListMembers c.args.left (made parts) written.text outcome.whole outcome.left in (
+    let listed = c.of-rows.ensures bytes 0 opened in
+    let written = c.in_ok-write_members.ensures in
+    let over = λ (rows : PointerRows). AreListMembers c.args.left (pointer_members rows) written.text outcome.whole outcome.left in
+    let parts = parts_view c.in_ok-parts.parts in
+    let table = readable_table listed.4 in
+    let in_kinds = λ (kinds : KindsOfLists). over (rows_shown c.shown-shown.result kinds parts listed.2 table listed.0) in
+    let by_shown = λ (shown : Selection). over (rows_shown shown (kinds_in_objects shown) parts listed.2 table listed.0) in
+    let in_parts = λ (parts : List SegmentStretches). over (object_rows c.args.self.now.selection parts listed.2 table listed.0) in (
       written.text,
       record {
         opens = (opened.ctx, commands_view c.args.image.now, opened.opens);
@@ -21,9 +28,12 @@ returns-clause-shown g c = λ bytes opened.
         has_segments = known.1;
         lists = listed.0;
         has_lists = listed.1;
-        chained = listed.2;
-        has_chained = listed.3;
-        members = subst over known.2 written.members;
+        libs = listed.2;
+        has_libs = listed.3;
+        chained = listed.4;
+        has_chained = listed.5;
+        members = subst in_parts known.2
+            (subst by_shown c.shown-shown.ensures (subst in_kinds c.kinds_in_objects.ensures (subst over listed.6 written.members)));
       },
       written.written,
     )

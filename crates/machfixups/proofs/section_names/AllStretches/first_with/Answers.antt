@@ -1,5 +1,5 @@
-use Rattle.std.proofs.Common.{◌≡◌, ◌∙◌, ap, sym, subst}
-use Rattle.machfixups.specs.AllStretches.{part_view, parts_view}
+use Rattle.std.proofs.Common.{◌∙◌, ap, sym}
+use Rattle.machfixups.specs.AllStretches.{parts_view}
 use Rattle.machfixups.specs.Stretches.{at_number, first_holder}
 use Rattle.machfixups.proofs.PartLists.{seen_memory}
 use Rattle.machfixups.proofs.section_names.AllStretches.first_with.Goals as goal

@@ -1,0 +1,142 @@
+-- What is shown of rebases, binds and fixups, field by field: the members of an object in their order, each with its column in a
+-- line, and the parts that only a line has.
+use Rattle.std.specs.Prelude.{ℕ, ℤ, List, [], ◌∷◌, codes, map, true, false, Option, None, Some, Result, Ok}
+use Rattle.mach_base.specs.Answer.{◌>>=◌}
+use Rattle.mach_base.specs.Fault.{Fault}
+use Rattle.mach_parts.specs.PointerSigning.{Auth}
+use Rattle.mach_cli.specs.Fields.{FieldView, ValueView, field_of, flags, hex, line_field, number, object_field, signed, text, whether, wide_field}
+use Rattle.mach_cli.specs.Listings.{reported_by}
+use Rattle.mach_cli.specs.Signing.{diverse_by, diversity_by, has_auth, key_by, rebase_type}
+use Rattle.mach_dyld.specs.declared.rebases.RebaseKind.{RebaseKind}
+use Rattle.mach_dyld.specs.declared.rebases.RebaseKind.TheVariants.{Pointer, TextAbsolute32, TextRelative32}
+use Rattle.machfixups.specs.Rows.{PointerPlace, PointerBind, binds, binds_weakly, rebases, is_value, PointerRow, corrects, is_strong, row_view}
+use Rattle.machfixups.specs.declared.row.Row.{Row}
+
+-- the flags of a bind
+abbrev pub bind_flags : PointerBind → ValueView
+bind_flags b = flags b.is_weak b.is_lazy b.auth
+
+-- from which image a bind takes its symbol: its short name; if there is none, only a line has the field, with the ordinal
+abbrev pub from_field : Option (List ℕ) → (ordinal : ℤ) → FieldView
+from_field (Some name) ordinal = wide_field 15 (field_of (codes "from") (text name) 5)
+from_field None ordinal = line_field (signed ordinal) 5
+
+-- what a rebase adjusts, in a line, unless it is a pointer
+abbrev pub rebase_word : RebaseKind → FieldView
+rebase_word Pointer = line_field (text []) 0
+rebase_word TextAbsolute32 = line_field (text (codes "text-absolute")) 6
+rebase_word TextRelative32 = line_field (text (codes "text-relative")) 6
+
+-- how a pointer is signed, in a line, if it is
+abbrev pub signed_flags : Option Auth → FieldView
+signed_flags None = line_field (flags false false None) 0
+signed_flags (Some a) = line_field (flags false false (Some a)) 7
+
+-- the place of a row, in columns as wide as most addresses and names
+abbrev pub address_field : PointerPlace → FieldView
+address_field p = wide_field 11 (field_of (codes "address") (hex p.address) 1)
+
+abbrev pub segment_field : PointerPlace → FieldView
+segment_field p = wide_field 12 (field_of (codes "segment") (text p.segment) 2)
+
+abbrev pub section_field : PointerPlace → FieldView
+section_field p = wide_field 16 (field_of (codes "section") (text p.section) 3)
+
+-- what a row is: a word that an object has too, or only a line
+abbrev pub kind_field : (name word : List ℕ) → FieldView
+kind_field name word = wide_field 6 (field_of name (text word) 4)
+
+-- a dash in a column of this width
+abbrev pub dash_field : (column width : ℕ) → FieldView
+dash_field column width = wide_field width (line_field (text (codes "-")) column)
+
+abbrev pub bind_fields : PointerPlace → PointerBind → List FieldView
+bind_fields p b =
+    field_of (codes "addend") (signed b.addend) 6
+    ∷ address_field p
+    ∷ object_field (codes "diversity") (number (diversity_by b.auth))
+    ∷ from_field b.from b.ordinal
+    ∷ whether (codes "is_address_diverse") (diverse_by b.auth)
+    ∷ whether (codes "is_lazy") b.is_lazy
+    ∷ whether (codes "is_signed") (has_auth b.auth)
+    ∷ whether (codes "is_weak") b.is_weak
+    ∷ object_field (codes "key") (number (key_by b.auth))
+    ∷ kind_field (codes "kind") (codes "bind")
+    ∷ object_field (codes "library") (signed b.ordinal)
+    ∷ field_of (codes "name") (text b.name) 8
+    ∷ section_field p
+    ∷ segment_field p
+    ∷ line_field (bind_flags b) 7
+    ∷ []
+
+abbrev pub weak_fields : PointerPlace → PointerBind → List FieldView
+weak_fields p b =
+    field_of (codes "addend") (signed b.addend) 5
+    ∷ address_field p
+    ∷ whether (codes "is_strong") false
+    ∷ whether (codes "is_weak") b.is_weak
+    ∷ object_field (codes "kind") (text (codes "weak bind"))
+    ∷ field_of (codes "name") (text b.name) 7
+    ∷ section_field p
+    ∷ segment_field p
+    ∷ kind_field [] (codes "weak")
+    ∷ line_field (bind_flags b) 6
+    ∷ []
+
+abbrev pub rebase_fields : PointerPlace → (target : ℕ) → RebaseKind → Option Auth → List FieldView
+rebase_fields p target kind auth =
+    address_field p
+    ∷ object_field (codes "diversity") (number (diversity_by auth))
+    ∷ whether (codes "is_address_diverse") (diverse_by auth)
+    ∷ whether (codes "is_signed") (has_auth auth)
+    ∷ object_field (codes "key") (number (key_by auth))
+    ∷ kind_field (codes "kind") (codes "rebase")
+    ∷ section_field p
+    ∷ segment_field p
+    ∷ field_of (codes "target") (hex target) 5
+    ∷ object_field (codes "type") (text (rebase_type kind))
+    ∷ rebase_word kind
+    ∷ signed_flags auth
+    ∷ []
+
+abbrev pub value_fields : PointerPlace → (value : ℕ) → List FieldView
+value_fields p value =
+    address_field p
+    ∷ object_field (codes "kind") (text (codes "number"))
+    ∷ section_field p
+    ∷ segment_field p
+    ∷ field_of (codes "target") (hex value) 5
+    ∷ kind_field [] (codes "value")
+    ∷ []
+
+-- a strong definition has no place
+abbrev pub strong_fields : List ℕ → List FieldView
+strong_fields name =
+    whether (codes "is_strong") true
+    ∷ object_field (codes "kind") (text (codes "weak bind"))
+    ∷ field_of (codes "name") (text name) 5
+    ∷ dash_field 1 11
+    ∷ dash_field 2 12
+    ∷ dash_field 3 16
+    ∷ kind_field [] (codes "strong")
+    ∷ []
+
+-- the fields of a row
+abbrev pub pointer_fields : PointerRow → List FieldView
+pointer_fields (corrects p (binds b)) = bind_fields p b
+pointer_fields (corrects p (binds_weakly b)) = weak_fields p b
+pointer_fields (corrects p (rebases target kind auth)) = rebase_fields p target kind auth
+pointer_fields (corrects p (is_value value)) = value_fields p value
+pointer_fields (is_strong name) = strong_fields name
+
+-- those of a row of the code's
+abbrev pub pointer_row_fields : Row → List FieldView
+pointer_row_fields row = pointer_fields (row_view row)
+
+-- the fields of a row, or its fault
+abbrev pub fields_reported : Result PointerRow Fault → Result (List FieldView) Fault
+fields_reported row = row >>= (λ r. Ok (pointer_fields r))
+
+-- the texts of rows, or their faults
+abbrev pub texts_reported : (List FieldView → List ℕ) → List (Result PointerRow Fault) → List (Result (List ℕ) Fault)
+texts_reported form rows = map (reported_by form) (map fields_reported rows)

@@ -1,0 +1,213 @@
+//! What is shown of a row, field by field.
+
+ghost use Rattle.std.specs.Prelude.{◌≡◌, map, OnOk};
+ghost use Rattle.std.specs.Io.KnownBytes.{Appends};
+ghost use Rattle.mach_parts.specs.PointerSigning.{auth_option_view};
+ghost use Rattle.mach_cli.specs.Fields.{field_view, value_view};
+ghost use Rattle.machfixups.specs.RowFields.{address_field, bind_fields, bind_flags, dash_field, from_field, kind_field, pointer_fields};
+ghost use Rattle.machfixups.specs.RowFields.{rebase_fields, rebase_word, section_field, segment_field, signed_flags, strong_fields, value_fields};
+ghost use Rattle.machfixups.specs.RowFields.{weak_fields};
+ghost use Rattle.machfixups.specs.Rows.{bind_view, place_view, row_view};
+
+use crate::row::{Action, Bind, Location, Row};
+use goblin_mach::RebaseKind;
+use goblin_mach::chained_fixups::PointerAuth;
+use mach_cli::{Field, FieldsForm, Value, diverse_by, diversity_by, has_auth, key_by, rebase_type};
+use std::io;
+use std::io::Write;
+
+// Returns the flags of a bind.
+fn flags_of<'a>(bind: &Bind<'_>) -> Value<'a>
+    ensures { value_view result ≡ bind_flags (bind_view bind.now) }
+{
+    Value::Flags {
+        is_weak: bind.is_weak,
+        is_lazy: bind.is_lazy,
+        auth: bind.auth,
+    }
+}
+
+// Returns the field for the image from which a bind takes its symbol: its short name; if there is none, only a line has it, with
+// the ordinal.
+fn from_field<'a>(bind: &Bind<'a>) -> Field<'a>
+    ensures { let seen = bind_view bind.now in field_view result ≡ from_field seen.from seen.ordinal }
+{
+    match bind.from {
+        Some(name) => Field::new("from", Value::Text(name), 5).wide(15),
+        None => Field::of_line(Value::Signed(bind.ordinal), 5),
+    }
+}
+
+// Returns the field of a line for what a rebase adjusts; for a pointer no line has it.
+fn rebase_word(kind: RebaseKind) -> Field<'static>
+    ensures { field_view result ≡ rebase_word kind }
+{
+    match kind {
+        RebaseKind::Pointer => Field::of_line(Value::Text(""), 0),
+        RebaseKind::TextAbsolute32 => Field::of_line(Value::Text("text-absolute"), 6),
+        RebaseKind::TextRelative32 => Field::of_line(Value::Text("text-relative"), 6),
+    }
+}
+
+// Returns the field of a line for how a pointer is signed; if it isn't, no line has it.
+fn signed_flags(auth: Option<PointerAuth>) -> Field<'static>
+    ensures { field_view result ≡ signed_flags (auth_option_view auth) }
+{
+    let column = if has_auth(auth) { 7 } else { 0 };
+    Field::of_line(
+        Value::Flags {
+            is_weak: false,
+            is_lazy: false,
+            auth,
+        },
+        column,
+    )
+}
+
+// Returns the field for an address.
+fn address_field<'a>(place: &Location<'a>) -> Field<'a>
+    ensures { field_view result ≡ address_field (place_view place.now) }
+{
+    Field::new("address", Value::Hex(place.address), 1).wide(11)
+}
+
+// Returns the field for the name of a segment.
+fn segment_field<'a>(place: &Location<'a>) -> Field<'a>
+    ensures { field_view result ≡ segment_field (place_view place.now) }
+{
+    Field::new("segment", Value::Text(place.segment), 2).wide(12)
+}
+
+// Returns the field for the name of a section.
+fn section_field<'a>(place: &Location<'a>) -> Field<'a>
+    ensures { field_view result ≡ section_field (place_view place.now) }
+{
+    Field::new("section", Value::Text(place.section), 3).wide(16)
+}
+
+// Returns the field for what a row is; without a name only a line has it.
+fn kind_field(name: &'static str, word: &'static str) -> Field<'static>
+    ensures { field_view result ≡ kind_field name.now word.now }
+{
+    Field::new(name, Value::Text(word), 4).wide(6)
+}
+
+// Returns a dash in a column of this width.
+fn dash_field(column: usize, width: usize) -> Field<'static>
+    ensures { field_view result ≡ dash_field column width }
+{
+    Field::of_line(Value::Text("-"), column).wide(width)
+}
+
+// Returns the fields of a bind.
+fn bind_fields<'a>(place: &Location<'a>, bind: &Bind<'a>) -> [Field<'a>; 15]
+    ensures { map field_view result ≡ bind_fields (place_view place.now) (bind_view bind.now) }
+{
+    let auth = bind.auth;
+    [
+        Field::new("addend", Value::Signed(bind.addend), 6),
+        address_field(place),
+        Field::of_object("diversity", Value::Number(u64::from(diversity_by(auth)))),
+        from_field(bind),
+        Field::whether("is_address_diverse", diverse_by(auth)),
+        Field::whether("is_lazy", bind.is_lazy),
+        Field::whether("is_signed", has_auth(auth)),
+        Field::whether("is_weak", bind.is_weak),
+        Field::of_object("key", Value::Number(u64::from(key_by(auth)))),
+        kind_field("kind", "bind"),
+        Field::of_object("library", Value::Signed(bind.ordinal)),
+        Field::new("name", Value::Text(bind.name), 8),
+        section_field(place),
+        segment_field(place),
+        Field::of_line(flags_of(bind), 7),
+    ]
+}
+
+// Returns the fields of a weak bind.
+fn weak_fields<'a>(place: &Location<'a>, bind: &Bind<'a>) -> [Field<'a>; 10]
+    ensures { map field_view result ≡ weak_fields (place_view place.now) (bind_view bind.now) }
+{
+    [
+        Field::new("addend", Value::Signed(bind.addend), 5),
+        address_field(place),
+        Field::whether("is_strong", false),
+        Field::whether("is_weak", bind.is_weak),
+        Field::of_object("kind", Value::Text("weak bind")),
+        Field::new("name", Value::Text(bind.name), 7),
+        section_field(place),
+        segment_field(place),
+        kind_field("", "weak"),
+        Field::of_line(flags_of(bind), 6),
+    ]
+}
+
+// Returns the fields of a rebase.
+fn rebase_fields<'a>(
+    place: &Location<'a>,
+    target: u64,
+    kind: RebaseKind,
+    auth: Option<PointerAuth>,
+) -> [Field<'a>; 12]
+    ensures { map field_view result ≡ rebase_fields (place_view place.now) target kind (auth_option_view auth) }
+{
+    [
+        address_field(place),
+        Field::of_object("diversity", Value::Number(u64::from(diversity_by(auth)))),
+        Field::whether("is_address_diverse", diverse_by(auth)),
+        Field::whether("is_signed", has_auth(auth)),
+        Field::of_object("key", Value::Number(u64::from(key_by(auth)))),
+        kind_field("kind", "rebase"),
+        section_field(place),
+        segment_field(place),
+        Field::new("target", Value::Hex(target), 5),
+        Field::of_object("type", Value::Text(rebase_type(kind))),
+        rebase_word(kind),
+        signed_flags(auth),
+    ]
+}
+
+// Returns the fields of a number.
+fn value_fields<'a>(place: &Location<'a>, number: u32) -> [Field<'a>; 6]
+    ensures { map field_view result ≡ value_fields (place_view place.now) number }
+{
+    [
+        address_field(place),
+        Field::of_object("kind", Value::Text("number")),
+        section_field(place),
+        segment_field(place),
+        Field::new("target", Value::Hex(u64::from(number)), 5),
+        kind_field("", "value"),
+    ]
+}
+
+// Returns the fields of a strong definition of this name.
+fn strong_fields(name: &str) -> [Field<'_>; 7]
+    ensures { map field_view result ≡ strong_fields name.now }
+{
+    [
+        Field::whether("is_strong", true),
+        Field::of_object("kind", Value::Text("weak bind")),
+        Field::new("name", Value::Text(name), 5),
+        dash_field(1, 11),
+        dash_field(2, 12),
+        dash_field(3, 16),
+        kind_field("", "strong"),
+    ]
+}
+
+/// Writes the fields of a row in a form.
+pub fn write_row<F: FieldsForm, O: Write>(row: &Row<'_, '_>, out: &mut O) -> io::Result<()>
+    ensures { OnOk result (Appends (O.contents out.old) (O.contents out.new) (F.fields_text (pointer_fields (row_view row.now)))) }
+{
+    match row {
+        Row::At { place, action } => match action {
+            Action::Bind(bind) => F::write(&bind_fields(place, bind), out),
+            Action::Weak(bind) => F::write(&weak_fields(place, bind), out),
+            Action::Rebase { target, kind, auth } => {
+                F::write(&rebase_fields(place, *target, *kind, *auth), out)
+            }
+            Action::Value(number) => F::write(&value_fields(place, *number), out),
+        },
+        Row::Strong(name) => F::write(&strong_fields(name), out),
+    }
+}

@@ -1,0 +1,157 @@
+//! The lists of an image's rebases, binds and fixups, of which a line or an object has the fields of each row.
+
+ghost use Rattle.std.specs.Prelude.{◌≡◌, ◌++◌, ℕ, List, Option, Result, map};
+ghost use Rattle.mach_base.specs.Fault.{Fault};
+ghost use Rattle.mach_base.specs.Text.{texts};
+ghost use Rattle.mach_chained.specs.Header.{Fixups};
+ghost use Rattle.goblin_mach.specs.Facts.{HasChainedFixups, HasLibraries};
+ghost use Rattle.goblin_mach.specs.Fixups.{chained_view};
+ghost use Rattle.goblin_mach.specs.OpenImage.{IsImage};
+ghost use Rattle.machfixups.specs.AllStretches.{parts_view};
+ghost use Rattle.machfixups.specs.Lists.{PointerLists, HasPointerLists};
+ghost use Rattle.machfixups.specs.RowFields.{fields_reported, pointer_row_fields};
+ghost use Rattle.machfixups.specs.KeptLeft.{kept_left};
+ghost use Rattle.machfixups.specs.Rows.{fixups_table_view, picked, readable_table, row_for_fixup, rows_in_order, rows_shown};
+ghost use Rattle.machfixups.specs.RowsLeft.{image_rows_left, rows_left, rows_of_items};
+
+use crate::fields::write_row;
+use crate::kept_fixups::{KeptFixups, KindsOfLists};
+use crate::row::Row;
+use crate::rows::{Items, Rows, Selection};
+use crate::section_names::AllStretches;
+use goblin_mach::chained_fixups::ChainedFixups;
+use goblin_mach::{MachO, laws};
+use mach_cli::{FieldsForm, ItemList};
+use std::alloc::Allocator;
+use std::io;
+use std::io::Write;
+
+impl<'p, 'a, A: Allocator> ItemList for Rows<'p, 'a, '_, A> {
+    type Item = Row<'p, 'a>;
+
+    ghost fields = { pointer_row_fields };
+
+    ghost items_left = { λ rows. map fields_reported (rows_left rows) };
+
+    fn next_item(&mut self) -> Option<goblin_mach::Result<Row<'p, 'a>>> {
+        self.next()
+    }
+
+    fn items_past(&self) -> usize {
+        0
+    }
+
+    fn items_name(&self) -> &'static str {
+        ""
+    }
+
+    fn write_item<F: FieldsForm, O: Write>(row: &Row<'p, 'a>, out: &mut O) -> io::Result<()> {
+        write_row::<F, O>(row, out)
+    }
+}
+
+/// The rows of an image in four lists, one after the other: of each rebase, each bind and each weak bind of its opcodes, in order,
+/// if they are shown, and of the fixups of its chains that a list has.
+#[derive(Drop)]
+pub struct ImageRows<'p, 'a, 'b, A: Allocator> {
+    pub rebases: Rows<'p, 'a, 'b, A>,
+    pub binds: Rows<'p, 'a, 'b, A>,
+    pub weak: Rows<'p, 'a, 'b, A>,
+    pub chains: Rows<'p, 'a, 'b, A>,
+}
+
+// Returns the chained fixups of an image, if it has any that can be read.
+fn table_of<'a, A: Allocator>(image: &MachO<'a, A>) -> Option<ChainedFixups<'a>>
+    ensures { fixups_table_view result ≡ readable_table (chained_view image.now) }
+{
+    match image.chained_fixups() {
+        Ok(found) => found,
+        Err(_) => None,
+    }
+}
+
+// Returns the rows of the items of the opcodes, if they are shown, and of fixups of the chains.
+fn rows_of<'p, 'a, 'b, A: Allocator>(
+    is_shown: bool,
+    parts: &'p AllStretches<A>,
+    libs: &'b [&'a str],
+    table: Option<ChainedFixups<'a>>,
+    items: Items<'a, 'b>,
+    fixups: KeptFixups<'a, 'b>,
+) -> Rows<'p, 'a, 'b, A>
+    ensures { rows_left result ≡ picked is_shown (rows_of_items (parts_view parts.now) items.entry)
+        ++ map (row_for_fixup (parts_view parts.now) (texts libs.now) (fixups_table_view table.entry)) (kept_left fixups.entry) }
+{
+    Rows {
+        parts,
+        libs,
+        table,
+        items: if is_shown { items } else { Items::Hidden },
+        fixups,
+    }
+}
+
+impl<'p, 'a, 'b, B: Allocator> ImageRows<'p, 'a, 'b, B> {
+    /// Returns the rows of an image of the lists that are shown, given its segments, and which fixups of the chains each list has.
+    pub fn of<A: Allocator>(
+        image: &'b MachO<'a, A>,
+        parts: &'p AllStretches<B>,
+        shown: Selection,
+        kinds: KindsOfLists,
+    ) -> Self
+        ensures { (bytes : List ℕ) (o : ℕ) → IsImage bytes o image.now
+            → (lists : PointerLists) × HasPointerLists bytes o lists
+            × (libs : List (List ℕ)) × HasLibraries bytes o libs
+            × (chained : Result (Option Fixups) Fault) × HasChainedFixups bytes o chained
+            × (image_rows_left result ≡ rows_shown shown kinds (parts_view parts.now) libs (readable_table chained) lists) }
+    {
+        laws::strict_image_is_lossy(image);
+        laws::one_list_of_image_fixups();
+        let rebases = Items::Rebases(image.opcode_rebases());
+        let binds = Items::Binds(image.opcode_bindings());
+        let weak = Items::Weak(image.weak_binds());
+        let of_rebases = KeptFixups::of(image.fixups(), kinds.rebases);
+        let of_binds = KeptFixups::of(image.fixups(), kinds.binds);
+        let of_chains = KeptFixups::of(image.fixups(), kinds.chains);
+        let (libs, table) = (image.libs.as_slice(), table_of(image));
+        ImageRows {
+            rebases: rows_of(shown.rebases, parts, libs, table, rebases, of_rebases),
+            binds: rows_of(shown.binds, parts, libs, table, binds, of_binds),
+            weak: rows_of(shown.weak, parts, libs, table, weak, KeptFixups::none()),
+            chains: rows_of(false, parts, libs, table, Items::Hidden, of_chains),
+        }
+    }
+}
+
+impl<'p, 'a, A: Allocator> ItemList for ImageRows<'p, 'a, '_, A> {
+    type Item = Row<'p, 'a>;
+
+    ghost fields = { pointer_row_fields };
+
+    ghost items_left = { λ rows. map fields_reported (rows_in_order (image_rows_left rows)) };
+
+    fn next_item(&mut self) -> Option<goblin_mach::Result<Row<'p, 'a>>> {
+        if let Some(row) = self.rebases.next() {
+            return Some(row);
+        }
+        if let Some(row) = self.binds.next() {
+            return Some(row);
+        }
+        if let Some(row) = self.weak.next() {
+            return Some(row);
+        }
+        self.chains.next()
+    }
+
+    fn items_past(&self) -> usize {
+        0
+    }
+
+    fn items_name(&self) -> &'static str {
+        ""
+    }
+
+    fn write_item<F: FieldsForm, O: Write>(row: &Row<'p, 'a>, out: &mut O) -> io::Result<()> {
+        write_row::<F, O>(row, out)
+    }
+}
