@@ -1,16 +1,17 @@
 -- The lines of items are one line each, whatever the names in them are.
-use Rattle.std.proofs.Common.{◌≡◌, ◌++◌, ℕ, List, Result, Option, Some, None, Ok, Err, true, false, codes, arith, refl, rules}
+use Rattle.std.proofs.Common.{◌≡◌, ◌++◌, ◌^◌, [], ℕ, List, Result, Option, Some, None, Ok, Err, true, false, codes, arith, refl, rules}
+use Rattle.std.specs.Prelude.{nat_lt}
 use Rattle.std.specs.Fmt.{decimal, digits}
 use Rattle.mach_base.specs.Words.{words_of}
 use Rattle.mach_base.specs.declared.error.Error.{Error}
 use Rattle.mach_base.specs.declared.hint.Hint.{Hint}
 use Rattle.mach_base.specs.declared.hint.Hint.TheVariants as hints
 use Rattle.mach_archive.specs.Members.{MemberView}
-use Rattle.mach_cli.proofs.OneLine.{no_feeds, no_feed-printed, printed-digits, line-end, line-more}
+use Rattle.mach_cli.proofs.OneLine.{no_feeds, no_feed-append, no_feed-if, no_feed-printed, printed-digits, line-end, line-more}
 use Rattle.mach_cli.specs.Escapes.{IsOneLine, escaped_text, has_no_feed}
 use Rattle.mach_fat_writer.specs.declared.entry_record.EntryRecord.{EntryRecord}
-use Rattle.machfat.specs.Kinds.{entry_kind, hint_text}
-use Rattle.machfat.specs.Lines.{record_line, record_text}
+use Rattle.mach_cli.specs.Kinds.{entry_kind, hint_text}
+use Rattle.machfat.specs.Lines.{cpu_text, entry_place_text, image_line, in_units, reached_units, record_line, record_text, size_text}
 use Rattle.machfat.specs.MemberLines.{MemberReported, a_member, member_front, member_line, member_name_end, member_reason, name_reason, no_more_members}
 use Rattle.machfat.specs.MemberLines.{number_or_dash, octal_or_dash}
 use Rattle.machfat.specs.SymbolLines.{SymbolReported, a_symbol, no_more_symbols, of_no_member, of_no_name, symbol_at_text, symbol_line, symbol_reason}
@@ -35,8 +36,27 @@ no_feed-octal : (n : Option ℕ) → has_no_feed (octal_or_dash n) ≡ true
 no_feed-octal (Some n) = search (no_feeds, no_feed-digits_8, rules)
 no_feed-octal None = refl
 
+no_feed-units : (unit size : ℕ) (name : List ℕ) → has_no_feed name ≡ true → has_no_feed (in_units unit name size) ≡ true
+no_feed-units unit size name h = search (no_feeds, h, rules)
+
+no_feed-reached : (size : ℕ) → has_no_feed (reached_units size) ≡ true
+no_feed-reached size =
+    no_feed-if (nat_lt size (2 ^ 10)) [] _ refl
+    (no_feed-if (nat_lt size (2 ^ 20)) _ _ (no_feed-units (2 ^ 10) size (codes "KiB") refl)
+    (no_feed-if (nat_lt size (2 ^ 30)) _ _ (no_feed-units (2 ^ 20) size (codes "MiB") refl) (no_feed-units (2 ^ 30) size (codes "GiB") refl)))
+
+no_feed-size : (size : ℕ) → has_no_feed (size_text size) ≡ true
+unfolding size_text
+no_feed-size size = no_feed-append (decimal size) (reached_units size) (search (no_feeds, rules)) (no_feed-reached size)
+
+no_feed-place : (r : EntryRecord) → has_no_feed (entry_place_text r) ≡ true
+no_feed-place r = search (no_feeds, no_feed-size, rules)
+
+no_feed-cpu : (cputype cpusubtype : ℕ) → has_no_feed (cpu_text cputype cpusubtype) ≡ true
+no_feed-cpu cputype cpusubtype = search (no_feeds, rules)
+
 no_feed-record : (bytes : List ℕ) (r : EntryRecord) → has_no_feed (record_text bytes r) ≡ true
-no_feed-record bytes r = search (no_feeds, no_feed-kind, rules)
+no_feed-record bytes r = search (no_feeds, no_feed-cpu, no_feed-place, no_feed-kind, rules)
 
 no_feed-front : (number : ℕ) (m : MemberView) → has_no_feed (member_front number m) ≡ true
 no_feed-front number m = search (no_feeds, no_feed-kind, no_feed-number, no_feed-octal, rules)
@@ -47,7 +67,13 @@ words_end front words before h = line-more front (words ++ codes "\n") before (l
 
 pub one_record_line : (bytes : List ℕ) (i : ℕ) (r : EntryRecord) → IsOneLine (record_line bytes i r)
 one_record_line bytes i r =
-    line-end (codes "arch " ++ decimal i ++ codes ": " ++ record_text bytes r) (search (no_feeds, no_feed-record, rules))
+    line-more (codes "arch ") _ refl
+    (line-more (decimal i) _ (search (no_feeds, rules)) (words_end (codes ": ") (record_text bytes r) refl (no_feed-record bytes r)))
+
+pub one_image_line : (file : List ℕ) (cputype cpusubtype : ℕ) → IsOneLine (image_line file cputype cpusubtype)
+one_image_line file cputype cpusubtype =
+    line-more (escaped_text file) _ (search (no_feeds, rules))
+    (words_end (codes ": not a fat file; one image for ") (cpu_text cputype cpusubtype) refl (no_feed-cpu cputype cpusubtype))
 
 one_refused_line : (what words : List ℕ) → has_no_feed what ≡ true → has_no_feed words ≡ true → IsOneLine (what ++ (codes ": " ++ (words ++ codes "\n")))
 one_refused_line what words before h = line-more what (codes ": " ++ (words ++ codes "\n")) before (words_end (codes ": ") words refl h)

@@ -1,12 +1,14 @@
+pub mod Arguments
 pub mod Entry
 pub mod Faults
 pub mod Lines
+pub mod ListedFiles
 pub mod Made
 pub mod Members
+pub mod OfCpu
 pub mod Refusals
 pub mod Same
 pub mod Names
-pub mod Kinds
 pub mod MemberLines
 pub mod SymbolLines
 pub mod ArchiveLines

@@ -11,7 +11,7 @@ use Rattle.mach_archive.specs.MemberNames.{member_name}
 use Rattle.mach_archive.specs.Members.{AreMembers, MemberView}
 use Rattle.mach_archive.specs.Archives.{ArchiveView}
 use Rattle.mach_cli.specs.declared.listing.ListProgress.{ListProgress}
-use Rattle.machfat.specs.Kinds.{entry_kind}
+use Rattle.mach_cli.specs.Kinds.{entry_kind}
 use Rattle.machfat.specs.Names.{name_tail, refused_line}
 use Rattle.machfat.specs.Written.{AreItemLines}
 

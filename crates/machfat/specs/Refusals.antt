@@ -12,15 +12,17 @@ use Rattle.mach_fat_writer.specs.declared.refusal.EntryRefusal.TheVariants.{Unre
 use Rattle.goblin_mach.specs.Image.{Opens}
 use Rattle.goblin_mach.specs.FatFile.{fat_file_in}
 use Rattle.goblin_mach.specs.View.{ViewFault}
+use Rattle.mach_cli.specs.Cpus.{no_entry_words}
 use Rattle.mach_cli.specs.Foreigners.{foreign_words, refused_kind}
 use Rattle.mach_cli.specs.Names.{names_text}
 use Rattle.mach_cli.specs.Refusals.{complaint}
+use Rattle.mach_cli.specs.declared.cpu.Cpu.{Cpu}
 use Rattle.mach_cli.specs.declared.first_bytes.Foreign as declared
 use Rattle.mach_cli.specs.declared.first_bytes.Foreign.TheVariants.{Archive}
 use Rattle.machfat.specs.Members.{MembersFault}
 use Rattle.machfat.specs.declared.refusal.WriteFailure.TheVariants as failures
 use Rattle.machfat.specs.declared.refusal.WriteFailure.{WriteFailure}
-use Rattle.machfat.specs.declared.refusal.Refusal.TheVariants.{Refused, Foreign, NotFat, Entries}
+use Rattle.machfat.specs.declared.refusal.Refusal.TheVariants.{Refused, Foreign, NotFat, Entries, NoEntryOf}
 use Rattle.machfat.specs.declared.refusal.Refusal.{Refusal}
 
 abbrev pub refusal_words : Refusal → List ℕ
@@ -28,6 +30,7 @@ refusal_words (Refused e) = words_of e
 refusal_words (Foreign kind) = foreign_words kind
 refusal_words NotFat = codes "not a fat file"
 refusal_words (Entries why) = entry_refusal_words why
+refusal_words (NoEntryOf cpu) = no_entry_words cpu
 
 -- the line on the error output, with the file's name
 abbrev pub refusal_line : List ℕ → Refusal → List ℕ
@@ -49,6 +52,7 @@ RefusesRead faults kind (Refused e) = ErrorMeets faults e × (kind e ≡ None)
 RefusesRead faults kind (Foreign known) = (e : Error) × ErrorMeets faults e × (kind e ≡ Some known)
 RefusesRead faults kind NotFat = ⊥
 RefusesRead faults kind (Entries why) = ⊥
+RefusesRead faults kind (NoEntryOf cpu) = ⊥
 
 -- Why the faults of a fat file's layout can't be listed: a fault of opening it holds; or it is an image.
 abbrev pub RefusesFaults : List ℕ → Refusal → Type 0
@@ -56,6 +60,7 @@ RefusesFaults bytes (Refused e) = RefusesRead (FatFault bytes) (refused_kind byt
 RefusesFaults bytes (Foreign kind) = RefusesRead (FatFault bytes) (refused_kind bytes) (Foreign kind)
 RefusesFaults bytes NotFat = Opens bytes 0
 RefusesFaults bytes (Entries why) = ⊥
+RefusesFaults bytes (NoEntryOf cpu) = ⊥
 
 -- a kind of file, if it is no archive
 abbrev pub but_archive : Option declared.Foreign → Option declared.Foreign
@@ -88,13 +93,16 @@ Refuses bytes there (Refused e) = ErrorMeets (λ f. ⊥) e
 Refuses bytes there (Foreign kind) = (why : EntryRefusal) × RefusesAs why there × (kind_by_front bytes why ≡ Some kind)
 Refuses bytes there NotFat = ⊥
 Refuses bytes there (Entries why) = RefusesAs why there × (kind_by_front bytes why ≡ None)
+Refuses bytes there (NoEntryOf cpu) = ⊥
 
--- The same, without the kind of the file.
-abbrev pub RefusesPlainly : {Y : Type 0} → Result Y Unfit → Refusal → Type 0
-RefusesPlainly there (Refused e) = ErrorMeets (λ f. ⊥) e
-RefusesPlainly there (Foreign kind) = ⊥
-RefusesPlainly there NotFat = ⊥
-RefusesPlainly there (Entries why) = RefusesAs why there
+-- Why the first entry for a cpu can't be written, given what the file has for it: the file is refused, or the entry is not in it;
+-- it has no entry for this cpu; or an allocation was refused. The kind of the file isn't reported.
+abbrev pub RefusesCpu : Result (Option (List ℕ)) Unfit → Cpu → Refusal → Type 0
+RefusesCpu there cpu (Refused e) = ErrorMeets (λ f. ⊥) e
+RefusesCpu there cpu (Foreign kind) = ⊥
+RefusesCpu there cpu NotFat = ⊥
+RefusesCpu there cpu (Entries why) = RefusesAs why there
+RefusesCpu there cpu (NoEntryOf other) = (other ≡ cpu) × (there ≡ Ok None)
 
 -- the refusal, if it is one, satisfies P
 abbrev pub IsRefusal : (Refusal → Type 0) → WriteFailure → Type 0
@@ -107,6 +115,7 @@ IsWant (Refused e) = ErrorMeets (λ f. ⊥) e
 IsWant (Foreign kind) = ⊥
 IsWant NotFat = ⊥
 IsWant (Entries why) = ⊥
+IsWant (NoEntryOf cpu) = ⊥
 
 -- It is a refusal that satisfies P, and nothing was written.
 abbrev pub RefusesUnwritten : (Refusal → Type 0) → (old new : Option (List ℕ)) → WriteFailure → Type 0

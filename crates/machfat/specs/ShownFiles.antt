@@ -4,7 +4,6 @@ use Rattle.std.specs.Borrow.{Bor}
 use Rattle.std.specs.Io.Buffered.{writer_buffer, writer_contents}
 use Rattle.std.specs.Io.KnownBytes.{Appends}
 use Rattle.std.specs.declared.io.buffered.BufWriter.{BufWriter}
-use Rattle.mach_fat_writer.specs.Changes.{fat_records_in}
 use Rattle.mach_layout.specs.declared.fault.LayoutFault.{LayoutFault}
 use Rattle.mach_cli.specs.Bounds.{most_items}
 use Rattle.mach_cli.specs.ShownCalls.{Showing, ShowsFiles}
@@ -14,6 +13,7 @@ use Rattle.mach_cli.specs.declared.files.Files.{Files}
 use Rattle.mach_cli.specs.declared.named.Others.{Others}
 use Rattle.mach_cli.specs.declared.titled.Titled.{Titled}
 use Rattle.machfat.specs.Faults.{ReportsFatFaults}
+use Rattle.machfat.specs.ListedFiles.{listed_file_in}
 use Rattle.machfat.specs.Lines.{ReportsDocument, ReportsList, refusal_document}
 use Rattle.machfat.specs.Members.{AreFileLines}
 use Rattle.machfat.specs.Refusals.{Refuses, RefusesFaults, RefusesFile, RefusesMembers, refusal_line, refusal_words}
@@ -30,7 +30,7 @@ ByStatus zero one status = (status ≡ 0 → zero) × (status ≡ 1 → one)
 -- The object of a refused file was written, and the line that says why.
 pub record RefusesObject (file bytes : List ℕ) (out_old out_new err_old err_new : Option (List ℕ)) : Type 0 where
   pub refusal : Refusal
-  pub occurs : Refuses bytes (fat_records_in bytes) refusal
+  pub occurs : Refuses bytes (listed_file_in bytes) refusal
   pub written : Appends out_old out_new (refusal_document file (refusal_words refusal))
   pub said : Appends err_old err_new (refusal_line file refusal)
 
@@ -43,8 +43,8 @@ pub record ReportsSomeFaults (limit : ℕ) (bytes : List ℕ) (old new : Option 
 -- What the program says of a file by what is selected, given the bytes of both outputs before and after. With status 0 all of it
 -- was written, and there is no fault. With status 1 there are more lines than the limit, or faults; or the file is refused.
 abbrev pub SaysOf : Shown → (limit : ℕ) (file bytes : List ℕ) (out_old out_new err_old err_new : Option (List ℕ)) (status : ℕ) → Type 0
-SaysOf Records limit file bytes out_old out_new err_old err_new status = ByStatus (ReportsList limit bytes true out_old out_new)
-    (ReportsList limit bytes false out_old out_new ⊎ RefusesFile (Refuses bytes (fat_records_in bytes)) file out_old out_new err_old err_new) status
+SaysOf Records limit file bytes out_old out_new err_old err_new status = ByStatus (ReportsList limit file bytes true out_old out_new)
+    (ReportsList limit file bytes false out_old out_new ⊎ RefusesFile (Refuses bytes (listed_file_in bytes)) file out_old out_new err_old err_new) status
 SaysOf Object limit file bytes out_old out_new err_old err_new status = ByStatus (ReportsDocument limit file bytes true out_old out_new)
     (ReportsDocument limit file bytes false out_old out_new ⊎ RefusesObject file bytes out_old out_new err_old err_new) status
 SaysOf Faults limit file bytes out_old out_new err_old err_new status = ByStatus (ReportsFatFaults limit bytes [] out_old out_new)

@@ -7,7 +7,6 @@ ghost use Rattle.machfat.specs.ArchiveLines.{AreArchiveLines};
 ghost use Rattle.machfat.specs.Names.{name_tail, refused_line};
 ghost use Rattle.machfat.specs.Written.{WritesAs};
 
-pub mod kind;
 pub mod member;
 pub mod symbol;
 

@@ -3,11 +3,12 @@
 ghost use Rattle.std.specs.Prelude.{◌≡◌, ◌≤◌, ◌⊎◌, [], ℕ, List, true, false, IsOk, IfOk, IfErr, Ok, Err};
 ghost use Rattle.std.specs.Io.Buffered.{writer_buffer, writer_contents};
 ghost use Rattle.std.specs.Io.KnownBytes.{Appends, Keeps};
-ghost use Rattle.mach_fat_writer.specs.Changes.{fat_records_in, indexed_entry_in};
+ghost use Rattle.mach_fat_writer.specs.Changes.{indexed_entry_in};
 ghost use Rattle.mach_cli.specs.Bounds.{most_items};
 ghost use Rattle.mach_cli.specs.Statuses.{IsStatus};
 ghost use Rattle.machfat.specs.Entry.{TookLast, WasWritten};
 ghost use Rattle.machfat.specs.Lines.{ReportsList};
+ghost use Rattle.machfat.specs.ListedFiles.{listed_file_in};
 ghost use Rattle.machfat.specs.Refusals.{Refuses, RefusesFile, IsRefusal, refusal_line};
 ghost use Rattle.machfat.specs.declared.refusal.WriteFailure.TheVariants as failures;
 ghost use Rattle.machfat.specs.declared.refusal.Refusal.{Refusal};
@@ -24,7 +25,7 @@ use std::rt::Files;
 /// The program's name.
 pub const NAME: &str = "machfat";
 
-/// Prints the records of a fat file, no more than a limit.
+/// Prints the records of a fat file, no more than a limit, or that the file is one image.
 ///
 /// Returns the exit status. It is 0 if all were printed. It is 1 if there are more; or if the file or an allocation is refused,
 /// and then `err` has a line that says why, and `out` nothing. It is 2 or 141 if a write fails. Unless a write fails, nothing is
@@ -39,14 +40,14 @@ pub fn run_list<A: Allocator, W: Write + Drop, B: Allocator, E: Write>(
 ) -> u8
     ensures status { IsStatus result }
     ensures listed { result ≡ 0
-        → ReportsList (most_items limit bytes.now) bytes.now true (writer_contents W.contents out.old) (writer_contents W.contents out.new) }
+        → ReportsList (most_items limit bytes.now) file.now bytes.now true (writer_contents W.contents out.old) (writer_contents W.contents out.new) }
     ensures refused { result ≡ 1
-        → ReportsList (most_items limit bytes.now) bytes.now false (writer_contents W.contents out.old) (writer_contents W.contents out.new)
-        ⊎ RefusesFile (Refuses bytes.now (fat_records_in bytes.now)) file.now (writer_contents W.contents out.old) (writer_contents W.contents out.new)
+        → ReportsList (most_items limit bytes.now) file.now bytes.now false (writer_contents W.contents out.old) (writer_contents W.contents out.new)
+        ⊎ RefusesFile (Refuses bytes.now (listed_file_in bytes.now)) file.now (writer_contents W.contents out.old) (writer_contents W.contents out.new)
         (E.contents err.old) (E.contents err.new) }
     ensures flushed { result ≤ 1 → writer_buffer out.new ≡ [] }
 {
-    let answer = list(alloc, most_items(limit, bytes), bytes, out);
+    let answer = list(alloc, most_items(limit, bytes), file, bytes, out);
     reported(answer, file, out, err)
 }
 

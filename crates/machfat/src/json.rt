@@ -1,17 +1,18 @@
-//! What the program writes of a fat file as JSON, and its exit status.
+//! What the program writes of a file as JSON, and its exit status.
 
 ghost use Rattle.std.specs.Prelude.{◌≡◌, ◌≤◌, ◌⊎◌, [], true, false, length, nat_lt, not, IfOk, OnOk};
 ghost use Rattle.std.specs.Io.Buffered.{writer_buffer, writer_contents};
 ghost use Rattle.std.specs.Io.KnownBytes.{Appends};
-ghost use Rattle.mach_fat_writer.specs.Changes.{fat_records_in};
 ghost use Rattle.mach_cli.specs.Bounds.{most_items};
 ghost use Rattle.mach_cli.specs.Statuses.{IsStatus};
-ghost use Rattle.machfat.specs.Lines.{document_text, refusal_document, document_tail, ReportsDocument};
+ghost use Rattle.machfat.specs.Lines.{document_text, records_document, refusal_document, document_tail, image_document, ReportsDocument};
+ghost use Rattle.machfat.specs.ListedFiles.{has_at_most, listed_file_in, listed_view};
 ghost use Rattle.machfat.specs.Refusals.{Refuses, refusal_line, refusal_words};
 ghost use Rattle.machfat.specs.declared.refusal.Refusal.{Refusal};
 
 use crate::commands::{NAME, refused};
-use crate::entry::{ListForm, first_of, print_records, records};
+use crate::entry::{ListForm, first_of, print_records};
+use crate::listed::{Listed, list_of};
 use crate::refusal::Refusal;
 use mach_cli::output::failed;
 use mach_cli::{JsonString, most_items};
@@ -20,8 +21,8 @@ use std::alloc::Allocator;
 use std::io;
 use std::io::{BufWriter, Write};
 
-/// Writes the object of a fat file with this name on a line, with an object for each of its first records, in order, no more than
-/// a limit.
+/// Writes the object of a file with this name on a line: of a fat file with an object for each of its first records, in order, no
+/// more than a limit; of one image with its cpu.
 ///
 /// Returns the exit status. It is 0 if all were written. It is 1 if there are more; or if the file or an allocation is refused,
 /// and then the object has a member `error`, and `err` a line that says why. It is 2 or 141 if a write fails. Unless a write
@@ -39,34 +40,34 @@ pub fn run_list_json<A: Allocator, W: Write + Drop, B: Allocator, E: Write>(
         → ReportsDocument (most_items limit bytes.now) file.now bytes.now true (writer_contents W.contents out.old) (writer_contents W.contents out.new) }
     ensures refused { result ≡ 1
         → ReportsDocument (most_items limit bytes.now) file.now bytes.now false (writer_contents W.contents out.old) (writer_contents W.contents out.new)
-        ⊎ ((refusal : Refusal) × Refuses bytes.now (fat_records_in bytes.now) refusal
+        ⊎ ((refusal : Refusal) × Refuses bytes.now (listed_file_in bytes.now) refusal
         × Appends (writer_contents W.contents out.old) (writer_contents W.contents out.new) (refusal_document file.now (refusal_words refusal))
         × Appends (E.contents err.old) (E.contents err.new) (refusal_line file.now refusal)) }
     ensures flushed { result ≤ 1 → writer_buffer out.new ≡ [] }
 {
-    match records(alloc, bytes) {
-        Ok(records) => list_as(most_items(limit, bytes), file, bytes, &records, out, err),
+    match list_of(alloc, bytes) {
+        Ok(found) => list_as(most_items(limit, bytes), file, bytes, &found, out, err),
         Err(refusal) => refuse(file, &refusal, out, err),
     }
 }
 
-// Writes the object of a fat file with these records, and returns the status.
-fn list_as<W: Write + Drop, B: Allocator, E: Write>(
+// Writes the object of a file of which this is shown, and returns the status.
+fn list_as<A: Allocator, W: Write + Drop, B: Allocator, E: Write>(
     limit: usize,
     file: &str,
     bytes: &[u8],
-    records: &[EntryRecord],
+    found: &Listed<A>,
     out: &mut BufWriter<W, B>,
     err: &mut E,
 ) -> u8
     ensures status { IsStatus result }
     ensures listed { result ≤ 1 → Appends (writer_contents W.contents out.old) (writer_contents W.contents out.new)
-        (document_text limit file.now bytes.now records.now) }
-    ensures whole { result ≡ 0 → true ≡ not (nat_lt limit (length records.now)) }
-    ensures more { result ≡ 1 → false ≡ not (nat_lt limit (length records.now)) }
+        (document_text limit file.now bytes.now (listed_view found.now)) }
+    ensures whole { result ≡ 0 → true ≡ has_at_most limit (listed_view found.now) }
+    ensures more { result ≡ 1 → false ≡ has_at_most limit (listed_view found.now) }
     ensures flushed { result ≤ 1 → writer_buffer out.new ≡ [] }
 {
-    match write_document(limit, file, bytes, records, out) {
+    match write_document(limit, file, bytes, found, out) {
         Ok(true) => 0,
         Ok(false) => 1,
         Err(error) => failed(NAME, "", error, err),
@@ -93,22 +94,59 @@ fn refuse<W: Write + Drop, B: Allocator, E: Write>(
     }
 }
 
-// Writes the object of a fat file with these records and flushes it. Returns whether there are no more than the limit.
-fn write_document<W: Write + Drop, B: Allocator>(
+// Writes the object of a file of which this is shown, and flushes it. Returns whether there are no more records than the limit.
+fn write_document<A: Allocator, W: Write + Drop, B: Allocator>(
     limit: usize,
     file: &str,
     bytes: &[u8],
-    records: &[EntryRecord],
+    found: &Listed<A>,
     out: &mut BufWriter<W, B>,
 ) -> io::Result<bool>
     ensures written { OnOk result (Appends (writer_contents W.contents out.old) (writer_contents W.contents out.new)
-        (document_text limit file.now bytes.now records.now)) }
-    ensures whole { IfOk result (λ whole. whole ≡ not (nat_lt limit (length records.now))) }
+        (document_text limit file.now bytes.now (listed_view found.now))) }
+    ensures whole { IfOk result (λ whole. whole ≡ has_at_most limit (listed_view found.now)) }
     ensures flushed { OnOk result (writer_buffer out.new ≡ []) }
 {
-    print_document(limit, file, bytes, records, out)?;
+    let whole = print_object(limit, file, bytes, found, out)?;
     out.flush()?;
-    Ok(records.len() <= limit)
+    Ok(whole)
+}
+
+// Writes the object of a file of which this is shown. Returns whether there are no more records than the limit.
+fn print_object<A: Allocator, O: Write>(
+    limit: usize,
+    file: &str,
+    bytes: &[u8],
+    found: &Listed<A>,
+    out: &mut O,
+) -> io::Result<bool>
+    ensures written { OnOk result (Appends (O.contents out.old) (O.contents out.new) (document_text limit file.now bytes.now (listed_view found.now))) }
+    ensures whole { IfOk result (λ whole. whole ≡ has_at_most limit (listed_view found.now)) }
+{
+    match found {
+        Listed::Records(records) => {
+            print_document(limit, file, bytes, records, out)?;
+            Ok(records.len() <= limit)
+        }
+        Listed::Image {
+            cputype,
+            cpusubtype,
+        } => {
+            print_image(file, *cputype, *cpusubtype, out)?;
+            Ok(true)
+        }
+    }
+}
+
+// Writes the object of an image.
+fn print_image<O: Write>(file: &str, cputype: u32, cpusubtype: u32, out: &mut O) -> io::Result<()>
+    ensures { OnOk result (Appends (O.contents out.old) (O.contents out.new) (image_document file.now cputype cpusubtype)) }
+{
+    let name = JsonString(file);
+    writeln!(
+        out,
+        "{{\"cpusubtype\":{cpusubtype},\"cputype\":{cputype},\"entries\":[],\"kind\":\"image\",\"limit_met\":false,\"name\":{name}}}"
+    )
 }
 
 // Writes the object of a fat file with the first of these records, no more than the limit.
@@ -119,7 +157,7 @@ fn print_document<O: Write>(
     records: &[EntryRecord],
     out: &mut O,
 ) -> io::Result<()>
-    ensures { OnOk result (Appends (O.contents out.old) (O.contents out.new) (document_text limit file.now bytes.now records.now)) }
+    ensures { OnOk result (Appends (O.contents out.old) (O.contents out.new) (records_document limit file.now bytes.now records.now)) }
 {
     write!(out, "{{\"entries\":[")?;
     print_records(ListForm::Objects, bytes, first_of(records, limit), out)?;

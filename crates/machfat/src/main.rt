@@ -3,16 +3,18 @@
 //!
 //! With `--json` the list is one object for each file, on a line. A line has the fields of `llvm-objdump --universal-headers`,
 //! and the kind of the entry by its first bytes. Numbers of cpus are not given names, and the capabilities stay in the top 8 bits
-//! of `cpusubtype`. An entry is selected by its place in the list, or by its cputype. A fat file of 32 or of 64 bits is created
+//! of `cpusubtype`. An entry is selected by its place in the list, or by its cpu. A fat file of 32 or of 64 bits is created
 //! from files as `llvm-lipo -create` does, an entry is replaced as by `-replace`, or removed by its place. A file is written
 //! under another name beside its target, and is renamed once it is whole.
 #![tactic(auto)]
 
 // Fat files: taken apart, written, and listed.
+mod arguments;
 mod commands;
 mod entry;
 mod json;
 mod laws;
+mod listed;
 mod made;
 mod members;
 mod new_file;
@@ -30,8 +32,9 @@ ghost use Rattle.mach_cli.specs.Statuses.{IsUnwritten};
 ghost use Rattle.machfat.specs.ShownFiles.{AreShownWhole, ShowsSelectedFiles};
 ghost use Rattle.mach_fat_writer.specs.declared.form.Form.TheVariants.{Bits32, Bits64};
 
+use arguments::{WIDE, Width};
 use commands::{NAME, run_extract};
-use mach_cli::{Call, Cpu, Files, Misuse, Others, Program, Titled, Word, cputype_in, take_json};
+use mach_cli::{Call, Cpu, Files, Misuse, Options, Others, Program, Titled};
 use mach_fat_writer::Form;
 use made::{one_file, run_create, run_remove, run_replace};
 use new_file::is_same_file;
@@ -40,10 +43,7 @@ use std::alloc::{AllocError, Global};
 use std::io;
 use std::io::{BufWriter, Write};
 use std::process::ExitCode;
-use thin::run_thin;
-
-// The option that selects a fat file of 64 bits.
-const WIDE: &str = "--fat64";
+use thin::{cpu_in, run_thin};
 
 // How many lines of a file are printed if no other limit is given.
 const DEFAULT_LIMIT: usize = 10_000_000;
@@ -51,19 +51,23 @@ const DEFAULT_LIMIT: usize = 10_000_000;
 const PROGRAM: Program = Program {
     name: NAME,
     usage: "usage: machfat list [--json] [--limit N] [--names FILE] [-0] FILE..
-       machfat extract FILE INDEX OUT
-       machfat thin FILE 0xCPUTYPE OUT
+       machfat extract FILE INDEX|CPU OUT
+       machfat thin FILE CPU OUT
        machfat members [--limit N] [--names FILE] [-0] FILE..
        machfat create [--fat64] OUT FILE..
        machfat replace FILE NEW OUT
        machfat remove FILE INDEX OUT
        machfat verify [--limit N] [--names FILE] [-0] FILE..
        machfat -h | --help | --version
+CPU: a name, as arm64, or 0xCPUTYPE
 ",
     version: "machfat 0.2.0\n",
-    has_limit: true,
-    has_cpu: false,
-    has_files: true,
+    options: Options {
+        has_limit: true,
+        has_files: true,
+        has_json: true,
+        ..Options::NONE
+    },
     known: &[
         "list",
         "extract",
@@ -95,15 +99,13 @@ fn main(rt: HostRuntime) -> ExitCode {
 
 // Runs the program with its words.
 fn start(rt: &HostRuntime) -> Result<u8, u8> {
-    let Ok((is_json, mut words)) = take_json(rt.alloc(), PROGRAM.words(rt)?) else {
-        return Err(PROGRAM.out_of_memory(rt));
-    };
-    let is_wide = take_option(&mut words);
-    let call = PROGRAM.call(rt, &words)?;
+    let words = PROGRAM.words(rt)?;
+    let call = PROGRAM.call(rt, Width::NARROW, &words)?;
     let [word, given @ ..] = call.words.as_slice() else {
         return Err(PROGRAM.bad_usage(rt, Misuse::Missing("word")));
     };
-    match shown_by(word, is_json) {
+    let is_wide = call.own.is_wide;
+    match shown_by(word, call.format.is_json()) {
         Some(shown) if !is_wide => show_files(
             rt,
             Selected {
@@ -113,7 +115,7 @@ fn start(rt: &HostRuntime) -> Result<u8, u8> {
             given,
             &call.others,
         ),
-        _ => match misplaced(&call, is_json, is_wide && *word != "create") {
+        _ => match misplaced(&call, word) {
             Some(misuse) => Err(FOR_WRITES.bad_usage(rt, misuse)),
             None => write_file(rt, word, form_for(is_wide), given),
         },
@@ -131,14 +133,14 @@ fn shown_by(word: &str, is_json: bool) -> Option<Shown> {
     }
 }
 
-// Returns an option of a call that the commands which write a file don't have, or a word that is no text, if there is one.
-fn misplaced<'a>(call: &Call<'a, Global>, is_json: bool, is_wide: bool) -> Option<Misuse<'a>> {
+// Returns an option of a call that its command, which writes a file, doesn't have, or a word that is no text, if there is one.
+fn misplaced<'a>(call: &Call<'a, Global, Width>, command: &str) -> Option<Misuse<'a>> {
     if let Some(word) = call.others.no_texts.first() {
         return Some(Misuse::NoText(*word));
     }
     let options = [
-        (is_json, "--json"),
-        (is_wide, WIDE),
+        (call.format.is_json(), "--json"),
+        (call.own.is_wide && command != "create", WIDE),
         (call.limit.is_some(), "--limit"),
         (!call.others.lists.is_empty(), "--names"),
         (call.others.ends_with_nul, "-0"),
@@ -207,21 +209,6 @@ fn shown_whole(shown: Shown) -> Files
     }
 }
 
-// Removes the option from a call's words, if it is before `--`, and returns whether it was there.
-fn take_option(words: &mut Vec<Word>) -> bool {
-    for index in 1..words.len() {
-        match words[index].as_str() {
-            "--" => return false,
-            WIDE => {
-                words.remove(index);
-                return true;
-            }
-            _ => {}
-        }
-    }
-    false
-}
-
 // Returns the form of a file to create.
 fn form_for(is_wide: bool) -> Form
     ensures { result ≡ (if is_wide then Bits64 else Bits32) }
@@ -282,10 +269,17 @@ fn index_in(rt: &HostRuntime, word: &str) -> Result<usize, u8> {
 }
 
 fn extract_entry(rt: &HostRuntime, given: &[&str]) -> Result<u8, u8> {
-    let [file, index, target] = given else {
-        return Err(PROGRAM.bad_usage(rt, Misuse::Missing("FILE, INDEX and OUT")));
+    let [file, which, target] = given else {
+        return Err(PROGRAM.bad_usage(rt, Misuse::Missing("FILE, INDEX|CPU and OUT")));
     };
-    let index = index_in(rt, index)?;
+    match which.parse::<usize>() {
+        Ok(index) => extract_at(rt, file, index, target),
+        Err(_) => extract_for(rt, file, which, target),
+    }
+}
+
+// Writes the entry with an index.
+fn extract_at(rt: &HostRuntime, file: &str, index: usize, target: &str) -> Result<u8, u8> {
     if is_same_file(rt, file, target) {
         return Err(one_file(file, target, &mut rt.stderr()));
     }
@@ -301,23 +295,20 @@ fn extract_entry(rt: &HostRuntime, given: &[&str]) -> Result<u8, u8> {
     ))
 }
 
-fn thin_file(rt: &HostRuntime, given: &[&str]) -> Result<u8, u8> {
-    let [file, cpu, target] = given else {
-        return Err(PROGRAM.bad_usage(rt, Misuse::Missing("FILE, 0xCPUTYPE and OUT")));
-    };
-    let Some(cputype) = cputype_in(cpu) else {
-        return Err(PROGRAM.bad_usage(rt, Misuse::NoCpu(cpu)));
+// Writes the first entry for the cpu that a word says.
+fn extract_for(rt: &HostRuntime, file: &str, word: &str, target: &str) -> Result<u8, u8> {
+    let Some(cpu) = cpu_in(word) else {
+        return Err(PROGRAM.bad_usage(rt, Misuse::NoCpu(word)));
     };
     let bytes = PROGRAM.read(rt, file)?;
-    Ok(run_thin(
-        rt,
-        rt.alloc(),
-        file,
-        &bytes,
-        cputype,
-        target,
-        &mut rt.stderr(),
-    ))
+    Ok(run_thin(rt, rt.alloc(), file, &bytes, cpu, target, &mut rt.stderr()))
+}
+
+fn thin_file(rt: &HostRuntime, given: &[&str]) -> Result<u8, u8> {
+    let [file, cpu, target] = given else {
+        return Err(PROGRAM.bad_usage(rt, Misuse::Missing("FILE, CPU and OUT")));
+    };
+    extract_for(rt, file, cpu, target)
 }
 
 fn replace_entries(rt: &HostRuntime, given: &[&str]) -> Result<u8, u8> {

@@ -12,13 +12,12 @@ ghost use Rattle.machfat.specs.Members.{AreContentLines, AreEntryLines, AreFileL
 ghost use Rattle.machfat.specs.Refusals.{but_archive, refused_by, RefusesFile, RefusesMembers, RefusesUnwritten};
 ghost use Rattle.machfat.specs.Written.{WritesAs};
 
-use crate::archive::kind::begins_image;
 use crate::archive::{print_archive, print_refused};
 use crate::commands::reported;
 use crate::refusal::{Refusal, WriteFailure, refused_by};
 use mach_archive::Archive;
 use mach_base::Error;
-use mach_cli::{Foreign, Outcome, most_items, refused_kind};
+use mach_cli::{Foreign, Outcome, begins_image, most_items, refused_kind};
 use mach_fat_writer::{EntryRecord, EntryRefusal, Form};
 use std::alloc::{Allocator, Global};
 use std::io;

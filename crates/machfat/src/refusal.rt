@@ -6,7 +6,7 @@ ghost use Rattle.machfat.specs.declared.refusal.Refusal.TheVariants as refusals;
 ghost use Rattle.machfat.specs.declared.refusal.WriteFailure.TheVariants as failures;
 
 use goblin_mach::{Error, describe};
-use mach_cli::Foreign;
+use mach_cli::{Cpu, Foreign};
 use mach_fat_writer::EntryRefusal;
 use std::alloc::AllocError;
 use std::fmt::{Display, Formatter, Write};
@@ -23,6 +23,8 @@ pub enum Refusal {
     NotFat,
     /// Its entries are refused, or it doesn't have the selected one.
     Entries(EntryRefusal),
+    /// It has no entry for this cpu.
+    NoEntryOf(Cpu),
 }
 
 impl From<Error> for Refusal {
@@ -53,6 +55,7 @@ impl Display for Refusal {
             Refusal::Foreign(kind) => write!(f, "{kind}"),
             Refusal::NotFat => write!(f, "not a fat file"),
             Refusal::Entries(refusal) => write!(f, "{refusal}"),
+            Refusal::NoEntryOf(cpu) => write!(f, "no entry of {cpu}"),
         }
     }
 }

@@ -9,11 +9,10 @@ ghost use Rattle.machfat.specs.MemberLines.{member_faults, member_front, member_
 ghost use Rattle.machfat.specs.MemberLines.{member_place_text, number_or_dash, octal_or_dash, is_whole_member, AreMemberLines, MemberReported};
 ghost use Rattle.machfat.specs.Written.{WritesAs};
 
-use crate::archive::kind::entry_kind;
 use crate::archive::{print_name_end, print_refused};
 use mach_archive::{Archive, Member};
 use mach_base::{Result, describe};
-use mach_cli::ListProgress;
+use mach_cli::{ListProgress, entry_kind};
 use std::fmt::{Display, Formatter, Write};
 use std::{fmt, io};
 

@@ -5,7 +5,7 @@ use Rattle.mach_base.specs.Answer.{ErrorMeets}
 use Rattle.mach_base.specs.declared.error.Error.{Error}
 use Rattle.machfat.specs.Refusals.{IsRefusal, IsWant, refusal_line}
 use Rattle.machfat.specs.declared.refusal.Refusal.{Refusal}
-use Rattle.machfat.specs.declared.refusal.Refusal.TheVariants.{Refused, Foreign, NotFat, Entries}
+use Rattle.machfat.specs.declared.refusal.Refusal.TheVariants.{Refused, Foreign, NotFat, NoEntryOf, Entries}
 use Rattle.machfat.proofs.made.place_made.Goals as goal
 
 -- a refusal that is a refused allocation has an error that is one
@@ -14,6 +14,7 @@ wanting : (target : List ℕ) (old new : Option (List ℕ)) (refusal : Refusal) 
 wanting target old new (Refused e) want reported = (e, want, reported)
 wanting target old new (Foreign kind) want reported = absurd want
 wanting target old new NotFat want reported = absurd want
+wanting target old new (NoEntryOf cpu) want reported = absurd want
 wanting target old new (Entries why) want reported = absurd want
 
 pub returns-clause-wanting : goal.returns-clause-wanting

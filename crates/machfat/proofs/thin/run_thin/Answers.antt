@@ -1,9 +1,9 @@
 use Rattle.std.proofs.lemmas.Result.{IfErr-at_err}
-use Rattle.mach_fat_writer.specs.Changes.{thin_entry_in}
-use Rattle.machfat.specs.Refusals.{IsRefusal, RefusesPlainly}
+use Rattle.machfat.specs.OfCpu.{cpu_entry_in}
+use Rattle.machfat.specs.Refusals.{IsRefusal, RefusesCpu}
 use Rattle.machfat.proofs.thin.run_thin.Goals as goal
 
 pub returns-clause-refused : goal.returns-clause-refused
 returns-clause-refused g c = λ one.
     let reported = c.status.ensures.refused one in
-    (reported.0, IfErr-at_err (IsRefusal (RefusesPlainly (thin_entry_in c.args.bytes.now c.args.cputype))) reported.1 c.thin.ensures.refused, reported.2)
+    (reported.0, IfErr-at_err (IsRefusal (RefusesCpu (cpu_entry_in c.args.bytes.now c.args.cpu) c.args.cpu)) reported.1 c.thin.ensures.refused, reported.2)
