@@ -8,15 +8,20 @@ use alloc::vec::Vec;
 use crate::generated::mach_cli::cpu::{Arch, Cpu};
 use crate::generated::mach_cli::misuse::Misuse;
 use crate::generated::mach_cli::named::Others;
+use crate::generated::mach_cli::options::{Format, Options, OwnOptions};
 use crate::generated::mach_cli::word::{NoText, Word};
 use crate::shim::AllocError;
 
 /// The arguments of a call, after the program's name and the options.
-pub struct Call<'a> {
+pub struct Call<'a, O> {
     /// The number after `--limit`, if it is given.
     pub limit: Option<usize>,
     /// The cpu after `--arch` or `--cputype`; any, if neither is given.
     pub cpu: Cpu,
+    /// The form that the last of `--quiet` and `--json` selects; text, if neither is given.
+    pub format: Format,
+    /// The program's own options.
+    pub own: O,
     /// All other arguments that are text, in order.
     pub words: Vec<&'a str>,
     /// The files that are named in other ways.
@@ -24,26 +29,15 @@ pub struct Call<'a> {
 }
 
 /// What the arguments of a call request.
-pub enum Request<'a> {
+pub enum Request<'a, O> {
     /// `--help`: print the usage.
     Help,
     /// `--version`: print the version.
     Version,
     /// A run of the program, with its arguments.
-    Call(Call<'a>),
+    Call(Call<'a, O>),
     /// Nothing, because of this misuse.
     Nothing(Misuse<'a>),
-}
-
-/// The options that a program has.
-#[derive(Clone, Copy)]
-pub struct Options {
-    /// `--limit`.
-    pub has_limit: bool,
-    /// `--arch` and `--cputype`.
-    pub has_cpu: bool,
-    /// `--names` and `-0`, for programs that take several files.
-    pub has_files: bool,
 }
 
 // An option with a value.
@@ -64,12 +58,14 @@ enum Kind {
     Version,
     // `-0`: names in lists end with NUL.
     Nul,
+    // An option that selects a form.
+    Form(Format),
     // An option with a value.
     Valued(Valued),
     // No option.
     Other,
-    // An option that the program doesn't have.
-    Unknown,
+    // An option of the program's own, or one that it doesn't have.
+    Own,
 }
 
 // Why arguments request nothing, or aren't read.
@@ -81,11 +77,6 @@ enum Untaken<'a> {
     Memory,
 }
 
-/// Whether an option that programs share has a value.
-pub fn takes_word(option: &str) -> bool {
-    matches!(option, "--limit" | "--arch" | "--cputype" | "--names")
-}
-
 // Returns the kind of an argument that is no option's value and comes before `--`.
 fn kind_of(word: &str, options: Options) -> Kind {
     match word {
@@ -93,12 +84,14 @@ fn kind_of(word: &str, options: Options) -> Kind {
         "-h" | "--help" => Kind::Help,
         "--version" => Kind::Version,
         "-0" if options.has_files => Kind::Nul,
+        "--json" if options.has_json => Kind::Form(Format::Json),
+        "--quiet" if options.has_quiet => Kind::Form(Format::Quiet),
         "--limit" if options.has_limit => Kind::Valued(Valued::Limit),
-        "--arch" if options.has_cpu => Kind::Valued(Valued::Arch),
-        "--cputype" if options.has_cpu => Kind::Valued(Valued::Cputype),
+        "--arch" if options.has_arch => Kind::Valued(Valued::Arch),
+        "--cputype" if options.has_cputype => Kind::Valued(Valued::Cputype),
         "--names" if options.has_files => Kind::Valued(Valued::Names),
         "-" => Kind::Other,
-        _ if word.starts_with('-') => Kind::Unknown,
+        _ if word.starts_with('-') => Kind::Own,
         _ => Kind::Other,
     }
 }
@@ -138,7 +131,7 @@ pub fn cputype_in(word: &str) -> Option<u32> {
     u32::from_str_radix(digits, 16).ok()
 }
 
-impl<'a> Call<'a> {
+impl<'a, O: OwnOptions> Call<'a, O> {
     // Takes the value of an option; a value of `--names` is a list.
     fn take(&mut self, option: Valued, word: &'a str) -> Result<(), Untaken<'a>> {
         match option {
@@ -187,6 +180,15 @@ impl<'a> Call<'a> {
         };
         if pushed { Ok(()) } else { Err(Untaken::Memory) }
     }
+
+    // Takes an option that isn't shared.
+    fn take_own(&mut self, word: &'a Word) -> Result<(), Untaken<'a>> {
+        let option = word.as_str();
+        if !self.own.take(option) {
+            return Err(Untaken::Misuse(Misuse::UnknownOption(option)));
+        }
+        Ok(())
+    }
 }
 
 // Returns the report that the argument of this number isn't text.
@@ -198,15 +200,22 @@ fn no_text(number: usize, bytes: &[u8]) -> NoText<'_> {
     }
 }
 
-/// Parses the arguments after the program's name. An option may be anywhere before `--`; after it nothing is an option. `-` is no option.
+/// Parses the arguments after the program's name. An option may be anywhere before `--`; after it nothing is an option. `-` is no
+/// option.
 ///
 /// # Proved
 ///
-/// - if `Ok(x)`: `IsRequest options empty_call words x`
-pub fn understand<'a>(options: Options, words: &'a [Word]) -> Result<Request<'a>, AllocError> {
+/// - if `Ok(x)`: `IsRequest O.taken options (empty_call own) words x`
+pub fn understand<'a, O: OwnOptions>(
+    options: Options,
+    own: O,
+    words: &'a [Word],
+) -> Result<Request<'a, O>, AllocError> {
     let call = Call {
         limit: None,
         cpu: Cpu::Any,
+        format: Format::Text,
+        own,
         words: Vec::new(),
         others: Others {
             lists: Vec::new(),
@@ -222,11 +231,11 @@ pub fn understand<'a>(options: Options, words: &'a [Word]) -> Result<Request<'a>
 }
 
 // Parses arguments into a call that has some already.
-fn read<'a>(
-    mut call: Call<'a>,
+fn read<'a, O: OwnOptions>(
+    mut call: Call<'a, O>,
     options: Options,
     words: &'a [Word],
-) -> Result<Request<'a>, Untaken<'a>> {
+) -> Result<Request<'a, O>, Untaken<'a>> {
     let mut before: Option<Valued> = None;
     let mut is_plain = false;
     for word in words {
@@ -242,14 +251,17 @@ fn read<'a>(
             Kind::Help => return Ok(Request::Help),
             Kind::Version => return Ok(Request::Version),
             Kind::Nul => call.others.ends_with_nul = true,
+            Kind::Form(format) => call.format = format,
             Kind::Valued(option) => before = Some(option),
             Kind::Other => {
                 if let Err(untaken) = call.add(word, options) {
                     return Err(untaken);
                 }
             }
-            Kind::Unknown => {
-                return Err(Untaken::Misuse(Misuse::UnknownOption(word.as_str())));
+            Kind::Own => {
+                if let Err(untaken) = call.take_own(word) {
+                    return Err(untaken);
+                }
             }
         }
     }

@@ -2,7 +2,5 @@
 //! What programs write as JSON (RFC 8259).
 #![forbid(unsafe_code)]
 
-pub(crate) mod arguments;
 pub(crate) mod array;
-pub(crate) mod signing;
 pub(crate) mod text;

@@ -13,21 +13,26 @@ mod failure;
 mod first_bytes;
 mod misuse;
 mod named;
+mod options;
 pub mod output;
 mod program;
 mod word;
 
 // The output for a file, for an image, and for each entry.
 mod document;
+mod fields;
 mod image_files;
 mod image_view;
 mod images_view;
+mod items;
 mod label;
 mod listing;
 mod names;
 mod refusal;
+mod signing;
 mod sink;
 mod titled;
+mod values;
 
 // Archives and fat files of 64 bits: each member and each entry is shown as a file of its own.
 mod files;
@@ -46,25 +51,27 @@ mod progress;
 mod terminal;
 
 pub use crate::generated::mach_cli::bounds::most_items;
-pub use crate::generated::mach_cli::call::{Call, cputype_in, takes_word};
+pub use crate::generated::mach_cli::call::{Call, cputype_in};
 pub use crate::generated::mach_cli::complaint::{Complaint, Trouble};
 pub use crate::generated::mach_cli::cpu::{Arch, Cpu};
 pub use crate::generated::mach_cli::directory_name::print_name;
 pub use crate::generated::mach_cli::document::Document;
 pub use crate::generated::mach_cli::escaped::{Escaped, EscapedBytes, print_bytes, print_escaped};
 pub use crate::generated::mach_cli::failure::ShowFailure;
+pub use crate::generated::mach_cli::fields::{
+    Field, FieldsForm, Line, Object, Pairs, Value, word_if,
+};
 pub use crate::generated::mach_cli::files::{FileView, Files};
-pub use crate::generated::mach_cli::first_bytes::{Foreign, foreign_kind, refused_kind};
+pub use crate::generated::mach_cli::first_bytes::{
+    Foreign, begins_image, begins_whole_archive, entry_kind, foreign_kind, refused_kind,
+};
 pub use crate::generated::mach_cli::flags::{print_code_flags, print_segment_flags};
 pub use crate::generated::mach_cli::image_files::ImageFiles;
 pub use crate::generated::mach_cli::image_view::{ImageView, Outcome};
 pub use crate::generated::mach_cli::images_view::ImagesView;
-pub use crate::generated::mach_cli::json::arguments::take_json;
+pub use crate::generated::mach_cli::items::{InForm, ItemList};
 pub use crate::generated::mach_cli::json::array::{
     comma_before, print_array, print_empty, print_end, print_end_past, print_member, then,
-};
-pub use crate::generated::mach_cli::json::signing::{
-    AuthMembers, DiversityMembers, has_auth, key_by, rebase_type,
 };
 pub use crate::generated::mach_cli::json::text::JsonString;
 pub use crate::generated::mach_cli::label::Label;
@@ -74,6 +81,7 @@ pub use crate::generated::mach_cli::listing::{
 pub use crate::generated::mach_cli::misuse::Misuse;
 pub use crate::generated::mach_cli::named::{Others, names_of};
 pub use crate::generated::mach_cli::names::Names;
+pub use crate::generated::mach_cli::options::{Format, Options, OwnOptions, SharedOnly};
 pub use crate::generated::mach_cli::parts::name::PartName;
 pub use crate::generated::mach_cli::parts::selection::{is_for, is_missed};
 pub use crate::generated::mach_cli::parts::shown::{ShownPart, shown_part};
@@ -81,7 +89,11 @@ pub use crate::generated::mach_cli::parts::{Parts, parts_of};
 pub use crate::generated::mach_cli::program::Program;
 pub use crate::generated::mach_cli::progress::Progress;
 pub use crate::generated::mach_cli::refusal::{Refusal, complain, refusal_of};
+pub use crate::generated::mach_cli::signing::{
+    diverse_by, diversity_by, has_auth, key_by, rebase_type,
+};
 pub use crate::generated::mach_cli::sink::{Json, Sink, Text};
 pub use crate::generated::mach_cli::terminal::ForTerminal;
 pub use crate::generated::mach_cli::titled::Titled;
+pub use crate::generated::mach_cli::values::{SourceVersionText, UuidText, VersionText};
 pub use crate::generated::mach_cli::word::{NoText, Word};

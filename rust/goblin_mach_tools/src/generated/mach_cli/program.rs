@@ -6,11 +6,14 @@ use crate::shim::rt::Eprint;
 use crate::shim::rt::HostRuntime;
 use alloc::vec::Vec;
 
-use crate::generated::mach_cli::call::{Call, Options, Request, understand};
+use crate::generated::mach_cli::call::{Call, Request, understand};
 use crate::generated::mach_cli::complaint::{Complaint, Trouble};
+use crate::generated::mach_cli::label::Label;
 use crate::generated::mach_cli::misuse::Misuse;
 use crate::generated::mach_cli::names::Names;
+use crate::generated::mach_cli::options::{Options, OwnOptions};
 use crate::generated::mach_cli::output::say;
+use crate::generated::mach_cli::refusal::{Refusal, complain};
 use crate::generated::mach_cli::word::{Word, call_words};
 use crate::shim::AllocError;
 use crate::shim::io::{ErrorKind, Read};
@@ -25,12 +28,8 @@ pub struct Program {
     pub usage: &'static str,
     /// What `--version` prints.
     pub version: &'static str,
-    /// Whether it has `--limit`.
-    pub has_limit: bool,
-    /// Whether it has `--arch` and `--cputype`.
-    pub has_cpu: bool,
-    /// Whether it takes several files. Then it has `--names` and `-0`, and an argument that isn't text doesn't stop the others.
-    pub has_files: bool,
+    /// The shared options that it has.
+    pub options: Options,
     /// The words that it knows: its options and its commands.
     pub known: &'static [&'static str],
 }
@@ -49,19 +48,20 @@ impl Program {
         }
     }
 
-    /// Parses the arguments of a call. `--help`, `--version` and misuse are answered here, and the error is the exit status.
+    /// Parses the arguments of a call; the first is the program's name. `own` has the program's own options, of which none is
+    /// given yet. `--help`, `--version` and misuse are answered here, and the error is the exit status.
     ///
     /// # Proved
     ///
-    /// - if `Err(e)`: `IsStatus e`
-    pub fn call<'a>(&self, rt: &HostRuntime, words: &'a [Word]) -> Result<Call<'a>, u8> {
-        let following = words.get(1..).unwrap_or(&[]);
-        let options = Options {
-            has_limit: self.has_limit,
-            has_cpu: self.has_cpu,
-            has_files: self.has_files,
-        };
-        match understand(options, following) {
+    /// - *selected*: if `Ok(call)`: `Selects O.taken self.options None (empty_call own) (drop 1 words) (call_view call)`
+    /// - *unread*: if `Err(e)`: `IsStatus e`
+    pub fn call<'a, O: OwnOptions>(
+        &self,
+        rt: &HostRuntime,
+        own: O,
+        words: &'a [Word],
+    ) -> Result<Call<'a, O>, u8> {
+        match understand(self.options, own, after_first(words)) {
             Ok(Request::Help) => Err(self.say(rt, self.usage)),
             Ok(Request::Version) => Err(self.say(rt, self.version)),
             Ok(Request::Call(call)) => Ok(call),
@@ -108,7 +108,7 @@ impl Program {
             program: self.name,
             file,
         };
-        let _ = rt.eprintln(format_args!("{names}: out of memory"));
+        let _ = complain(names, Label::None, Refusal::Memory, &mut rt.stderr());
         1
     }
 
@@ -140,6 +140,14 @@ impl Program {
             program: self.name,
             trouble,
         });
+    }
+}
+
+// Returns the words after the first.
+fn after_first(words: &[Word]) -> &[Word] {
+    match words {
+        [_, following @ ..] => following,
+        [] => &[],
     }
 }
 

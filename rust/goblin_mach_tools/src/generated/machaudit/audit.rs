@@ -6,19 +6,21 @@ use crate::shim::TryGrow;
 use alloc::vec::Vec;
 
 use crate::generated::mach_cli::{Cpu, most_items};
+use crate::generated::machaudit::items::Items;
 use crate::generated::machaudit::lists::{
-    audit_bindings, audit_exports, audit_fixups, audit_imports, audit_relocations, audit_sections,
-    audit_symbols,
+    audit_exports, audit_list, audit_relocations, audit_sections, audit_symbols,
 };
 use crate::generated::machaudit::overlaid::entries_within;
 use crate::generated::machaudit::report::{
-    AuditFailure, EntryReport, FatReport, ImageReport, Parts, Records, Report, no_memory,
+    ArchiveReport, AuditFailure, EntryReport, FatReport, ImageReport, ItemList, MemberReport,
+    Parts, Records, Report, no_memory,
 };
 use crate::generated::machaudit::signed::audit_signature;
 use goblin_mach::generated::mach::fat::FatArch;
 use goblin_mach::generated::mach::layout::layout_faults;
 use goblin_mach::generated::mach::segment::Segment;
 use goblin_mach::generated::mach::{Ctx, Error, Mach, MachO, MultiArch, SingleArch};
+use goblin_mach::generated::mach_archive::{Archive, Member, Members};
 use goblin_mach::generated::mach_layout::{LayoutFault, container_faults};
 
 // Audits the relocations of all sections, if these were visited to their end and each can be read.
@@ -61,9 +63,12 @@ fn audit_parts(image: &MachO<'_>, limit: usize) -> Result<Parts, AuditFailure> {
     let relocations = audit_relocated(bytes, ctx, segments, &sections, limit)?;
     let symbols = audit_symbols(image, limit)?;
     let exports = audit_exports(image, limit)?;
-    let imports = audit_imports(image.iter_imports(), limit)?;
-    let fixups = audit_fixups(image.fixups(), limit)?;
-    let bindings = audit_bindings(image.bindings(), limit)?;
+    let imports = Items::Imports(image.iter_imports());
+    let imports = audit_list(ItemList::Imports, imports, limit)?;
+    let fixups = Items::Fixups(image.fixups());
+    let fixups = audit_list(ItemList::Fixups, fixups, limit)?;
+    let bindings = Items::Bindings(image.bindings());
+    let bindings = audit_list(ItemList::Bindings, bindings, limit)?;
     let signature = audit_signature(image)?;
     let layout = audit_layout(image)?;
     Ok(Parts {
@@ -93,15 +98,83 @@ fn audit_refused(bytes: &[u8], error: Error, limit: usize) -> Result<ImageReport
     }
 }
 
+// Audits some bytes as an image.
+fn audit_image(bytes: &[u8], limit: usize) -> Result<ImageReport, AuditFailure> {
+    match MachO::parse(bytes, 0) {
+        Ok(image) => {
+            let parts = audit_parts(&image, limit)?;
+            Ok(ImageReport::Opens(parts))
+        }
+        Err(error) => {
+            let image = audit_refused(bytes, error, limit)?;
+            Ok(image)
+        }
+    }
+}
+
+// Audits an item of an archive: a member, or the error at which the members end.
+fn audit_member<'a>(
+    member: goblin_mach::generated::mach::Result<Member<'a>>,
+    limit: usize,
+) -> Result<MemberReport<'a>, AuditFailure> {
+    match member {
+        Ok(member) => {
+            let image = audit_image(member.bytes, limit)?;
+            Ok(MemberReport::Image(member, image))
+        }
+        Err(error) => {
+            let error = no_memory(error)?;
+            Ok(MemberReport::Refused(error))
+        }
+    }
+}
+
+// Audits members of an archive in order, at most `limit`.
+fn audit_members<'a>(
+    members: Members<'a>,
+    limit: usize,
+) -> Result<ArchiveReport<'a>, AuditFailure> {
+    let mut reports = Vec::new();
+    for member in members {
+        if reports.len() >= limit {
+            return Ok(ArchiveReport {
+                members: reports,
+                cut: true,
+            });
+        }
+        reports.try_push(audit_member(member, limit)?)?;
+    }
+    Ok(ArchiveReport {
+        members: reports,
+        cut: false,
+    })
+}
+
+// Audits an archive: its members, or the error for which it doesn't open.
+fn audit_archive<'a>(bytes: &'a [u8], limit: usize) -> Result<ArchiveReport<'a>, AuditFailure> {
+    match Archive::parse(bytes) {
+        Ok(archive) => audit_members(archive.members(), limit),
+        Err(error) => {
+            let mut members: Vec<MemberReport<'a>> = Vec::new();
+            members.try_push(audit_member(Err(error), limit)?)?;
+            let cut = false;
+            Ok(ArchiveReport { members, cut })
+        }
+    }
+}
+
 // Audits an entry of a fat file, which lies in these bytes.
-fn audit_entry(
-    container: &MultiArch<'_>,
+fn audit_entry<'a>(
+    container: &MultiArch<'a>,
     index: usize,
     bytes: &[u8],
     limit: usize,
-) -> Result<EntryReport, AuditFailure> {
+) -> Result<EntryReport<'a>, AuditFailure> {
     match container.get(index) {
-        Ok(SingleArch::Archive(_)) => Ok(EntryReport::Archive),
+        Ok(SingleArch::Archive(bytes)) => {
+            let archive = audit_archive(bytes, limit)?;
+            Ok(EntryReport::Archive(archive))
+        }
         Ok(SingleArch::MachO(image)) => {
             let parts = audit_parts(&image, limit)?;
             Ok(EntryReport::Image(ImageReport::Opens(parts)))
@@ -123,11 +196,11 @@ fn named_bytes<'a>(bytes: &'a [u8], arches: &[FatArch], index: usize) -> &'a [u8
 
 // Audits a fat file: its table, and then its entries, as long as they have no more bytes together than the file. If the table
 // can't be read, no entry is audited.
-fn audit_fat(
-    container: &MultiArch<'_>,
+fn audit_fat<'a>(
+    container: &MultiArch<'a>,
     bytes: &[u8],
     limit: usize,
-) -> Result<FatReport, AuditFailure> {
+) -> Result<FatReport<'a>, AuditFailure> {
     let count = container.narches;
     let mut entries = Vec::new();
     let arches = match container.arches() {
@@ -165,7 +238,7 @@ fn audit_fat(
 /// - *reported*: if `Ok(x)`: `IsFileReport limit bytes x`
 /// - *judged*: if `Ok(r)`: `Judges (IsSound bytes) (IsLong limit bytes) (verdict_of_report r)`
 /// - *memory*: if `Err(failure)`: `failure ≡ failures.Memory`
-pub fn audit(bytes: &[u8], limit: usize) -> Result<Report, AuditFailure> {
+pub fn audit<'a>(bytes: &'a [u8], limit: usize) -> Result<Report<'a>, AuditFailure> {
     match Mach::parse(bytes) {
         Ok(Mach::Binary(image)) => {
             let parts = audit_parts(&image, limit)?;

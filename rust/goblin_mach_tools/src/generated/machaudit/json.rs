@@ -8,14 +8,17 @@ pub mod part;
 use crate::generated::mach_cli::{JsonString, comma_before};
 use crate::generated::machaudit::json::fault::{NoImage, Refusal};
 use crate::generated::machaudit::json::part::{Unreported, write_layout, write_part, write_parts};
-use crate::generated::machaudit::report::{EntryReport, FatReport, ImageReport, Report};
+use crate::generated::machaudit::report::{
+    ArchiveReport, EntryReport, FatReport, ImageReport, MemberReport, Report,
+};
 use crate::generated::machaudit::verdict::Verdict;
 use crate::shim::io;
 use crate::shim::io::Write;
 use goblin_mach::generated::mach::Error;
+use goblin_mach::generated::mach_archive::Member;
 
 /// Writes the object of a file on a line: its name, whether it is sound, what it is, and its images.
-pub fn print_object<O: Write>(name: &str, report: &Report, out: &mut O) -> io::Result<()> {
+pub fn print_object<O: Write>(name: &str, report: &Report<'_>, out: &mut O) -> io::Result<()> {
     write!(out, "{{\"container\":[")?;
     write_container(report, out)?;
     write!(out, "],\"images\":[")?;
@@ -24,7 +27,7 @@ pub fn print_object<O: Write>(name: &str, report: &Report, out: &mut O) -> io::R
 }
 
 // Writes the parts of a fat file's table; nothing for an image.
-fn write_container<O: Write>(report: &Report, out: &mut O) -> io::Result<()> {
+fn write_container<O: Write>(report: &Report<'_>, out: &mut O) -> io::Result<()> {
     match report {
         Report::Image(_) => Ok(()),
         Report::Fat(fat) => write_fat(fat, out),
@@ -32,14 +35,14 @@ fn write_container<O: Write>(report: &Report, out: &mut O) -> io::Result<()> {
 }
 
 // Writes the parts of a fat file's table.
-fn write_fat<O: Write>(fat: &FatReport, out: &mut O) -> io::Result<()> {
+fn write_fat<O: Write>(fat: &FatReport<'_>, out: &mut O) -> io::Result<()> {
     write_table(fat, out)?;
     write!(out, ",")?;
     write_entries(fat, out)
 }
 
 // Writes the part of the table itself: why it can't be read, or its faults.
-fn write_table<O: Write>(fat: &FatReport, out: &mut O) -> io::Result<()> {
+fn write_table<O: Write>(fat: &FatReport<'_>, out: &mut O) -> io::Result<()> {
     match &fat.table {
         Some(error) => write_part("table", &[Refusal(error)], Unreported::NOTHING, out),
         None => write_layout("table", fat.container.as_slice(), out),
@@ -47,7 +50,7 @@ fn write_table<O: Write>(fat: &FatReport, out: &mut O) -> io::Result<()> {
 }
 
 // Writes the part of the entries: whether there is none, and whether there are more than were audited.
-fn write_entries<O: Write>(fat: &FatReport, out: &mut O) -> io::Result<()> {
+fn write_entries<O: Write>(fat: &FatReport<'_>, out: &mut O) -> io::Result<()> {
     let unreported = Unreported {
         more: 0,
         past: 0,
@@ -61,7 +64,7 @@ fn write_entries<O: Write>(fat: &FatReport, out: &mut O) -> io::Result<()> {
 }
 
 // Writes the images of a file: its entries, or itself.
-fn write_images<O: Write>(report: &Report, out: &mut O) -> io::Result<()> {
+fn write_images<O: Write>(report: &Report<'_>, out: &mut O) -> io::Result<()> {
     match report {
         Report::Image(image) => write_image(image, out),
         Report::Fat(fat) => write_each(fat.entries.as_slice(), out),
@@ -69,7 +72,7 @@ fn write_images<O: Write>(report: &Report, out: &mut O) -> io::Result<()> {
 }
 
 // Writes the entries of a fat file.
-fn write_each<O: Write>(entries: &[EntryReport], out: &mut O) -> io::Result<()> {
+fn write_each<O: Write>(entries: &[EntryReport<'_>], out: &mut O) -> io::Result<()> {
     let mut is_first = true;
     for entry in entries {
         write_entry(entry, is_first, out)?;
@@ -79,22 +82,73 @@ fn write_each<O: Write>(entries: &[EntryReport], out: &mut O) -> io::Result<()> 
 }
 
 // Writes an entry of a fat file, after a comma unless it is the first.
-fn write_entry<O: Write>(entry: &EntryReport, is_first: bool, out: &mut O) -> io::Result<()> {
+fn write_entry<O: Write>(entry: &EntryReport<'_>, is_first: bool, out: &mut O) -> io::Result<()> {
     let comma = comma_before(is_first);
     write!(out, "{comma}")?;
     match entry {
-        EntryReport::Archive => write!(out, "{{\"kind\":\"archive\"}}"),
+        EntryReport::Archive(archive) => write_archive(archive, out),
         EntryReport::Image(image) => write_image(image, out),
+    }
+}
+
+// Writes an archive: its members, and the part that says whether they can be read to their end.
+fn write_archive<O: Write>(archive: &ArchiveReport<'_>, out: &mut O) -> io::Result<()> {
+    write!(out, "{{\"kind\":\"archive\",\"members\":[")?;
+    write_members(archive.members.as_slice(), out)?;
+    write!(out, "],\"parts\":[")?;
+    write_archive_part(archive, out)?;
+    write!(out, "]}}")
+}
+
+// Writes the part of an archive: the error at which its members end, and whether there are more than were audited.
+fn write_archive_part<O: Write>(archive: &ArchiveReport<'_>, out: &mut O) -> io::Result<()> {
+    let unreported = Unreported {
+        cut: archive.cut,
+        ..Unreported::NOTHING
+    };
+    match archive.error() {
+        Some(error) => write_part("archive", &[Refusal(error)], unreported, out),
+        None => write_part::<Refusal<'_>, O>("archive", &[], unreported, out),
+    }
+}
+
+// Writes the members of an archive.
+fn write_members<O: Write>(members: &[MemberReport<'_>], out: &mut O) -> io::Result<()> {
+    let mut is_first = true;
+    for report in members {
+        if let MemberReport::Image(member, image) = report {
+            let comma = comma_before(is_first);
+            write!(out, "{comma}{{\"kind\":\"image\",\"member\":")?;
+            write_name(*member, out)?;
+            write!(out, ",")?;
+            write_opened(image, out)?;
+            is_first = false;
+        }
+    }
+    Ok(())
+}
+
+// Writes the name of a member, or the offset of its header.
+fn write_name<O: Write>(member: Member<'_>, out: &mut O) -> io::Result<()> {
+    match member.name() {
+        Ok(name) => {
+            let name = JsonString(name);
+            write!(out, "{name}")
+        }
+        Err(_) => write!(out, "\"at {}\"", member.offset),
     }
 }
 
 // Writes an image: how it opens, and its parts.
 fn write_image<O: Write>(image: &ImageReport, out: &mut O) -> io::Result<()> {
+    write!(out, "{{\"kind\":\"image\",")?;
+    write_opened(image, out)
+}
+
+// Writes how an image opens, and its parts, and the end of its object.
+fn write_opened<O: Write>(image: &ImageReport, out: &mut O) -> io::Result<()> {
     let opens = words_of_opening(image);
-    write!(
-        out,
-        "{{\"kind\":\"image\",\"opens\":\"{opens}\",\"parts\":["
-    )?;
+    write!(out, "\"opens\":\"{opens}\",\"parts\":[")?;
     match image {
         ImageReport::Opens(parts) => {
             write_part::<Refusal<'_>, O>("opens", &[], Unreported::NOTHING, out)?;
@@ -124,7 +178,7 @@ fn words_of_opening(image: &ImageReport) -> &'static str {
 }
 
 // Writes the members after the images, and the end of the object.
-fn write_end<O: Write>(name: &str, report: &Report, out: &mut O) -> io::Result<()> {
+fn write_end<O: Write>(name: &str, report: &Report<'_>, out: &mut O) -> io::Result<()> {
     let kind = kind_of(report);
     let verdict = report.verdict();
     let (limit_met, sound) = (is_unended(verdict), is_sound(verdict));
@@ -134,7 +188,7 @@ fn write_end<O: Write>(name: &str, report: &Report, out: &mut O) -> io::Result<(
 }
 
 // Returns what a file is.
-fn kind_of(report: &Report) -> &'static str {
+fn kind_of(report: &Report<'_>) -> &'static str {
     match report {
         Report::Image(_) => "image",
         Report::Fat(_) => "fat file",

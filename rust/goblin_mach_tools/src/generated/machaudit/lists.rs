@@ -2,16 +2,42 @@
 //! Audits the lists of an image, one item at a time. No item is kept.
 #![forbid(unsafe_code)]
 
+use crate::generated::machaudit::items::Items;
 use crate::generated::machaudit::report::{
-    AuditFailure, FaultPlace, PartReport, Records, no_memory,
+    AuditFailure, FaultPlace, ItemList, PartReport, Records, no_memory,
 };
 use crate::generated::machaudit::tally::Tally;
-use goblin_mach::generated::mach::imports::BindIterator;
-use goblin_mach::generated::mach::segment::{
-    RelocationIterator, Section, SectionData, SectionIterator, Segment,
-};
-use goblin_mach::generated::mach::symbols::SymbolIterator;
-use goblin_mach::generated::mach::{BindingIterator, Ctx, FixupIterator, MachO};
+use goblin_mach::generated::mach::segment::{Section, SectionData, SectionIterator, Segment};
+use goblin_mach::generated::mach::{Ctx, MachO};
+
+/// Audits a list, at most `limit` items.
+///
+/// # Proved
+///
+/// - *reported*: if `Ok(x)`: `ReportsOf limit (placed_from list 0 (faults_left items.entry)) x`
+/// - *memory*: if `Err(failure)`: `failure ≡ failures.Memory`
+pub fn audit_list(
+    list: ItemList,
+    items: Items<'_>,
+    limit: usize,
+) -> Result<PartReport, AuditFailure> {
+    let mut tally = Tally::new(limit);
+    add_list(list, items, &mut tally)?;
+    Ok(tally.part())
+}
+
+// Adds the items of a list.
+fn add_list(list: ItemList, mut items: Items<'_>, tally: &mut Tally) -> Result<(), AuditFailure> {
+    let mut index = 0usize;
+    while let Some(error) = items.next_error() {
+        let place = FaultPlace { list, index };
+        if !tally.take(place, error)? {
+            return Ok(());
+        }
+        index = index.saturating_add(1);
+    }
+    Ok(())
+}
 
 /// Audits the sections of all segments that begin within the bytes, at most `limit`.
 ///
@@ -27,27 +53,12 @@ pub fn audit_sections(segments: &[Segment<'_>], limit: usize) -> Result<Records,
         let sections = segment.into_iter();
         let in_bounds = sections.in_bounds();
         past = past.saturating_add(sections.len().saturating_sub(in_bounds.len()));
-        add_sections(number, in_bounds, &mut tally)?;
+        let list = ItemList::Sections(number);
+        add_list(list, Items::Sections(in_bounds), &mut tally)?;
         number = number.saturating_add(1);
     }
     let in_bounds = tally.part();
     Ok(Records { in_bounds, past })
-}
-
-// Adds the sections of the segment with this number.
-fn add_sections(
-    segment: usize,
-    sections: SectionIterator<'_>,
-    tally: &mut Tally,
-) -> Result<(), AuditFailure> {
-    let mut index = 0usize;
-    for section in sections {
-        if !tally.take(FaultPlace::Section { segment, index }, section.err())? {
-            return Ok(());
-        }
-        index = index.saturating_add(1);
-    }
-    Ok(())
 }
 
 /// Audits the relocations of all sections that begin within the bytes, at most `limit`.
@@ -127,29 +138,8 @@ fn add_relocations_by(
         return Ok(());
     };
     let relocations = section.iter_relocations(bytes, ctx);
-    add_relocations_of(numbers.0, numbers.1, relocations.in_bounds(), tally)
-}
-
-// Adds the relocations of one section.
-fn add_relocations_of(
-    segment: usize,
-    section: usize,
-    relocations: RelocationIterator<'_>,
-    tally: &mut Tally,
-) -> Result<(), AuditFailure> {
-    let mut index = 0usize;
-    for relocation in relocations {
-        let place = FaultPlace::Relocation {
-            segment,
-            section,
-            index,
-        };
-        if !tally.take(place, relocation.err())? {
-            return Ok(());
-        }
-        index = index.saturating_add(1);
-    }
-    Ok(())
+    let list = ItemList::Relocations(numbers.0, numbers.1);
+    add_list(list, Items::Relocations(relocations.in_bounds()), tally)
 }
 
 /// Audits the exports of the trie, at most `limit`, up to the first fault.
@@ -165,7 +155,10 @@ pub fn audit_exports(image: &MachO<'_>, limit: usize) -> Result<PartReport, Audi
     };
     let mut index = 0usize;
     while let Some(export) = walk.next() {
-        let place = FaultPlace::Export(index);
+        let place = FaultPlace {
+            list: ItemList::Exports,
+            index,
+        };
         match export {
             Err(error) => {
                 tally.take(place, Some(no_memory(error)?))?;
@@ -194,7 +187,8 @@ pub fn audit_symbols(image: &MachO<'_>, limit: usize) -> Result<Records, AuditFa
         Some(table) => {
             let in_bounds = table.in_bounds();
             let past = table.len().saturating_sub(in_bounds.len());
-            let in_bounds = audit_table(in_bounds.iter(), limit)?;
+            let symbols = Items::Symbols(in_bounds.iter());
+            let in_bounds = audit_list(ItemList::Symbols, symbols, limit)?;
             Ok(Records { in_bounds, past })
         }
         None => {
@@ -202,80 +196,4 @@ pub fn audit_symbols(image: &MachO<'_>, limit: usize) -> Result<Records, AuditFa
             Ok(Records { in_bounds, past: 0 })
         }
     }
-}
-
-// Adds the symbols of a table, at most `limit`.
-fn audit_table(symbols: SymbolIterator<'_>, limit: usize) -> Result<PartReport, AuditFailure> {
-    let mut tally = Tally::new(limit);
-    let mut index = 0usize;
-    for symbol in symbols {
-        if !tally.take(FaultPlace::Symbol(index), symbol.err())? {
-            return Ok(tally.part());
-        }
-        index = index.saturating_add(1);
-    }
-    Ok(tally.part())
-}
-
-/// Audits the imports of the opcodes, at most `limit`, up to the first fault.
-///
-/// # Proved
-///
-/// - *reported*: if `Ok(x)`: `ReportsOf limit (faults_from places.Import 0 (imports_left imports.entry)) x`
-/// - *memory*: if `Err(failure)`: `failure ≡ failures.Memory`
-pub fn audit_imports(
-    imports: BindIterator<'_, '_>,
-    limit: usize,
-) -> Result<PartReport, AuditFailure> {
-    let mut tally = Tally::new(limit);
-    let mut index = 0usize;
-    for import in imports {
-        if !tally.take(FaultPlace::Import(index), import.err())? {
-            return Ok(tally.part());
-        }
-        index = index.saturating_add(1);
-    }
-    Ok(tally.part())
-}
-
-/// Audits the fixups of the chains, at most `limit`, up to the first fault.
-///
-/// # Proved
-///
-/// - *reported*: if `Ok(x)`: `ReportsOf limit (faults_from places.Fixup 0 (image_fixups_left fixups.entry)) x`
-/// - *memory*: if `Err(failure)`: `failure ≡ failures.Memory`
-pub fn audit_fixups(
-    fixups: FixupIterator<'_, '_>,
-    limit: usize,
-) -> Result<PartReport, AuditFailure> {
-    let mut tally = Tally::new(limit);
-    let mut index = 0usize;
-    for fixup in fixups {
-        if !tally.take(FaultPlace::Fixup(index), fixup.err())? {
-            return Ok(tally.part());
-        }
-        index = index.saturating_add(1);
-    }
-    Ok(tally.part())
-}
-
-/// Audits the bindings of the opcodes and the chains, at most `limit`, up to the first fault.
-///
-/// # Proved
-///
-/// - *reported*: if `Ok(x)`: `ReportsOf limit (faults_from places.Binding 0 (bindings_left bindings.entry)) x`
-/// - *memory*: if `Err(failure)`: `failure ≡ failures.Memory`
-pub fn audit_bindings(
-    bindings: BindingIterator<'_, '_>,
-    limit: usize,
-) -> Result<PartReport, AuditFailure> {
-    let mut tally = Tally::new(limit);
-    let mut index = 0usize;
-    for binding in bindings {
-        if !tally.take(FaultPlace::Binding(index), binding.err())? {
-            return Ok(tally.part());
-        }
-        index = index.saturating_add(1);
-    }
-    Ok(tally.part())
 }

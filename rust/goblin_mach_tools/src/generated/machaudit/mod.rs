@@ -9,6 +9,7 @@ use alloc::string::String;
 // The audit of a file: whether it opens, and each part that can't be read or lies where it must not.
 mod audit;
 mod audits;
+mod items;
 mod lists;
 mod overlaid;
 mod report;
@@ -25,9 +26,9 @@ mod output;
 mod signature_text;
 mod text;
 
-use crate::generated::mach_cli::{Files, ForTerminal, Misuse, Program, Titled};
+use crate::generated::mach_cli::{Call, Files, ForTerminal, Misuse, Program, SharedOnly, Titled};
 use crate::generated::machaudit::audits::Audits;
-use crate::generated::machaudit::options::{DEFAULT_LIMIT, Format, Options, take_format};
+use crate::generated::machaudit::options::{DEFAULT_LIMIT, Options};
 use crate::generated::machaudit::output::NAME;
 use crate::shim::AllocError;
 use crate::shim::io;
@@ -40,9 +41,10 @@ const PROGRAM: Program = Program {
        machaudit -h | --help | --version
 ",
     version: "machaudit 0.2.0\n",
-    has_limit: true,
-    has_cpu: true,
-    has_files: true,
+    options: crate::generated::mach_cli::Options {
+        has_quiet: true,
+        ..crate::generated::mach_cli::Options::OF_IMAGES
+    },
     known: &[
         "--arch",
         "--cputype",
@@ -64,19 +66,12 @@ pub fn main(rt: HostRuntime) -> ExitCode {
 // Runs the program with its words. The error is the exit status if nothing was audited, or if a write failed.
 fn start(rt: &HostRuntime) -> Result<u8, u8> {
     let words = PROGRAM.words(rt)?;
-    let Ok((format, words)) = take_format(words) else {
-        return Err(PROGRAM.out_of_memory(rt));
-    };
-    let call = PROGRAM.call(rt, &words)?;
-    audit_files(rt, format, &call)
+    let call = PROGRAM.call(rt, SharedOnly, &words)?;
+    audit_files(rt, &call)
 }
 
 // Audits what is for the call's cpu of its files in order, and returns the worst status.
-fn audit_files(
-    rt: &HostRuntime,
-    format: Format,
-    call: &crate::generated::mach_cli::Call<'_>,
-) -> Result<u8, u8> {
+fn audit_files(rt: &HostRuntime, call: &Call<'_, SharedOnly>) -> Result<u8, u8> {
     let (files, others) = (&call.words, &call.others);
     if files.is_empty() && others.is_empty() {
         return Err(PROGRAM.bad_usage(rt, Misuse::Missing("FILE")));
@@ -87,7 +82,7 @@ fn audit_files(
     let audits = Audits {
         cpu: call.cpu,
         options: Options {
-            format,
+            format: call.format,
             limit: call.limit.unwrap_or(DEFAULT_LIMIT),
         },
         only,

@@ -2,10 +2,12 @@
 //! What the program prints, and its exit status.
 #![forbid(unsafe_code)]
 
-use crate::generated::mach_cli::{Escaped, Names, ShowFailure, refused_kind};
+use crate::generated::mach_cli::{
+    Escaped, Format, Label, Names, Refusal, ShowFailure, complain, refused_kind,
+};
 use crate::generated::machaudit::audit::audit;
 use crate::generated::machaudit::json::print_object;
-use crate::generated::machaudit::options::{Format, Options};
+use crate::generated::machaudit::options::Options;
 use crate::generated::machaudit::report::Report;
 use crate::generated::machaudit::text::print_report;
 use crate::generated::machaudit::verdict::Verdict;
@@ -57,7 +59,12 @@ pub fn run<W: Write, E: Write>(
 }
 
 // Prints the kind of a file, if it is refused as a whole and is not Mach-O.
-fn say_refusal<E: Write>(file: &str, bytes: &[u8], report: &Report, err: &mut E) -> io::Result<()> {
+fn say_refusal<E: Write>(
+    file: &str,
+    bytes: &[u8],
+    report: &Report<'_>,
+    err: &mut E,
+) -> io::Result<()> {
     match report.refusal() {
         Some(error) => say_foreign(file, bytes, error, err),
         None => Ok(()),
@@ -69,11 +76,25 @@ fn say_foreign<E: Write>(file: &str, bytes: &[u8], error: &Error, err: &mut E) -
     let Some(kind) = refused_kind(bytes, error) else {
         return Ok(());
     };
-    let names = Names {
+    complain(names_of(file), Label::None, Refusal::Kind(kind), err)
+}
+
+// Returns the names with which complaints about a file begin.
+fn names_of(file: &str) -> Names<'_> {
+    Names {
         program: NAME,
         file,
-    };
-    writeln!(err, "{names}: {kind}")
+    }
+}
+
+/// Reports that a file is refused, and returns the exit status.
+///
+/// # Proved
+///
+/// - `result ≡ 1`
+pub fn refuse<E: Write>(file: &str, refusal: Refusal<'_>, err: &mut E) -> u8 {
+    let _ = complain(names_of(file), Label::None, refusal, err);
+    1
 }
 
 // Returns the exit status of a verdict.
@@ -87,7 +108,7 @@ fn status(verdict: Verdict) -> u8 {
 // Prints the report of a file and flushes it.
 fn write_report<W: Write>(
     call: Call<'_>,
-    report: &Report,
+    report: &Report<'_>,
     out: &mut BufWriter<W>,
 ) -> io::Result<()> {
     print(call, report, out)?;
@@ -95,7 +116,7 @@ fn write_report<W: Write>(
 }
 
 // Prints the report of a file.
-fn print<O: Write>(call: Call<'_>, report: &Report, out: &mut O) -> io::Result<()> {
+fn print<O: Write>(call: Call<'_>, report: &Report<'_>, out: &mut O) -> io::Result<()> {
     match call.options.format {
         Format::Text => {
             if call.heading {

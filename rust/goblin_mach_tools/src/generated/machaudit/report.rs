@@ -8,6 +8,7 @@ use crate::shim::AllocError;
 use crate::shim::io;
 use core::fmt;
 use goblin_mach::generated::mach::Error;
+use goblin_mach::generated::mach_archive::Member;
 use goblin_mach::generated::mach_layout::LayoutFault;
 use goblin_mach::generated::mach_signature::SignatureFault;
 
@@ -55,27 +56,32 @@ pub fn no_memory(error: Error) -> Result<Error, AuditFailure> {
     }
 }
 
+/// A list of an image, whose items have numbers.
+#[derive(Clone, Copy, Debug)]
+pub enum ItemList {
+    /// The sections of the segment with this number.
+    Sections(usize),
+    /// The relocations of a section: the number of its segment, and its own in this.
+    Relocations(usize, usize),
+    /// The symbols.
+    Symbols,
+    /// The exports.
+    Exports,
+    /// The imports.
+    Imports,
+    /// The fixups.
+    Fixups,
+    /// The bindings.
+    Bindings,
+}
+
 /// The place of an item that can't be read.
 #[derive(Clone, Copy, Debug)]
-pub enum FaultPlace {
-    /// A section of a segment, both by their numbers.
-    Section { segment: usize, index: usize },
-    /// A relocation of a section, all by their numbers.
-    Relocation {
-        segment: usize,
-        section: usize,
-        index: usize,
-    },
-    /// A symbol.
-    Symbol(usize),
-    /// The export of this number.
-    Export(usize),
-    /// The import of this number.
-    Import(usize),
-    /// The fixup of this number.
-    Fixup(usize),
-    /// The binding of this number.
-    Binding(usize),
+pub struct FaultPlace {
+    /// The list.
+    pub list: ItemList,
+    /// The item's number in it.
+    pub index: usize,
 }
 
 /// An item that can't be read.
@@ -154,16 +160,42 @@ pub enum ImageReport {
     Refused(Error),
 }
 
+/// The report of an item of an archive.
+pub enum MemberReport<'a> {
+    /// A member, with the report of its bytes as an image.
+    Image(Member<'a>, ImageReport),
+    /// The error at which the members end, or for which the archive doesn't open.
+    Refused(Error),
+}
+
+/// The report of an archive.
+pub struct ArchiveReport<'a> {
+    /// The reports of its members, in order.
+    pub members: Vec<MemberReport<'a>>,
+    /// Whether it has more members than were audited.
+    pub cut: bool,
+}
+
+impl<'a> ArchiveReport<'a> {
+    /// Returns the error at which the members end, or for which the archive doesn't open.
+    pub fn error(&self) -> Option<&Error> {
+        match self.members.last() {
+            Some(MemberReport::Refused(error)) => Some(error),
+            Some(MemberReport::Image(_, _)) | None => None,
+        }
+    }
+}
+
 /// The report of an entry of a fat file.
-pub enum EntryReport {
+pub enum EntryReport<'a> {
     /// It is an archive.
-    Archive,
-    /// It is an image.
+    Archive(ArchiveReport<'a>),
+    /// It is an image, or nothing that opens.
     Image(ImageReport),
 }
 
 /// The report of a fat file.
-pub struct FatReport {
+pub struct FatReport<'a> {
     /// The number of entries in its header.
     pub count: usize,
     /// The error of its table, if it can't be read.
@@ -171,20 +203,20 @@ pub struct FatReport {
     /// The faults of its table, if it can be read.
     pub container: Vec<LayoutFault>,
     /// The reports of its entries, in order.
-    pub entries: Vec<EntryReport>,
+    pub entries: Vec<EntryReport<'a>>,
     /// Whether it has more entries than were audited.
     pub cut: bool,
 }
 
 /// The report of a file.
-pub enum Report {
+pub enum Report<'a> {
     /// It is an image, or nothing that opens.
     Image(ImageReport),
     /// It is a fat file.
-    Fat(FatReport),
+    Fat(FatReport<'a>),
 }
 
-impl Report {
+impl Report<'_> {
     /// Returns the error for which the whole file is refused, if it is: it opens in no mode, or is a fat file whose table can't
     /// be read.
     ///

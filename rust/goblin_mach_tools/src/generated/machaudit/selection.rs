@@ -6,8 +6,8 @@ use crate::shim::format_in;
 use alloc::string::String;
 use alloc::vec::Vec;
 
-use crate::generated::mach_cli::{Cpu, Names, ShowFailure};
-use crate::generated::machaudit::output::{Call, NAME, run};
+use crate::generated::mach_cli::{Cpu, Names, Refusal, ShowFailure};
+use crate::generated::machaudit::output::{Call, NAME, refuse, run};
 use crate::generated::machaudit::overlaid::entries_within;
 use crate::shim::AllocError;
 use crate::shim::io::{BufWriter, Write};
@@ -45,10 +45,10 @@ pub fn run_for<W: Write, E: Write>(
 ) -> Result<u8, ShowFailure> {
     match selected_of(cpu, bytes)? {
         Selected::Whole => run(call, bytes, out, err),
-        Selected::Other => Ok(missed(call.name, "no image of", cpu, err)),
+        Selected::Other => Ok(refuse(call.name, Refusal::OtherImage(cpu), err)),
         Selected::Entries(archs) => {
             if cpu.misses(&archs) {
-                return Ok(missed(call.name, "no entry of", cpu, err));
+                return Ok(refuse(call.name, Refusal::NoEntry(cpu), err));
             }
             run_within(cpu, call, bytes, &archs, out, err)
         }
@@ -156,14 +156,4 @@ fn run_entry<W: Write, E: Write>(
 // Returns the name of a file's entry.
 fn entry_name(file: &str, index: usize) -> Result<String, AllocError> {
     format_in!("{file}: arch {index}")
-}
-
-// Reports that nothing of a file is for a cpu, and returns the exit status.
-fn missed<E: Write>(file: &str, words: &str, cpu: Cpu, err: &mut E) -> u8 {
-    let names = Names {
-        program: NAME,
-        file,
-    };
-    let _ = writeln!(err, "{names}: {words} {cpu}");
-    1
 }

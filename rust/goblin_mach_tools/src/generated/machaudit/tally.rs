@@ -39,7 +39,7 @@ impl Tally {
     ///
     /// # Proved
     ///
-    /// - *met*: if `Ok`: for each `limit : ℕ`, `items : List (Option FaultAt)`, if `HasMet limit items self.old`, `HasMet limit (items ++ option_map (λ e. (place, fault_of e)) error ∷ []) self.new`
+    /// - *met*: if `Ok`: for each `limit : ℕ`, `items : List (Option FaultAt)`, if `HasMet limit items self.old`, `HasMet limit (items ++ placed_fault place (option_map fault_of error) ∷ []) self.new`
     /// - *over*: if `Ok(more)`: if `more ≡ false`, `IsTrue self.new.part.cut`
     /// - *memory*: if `Err(failure)`: `failure ≡ failures.Memory`
     /// - *on*: if `Ok(more)`: if `more ≡ true`, `1 ≤ self.old.left`

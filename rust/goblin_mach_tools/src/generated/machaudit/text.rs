@@ -2,9 +2,11 @@
 //! The lines of an audit.
 #![forbid(unsafe_code)]
 
+use crate::generated::mach_cli::Escaped;
 use crate::generated::machaudit::layout_text::print_layout;
 use crate::generated::machaudit::report::{
-    EntryReport, FatReport, FaultPlace, Finding, ImageReport, PartReport, Parts, Records, Report,
+    ArchiveReport, EntryReport, FatReport, FaultPlace, Finding, ImageReport, ItemList,
+    MemberReport, PartReport, Parts, Records, Report,
 };
 use crate::generated::machaudit::signature_text::print_signature;
 use crate::generated::machaudit::verdict::Verdict;
@@ -12,26 +14,22 @@ use crate::shim::io;
 use crate::shim::io::Write;
 use core::fmt;
 use goblin_mach::generated::mach::{Error, describe};
+use goblin_mach::generated::mach_archive::Member;
 
 impl fmt::Display for FaultPlace {
     fn fmt(&self, f: &mut fmt::Formatter<'_>) -> fmt::Result {
-        match self {
-            FaultPlace::Section { segment, index } => {
-                write!(f, "segment {segment}, section {index}")
-            }
-            FaultPlace::Relocation {
-                segment,
-                section,
-                index,
-            } => write!(
+        let index = self.index;
+        match self.list {
+            ItemList::Sections(segment) => write!(f, "segment {segment}, section {index}"),
+            ItemList::Relocations(segment, section) => write!(
                 f,
                 "segment {segment}, section {section}, relocation {index}"
             ),
-            FaultPlace::Symbol(index) => write!(f, "symbol {index}"),
-            FaultPlace::Export(index) => write!(f, "export {index}"),
-            FaultPlace::Import(index) => write!(f, "import {index}"),
-            FaultPlace::Fixup(index) => write!(f, "fixup {index}"),
-            FaultPlace::Binding(index) => write!(f, "binding {index}"),
+            ItemList::Symbols => write!(f, "symbol {index}"),
+            ItemList::Exports => write!(f, "export {index}"),
+            ItemList::Imports => write!(f, "import {index}"),
+            ItemList::Fixups => write!(f, "fixup {index}"),
+            ItemList::Bindings => write!(f, "binding {index}"),
         }
     }
 }
@@ -120,17 +118,53 @@ fn print_image<O: Write>(image: &ImageReport, out: &mut O) -> io::Result<()> {
     }
 }
 
+// Prints the report of a member of the archive that is the entry with this number.
+fn print_member<O: Write>(
+    index: usize,
+    member: Member<'_>,
+    image: &ImageReport,
+    out: &mut O,
+) -> io::Result<()> {
+    match member.name() {
+        Ok(name) => {
+            let name = Escaped(name);
+            writeln!(out, "arch {index}({name})")?;
+        }
+        Err(_) => writeln!(out, "arch {index}(at {})", member.offset)?,
+    }
+    print_image(image, out)
+}
+
+// Prints the report of an archive that is the entry with this number, and those of its members.
+fn print_archive<O: Write>(
+    index: usize,
+    archive: &ArchiveReport<'_>,
+    out: &mut O,
+) -> io::Result<()> {
+    match archive.error() {
+        Some(error) => print_refusal("archive", error, out)?,
+        None if archive.cut => writeln!(out, "  archive: limit met")?,
+        None => writeln!(out, "  archive: ok")?,
+    }
+    for report in archive.members.as_slice() {
+        if let MemberReport::Image(member, image) = report {
+            print_member(index, *member, image, out)?;
+        }
+    }
+    Ok(())
+}
+
 // Prints the report of the fat file's entry with this number.
-fn print_entry<O: Write>(index: usize, entry: &EntryReport, out: &mut O) -> io::Result<()> {
+fn print_entry<O: Write>(index: usize, entry: &EntryReport<'_>, out: &mut O) -> io::Result<()> {
     writeln!(out, "arch {index}")?;
     match entry {
-        EntryReport::Archive => writeln!(out, "  archive: ok"),
+        EntryReport::Archive(archive) => print_archive(index, archive, out),
         EntryReport::Image(image) => print_image(image, out),
     }
 }
 
 // Prints the report of a fat file.
-fn print_fat<O: Write>(fat: &FatReport, out: &mut O) -> io::Result<()> {
+fn print_fat<O: Write>(fat: &FatReport<'_>, out: &mut O) -> io::Result<()> {
     writeln!(out, "fat file of {}", fat.count)?;
     match &fat.table {
         Some(error) => print_refusal("table", error, out)?,
@@ -149,7 +183,7 @@ fn print_fat<O: Write>(fat: &FatReport, out: &mut O) -> io::Result<()> {
 }
 
 /// Prints the report of a file, and whether it is sound.
-pub fn print_report<O: Write>(report: &Report, out: &mut O) -> io::Result<()> {
+pub fn print_report<O: Write>(report: &Report<'_>, out: &mut O) -> io::Result<()> {
     match report {
         Report::Image(image) => {
             writeln!(out, "image")?;

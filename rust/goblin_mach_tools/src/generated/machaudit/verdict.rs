@@ -3,7 +3,8 @@
 #![forbid(unsafe_code)]
 
 use crate::generated::machaudit::report::{
-    EntryReport, FatReport, ImageReport, PartReport, Parts, Records, Report, SignatureReport,
+    ArchiveReport, EntryReport, FatReport, ImageReport, MemberReport, PartReport, Parts, Records,
+    Report, SignatureReport,
 };
 use goblin_mach::generated::mach_layout::LayoutFault;
 
@@ -123,17 +124,41 @@ impl ImageReport {
     }
 }
 
-impl EntryReport {
-    // Returns the verdict on the entry.
+// Something of which there are several, each with a verdict of its own.
+trait Judged {
+    // Returns the verdict on it.
+    /// # Proved
+    ///
+    /// - `result ≡ judgement self`
+    fn verdict(&self) -> Verdict;
+}
+
+impl Judged for MemberReport<'_> {
     fn verdict(&self) -> Verdict {
         match self {
-            EntryReport::Archive => Verdict::Sound,
+            MemberReport::Image(_, image) => image.verdict(),
+            MemberReport::Refused(_) => Verdict::Faulty,
+        }
+    }
+}
+
+impl ArchiveReport<'_> {
+    // Returns the verdict on the archive.
+    fn verdict(&self) -> Verdict {
+        cut_verdict(self.cut).and(all_verdict(self.members.as_slice()))
+    }
+}
+
+impl Judged for EntryReport<'_> {
+    fn verdict(&self) -> Verdict {
+        match self {
+            EntryReport::Archive(archive) => archive.verdict(),
             EntryReport::Image(image) => image.verdict(),
         }
     }
 }
 
-impl FatReport {
+impl FatReport<'_> {
     // Returns the verdict on the fat file.
     fn verdict(&self) -> Verdict {
         layout_verdict(self.container.as_slice()).and(self.table_verdict())
@@ -144,12 +169,7 @@ impl FatReport {
         if self.table.is_some() || self.count == 0 {
             return Verdict::Faulty;
         }
-        let gone_over = if self.cut {
-            Verdict::Unended
-        } else {
-            Verdict::Sound
-        };
-        gone_over.and(entries_verdict(self.entries.as_slice()))
+        cut_verdict(self.cut).and(all_verdict(self.entries.as_slice()))
     }
 }
 
@@ -161,16 +181,25 @@ fn layout_verdict(faults: &[LayoutFault]) -> Verdict {
     }
 }
 
-// Returns the verdict on some entries.
-fn entries_verdict(entries: &[EntryReport]) -> Verdict {
+// Returns the verdict on whether there are more than were audited.
+fn cut_verdict(cut: bool) -> Verdict {
+    if cut {
+        Verdict::Unended
+    } else {
+        Verdict::Sound
+    }
+}
+
+// Returns the verdict on all of some things.
+fn all_verdict<T: Judged>(things: &[T]) -> Verdict {
     let mut verdict = Verdict::Sound;
-    for entry in entries {
-        verdict = verdict.and(entry.verdict());
+    for thing in things {
+        verdict = verdict.and(thing.verdict());
     }
     verdict
 }
 
-impl Report {
+impl Report<'_> {
     /// Returns the verdict on the file.
     ///
     /// # Proved

@@ -2,7 +2,6 @@
 //! The lines of an archive.
 #![forbid(unsafe_code)]
 
-pub mod kind;
 pub mod member;
 pub mod symbol;
 

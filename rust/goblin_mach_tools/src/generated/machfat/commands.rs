@@ -13,7 +13,7 @@ use crate::shim::rt::Files;
 /// The program's name.
 pub const NAME: &str = "machfat";
 
-/// Prints the records of a fat file, no more than a limit.
+/// Prints the records of a fat file, no more than a limit, or that the file is one image.
 ///
 /// Returns the exit status. It is 0 if all were printed. It is 1 if there are more; or if the file or an allocation is refused,
 /// and then `err` has a line that says why, and `out` nothing. It is 2 or 141 if a write fails. Unless a write fails, nothing is
@@ -22,8 +22,8 @@ pub const NAME: &str = "machfat";
 /// # Proved
 ///
 /// - *status*: `IsStatus result`
-/// - *listed*: if `result ≡ 0`, `ReportsList (most_items limit bytes) bytes true (writer_contents W.contents out.old) (writer_contents W.contents out.new)`
-/// - *refused*: if `result ≡ 1`, `ReportsList (most_items limit bytes) bytes false (writer_contents W.contents out.old) (writer_contents W.contents out.new) ⊎ RefusesFile (Refuses bytes (fat_records_in bytes)) file (writer_contents W.contents out.old) (writer_contents W.contents out.new) (E.contents err.old) (E.contents err.new)`
+/// - *listed*: if `result ≡ 0`, `ReportsList (most_items limit bytes) file bytes true (writer_contents W.contents out.old) (writer_contents W.contents out.new)`
+/// - *refused*: if `result ≡ 1`, `ReportsList (most_items limit bytes) file bytes false (writer_contents W.contents out.old) (writer_contents W.contents out.new) ⊎ RefusesFile (Refuses bytes (listed_file_in bytes)) file (writer_contents W.contents out.old) (writer_contents W.contents out.new) (E.contents err.old) (E.contents err.new)`
 /// - *flushed*: if `result ≤ 1`, `writer_buffer out.new ≡ []`
 pub fn run_list<W: Write, E: Write>(
     limit: usize,
@@ -32,7 +32,7 @@ pub fn run_list<W: Write, E: Write>(
     out: &mut BufWriter<W>,
     err: &mut E,
 ) -> u8 {
-    let answer = list(most_items(limit, bytes), bytes, out);
+    let answer = list(most_items(limit, bytes), file, bytes, out);
     reported(answer, file, out, err)
 }
 

@@ -2,16 +2,13 @@
 //! The records and the entries of a fat file.
 #![forbid(unsafe_code)]
 
-use alloc::vec::Vec;
-
-use crate::generated::mach_cli::{Foreign, print_cut, refused_kind};
+use crate::generated::mach_cli::{Escaped, FieldsForm, Foreign, Object, print_cut, refused_kind};
+use crate::generated::machfat::listed::{Listed, list_of};
 use crate::generated::machfat::refusal::{Refusal, WriteFailure};
-use crate::generated::machfat::text::{RecordObject, RecordText};
+use crate::generated::machfat::text::{CpuText, RecordText, record_fields};
 use crate::shim::io;
 use crate::shim::io::Write;
-use goblin_mach::generated::mach_fat_writer::{
-    EntryRecord, EntryRefusal, fat_records, indexed_entry,
-};
+use goblin_mach::generated::mach_fat_writer::{EntryRecord, EntryRefusal, indexed_entry};
 
 // Returns the kind of a file whose entries are refused, if its first bytes show it.
 fn kind_by_front(bytes: &[u8], why: &EntryRefusal) -> Option<Foreign> {
@@ -21,8 +18,12 @@ fn kind_by_front(bytes: &[u8], why: &EntryRefusal) -> Option<Foreign> {
     }
 }
 
-// Returns an answer about a file's entries, or the refusal of the file.
-fn said<T>(bytes: &[u8], answer: Result<T, EntryRefusal>) -> Result<T, Refusal> {
+/// Returns an answer about a file's entries, or the refusal of the file.
+///
+/// # Proved
+///
+/// - `result ≡ said_in bytes answer`
+pub fn said<T>(bytes: &[u8], answer: Result<T, EntryRefusal>) -> Result<T, Refusal> {
     match answer {
         Ok(found) => Ok(found),
         Err(why) => match kind_by_front(bytes, &why) {
@@ -39,16 +40,6 @@ pub enum ListForm {
     Lines,
     /// An object for each record, with commas between them.
     Objects,
-}
-
-/// Returns the records of a fat file of 32 or of 64 bits, in order.
-///
-/// # Proved
-///
-/// - *held*: if `Ok(v)`: `fat_records_in bytes ≡ Ok v.items`
-/// - *refused*: if `Err(e)`: `Refuses bytes (fat_records_in bytes) e`
-pub fn records(bytes: &[u8]) -> Result<Vec<EntryRecord>, Refusal> {
-    said(bytes, fat_records(bytes))
 }
 
 /// Prints some records of a fat file in a form, each with the kind of its entry.
@@ -101,8 +92,8 @@ fn print_object<O: Write>(
     out: &mut O,
 ) -> io::Result<()> {
     let comma = if index == 0 { "" } else { "," };
-    let record = RecordObject { bytes, arch };
-    write!(out, "{comma}{record}")
+    write!(out, "{comma}")?;
+    Object::write(&record_fields(bytes, arch), out)
 }
 
 /// Returns the first of some items, no more than a limit.
@@ -114,19 +105,65 @@ pub fn first_of<T>(items: &[T], limit: usize) -> &[T] {
     items.get(..limit).unwrap_or(items)
 }
 
-/// Prints the list of a fat file: a line for each of its first records, in order, no more than a limit, and a line if there are
-/// more. Returns whether there are no more.
+/// Prints what is shown of a file: of a fat file a line for each of its first records, in order, no more than a limit, and a line
+/// if there are more; of one image a line. Returns whether there are no more.
 ///
 /// # Proved
 ///
-/// - *listed*: if `Ok(whole)`: `ReportsList limit bytes whole (O.contents out.old) (O.contents out.new)`
-/// - *refused*: if `Err(e)`: `RefusesUnwritten (Refuses bytes (fat_records_in bytes)) (O.contents out.old) (O.contents out.new) e`
-pub fn list<O: Write>(limit: usize, bytes: &[u8], out: &mut O) -> Result<bool, WriteFailure> {
-    let records = records(bytes)?;
+/// - *listed*: if `Ok(whole)`: `ReportsList limit file bytes whole (O.contents out.old) (O.contents out.new)`
+/// - *refused*: if `Err(e)`: `RefusesUnwritten (Refuses bytes (listed_file_in bytes)) (O.contents out.old) (O.contents out.new) e`
+pub fn list<O: Write>(
+    limit: usize,
+    file: &str,
+    bytes: &[u8],
+    out: &mut O,
+) -> Result<bool, WriteFailure> {
+    let found = list_of(bytes)?;
+    Ok(print_listed(limit, file, bytes, &found, out)?)
+}
+
+// Prints what is shown of a file. Returns whether there is no more.
+fn print_listed<O: Write>(
+    limit: usize,
+    file: &str,
+    bytes: &[u8],
+    found: &Listed,
+    out: &mut O,
+) -> io::Result<bool> {
+    match found {
+        Listed::Records(records) => print_first(limit, bytes, records, out),
+        Listed::Image {
+            cputype,
+            cpusubtype,
+        } => {
+            print_image(file, *cputype, *cpusubtype, out)?;
+            Ok(true)
+        }
+    }
+}
+
+// Prints the lines of the first of some records, no more than a limit, and a line if there are more. Returns whether there are no
+// more.
+fn print_first<O: Write>(
+    limit: usize,
+    bytes: &[u8],
+    records: &[EntryRecord],
+    out: &mut O,
+) -> io::Result<bool> {
     let more = records.len() > limit;
-    print_records(ListForm::Lines, bytes, first_of(&records, limit), out)?;
+    print_records(ListForm::Lines, bytes, first_of(records, limit), out)?;
     print_cut(limit, more, out)?;
     Ok(!more)
+}
+
+// Prints the line that a file is one image.
+fn print_image<O: Write>(file: &str, cputype: u32, cpusubtype: u32, out: &mut O) -> io::Result<()> {
+    let file = Escaped(file);
+    let cpu = CpuText {
+        cputype,
+        cpusubtype,
+    };
+    writeln!(out, "{file}: not a fat file; one image for {cpu}")
 }
 
 /// Returns the bytes of an entry of a fat file of 32 or of 64 bits.

@@ -4,8 +4,7 @@
 
 use alloc::vec::Vec;
 
-use crate::generated::mach_cli::{Foreign, Outcome, most_items, refused_kind};
-use crate::generated::machfat::archive::kind::begins_image;
+use crate::generated::mach_cli::{Foreign, Outcome, begins_image, most_items, refused_kind};
 use crate::generated::machfat::archive::{print_archive, print_refused};
 use crate::generated::machfat::commands::reported;
 use crate::generated::machfat::refusal::{Refusal, WriteFailure, refused_by};

@@ -4,7 +4,7 @@
 //!
 //! With `--json` the list is one object for each file, on a line. A line has the fields of `llvm-objdump --universal-headers`,
 //! and the kind of the entry by its first bytes. Numbers of cpus are not given names, and the capabilities stay in the top 8 bits
-//! of `cpusubtype`. An entry is selected by its place in the list, or by its cputype. A fat file of 32 or of 64 bits is created
+//! of `cpusubtype`. An entry is selected by its place in the list, or by its cpu. A fat file of 32 or of 64 bits is created
 //! from files as `llvm-lipo -create` does, an entry is replaced as by `-replace`, or removed by its place. A file is written
 //! under another name beside its target, and is renamed once it is whole.
 #![forbid(unsafe_code)]
@@ -14,9 +14,11 @@ use crate::shim::{TryGrow, TryVec};
 use alloc::vec::Vec;
 
 // Fat files: taken apart, written, and listed.
+mod arguments;
 mod commands;
 mod entry;
 mod json;
+mod listed;
 mod made;
 mod members;
 mod new_file;
@@ -29,22 +31,18 @@ mod verify;
 // The list of an archive: a line for each member, and one for each symbol of its index.
 mod archive;
 
-use crate::generated::mach_cli::{
-    Call, Cpu, Files, Misuse, Others, Program, Titled, Word, cputype_in, take_json,
-};
+use crate::generated::mach_cli::{Call, Cpu, Files, Misuse, Options, Others, Program, Titled};
 use crate::shim::AllocError;
 use crate::shim::io;
 use crate::shim::io::{BufWriter, Write};
+use arguments::{WIDE, Width};
 use commands::{NAME, run_extract};
 use goblin_mach::generated::mach_fat_writer::Form;
 use made::{one_file, run_create, run_remove, run_replace};
 use new_file::is_same_file;
 use shown::{Selected, Shown};
 use std::process::ExitCode;
-use thin::run_thin;
-
-// The option that selects a fat file of 64 bits.
-const WIDE: &str = "--fat64";
+use thin::{cpu_in, run_thin};
 
 // How many lines of a file are printed if no other limit is given.
 const DEFAULT_LIMIT: usize = 10_000_000;
@@ -52,19 +50,23 @@ const DEFAULT_LIMIT: usize = 10_000_000;
 const PROGRAM: Program = Program {
     name: NAME,
     usage: "usage: machfat list [--json] [--limit N] [--names FILE] [-0] FILE..
-       machfat extract FILE INDEX OUT
-       machfat thin FILE 0xCPUTYPE OUT
+       machfat extract FILE INDEX|CPU OUT
+       machfat thin FILE CPU OUT
        machfat members [--limit N] [--names FILE] [-0] FILE..
        machfat create [--fat64] OUT FILE..
        machfat replace FILE NEW OUT
        machfat remove FILE INDEX OUT
        machfat verify [--limit N] [--names FILE] [-0] FILE..
        machfat -h | --help | --version
+CPU: a name, as arm64, or 0xCPUTYPE
 ",
     version: "machfat 0.2.0\n",
-    has_limit: true,
-    has_cpu: false,
-    has_files: true,
+    options: Options {
+        has_limit: true,
+        has_files: true,
+        has_json: true,
+        ..Options::NONE
+    },
     known: &[
         "list",
         "extract",
@@ -96,15 +98,13 @@ pub fn main(rt: HostRuntime) -> ExitCode {
 
 // Runs the program with its words.
 fn start(rt: &HostRuntime) -> Result<u8, u8> {
-    let Ok((is_json, mut words)) = take_json(PROGRAM.words(rt)?) else {
-        return Err(PROGRAM.out_of_memory(rt));
-    };
-    let is_wide = take_option(&mut words);
-    let call = PROGRAM.call(rt, &words)?;
+    let words = PROGRAM.words(rt)?;
+    let call = PROGRAM.call(rt, Width::NARROW, &words)?;
     let [word, given @ ..] = call.words.as_slice() else {
         return Err(PROGRAM.bad_usage(rt, Misuse::Missing("word")));
     };
-    match shown_by(word, is_json) {
+    let is_wide = call.own.is_wide;
+    match shown_by(word, call.format.is_json()) {
         Some(shown) if !is_wide => show_files(
             rt,
             Selected {
@@ -114,7 +114,7 @@ fn start(rt: &HostRuntime) -> Result<u8, u8> {
             given,
             &call.others,
         ),
-        _ => match misplaced(&call, is_json, is_wide && *word != "create") {
+        _ => match misplaced(&call, word) {
             Some(misuse) => Err(FOR_WRITES.bad_usage(rt, misuse)),
             None => write_file(rt, word, form_for(is_wide), given),
         },
@@ -132,14 +132,14 @@ fn shown_by(word: &str, is_json: bool) -> Option<Shown> {
     }
 }
 
-// Returns an option of a call that the commands which write a file don't have, or a word that is no text, if there is one.
-fn misplaced<'a>(call: &Call<'a>, is_json: bool, is_wide: bool) -> Option<Misuse<'a>> {
+// Returns an option of a call that its command, which writes a file, doesn't have, or a word that is no text, if there is one.
+fn misplaced<'a>(call: &Call<'a, Width>, command: &str) -> Option<Misuse<'a>> {
     if let Some(word) = call.others.no_texts.first() {
         return Some(Misuse::NoText(*word));
     }
     let options = [
-        (is_json, "--json"),
-        (is_wide, WIDE),
+        (call.format.is_json(), "--json"),
+        (call.own.is_wide && command != "create", WIDE),
         (call.limit.is_some(), "--limit"),
         (!call.others.lists.is_empty(), "--names"),
         (call.others.ends_with_nul, "-0"),
@@ -203,21 +203,6 @@ fn shown_whole(shown: Shown) -> Files {
     }
 }
 
-// Removes the option from a call's words, if it is before `--`, and returns whether it was there.
-fn take_option(words: &mut Vec<Word>) -> bool {
-    for index in 1..words.len() {
-        match words[index].as_str() {
-            "--" => return false,
-            WIDE => {
-                words.remove(index);
-                return true;
-            }
-            _ => {}
-        }
-    }
-    false
-}
-
 // Returns the form of a file to create.
 fn form_for(is_wide: bool) -> Form {
     if is_wide { Form::Bits64 } else { Form::Bits32 }
@@ -275,10 +260,17 @@ fn index_in(rt: &HostRuntime, word: &str) -> Result<usize, u8> {
 }
 
 fn extract_entry(rt: &HostRuntime, given: &[&str]) -> Result<u8, u8> {
-    let [file, index, target] = given else {
-        return Err(PROGRAM.bad_usage(rt, Misuse::Missing("FILE, INDEX and OUT")));
+    let [file, which, target] = given else {
+        return Err(PROGRAM.bad_usage(rt, Misuse::Missing("FILE, INDEX|CPU and OUT")));
     };
-    let index = index_in(rt, index)?;
+    match which.parse::<usize>() {
+        Ok(index) => extract_at(rt, file, index, target),
+        Err(_) => extract_for(rt, file, which, target),
+    }
+}
+
+// Writes the entry with an index.
+fn extract_at(rt: &HostRuntime, file: &str, index: usize, target: &str) -> Result<u8, u8> {
     if is_same_file(rt, file, target) {
         return Err(one_file(file, target, &mut rt.stderr()));
     }
@@ -293,22 +285,20 @@ fn extract_entry(rt: &HostRuntime, given: &[&str]) -> Result<u8, u8> {
     ))
 }
 
-fn thin_file(rt: &HostRuntime, given: &[&str]) -> Result<u8, u8> {
-    let [file, cpu, target] = given else {
-        return Err(PROGRAM.bad_usage(rt, Misuse::Missing("FILE, 0xCPUTYPE and OUT")));
-    };
-    let Some(cputype) = cputype_in(cpu) else {
-        return Err(PROGRAM.bad_usage(rt, Misuse::NoCpu(cpu)));
+// Writes the first entry for the cpu that a word says.
+fn extract_for(rt: &HostRuntime, file: &str, word: &str, target: &str) -> Result<u8, u8> {
+    let Some(cpu) = cpu_in(word) else {
+        return Err(PROGRAM.bad_usage(rt, Misuse::NoCpu(word)));
     };
     let bytes = PROGRAM.read(rt, file)?;
-    Ok(run_thin(
-        rt,
-        file,
-        &bytes,
-        cputype,
-        target,
-        &mut rt.stderr(),
-    ))
+    Ok(run_thin(rt, file, &bytes, cpu, target, &mut rt.stderr()))
+}
+
+fn thin_file(rt: &HostRuntime, given: &[&str]) -> Result<u8, u8> {
+    let [file, cpu, target] = given else {
+        return Err(PROGRAM.bad_usage(rt, Misuse::Missing("FILE, CPU and OUT")));
+    };
+    extract_for(rt, file, cpu, target)
 }
 
 fn replace_entries(rt: &HostRuntime, given: &[&str]) -> Result<u8, u8> {

@@ -2,7 +2,7 @@
 //! Why the program refuses a file or an entry.
 #![forbid(unsafe_code)]
 
-use crate::generated::mach_cli::Foreign;
+use crate::generated::mach_cli::{Cpu, Foreign};
 use crate::shim::AllocError;
 use crate::shim::io;
 use core::fmt;
@@ -20,6 +20,8 @@ pub enum Refusal {
     NotFat,
     /// Its entries are refused, or it doesn't have the selected one.
     Entries(EntryRefusal),
+    /// It has no entry for this cpu.
+    NoEntryOf(Cpu),
 }
 
 impl From<Error> for Refusal {
@@ -41,6 +43,7 @@ impl Display for Refusal {
             Refusal::Foreign(kind) => write!(f, "{kind}"),
             Refusal::NotFat => write!(f, "not a fat file"),
             Refusal::Entries(refusal) => write!(f, "{refusal}"),
+            Refusal::NoEntryOf(cpu) => write!(f, "no entry of {cpu}"),
         }
     }
 }

@@ -2,15 +2,32 @@
 //! Writes an entry of a fat file, selected by its cpu.
 #![forbid(unsafe_code)]
 
+use crate::generated::mach_cli::{Arch, Cpu, cputype_in};
 use crate::generated::machfat::commands::status;
 use crate::generated::machfat::made::one_file;
 use crate::generated::machfat::new_file::{is_same_file, place_file};
 use crate::generated::machfat::refusal::{Refusal, WriteFailure};
 use crate::shim::io::Write;
 use crate::shim::rt::Files;
-use goblin_mach::generated::mach_fat_writer::thin_entry;
+use goblin_mach::generated::mach_fat_writer::{EntryRecord, EntryRefusal, fat_records};
 
-/// Writes the first entry for a cputype to a file.
+/// Returns the cpu that a word says, by its number or by its name.
+///
+/// # Proved
+///
+/// - *said*: if `Some(x)`: `SaysCpu word x`
+/// - *none*: if `None`: for each `cpu : Cpu`, if `SaysCpu word cpu`, `⊥`
+pub fn cpu_in(word: &str) -> Option<Cpu> {
+    if let Some(number) = cputype_in(word) {
+        return Some(Cpu::Number(number));
+    }
+    match Arch::named(word) {
+        Some(arch) => Some(Cpu::Arch(arch)),
+        None => None,
+    }
+}
+
+/// Writes the first entry for a cpu to a file.
 ///
 /// Returns the exit status. It is 0 if the file was written. It is 1 if there is no such entry, or an allocation is refused, and
 /// then `err` has a line that says why. It is 2 if the fat file is the target. It is 2 or 141 if the target can't be written. The
@@ -19,36 +36,61 @@ use goblin_mach::generated::mach_fat_writer::thin_entry;
 /// # Proved
 ///
 /// - *status*: `IsStatus result`
-/// - *thinned*: if `result ≡ 0`, there is `entry : List ℕ` with: `(thin_entry_in bytes cputype ≡ Ok entry) × WasWritten R.File.contents entry`
+/// - *thinned*: if `result ≡ 0`, there is `entry : List ℕ` with: `(cpu_entry_in bytes cpu ≡ Ok (Some entry)) × WasWritten R.File.contents entry`
 /// - *apart*: if `result ≡ 0`, `IsOther file target`
-/// - *refused*: if `result ≡ 1`, there is `refusal : Refusal` with: `RefusesPlainly (thin_entry_in bytes cputype) refusal × Appends (E.contents err.old) (E.contents err.new) (refusal_line file refusal)`
+/// - *refused*: if `result ≡ 1`, there is `refusal : Refusal` with: `RefusesCpu (cpu_entry_in bytes cpu) cpu refusal × Appends (E.contents err.old) (E.contents err.new) (refusal_line file refusal)`
 pub fn run_thin<R: Files, E: Write>(
     files: &R,
     file: &str,
     bytes: &[u8],
-    cputype: u32,
+    cpu: Cpu,
     target: &str,
     err: &mut E,
 ) -> u8 {
     if is_same_file(files, file, target) {
         return one_file(file, target, err);
     }
-    status(thin(files, bytes, cputype, target), file, target, err)
+    status(thin(files, bytes, cpu, target), file, target, err)
 }
 
-// Returns the bytes of the first entry for a cputype.
-fn entry_of_cpu(bytes: &[u8], cputype: u32) -> Result<&[u8], Refusal> {
-    let entry = thin_entry(bytes, cputype)?;
-    Ok(entry)
+// Returns the bytes of the first entry for a cpu, or why there are none.
+fn entry_of_cpu(bytes: &[u8], cpu: Cpu) -> Result<&[u8], Refusal> {
+    match cpu_entry(bytes, cpu)? {
+        Some(entry) => Ok(entry),
+        None => Err(Refusal::NoEntryOf(cpu)),
+    }
 }
 
-// Writes the first entry for a cputype to a file, and returns the file. Nothing is written if there is no such entry.
+// Returns the bytes of the first entry for a cpu, if there is one.
+fn cpu_entry(bytes: &[u8], cpu: Cpu) -> Result<Option<&[u8]>, EntryRefusal> {
+    let records = fat_records(bytes)?;
+    first_entry(bytes, cpu, records.as_slice())
+}
+
+// Returns the bytes of the first entry for a cpu among records, if there is one.
+fn first_entry<'a>(
+    bytes: &'a [u8],
+    cpu: Cpu,
+    records: &[EntryRecord],
+) -> Result<Option<&'a [u8]>, EntryRefusal> {
+    for (index, record) in records.iter().enumerate() {
+        if cpu.takes(record.cputype, record.cpusubtype) {
+            return match record.slice(bytes) {
+                Some(entry) => Ok(Some(entry)),
+                None => Err(EntryRefusal::OutOfFile(index)),
+            };
+        }
+    }
+    Ok(None)
+}
+
+// Writes the first entry for a cpu to a file, and returns the file. Nothing is written if there is no such entry.
 fn thin<R: Files>(
     files: &R,
     bytes: &[u8],
-    cputype: u32,
+    cpu: Cpu,
     target: &str,
 ) -> Result<R::File, WriteFailure> {
-    let entry = entry_of_cpu(bytes, cputype)?;
+    let entry = entry_of_cpu(bytes, cpu)?;
     place_file(files, entry, target)
 }

@@ -2,17 +2,12 @@
 //! The options of a call that select lists.
 #![forbid(unsafe_code)]
 
-use crate::shim::TryGrow;
-use alloc::vec::Vec;
-
-use crate::generated::mach_cli::{Word, takes_word};
+use crate::generated::mach_cli::OwnOptions;
 use crate::generated::machfixups::rows::Selection;
-use crate::shim::AllocError;
 
-impl Selection {
-    // Takes a word, and returns whether it selects a list.
-    fn take(&mut self, word: &str) -> bool {
-        match word {
+impl OwnOptions for Selection {
+    fn take(&mut self, argument: &str) -> bool {
+        match argument {
             "--rebases" => self.rebases = true,
             "--binds" => self.binds = true,
             "--weak" => self.weak = true,
@@ -21,23 +16,4 @@ impl Selection {
         }
         true
     }
-}
-
-/// Returns the lists that the words of a call select, and all other words, in order. The first word is the program's name. A word
-/// after `--`, or after an option that takes one, selects none.
-pub fn take_selection(words: Vec<Word>) -> Result<(Selection, Vec<Word>), AllocError> {
-    let mut selection = Selection::NONE;
-    let mut others = Vec::new();
-    let mut is_taken = true;
-    let mut is_plain = false;
-    for word in words {
-        let text = word.as_str();
-        if !is_taken && !is_plain && selection.take(text) {
-            continue;
-        }
-        is_taken = !is_taken && takes_word(text);
-        is_plain = is_plain || text == "--";
-        others.try_push(word)?;
-    }
-    Ok((selection, others))
 }

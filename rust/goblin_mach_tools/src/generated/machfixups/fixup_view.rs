@@ -2,8 +2,8 @@
 //! What the program prints of an image.
 #![forbid(unsafe_code)]
 
-use crate::generated::mach_cli::{ImageView, Outcome, ShowFailure};
-use crate::generated::machfixups::print::print_fixups;
+use crate::generated::mach_cli::{ImageView, InForm, Line, Outcome, ShowFailure, print_listing};
+use crate::generated::machfixups::lists::ImageRows;
 use crate::generated::machfixups::rows::Selection;
 use crate::generated::machfixups::section_names::AllStretches;
 use crate::shim::io::Write;
@@ -25,13 +25,9 @@ impl ImageView for FixupLines {
         out: &mut O,
     ) -> Result<Outcome, ShowFailure> {
         let parts = AllStretches::of_image(image)?;
-        Ok(print_fixups(
-            image,
-            &parts,
-            self.selection,
-            limit,
-            left,
-            out,
-        )?)
+        let shown = self.selection.shown();
+        let list = ImageRows::of(image, &parts, shown, shown.kinds_in_lines());
+        let mut lines = InForm { list, form: Line };
+        Ok(print_listing(&mut lines, "unreadable", limit, left, out)?)
     }
 }

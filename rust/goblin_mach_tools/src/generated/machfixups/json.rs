@@ -3,6 +3,7 @@
 #![forbid(unsafe_code)]
 
 use crate::generated::mach_cli::{ImageView, Outcome, ShowFailure};
+use crate::generated::machfixups::lists::ImageRows;
 use crate::generated::machfixups::members::write_members;
 use crate::generated::machfixups::rows::Selection;
 use crate::generated::machfixups::section_names::AllStretches;
@@ -25,6 +26,8 @@ impl ImageView for FixupObjects {
         out: &mut O,
     ) -> Result<Outcome, ShowFailure> {
         let parts = AllStretches::of_image(image)?;
-        Ok(write_members(image, &parts, self.selection, left, out)?)
+        let shown = self.selection.shown();
+        let rows = ImageRows::of(image, &parts, shown, shown.kinds_in_objects());
+        Ok(write_members(rows, left, out)?)
     }
 }

@@ -3,124 +3,44 @@
 #![forbid(unsafe_code)]
 
 use crate::generated::mach_cli::{
-    ListProgress, Listing, Outcome, print_empty, print_end, print_member, then,
+    InForm, ListProgress, Object, Outcome, print_end, print_member, then,
 };
-use crate::generated::machfixups::object::PointerObject;
-use crate::generated::machfixups::print::table_of;
-use crate::generated::machfixups::row::Row;
-use crate::generated::machfixups::rows::{Items, Rows, Selection};
-use crate::generated::machfixups::section_names::AllStretches;
+use crate::generated::machfixups::lists::ImageRows;
+use crate::generated::machfixups::rows::Rows;
 use crate::shim::io;
 use crate::shim::io::Write;
-use goblin_mach::generated::mach::MachO;
-use goblin_mach::generated::mach::chained_fixups::ChainedFixups;
 
-impl<'p, 'a> Listing for Rows<'p, 'a, '_> {
-    type Row = Row<'p, 'a>;
-
-    fn next_row(&mut self) -> Option<goblin_mach::generated::mach::Result<Row<'p, 'a>>> {
-        match self.next()? {
-            Ok(row) => Some(Ok(row)),
-            Err(error) => Some(Err(error)),
-        }
-    }
-
-    fn past(&self) -> usize {
-        0
-    }
-
-    fn past_name(&self) -> &'static str {
-        ""
-    }
-
-    fn write_row<O: Write>(row: &Row<'p, 'a>, out: &mut O) -> io::Result<()> {
-        let object = PointerObject(row);
-        write!(out, "{object}")
-    }
-}
-
-/// Writes the members of an image, of the selected lists: exactly one object for each rebase of its opcodes, in order, for each
-/// of their binds, for each row of its weak binds, and for each fixup of its chains. The object of an item that can't be read has
-/// the error.
+/// Writes the members of an image with these rows: exactly one object for each row of each list. The object of an item that can't
+/// be read has the error.
 ///
 /// Of all objects it writes the first `left`, and whether there are more; the rest is not read then. Each object uses up one of
 /// the limit for the images after it.
 ///
 /// # Proved
 ///
-/// - for each `bytes : List ℕ`, `o : ℕ`, if `IsImage bytes o image`, if `Ok(outcome)`: there is `lists : PointerLists` with: `HasPointerLists bytes o lists × (chained : Result (Option Fixups) Fault) × HasChainedFixups bytes o chained × WritesListMembers left (pointer_members selection (parts_view parts) (readable_table chained) lists) outcome.whole outcome.left (O.contents out.old) (O.contents out.new)`
+/// - if `Ok(outcome)`: `WritesListMembers left (pointer_members (image_rows_left rows.entry)) outcome.whole outcome.left (O.contents out.old) (O.contents out.new)`
 pub fn write_members<O: Write>(
-    image: &MachO<'_>,
-    parts: &AllStretches,
-    selection: Selection,
+    rows: ImageRows<'_, '_, '_>,
     left: usize,
     out: &mut O,
 ) -> io::Result<Outcome> {
-    let table = table_of(image);
-    let selection = selection.shown();
-    let items = Items::Rebases(image.opcode_rebases());
-    let rebases = write_list(
-        "rebases",
-        selection.rebases,
-        parts,
-        &table,
-        items,
-        left,
-        out,
-    )?;
-    let items = Items::Binds(image.opcode_bindings());
-    let binds = write_list(
-        "binds",
-        selection.binds,
-        parts,
-        &table,
-        items,
-        rebases.left,
-        out,
-    )?;
-    let items = Items::Weak(image.weak_binds());
-    let weak = write_list(
-        "weak",
-        selection.weak,
-        parts,
-        &table,
-        items,
-        binds.left,
-        out,
-    )?;
-    let items = Items::Chains(image.fixups());
-    let chains = write_list(
-        "chains",
-        selection.chains,
-        parts,
-        &table,
-        items,
-        weak.left,
-        out,
-    )?;
+    let rebases = write_list("rebases", rows.rebases, left, out)?;
+    let binds = write_list("binds", rows.binds, rebases.left, out)?;
+    let weak = write_list("weak", rows.weak, binds.left, out)?;
+    let chains = write_list("chains", rows.chains, weak.left, out)?;
     let last = then(weak, chains);
     let rest = then(binds, last);
     let reported = then(rebases, rest);
     print_end(reported, out)
 }
 
-// Writes an object for each row of a list, if it is shown, up to the limit.
-fn write_list<'a, O: Write>(
+// Writes an object for each row of a list, up to the limit.
+fn write_list<O: Write>(
     name: &str,
-    is_shown: bool,
-    parts: &AllStretches,
-    table: &Option<ChainedFixups<'a>>,
-    items: Items<'a, '_>,
+    list: Rows<'_, '_, '_>,
     limit: usize,
     out: &mut O,
 ) -> io::Result<ListProgress> {
-    if !is_shown {
-        return print_empty(name, limit, out);
-    }
-    let mut rows = Rows {
-        parts,
-        table,
-        items,
-    };
-    print_member(name, &mut rows, limit, out)
+    let mut objects = InForm { list, form: Object };
+    print_member(name, &mut objects, limit, out)
 }

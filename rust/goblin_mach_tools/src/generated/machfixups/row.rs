@@ -2,6 +2,7 @@
 //! The rows of the rebases, binds and weak binds of the opcodes and of the fixups of the chains.
 #![forbid(unsafe_code)]
 
+use crate::generated::machfixups::origins::{origin_of, provider_name};
 use crate::generated::machfixups::section_names::{AllStretches, SegmentStretches};
 use goblin_mach::generated::mach::chained_fixups::{
     ChainedFixups, ChainedImport, Fixup, FixupKind, PointerAuth,
@@ -26,6 +27,8 @@ pub struct Bind<'a> {
     /// 0 for the image itself, above 0 for a library of the image's list, -1 for the main executable, -2 for any image, -3 for
     /// weak lookup.
     pub ordinal: i128,
+    /// The short name of the image that it comes from, if there is one.
+    pub from: Option<&'a str>,
     pub addend: i128,
     pub is_weak: bool,
     pub is_lazy: bool,
@@ -93,6 +96,7 @@ fn bind_of_binding<'a>(binding: &Binding<'a>) -> Bind<'a> {
     Bind {
         name: binding.name,
         ordinal: ordinal_of(&binding.provider),
+        from: provider_name(&binding.provider),
         addend: i128::from(binding.addend),
         is_weak: binding.is_weak,
         is_lazy: binding.is_lazy,
@@ -134,8 +138,9 @@ fn import_in<'a>(table: &Option<ChainedFixups<'a>>, index: u32) -> Result<Chaine
     }
 }
 
-// Returns the bind of an import; its addend is the sum of the table's and the pointer's.
+// Returns the bind of an import, by the image's libraries; its addend is the sum of the table's and the pointer's.
 fn bind_of_import<'a>(
+    libs: &[&'a str],
     import: &ChainedImport<'a>,
     inline: i32,
     auth: Option<PointerAuth>,
@@ -143,6 +148,7 @@ fn bind_of_import<'a>(
     Bind {
         name: import.name,
         ordinal: i128::from(import.library),
+        from: origin_of(libs, import.library),
         addend: i128::from(import.addend) + i128::from(inline),
         is_weak: import.is_weak,
         is_lazy: false,
@@ -151,7 +157,11 @@ fn bind_of_import<'a>(
 }
 
 // Returns what a fixup stores.
-fn action_of<'a>(table: &Option<ChainedFixups<'a>>, fixup: &Fixup) -> Result<Action<'a>> {
+fn action_of<'a>(
+    libs: &[&'a str],
+    table: &Option<ChainedFixups<'a>>,
+    fixup: &Fixup,
+) -> Result<Action<'a>> {
     let auth = fixup.auth;
     match fixup.kind {
         FixupKind::Rebase { target } => Ok(Action::Rebase {
@@ -162,7 +172,7 @@ fn action_of<'a>(table: &Option<ChainedFixups<'a>>, fixup: &Fixup) -> Result<Act
         FixupKind::Value { value } => Ok(Action::Value(value)),
         FixupKind::Bind { import, addend } => {
             let found = import_in(table, import)?;
-            Ok(Action::Bind(bind_of_import(&found, addend, auth)))
+            Ok(Action::Bind(bind_of_import(libs, &found, addend, auth)))
         }
     }
 }
@@ -170,10 +180,11 @@ fn action_of<'a>(table: &Option<ChainedFixups<'a>>, fixup: &Fixup) -> Result<Act
 // Returns the row of a fixup of the chains, in its segment; an error if the import of a bind can't be read.
 fn row_of_fixup<'b, 'a>(
     parts: &'b AllStretches,
+    libs: &[&'a str],
     table: &Option<ChainedFixups<'a>>,
     fixup: &Fixup,
 ) -> Result<Row<'b, 'a>> {
-    let action = action_of(table, fixup)?;
+    let action = action_of(libs, table, fixup)?;
     Ok(row_by_segment(parts, fixup.segment, fixup.address, action))
 }
 
@@ -229,18 +240,19 @@ pub fn binding_row<'b, 'a>(
     Ok(row_by_address(parts, binding.address, action))
 }
 
-/// Returns the row of a fixup of the chains.
+/// Returns the row of a fixup of the chains, given the image's libraries.
 ///
 /// # Proved
 ///
-/// - `row_read result ≡ row_for_fixup (parts_view parts) (fixups_table_view table) (fixup_read item)`
+/// - `row_read result ≡ row_for_fixup (parts_view parts) (texts libs) (fixups_table_view table) (fixup_read item)`
 pub fn fixup_row<'b, 'a>(
     parts: &'b AllStretches,
+    libs: &[&'a str],
     table: &Option<ChainedFixups<'a>>,
     item: Result<Fixup>,
 ) -> Result<Row<'b, 'a>> {
     match item {
-        Ok(fixup) => row_of_fixup(parts, table, &fixup),
+        Ok(fixup) => row_of_fixup(parts, libs, table, &fixup),
         Err(error) => Err(error),
     }
 }

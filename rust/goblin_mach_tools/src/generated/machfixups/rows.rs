@@ -2,11 +2,12 @@
 //! The lists of an image's rebases, binds and fixups, as rows.
 #![forbid(unsafe_code)]
 
+use crate::generated::machfixups::kept_fixups::{KeptFixups, KindsOfLists, ShownKinds};
 use crate::generated::machfixups::row::{Row, binding_row, fixup_row, rebase_row, weak_row};
 use crate::generated::machfixups::section_names::AllStretches;
 use goblin_mach::generated::mach::chained_fixups::ChainedFixups;
 use goblin_mach::generated::mach::{
-    FixupIterator, OpcodeBindingIterator, OpcodeRebaseIterator, Result, WeakBindIterator,
+    OpcodeBindingIterator, OpcodeRebaseIterator, Result, WeakBindIterator,
 };
 
 /// Which lists are selected.
@@ -41,31 +42,66 @@ impl Selection {
             chains: self.chains || is_all,
         }
     }
+
+    /// Returns the lists that have the fixups of the chains, if they are lines and these lists are shown: that of the chains has
+    /// each of them once. With the chains these are all of them, else the rebases with the rebases, and the binds with the binds.
+    ///
+    /// # Proved
+    ///
+    /// - `result ≡ kinds_in_lines self`
+    pub fn kinds_in_lines(self) -> KindsOfLists {
+        KindsOfLists {
+            rebases: ShownKinds::NONE,
+            binds: ShownKinds::NONE,
+            chains: ShownKinds {
+                rebases: self.rebases || self.chains,
+                binds: self.binds || self.chains,
+                numbers: self.chains,
+            },
+        }
+    }
+
+    /// Returns the lists that have the fixups of the chains, if they are objects and these lists are shown: a rebase and a bind
+    /// are in that of their kind, and every fixup is in that of the chains.
+    ///
+    /// # Proved
+    ///
+    /// - `result ≡ kinds_in_objects self`
+    pub fn kinds_in_objects(self) -> KindsOfLists {
+        KindsOfLists {
+            rebases: ShownKinds {
+                rebases: self.rebases,
+                binds: false,
+                numbers: false,
+            },
+            binds: ShownKinds {
+                rebases: false,
+                binds: self.binds,
+                numbers: false,
+            },
+            chains: ShownKinds {
+                rebases: self.chains,
+                binds: self.chains,
+                numbers: self.chains,
+            },
+        }
+    }
 }
 
-/// A list of rebases, binds, weak binds or fixups.
+/// The rebases, the binds or the weak binds of the opcodes.
 pub enum Items<'a, 'b> {
+    /// None of them.
+    Hidden,
     Rebases(OpcodeRebaseIterator<'a, 'b>),
     Binds(OpcodeBindingIterator<'a, 'b>),
     Weak(WeakBindIterator<'a, 'b>),
-    Chains(FixupIterator<'a, 'b>),
 }
 
-/// The rows of a list, one at a time.
-pub struct Rows<'p, 'a, 'b> {
-    /// The segments that hold its items.
-    pub parts: &'p AllStretches,
-    /// The chained fixups with the imports of its binds.
-    pub table: &'p Option<ChainedFixups<'a>>,
-    pub items: Items<'a, 'b>,
-}
-
-impl<'p, 'a> Iterator for Rows<'p, 'a, '_> {
-    type Item = Result<Row<'p, 'a>>;
-
-    fn next(&mut self) -> Option<Result<Row<'p, 'a>>> {
-        let (parts, table) = (self.parts, self.table);
-        match &mut self.items {
+impl<'a, 'b> Items<'a, 'b> {
+    // Returns the next row.
+    fn next_row<'p>(&mut self, parts: &'p AllStretches) -> Option<Result<Row<'p, 'a>>> {
+        match self {
+            Items::Hidden => None,
             Items::Rebases(items) => match items.next() {
                 Some(item) => Some(rebase_row(parts, item)),
                 None => None,
@@ -78,8 +114,31 @@ impl<'p, 'a> Iterator for Rows<'p, 'a, '_> {
                 Some(item) => Some(weak_row(parts, item)),
                 None => None,
             },
-            Items::Chains(items) => match items.next() {
-                Some(item) => Some(fixup_row(parts, table, item)),
+        }
+    }
+}
+
+/// The rows of a list, one at a time: those of the opcodes, then those of the chains.
+pub struct Rows<'p, 'a, 'b> {
+    /// The segments that hold its items.
+    pub parts: &'p AllStretches,
+    /// The image's libraries, by ordinal.
+    pub libs: &'b [&'a str],
+    /// The chained fixups with the imports of its binds.
+    pub table: Option<ChainedFixups<'a>>,
+    pub items: Items<'a, 'b>,
+    pub fixups: KeptFixups<'a, 'b>,
+}
+
+impl<'p, 'a> Iterator for Rows<'p, 'a, '_> {
+    type Item = Result<Row<'p, 'a>>;
+
+    fn next(&mut self) -> Option<Result<Row<'p, 'a>>> {
+        let (parts, libs, table) = (self.parts, self.libs, self.table);
+        match self.items.next_row(parts) {
+            Some(row) => Some(row),
+            None => match self.fixups.next() {
+                Some(item) => Some(fixup_row(parts, libs, &table, item)),
                 None => None,
             },
         }

@@ -2,7 +2,7 @@
 //! What single commands give for an image: its UUID, and its platforms.
 #![forbid(unsafe_code)]
 
-use crate::generated::machinfo::row::Row;
+use crate::generated::machinfo::fact::Fact;
 use goblin_mach::generated::mach::MachO;
 use goblin_mach::generated::mach::load_command::{
     CommandVariant, LoadCommand, PLATFORM_IOS, PLATFORM_MACOS, PLATFORM_TVOS, PLATFORM_WATCHOS,
@@ -58,10 +58,10 @@ fn uuid_by(command: &LoadCommand) -> Option<[u8; 16]> {
 }
 
 // Returns the answer of a command to a question, if it has one.
-fn fact_of<'a>(question: Question, command: &LoadCommand) -> Option<Row<'a>> {
+fn fact_of<'a>(question: Question, command: &LoadCommand) -> Option<Fact<'a>> {
     match question {
-        Question::Uuid => Some(Row::Uuid(uuid_by(command)?)),
-        Question::Platform => Some(Row::Platform(platform_by(command)?)),
+        Question::Uuid => Some(Fact::Uuid(uuid_by(command)?)),
+        Question::Platform => Some(Fact::Platform(platform_by(command)?)),
     }
 }
 
@@ -94,12 +94,12 @@ impl<'b> CommandFacts<'b> {
     ///
     /// # Proved
     ///
-    /// - `YieldsFirstBy list_row_view facts_left self.old result self.new`
-    pub fn take_next<'a>(&mut self) -> Option<Row<'a>> {
+    /// - `YieldsFirstBy fact_view facts_left self.old result self.new`
+    pub fn take_next<'a>(&mut self) -> Option<Fact<'a>> {
         while let Some(command) = self.commands.get(self.number) {
             self.number += 1;
-            if let Some(row) = fact_of(self.question, command) {
-                return Some(row);
+            if let Some(fact) = fact_of(self.question, command) {
+                return Some(fact);
             }
         }
         None

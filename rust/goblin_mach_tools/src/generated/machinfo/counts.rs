@@ -2,9 +2,8 @@
 //! How many items the lists of an image have.
 #![forbid(unsafe_code)]
 
-use crate::generated::mach_cli::{ListProgress, count_rows};
+use crate::generated::mach_cli::{InForm, ItemList, Line, ListProgress, count_rows, word_if};
 use crate::generated::machinfo::list::ImageList;
-use crate::generated::machinfo::text::line_if;
 use crate::generated::machinfo::word::Word;
 use crate::shim::io;
 use crate::shim::io::Write;
@@ -60,9 +59,10 @@ struct CountText {
 
 impl Display for CountText {
     fn fmt(&self, f: &mut Formatter<'_>) -> fmt::Result {
-        let more = line_if(self.reported.more, "more than ");
-        let count = self.limit.saturating_sub(self.reported.left);
-        let refused = line_if(!self.reported.whole, ", not all readable");
+        let ListProgress { left, whole, more } = self.reported;
+        let more = word_if(more, "more than ", "");
+        let count = self.limit.saturating_sub(left);
+        let refused = word_if(whole, "", ", not all readable");
         let past = PastText(self.past);
         write!(f, "{more}{count}{refused}{past}")
     }
@@ -117,8 +117,11 @@ fn print_count<O: Write>(
     limit: usize,
     out: &mut O,
 ) -> io::Result<bool> {
-    let mut list = ImageList::of(word, image);
-    let past = list.past_rows();
+    let mut list = InForm {
+        list: ImageList::of(word, image),
+        form: Line,
+    };
+    let past = list.list.items_past();
     let reported = count_rows(&mut list, limit);
     write_count(form, word, limit, reported, past, out)?;
     Ok(reported.whole & !reported.more & (past == 0))

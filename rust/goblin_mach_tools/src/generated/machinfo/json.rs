@@ -2,11 +2,12 @@
 //! What the program writes of an image as JSON.
 #![forbid(unsafe_code)]
 
-use crate::generated::mach_cli::{ImageView, Outcome, ShowFailure, print_end_past, print_member};
+use crate::generated::mach_cli::{
+    ImageView, InForm, ItemList, Object, Outcome, ShowFailure, print_end_past, print_member,
+};
 use crate::generated::machinfo::counts::{COUNTED, Form, print_counts};
 use crate::generated::machinfo::list::ImageList;
 use crate::generated::machinfo::members::write_front;
-use crate::generated::machinfo::object::ObjectList;
 use crate::generated::machinfo::word::Word;
 use crate::shim::io;
 use crate::shim::io::Write;
@@ -42,9 +43,12 @@ fn write_rows<O: Write>(
     left: usize,
     out: &mut O,
 ) -> io::Result<Outcome> {
-    let mut list = ObjectList(ImageList::of(word, image));
+    let mut list = InForm {
+        list: ImageList::of(word, image),
+        form: Object,
+    };
     let name = word.name();
-    let past = list.0.past_rows();
+    let past = list.list.items_past();
     let reported = print_member(name, &mut list, left, out)?;
     print_end_past(reported, past, out)
 }

@@ -2,15 +2,15 @@
 //! The lists of an image.
 #![forbid(unsafe_code)]
 
-use crate::generated::mach_cli::Listing;
-use crate::generated::machinfo::command_facts::{CommandFacts, Question};
+use crate::generated::mach_cli::{FieldsForm, ItemList};
+use crate::generated::machinfo::commands::NumberedCommands;
+use crate::generated::machinfo::fields::write_fields;
 use crate::generated::machinfo::notes::NumberedNotes;
 use crate::generated::machinfo::providers::ProvidedSymbols;
 use crate::generated::machinfo::row::Row;
 use crate::generated::machinfo::word::Word;
 use crate::shim::io;
 use crate::shim::io::Write;
-use core::slice::Iter;
 use goblin_mach::generated::mach::slots::{IndirectSymbolIterator, SlotIterator};
 use goblin_mach::generated::mach::{
     BuildToolIterator, DataInCodeIterator, FunctionStartIterator, LibraryIterator,
@@ -20,6 +20,7 @@ use goblin_mach::generated::mach::{
 /// What is left of a list of an image. Of a table these are the rows that begin within the bytes, and the number of those claimed
 /// past their end.
 pub enum ImageList<'a, 'b> {
+    Commands(NumberedCommands<'a, 'b>),
     Starts(FunctionStartIterator<'a>),
     Slots(SlotIterator<'a, 'b>),
     Indirect(IndirectSymbolIterator<'a>, usize),
@@ -31,8 +32,6 @@ pub enum ImageList<'a, 'b> {
     Libraries(LibraryIterator<'a, 'b>),
     Rebases(RebaseIterator<'a, 'b>),
     Weak(WeakBindIterator<'a, 'b>),
-    FactRows(CommandFacts<'b>),
-    Paths(Iter<'b, &'a str>),
 }
 
 // Returns the indirect symbols that begin within the bytes, and how many more are claimed.
@@ -60,6 +59,7 @@ impl<'a, 'b> ImageList<'a, 'b> {
     /// - *name*: `rows_name_of result ≡ past_name word`
     pub fn of(word: Word, image: &'b MachO<'a>) -> Self {
         match word {
+            Word::Commands => ImageList::Commands(NumberedCommands::of(image)),
             Word::Starts => ImageList::Starts(image.function_starts()),
             Word::Slots => ImageList::Slots(image.symbol_slots()),
             Word::Indirect => {
@@ -79,34 +79,14 @@ impl<'a, 'b> ImageList<'a, 'b> {
             Word::Weak => ImageList::Weak(image.weak_binds()),
         }
     }
+}
 
-    /// Returns the answers of an image's commands to a question.
-    ///
-    /// # Proved
-    ///
-    /// - *left*: `list_rows_left result ≡ map (λ r. Ok r) (facts_within question (commands_view image))`
-    /// - *past*: `list_rows_past result ≡ 0`
-    pub fn facts(question: Question, image: &'b MachO<'a>) -> Self {
-        ImageList::FactRows(CommandFacts::of(question, image))
-    }
+impl<'a, 'b> ItemList for ImageList<'a, 'b> {
+    type Item = Row<'a, 'b>;
 
-    /// Returns the run paths of an image.
-    ///
-    /// # Proved
-    ///
-    /// - *left*: `list_rows_left result ≡ map (λ path. Ok (path_row path)) (texts image.rpaths.items)`
-    /// - *past*: `list_rows_past result ≡ 0`
-    pub fn run_paths(image: &'b MachO<'a>) -> Self {
-        ImageList::Paths(image.rpaths.iter())
-    }
-
-    /// Returns the next row, or the error if it can't be read.
-    ///
-    /// # Proved
-    ///
-    /// - `YieldsFirstBy list_row_read list_rows_left self.old result self.new`
-    pub fn take_next(&mut self) -> Option<Result<Row<'a>>> {
+    fn next_item(&mut self) -> Option<Result<Row<'a, 'b>>> {
         match self {
+            ImageList::Commands(list) => Some(Ok(Row::Command(list.take_next()?))),
             ImageList::Starts(list) => match list.next()? {
                 Ok(address) => Some(Ok(Row::Start(address))),
                 Err(error) => Some(Err(error)),
@@ -148,17 +128,10 @@ impl<'a, 'b> ImageList<'a, 'b> {
                 Ok(bind) => Some(Ok(Row::Weak(bind))),
                 Err(error) => Some(Err(error)),
             },
-            ImageList::FactRows(list) => Some(Ok(list.take_next()?)),
-            ImageList::Paths(list) => Some(Ok(Row::RunPath(*list.next()?))),
         }
     }
 
-    /// Returns how many more rows the whole list claims, whose records begin past the end of the bytes.
-    ///
-    /// # Proved
-    ///
-    /// - `result ≡ list_rows_past self`
-    pub fn past_rows(&self) -> usize {
+    fn items_past(&self) -> usize {
         match self {
             ImageList::Indirect(_, past) | ImageList::Data(_, past) => *past,
             ImageList::Providers(list) => list.past,
@@ -166,12 +139,7 @@ impl<'a, 'b> ImageList<'a, 'b> {
         }
     }
 
-    /// Returns the name of those rows.
-    ///
-    /// # Proved
-    ///
-    /// - `result ≡ rows_name_of self`
-    pub fn rows_name(&self) -> &'static str {
+    fn items_name(&self) -> &'static str {
         match self {
             ImageList::Indirect(..) => "indirect symbols",
             ImageList::Data(..) => "data in code entries",
@@ -179,27 +147,8 @@ impl<'a, 'b> ImageList<'a, 'b> {
             _ => "",
         }
     }
-}
 
-impl<'a> Listing for ImageList<'a, '_> {
-    type Row = Row<'a>;
-
-    fn next_row(&mut self) -> Option<Result<Row<'a>>> {
-        match self.take_next()? {
-            Ok(row) => Some(Ok(row)),
-            Err(error) => Some(Err(error)),
-        }
-    }
-
-    fn past(&self) -> usize {
-        self.past_rows()
-    }
-
-    fn past_name(&self) -> &'static str {
-        self.rows_name()
-    }
-
-    fn write_row<O: Write>(row: &Row<'a>, out: &mut O) -> io::Result<()> {
-        write!(out, "{row}")
+    fn write_item<F: FieldsForm, O: Write>(row: &Row<'a, 'b>, out: &mut O) -> io::Result<()> {
+        write_fields::<F, O>(row, out)
     }
 }

@@ -2,58 +2,19 @@
 //! The members of an image's object that say what it is, before those of its counts.
 #![forbid(unsafe_code)]
 
-use crate::generated::mach_cli::{ListProgress, Listing, comma_before, print_member, then};
-use crate::generated::machinfo::command_facts::Question;
-use crate::generated::machinfo::list::ImageList;
-use crate::generated::machinfo::object::RowObject;
-use crate::generated::machinfo::row::Row;
+use crate::generated::mach_cli::{ListProgress, comma_before, print_member, then};
+use crate::generated::machinfo::command_facts::{CommandFacts, Question};
+use crate::generated::machinfo::fact::{FactList, FactObjects};
 use crate::generated::machinfo::segments::{TextOrNull, write_segments};
 use crate::generated::machinfo::signed::{is_ad_hoc, is_readable};
 use crate::generated::machinfo::state::{State, state_of};
 use crate::generated::machinfo::summary::{cpu_name, flag_short_name};
-use crate::generated::machinfo::text::VersionText;
-use crate::generated::machinfo::word::Word;
 use crate::shim::io;
 use crate::shim::io::Write;
 use goblin_mach::generated::mach::header::{Header, filetype_to_str};
 use goblin_mach::generated::mach::{Error, MachO, Result, describe};
 use goblin_mach::generated::mach_signature::CodeDirectory;
 use goblin_mach::generated::mach_signature::image::code_directory;
-
-// What is left of a list of an image, whose rows are objects of the summary.
-struct SummaryObjects<'a, 'b>(ImageList<'a, 'b>);
-
-impl<'a> Listing for SummaryObjects<'a, '_> {
-    type Row = Row<'a>;
-
-    fn next_row(&mut self) -> Option<Result<Row<'a>>> {
-        match self.0.take_next()? {
-            Ok(row) => Some(Ok(row)),
-            Err(error) => Some(Err(error)),
-        }
-    }
-
-    fn past(&self) -> usize {
-        self.0.past_rows()
-    }
-
-    fn past_name(&self) -> &'static str {
-        self.0.rows_name()
-    }
-
-    fn write_row<O: Write>(row: &Row<'a>, out: &mut O) -> io::Result<()> {
-        match *row {
-            Row::Tool(_, tool) => {
-                let (number, version) = (tool.tool, VersionText(tool.version));
-                write!(out, "{{\"tool\":{number},\"version\":\"{version}\"}}")
-            }
-            row => {
-                let object = RowObject(row);
-                write!(out, "{object}")
-            }
-        }
-    }
-}
 
 /// Writes the members of an image but for its counts and its kind, each with a comma after it, and of each list the rows up to
 /// the limit.
@@ -77,18 +38,16 @@ pub fn write_front<O: Write>(image: &MachO<'_>, limit: usize, out: &mut O) -> io
 
 // Writes the lists of an image.
 fn write_lists<O: Write>(image: &MachO<'_>, limit: usize, out: &mut O) -> io::Result<ListProgress> {
-    let libraries = write_list(
-        "libraries",
-        ImageList::of(Word::Libraries, image),
-        limit,
-        out,
-    )?;
-    let paths = write_list("run_paths", ImageList::run_paths(image), limit, out)?;
-    let list = ImageList::facts(Question::Platform, image);
+    let list = FactList::Libraries(image.libraries());
+    let libraries = write_list("libraries", list, limit, out)?;
+    let list = FactList::Paths(image.rpaths.iter());
+    let paths = write_list("run_paths", list, limit, out)?;
+    let list = FactList::Commands(CommandFacts::of(Question::Platform, image));
     let platforms = write_list("platforms", list, limit, out)?;
     let segments = write_segments(image.segments.as_slice(), limit, out)?;
-    let tools = write_list("tools", ImageList::of(Word::Tools, image), limit, out)?;
-    let list = ImageList::facts(Question::Uuid, image);
+    let list = FactList::Tools(image.build_tools());
+    let tools = write_list("tools", list, limit, out)?;
+    let list = FactList::Commands(CommandFacts::of(Question::Uuid, image));
     let uuids = write_list("uuids", list, limit, out)?;
     let used = then(then(libraries, paths), platforms);
     Ok(then(then(used, segments), then(tools, uuids)))
@@ -97,11 +56,11 @@ fn write_lists<O: Write>(image: &MachO<'_>, limit: usize, out: &mut O) -> io::Re
 // Writes a list as a member with this name.
 fn write_list<O: Write>(
     name: &str,
-    list: ImageList<'_, '_>,
+    list: FactList<'_, '_>,
     limit: usize,
     out: &mut O,
 ) -> io::Result<ListProgress> {
-    let reported = print_member(name, &mut SummaryObjects(list), limit, out)?;
+    let reported = print_member(name, &mut FactObjects(list), limit, out)?;
     Ok(reported)
 }
 

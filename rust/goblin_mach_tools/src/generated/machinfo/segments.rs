@@ -14,16 +14,25 @@ use core::fmt::{Display, Formatter};
 use goblin_mach::generated::mach::Result;
 use goblin_mach::generated::mach::segment::{Section, SectionIterator, Segment};
 
-// The protection of a segment.
-#[derive(Clone, Copy)]
-struct RightsText(u32);
-
-impl Display for RightsText {
-    fn fmt(&self, f: &mut Formatter<'_>) -> fmt::Result {
-        let read = if self.0 & 1 != 0 { "r" } else { "-" };
-        let write = if self.0 & 2 != 0 { "w" } else { "-" };
-        let execute = if self.0 & 4 != 0 { "x" } else { "-" };
-        write!(f, "{read}{write}{execute}")
+/// Returns the letters of a protection.
+///
+/// # Proved
+///
+/// - `result ≡ rights_text protection`
+pub fn rights_name(protection: u32) -> &'static str {
+    match (
+        protection & 1 != 0,
+        protection & 2 != 0,
+        protection & 4 != 0,
+    ) {
+        (false, false, false) => "---",
+        (true, false, false) => "r--",
+        (false, true, false) => "-w-",
+        (true, true, false) => "rw-",
+        (false, false, true) => "--x",
+        (true, false, true) => "r-x",
+        (false, true, true) => "-wx",
+        (true, true, true) => "rwx",
     }
 }
 
@@ -132,7 +141,7 @@ pub fn print_segments<O: Write>(
 fn print_segment<O: Write>(segment: &Segment<'_>, out: &mut O) -> io::Result<()> {
     let name = NameText(name_in(&segment.segname));
     let (address, size) = (segment.vmaddr, segment.vmsize);
-    let rights = RightsText(segment.initprot);
+    let rights = rights_name(segment.initprot);
     writeln!(out, "segment: {name} 0x{address:x} 0x{size:x} {rights}")
 }
 
@@ -226,7 +235,7 @@ fn write_segment<O: Write>(
     let comma = comma_before(is_first);
     let name = TextOrNull(segment.name().ok());
     let (address, size) = (segment.vmaddr, segment.vmsize);
-    let rights = RightsText(segment.initprot);
+    let rights = rights_name(segment.initprot);
     write!(
         out,
         "{comma}{{\"address\":{address},\"name\":{name},\"rights\":\"{rights}\",\"size\":{size},\"sections\":"

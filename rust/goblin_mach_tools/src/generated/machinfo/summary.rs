@@ -2,59 +2,18 @@
 //! The summary of an image before its counts, but for its signature and its state.
 #![forbid(unsafe_code)]
 
-use crate::generated::mach_cli::{Escaped, Listing, print_listing};
-use crate::generated::machinfo::command_facts::Question;
-use crate::generated::machinfo::list::ImageList;
-use crate::generated::machinfo::row::Row;
+use crate::generated::mach_cli::{Escaped, print_listing};
+use crate::generated::machinfo::command_facts::{CommandFacts, Question};
+use crate::generated::machinfo::fact::{FactLines, FactList};
 use crate::generated::machinfo::segments::print_segments;
-use crate::generated::machinfo::text::{LibraryText, VersionText};
-use crate::generated::machinfo::word::Word;
 use crate::shim::io;
 use crate::shim::io::Write;
+use goblin_mach::generated::mach::MachO;
 use goblin_mach::generated::mach::cputype::{
     CPU_TYPE_ARM, CPU_TYPE_ARM64, CPU_TYPE_ARM64_32, CPU_TYPE_POWERPC, CPU_TYPE_X86,
     CPU_TYPE_X86_64,
 };
 use goblin_mach::generated::mach::header::{Header, filetype_to_str, flag_to_str};
-use goblin_mach::generated::mach::{MachO, Result};
-
-// What is left of a list of an image, whose rows are lines of the summary.
-struct SummaryLines<'a, 'b>(ImageList<'a, 'b>);
-
-impl<'a> Listing for SummaryLines<'a, '_> {
-    type Row = Row<'a>;
-
-    fn next_row(&mut self) -> Option<Result<Row<'a>>> {
-        match self.0.take_next()? {
-            Ok(row) => Some(Ok(row)),
-            Err(error) => Some(Err(error)),
-        }
-    }
-
-    fn past(&self) -> usize {
-        self.0.past_rows()
-    }
-
-    fn past_name(&self) -> &'static str {
-        self.0.rows_name()
-    }
-
-    fn write_row<O: Write>(row: &Row<'a>, out: &mut O) -> io::Result<()> {
-        match *row {
-            Row::Tool(_, tool) => {
-                let (number, version) = (tool.tool, VersionText(tool.version));
-                write!(out, "tool: {number} {version}")
-            }
-            Row::Library(library) => {
-                let version = VersionText(library.current_version);
-                let least = VersionText(library.compatibility_version);
-                let library = LibraryText(library);
-                write!(out, "library: {library} {version}, at least {least}")
-            }
-            row => write!(out, "{row}"),
-        }
-    }
-}
 
 /// Prints the lines of an image before those of its signature, each list up to the limit. Returns whether all was printed and can
 /// be read.
@@ -75,32 +34,32 @@ pub fn print_front<O: Write>(image: &MachO<'_>, limit: usize, out: &mut O) -> io
 
 // Prints the UUIDs, the platforms and the tools of an image. Returns whether all were printed and can be read.
 fn print_facts<O: Write>(image: &MachO<'_>, limit: usize, out: &mut O) -> io::Result<bool> {
-    let list = ImageList::facts(Question::Uuid, image);
+    let list = FactList::Commands(CommandFacts::of(Question::Uuid, image));
     let uuids = print_list(list, "uuid", limit, out)?;
-    let list = ImageList::facts(Question::Platform, image);
+    let list = FactList::Commands(CommandFacts::of(Question::Platform, image));
     let platforms = print_list(list, "platform", limit, out)?;
-    let list = ImageList::of(Word::Tools, image);
+    let list = FactList::Tools(image.build_tools());
     let tools = print_list(list, "tool: refused", limit, out)?;
     Ok(uuids & platforms & tools)
 }
 
 // Prints the libraries of an image and its run paths. Returns whether all were printed.
 fn print_used<O: Write>(image: &MachO<'_>, limit: usize, out: &mut O) -> io::Result<bool> {
-    let list = ImageList::of(Word::Libraries, image);
+    let list = FactList::Libraries(image.libraries());
     let libraries = print_list(list, "library", limit, out)?;
-    let list = ImageList::run_paths(image);
+    let list = FactList::Paths(image.rpaths.iter());
     let paths = print_list(list, "run path", limit, out)?;
     Ok(libraries & paths)
 }
 
 // Prints a line for each row of a list, up to a limit. Returns whether it has no more, and all can be read.
 fn print_list<O: Write>(
-    list: ImageList<'_, '_>,
+    list: FactList<'_, '_>,
     word: &str,
     limit: usize,
     out: &mut O,
 ) -> io::Result<bool> {
-    let mut lines = SummaryLines(list);
+    let mut lines = FactLines(list);
     let outcome = print_listing(&mut lines, word, limit, limit, out)?;
     Ok(outcome.whole)
 }

@@ -2,7 +2,9 @@
 //! What the program prints of an image.
 #![forbid(unsafe_code)]
 
-use crate::generated::mach_cli::{ImageView, Outcome, ShowFailure, print_listing};
+use crate::generated::mach_cli::{
+    ImageView, InForm, Line, Outcome, Pairs, ShowFailure, print_listing,
+};
 use crate::generated::machinfo::counts::{COUNTED, Form, print_counts};
 use crate::generated::machinfo::list::ImageList;
 use crate::generated::machinfo::signed::print_signed;
@@ -44,8 +46,32 @@ fn print_list<O: Write>(
     left: usize,
     out: &mut O,
 ) -> io::Result<Outcome> {
-    let mut list = ImageList::of(word, image);
-    print_listing(&mut list, "refused", limit, left, out)
+    let list = ImageList::of(word, image);
+    if has_names(word) {
+        let mut lines = InForm { list, form: Pairs };
+        print_listing(&mut lines, "refused", limit, left, out)
+    } else {
+        let mut lines = InForm { list, form: Line };
+        print_listing(&mut lines, "refused", limit, left, out)
+    }
+}
+
+// Whether the lines of a word's list have the names of fields.
+fn has_names(word: Word) -> bool {
+    match word {
+        Word::Commands => true,
+        Word::Starts => false,
+        Word::Slots => false,
+        Word::Indirect => false,
+        Word::Data => false,
+        Word::Options => false,
+        Word::Tools => false,
+        Word::Notes => false,
+        Word::Providers => false,
+        Word::Libraries => false,
+        Word::Rebases => false,
+        Word::Weak => false,
+    }
 }
 
 // Prints the summary: what the image is, how it is signed, and how many items each of its lists has, counted up to `limit`.

@@ -5,6 +5,8 @@
 /// A list of an image.
 #[derive(Clone, Copy, PartialEq)]
 pub enum Word {
+    /// Its load commands.
+    Commands,
     /// The addresses of its functions.
     Starts,
     /// Its stubs and pointers that stand for symbols.
@@ -37,6 +39,7 @@ impl Word {
     /// - `result ≡ word_named text`
     pub fn named(text: &str) -> Option<Word> {
         match text {
+            "commands" => Some(Word::Commands),
             "starts" => Some(Word::Starts),
             "slots" => Some(Word::Slots),
             "indirect" => Some(Word::Indirect),
@@ -59,6 +62,7 @@ impl Word {
     /// - `result ≡ spelling_of self`
     pub fn name(self) -> &'static str {
         match self {
+            Word::Commands => "commands",
             Word::Starts => "starts",
             Word::Slots => "slots",
             Word::Indirect => "indirect",

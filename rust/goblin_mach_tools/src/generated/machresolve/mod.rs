@@ -32,8 +32,8 @@ mod output;
 mod refusal;
 mod report;
 
-use crate::generated::mach_cli::{ForTerminal, Misuse, Program, Progress};
-use crate::generated::machresolve::arguments::{DEFAULT_LIMIT, Mistake, Words};
+use crate::generated::mach_cli::{ForTerminal, Misuse, Options, Program, Progress, SharedOnly};
+use crate::generated::machresolve::arguments::{DEFAULT_LIMIT, cputype_of};
 use crate::generated::machresolve::inputs::Given;
 use crate::generated::machresolve::output::{NAME, run};
 use crate::shim::io;
@@ -46,9 +46,11 @@ const PROGRAM: Program = Program {
        machresolve -h | --help | --version
 ",
     version: "machresolve 0.2.0\n",
-    has_limit: true,
-    has_cpu: false,
-    has_files: false,
+    options: Options {
+        has_limit: true,
+        has_cputype: true,
+        ..Options::NONE
+    },
     known: &["--cputype", "--help", "--limit", "--version"],
 };
 
@@ -60,13 +62,9 @@ pub fn main(rt: HostRuntime) -> ExitCode {
 
 // Runs the program with its words. The error is the exit status if nothing was resolved.
 fn start(rt: &HostRuntime) -> Result<u8, u8> {
-    let Words { others, wanted } = match Words::of(PROGRAM.words(rt)?) {
-        Ok(words) => words,
-        Err(Mistake::Misuse(misuse)) => return Err(PROGRAM.bad_usage(rt, misuse)),
-        Err(Mistake::Memory) => return Err(PROGRAM.out_of_memory(rt)),
-    };
-    let call = PROGRAM.call(rt, &others)?;
-    let limit = call.limit.unwrap_or(DEFAULT_LIMIT);
+    let words = PROGRAM.words(rt)?;
+    let call = PROGRAM.call(rt, SharedOnly, &words)?;
+    let (wanted, limit) = (cputype_of(call.cpu), call.limit.unwrap_or(DEFAULT_LIMIT));
     match call.words.as_slice() {
         [] => Err(PROGRAM.bad_usage(rt, Misuse::Missing("PROGRAM"))),
         [program, libraries @ ..] => resolve_files(rt, wanted, limit, program, libraries),

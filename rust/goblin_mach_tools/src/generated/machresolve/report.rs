@@ -5,6 +5,7 @@
 use crate::shim::TryGrow;
 use alloc::vec::Vec;
 
+use crate::generated::mach_cli::begins_whole_archive;
 use crate::generated::machresolve::answers::all_settled;
 use crate::generated::machresolve::failure::ResolveFailure;
 use crate::generated::machresolve::inputs::{Given, archive_error};
@@ -103,7 +104,7 @@ fn entry_outcome<'a, R: ArchRecord>(
 ) -> Result<Outcome<'a>, ResolveFailure> {
     let Given { path, bytes } = program;
     let bytes = arch.entry_slice(bytes);
-    if bytes.starts_with(b"!<arch>\n") {
+    if begins_whole_archive(bytes) {
         Ok(Outcome::Archive)
     } else {
         outcome_for(limit, Given { path, bytes }, libraries)

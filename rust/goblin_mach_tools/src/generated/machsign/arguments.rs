@@ -2,28 +2,27 @@
 //! The option of a call that selects entitlements.
 #![forbid(unsafe_code)]
 
-use crate::shim::TryGrow;
-use alloc::vec::Vec;
+use crate::generated::mach_cli::OwnOptions;
 
-use crate::generated::mach_cli::{Word, takes_word};
-use crate::shim::AllocError;
+/// Whether `--entitlements` is given.
+#[derive(Clone, Copy)]
+pub struct Entitlements {
+    pub are_selected: bool,
+}
 
-/// Returns whether the words of a call select entitlements, and all other words, in order. The first word is the program's name.
-/// A word after `--`, or after an option that takes one, does not select them.
-pub fn take_entitlements(words: Vec<Word>) -> Result<(bool, Vec<Word>), AllocError> {
-    let mut are_selected = false;
-    let mut others = Vec::new();
-    let mut is_taken = true;
-    let mut is_plain = false;
-    for word in words {
-        let text = word.as_str();
-        if !is_taken && !is_plain && text == "--entitlements" {
-            are_selected = true;
-            continue;
+impl Entitlements {
+    /// It is not given.
+    pub const UNSELECTED: Entitlements = Entitlements {
+        are_selected: false,
+    };
+}
+
+impl OwnOptions for Entitlements {
+    fn take(&mut self, argument: &str) -> bool {
+        if argument != "--entitlements" {
+            return false;
         }
-        is_taken = !is_taken && takes_word(text);
-        is_plain = is_plain || text == "--";
-        others.try_push(word)?;
+        self.are_selected = true;
+        true
     }
-    Ok((are_selected, others))
 }

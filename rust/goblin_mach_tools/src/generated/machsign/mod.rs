@@ -24,11 +24,11 @@ mod special;
 mod text;
 
 use crate::generated::mach_cli::{
-    Call, Cpu, ForTerminal, ImageFiles, Misuse, Others, Program, Titled, take_json,
+    Call, Cpu, ForTerminal, ImageFiles, Misuse, Options, Others, Program, Titled,
 };
 use crate::shim::io;
 use crate::shim::io::{BufWriter, IsTerminal, Write};
-use arguments::take_entitlements;
+use arguments::Entitlements;
 use entitlements::{NAME, run_entitlements};
 use json::SignatureObjects;
 use signature_view::SignatureLines;
@@ -39,9 +39,7 @@ const PROGRAM: Program = Program {
     usage: "usage: machsign [--json] [--limit N] [--arch NAME | --cputype 0xN] [--names FILE] [-0] FILE..\n\
         \x20      machsign --entitlements [--arch NAME | --cputype 0xN] FILE\n       machsign -h | --help | --version\n",
     version: "machsign 0.2.0\n",
-    has_limit: true,
-    has_cpu: true,
-    has_files: true,
+    options: Options::OF_IMAGES,
     known: &[
         "-0",
         "--arch",
@@ -64,20 +62,14 @@ pub fn main(rt: HostRuntime) -> ExitCode {
 // Runs the program with its words.
 fn start(rt: &HostRuntime) -> Result<u8, u8> {
     let words = PROGRAM.words(rt)?;
-    let Ok((is_json, words)) = take_json(words) else {
-        return Err(PROGRAM.out_of_memory(rt));
-    };
-    let Ok((are_selected, words)) = take_entitlements(words) else {
-        return Err(PROGRAM.out_of_memory(rt));
-    };
-    let call = PROGRAM.call(rt, &words)?;
-    answer(rt, are_selected, is_json, &call)
+    let call = PROGRAM.call(rt, Entitlements::UNSELECTED, &words)?;
+    answer(rt, &call)
 }
 
 // Runs a parsed call: writes entitlements, or shows each file.
-fn answer(rt: &HostRuntime, are_selected: bool, is_json: bool, call: &Call<'_>) -> Result<u8, u8> {
+fn answer(rt: &HostRuntime, call: &Call<'_, Entitlements>) -> Result<u8, u8> {
     let (files, others) = (&call.words, &call.others);
-    if are_selected {
+    if call.own.are_selected {
         return write_entitlements(rt, call.cpu, files);
     }
     if files.is_empty() && others.is_empty() {
@@ -87,7 +79,7 @@ fn answer(rt: &HostRuntime, are_selected: bool, is_json: bool, call: &Call<'_>) 
     let Ok(mut out) = BufWriter::new(Titled::new(output)) else {
         return Err(PROGRAM.out_of_memory(rt));
     };
-    show_files(rt, &shown_by(call, is_json), files, others, &mut out)
+    show_files(rt, &shown_by(call), files, others, &mut out)
 }
 
 // Writes the entitlements of the first image of a file that has them, and returns the status.
@@ -109,12 +101,12 @@ fn write_entitlements(rt: &HostRuntime, cpu: Cpu, files: &[&str]) -> Result<u8, 
 }
 
 // Returns how a call shows its files: the signatures of the selected images, as lines or as objects.
-fn shown_by(call: &Call<'_>, is_json: bool) -> ImageFiles<SignatureLines, SignatureObjects> {
+fn shown_by(call: &Call<'_, Entitlements>) -> ImageFiles<SignatureLines, SignatureObjects> {
     ImageFiles {
         program: PROGRAM,
         cpu: call.cpu,
         limit: call.limit.unwrap_or(usize::MAX),
-        is_json,
+        is_json: call.format.is_json(),
         has_titles: true,
         lines: SignatureLines,
         objects: SignatureObjects,

@@ -2,12 +2,17 @@
 //! The options of a call that select symbols, as those of `nm`.
 #![forbid(unsafe_code)]
 
-use crate::shim::TryGrow;
-use alloc::vec::Vec;
-
-use crate::generated::mach_cli::{Word, takes_word};
+use crate::generated::mach_cli::OwnOptions;
 use crate::generated::machsyms::selection::{Form, Request, SortedBy, Sorting};
-use crate::shim::AllocError;
+
+/// What a call's own options say.
+#[derive(Clone, Copy)]
+pub struct SymbolOptions {
+    /// What letters say, if there is one.
+    pub letters: Option<Letters>,
+    /// Names are printed as they are, not escaped.
+    pub is_raw: bool,
+}
 
 /// What the letters of a call's options say.
 #[derive(Clone, Copy)]
@@ -36,44 +41,33 @@ impl Letters {
     };
 
     // Takes a letter, and returns whether it is known.
-    fn take(&mut self, letter: char) -> bool {
+    fn take(&mut self, letter: u8) -> bool {
         match letter {
-            'a' => self.request.has_stabs = true,
-            'g' => self.request.is_external = true,
-            'u' => self.request.is_undefined = true,
-            'U' => self.request.is_defined = true,
-            'n' => self.sorting.by = SortedBy::Address,
-            'r' => self.sorting.is_reversed = true,
-            'p' => self.is_plain = true,
-            'j' => self.request.form = Form::Names,
-            'm' => self.request.form = Form::Words,
-            'x' => self.is_hexadecimal = true,
-            'A' | 'o' => self.has_file = true,
+            b'a' => self.request.has_stabs = true,
+            b'g' => self.request.is_external = true,
+            b'u' => self.request.is_undefined = true,
+            b'U' => self.request.is_defined = true,
+            b'n' => self.sorting.by = SortedBy::Address,
+            b'r' => self.sorting.is_reversed = true,
+            b'p' => self.is_plain = true,
+            b'j' => self.request.form = Form::Names,
+            b'm' => self.request.form = Form::Words,
+            b'x' => self.is_hexadecimal = true,
+            b'A' | b'o' => self.has_file = true,
             _ => return false,
         }
         true
     }
 
-    // Returns these with the letters of a word: known letters after a dash, and nothing else, or the long name of one.
-    fn with(self, word: &str) -> Option<Letters> {
-        let mut letters = self;
-        if let Some(letter) = letter_named(word) {
-            return if letters.take(letter) {
-                Some(letters)
-            } else {
-                None
-            };
-        }
-        let following = word.strip_prefix('-')?;
-        for letter in following.chars() {
-            if !letters.take(letter) {
+    // Returns these with some letters, if all are known.
+    fn with(self, letters: &[u8]) -> Option<Letters> {
+        let mut taken = self;
+        for letter in letters {
+            if !taken.take(*letter) {
                 return None;
             }
         }
-        if following.is_empty() {
-            return None;
-        }
-        Some(letters)
+        Some(taken)
     }
 
     // Returns what the letters select of a file.
@@ -97,21 +91,56 @@ impl Letters {
     }
 }
 
-// Returns the letter for a long name.
-fn letter_named(name: &str) -> Option<char> {
-    Some(match name {
-        "--debug-syms" => 'a',
-        "--extern-only" => 'g',
-        "--undefined-only" => 'u',
-        "--defined-only" => 'U',
-        "--numeric-sort" => 'n',
-        "--reverse-sort" => 'r',
-        "--no-sort" => 'p',
-        "--format=just-symbols" => 'j',
-        "--format=darwin" => 'm',
-        "--print-file-name" => 'A',
-        _ => return None,
-    })
+// Returns the letters that an option says: the one of a long name, or those after the dash.
+fn letters_in(option: &str) -> &str {
+    match option {
+        "--debug-syms" => "a",
+        "--extern-only" => "g",
+        "--undefined-only" => "u",
+        "--defined-only" => "U",
+        "--numeric-sort" => "n",
+        "--reverse-sort" => "r",
+        "--no-sort" => "p",
+        "--format=just-symbols" => "j",
+        "--format=darwin" => "m",
+        "--print-file-name" => "A",
+        _ => after_dash(option),
+    }
+}
+
+// Returns what follows the dash at the start of an option; nothing if there is none.
+fn after_dash(option: &str) -> &str {
+    match option.strip_prefix('-') {
+        Some(letters) => letters,
+        None => "",
+    }
+}
+
+impl SymbolOptions {
+    /// None of these options.
+    pub const NONE: SymbolOptions = SymbolOptions {
+        letters: None,
+        is_raw: false,
+    };
+}
+
+impl OwnOptions for SymbolOptions {
+    fn take(&mut self, argument: &str) -> bool {
+        if argument == "--raw" {
+            self.is_raw = true;
+            return true;
+        }
+        let letters = letters_in(argument);
+        if letters.is_empty() {
+            return false;
+        }
+        let before = self.letters.unwrap_or(Letters::NONE);
+        match before.with(letters.as_bytes()) {
+            Some(all) => self.letters = Some(all),
+            None => return false,
+        }
+        true
+    }
 }
 
 /// Returns what is selected of a file: all symbols in table order, unless a letter says otherwise.
@@ -135,32 +164,4 @@ pub fn names_files(letters: Option<Letters>) -> bool {
         Some(letters) => letters.has_file,
         None => false,
     }
-}
-
-/// Returns the letters of a call, if it has any; whether names are printed as they are; and all other words, in order. The first
-/// word is the program's name. A word after `--`, or after an option that takes one, is not read for letters.
-pub fn take_letters(words: Vec<Word>) -> Result<(Option<Letters>, bool, Vec<Word>), AllocError> {
-    let mut letters = None;
-    let mut is_raw = false;
-    let mut others = Vec::new();
-    let mut is_taken = true;
-    let mut is_plain = false;
-    for word in words {
-        let text = word.as_str();
-        if !is_taken && !is_plain {
-            if text == "--raw" {
-                is_raw = true;
-                continue;
-            }
-            let before = letters.unwrap_or(Letters::NONE);
-            if let Some(more) = before.with(text) {
-                letters = Some(more);
-                continue;
-            }
-        }
-        is_taken = !is_taken && takes_word(text);
-        is_plain = is_plain || text == "--";
-        others.try_push(word)?;
-    }
-    Ok((letters, is_raw, others))
 }

@@ -38,11 +38,11 @@ mod text;
 mod nm;
 
 use crate::generated::mach_cli::{
-    Call, ForTerminal, ImageFiles, Misuse, Others, Program, Titled, take_json,
+    Call, ForTerminal, ImageFiles, Misuse, Options, Others, Program, Titled,
 };
 use crate::shim::io;
 use crate::shim::io::{BufWriter, IsTerminal, Write};
-use arguments::{Letters, names_files, take_letters};
+use arguments::{SymbolOptions, names_files};
 use json::SymbolObjectsOf;
 use std::process::ExitCode;
 use symbol_view::SymbolLinesOf;
@@ -52,9 +52,7 @@ const PROGRAM: Program = Program {
     usage: "usage: machsyms [-AUagjmnoprux] [--raw] [--json] [--limit N] [--arch NAME | --cputype 0xN] \
         [--names FILE [-0]] FILE..\n       machsyms -h | --help | --version\n",
     version: "machsyms 0.2.0\n",
-    has_limit: true,
-    has_cpu: true,
-    has_files: true,
+    options: Options::OF_IMAGES,
     known: &[
         "--arch",
         "--cputype",
@@ -86,24 +84,12 @@ pub fn main(rt: HostRuntime) -> ExitCode {
 // Runs the program with its words.
 fn start(rt: &HostRuntime) -> Result<u8, u8> {
     let words = PROGRAM.words(rt)?;
-    let Ok((is_json, words)) = take_json(words) else {
-        return Err(PROGRAM.out_of_memory(rt));
-    };
-    let Ok((letters, is_raw, words)) = take_letters(words) else {
-        return Err(PROGRAM.out_of_memory(rt));
-    };
-    let call = PROGRAM.call(rt, &words)?;
-    show_files(rt, letters, is_raw, is_json, &call)
+    let call = PROGRAM.call(rt, SymbolOptions::NONE, &words)?;
+    show_files(rt, &call)
 }
 
 // Shows the selected symbols of files in order, and returns the worst status.
-fn show_files(
-    rt: &HostRuntime,
-    letters: Option<Letters>,
-    is_raw: bool,
-    is_json: bool,
-    call: &Call<'_>,
-) -> Result<u8, u8> {
+fn show_files(rt: &HostRuntime, call: &Call<'_, SymbolOptions>) -> Result<u8, u8> {
     let (files, others) = (&call.words, &call.others);
     if files.is_empty() && others.is_empty() {
         return Err(PROGRAM.bad_usage(rt, Misuse::Missing("FILE")));
@@ -112,27 +98,17 @@ fn show_files(
     let Ok(mut out) = BufWriter::new(Titled::new(output)) else {
         return Err(PROGRAM.out_of_memory(rt));
     };
-    show(
-        rt,
-        &shown_by(call, letters, is_raw, is_json),
-        files,
-        others,
-        &mut out,
-    )
+    show(rt, &shown_by(call), files, others, &mut out)
 }
 
 // Returns how a call shows its files: the symbols that letters select, as lines or as objects.
-fn shown_by(
-    call: &Call<'_>,
-    letters: Option<Letters>,
-    is_raw: bool,
-    is_json: bool,
-) -> ImageFiles<SymbolLinesOf, SymbolObjectsOf> {
+fn shown_by(call: &Call<'_, SymbolOptions>) -> ImageFiles<SymbolLinesOf, SymbolObjectsOf> {
+    let SymbolOptions { letters, is_raw } = call.own;
     ImageFiles {
         program: PROGRAM,
         cpu: call.cpu,
         limit: call.limit.unwrap_or(usize::MAX),
-        is_json,
+        is_json: call.format.is_json(),
         has_titles: !names_files(letters),
         lines: SymbolLinesOf { letters, is_raw },
         objects: SymbolObjectsOf { letters, is_raw },

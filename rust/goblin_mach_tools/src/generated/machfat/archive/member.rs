@@ -2,8 +2,7 @@
 //! The lines of an archive's members.
 #![forbid(unsafe_code)]
 
-use crate::generated::mach_cli::ListProgress;
-use crate::generated::machfat::archive::kind::entry_kind;
+use crate::generated::mach_cli::{ListProgress, entry_kind};
 use crate::generated::machfat::archive::{print_name_end, print_refused};
 use crate::shim::io;
 use core::fmt;
