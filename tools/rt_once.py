@@ -13,7 +13,6 @@ import os
 import subprocess
 import sys
 import tempfile
-import time
 
 sys.dont_write_bytecode = True
 
@@ -31,16 +30,22 @@ def archive_of(crate):
     return f"{crate.folder}/out/lib{crate.name}.a"
 
 
+def sources_of(rt, crate):
+    """Returns the sum of the toolchain, of what HANDLES allows, on which a proof rests too, and of all sources that the proof reads."""
+    kit = subprocess.run(["rt", "version"], check=True, capture_output=True, text=True).stdout
+    handles = rt.handles_of(os.path.dirname(os.path.dirname(crate.folder)))
+    return hashlib.sha256(repr((kit, handles, crate.stamp())).encode()).hexdigest()
+
+
 def stamp_of(rt, crate):
-    """Returns the sum of the toolchain, of all sources that the proof reads and of the archive."""
+    """Returns the sum of the sources and that of the archive."""
     with open(archive_of(crate), "rb") as it:
         archive = hashlib.sha256(it.read()).hexdigest()
-    return f"{rt.stamp_of(crate, {})} {archive}\n"
+    return f"{sources_of(rt, crate)} {archive}\n"
 
 
 def has_archive(rt, crate):
-    """Returns whether `rt_once.py ci` has built the archive of just these sources. (Its proof rests on what HANDLES allows.)"""
-    rt.Crate.allowed = rt.handles_of(os.path.dirname(os.path.dirname(crate.folder)))
+    """Returns whether `rt_once.py ci` has built the archive of just these sources."""
     try:
         with open(f"{archive_of(crate)}.proved", encoding="utf-8") as it:
             return it.read() == stamp_of(rt, crate)
@@ -61,23 +66,19 @@ def build(rt, crate, words, checked):
         it.write(stamp_of(rt, crate))
 
 
-def is_untouched(rt, crate, begun):
-    """Returns whether no file that the proof reads was changed since a time in nanoseconds."""
-    return all(changed < begun for it in [crate, *crate.below()] for *_, changed in rt.touched(it))
-
-
 def prove_static(rt, crate, flags, begun):
-    """Proves a static library as `rt ci` does, and builds its archive."""
+    """Proves a static library as `rt ci` does, and builds its archive, unless its sources are others now than at the beginning of the run."""
     words = crate.words(flags, keeps=False)
     with tempfile.TemporaryDirectory(prefix=f"rt-proved-{os.getpid()}-") as room:
         status = crate.prove(["check", *words, "-o", f"{room}/checked"])
-        if not status and is_untouched(rt, crate, begun):
+        if not status and sources_of(rt, crate) == begun.get(crate.name):
             build(rt, crate, words, f"{room}/checked")
     return status
 
 
 def main(words):
-    rt, begun = toolchain(), time.time_ns()
+    rt = toolchain()
+    begun = {it.name: sources_of(rt, it) for it in rt.rtlib.crates_below(os.getcwd()) if it.is_static}
     ci = rt.Crate.ci
 
     @functools.wraps(ci)

@@ -10,6 +10,7 @@ which the answers differ is kept in FOLDER (the current one), and both answers a
 import argparse
 import os
 import random
+import re
 import subprocess
 import sys
 import tempfile
@@ -349,14 +350,24 @@ def run(program, words, path, tries):
     return ran.stdout.decode("utf-8", "replace")
 
 
+def one_space(line):
+    """A line with one space between two columns."""
+    return " ".join(it for it in line.split(" ") if it)
+
+
+def escaped(line):
+    """A line with the control characters of its names as the programs print them."""
+    return re.sub(r"[\x00-\x1f\x7f]", lambda it: f"\\x{ord(it[0]):02x}", line.replace("\\", "\\\\"))
+
+
 def entries(text, count):
-    """The lines of each entry of a fat file."""
+    """The lines of each entry of a fat file, with one space between two words."""
     found, at = [[] for _ in range(count)], -1
     for line in text.split("\n"):
         if line == f"arch {at + 1}":
             at += 1
         elif line and 0 <= at < count:
-            found[at].append(line)
+            found[at].append(one_space(line))
     return found
 
 
@@ -382,8 +393,7 @@ def main():
             for number_of_image, (_, (rebases, weak), wanted_starts) in enumerate(made):
                 same = True
                 for wanted, got in ((rebases, told[0]), (weak, told[1]), (wanted_starts, starts)):
-                    # (a name may contain a line feed)
-                    wanted, got = [part for line in wanted for part in line.split("\n") if part], got[number_of_image]
+                    wanted, got = [one_space(escaped(line)) for line in wanted], got[number_of_image]
                     items, faults = items + len(got), faults + any(it.startswith(("unreadable", "refused")) for it in got)
                     if wanted[: LIMIT + 1] != got[: LIMIT + 1]:
                         same = False
