@@ -3,7 +3,8 @@ use Rattle.std.proofs.Common.{◌≡◌, ◌+◌, ◌∙◌, ℕ, List, ◌∷�
 use Rattle.std.specs.Prelude.{◌<◌, ⊤}
 use Rattle.std.proofs.lemmas.List.{drop_more}
 use Rattle.std.specs.Str.Parse.{digits_value}
-use Rattle.mach_cli.specs.Calls.{ParsedCall, IsCputype, TakesOwn, TakesValue, AddsWord, AddsWords, AreUntaken, Selects, kind_at, of_arch, of_number, TakesWord}
+use Rattle.mach_cli.specs.Calls.{ParsedCall, IsCputype, TakesOwn, TakesDashed, TakesJoined, TakesValue, AddsWord, AddsWords, AreUntaken, Selects}
+use Rattle.mach_cli.specs.Calls.{joined_in, kind_at, of_arch, of_number, TakesWord}
 use Rattle.mach_cli.specs.CallWords.{word_text}
 use Rattle.mach_cli.specs.Cpus.{ArchRow}
 use Rattle.mach_cli.specs.declared.call.Kind.{Kind}
@@ -58,6 +59,15 @@ pub own-one : {O : Type 0} (taken : O → List ℕ → O × Bool) (word : List �
     → x ≡ y
 own-one {O} taken word old x y a b =
     a.2 ∙ ap (λ (own : O × Bool). record old { own = own.0 }) (sym a.1 ∙ b.1) ∙ sym b.2
+
+joined-one : {O : Type 0} (taken : O → List ℕ → O × Bool) (word : List ℕ) (joined : Option (Valued × List ℕ)) (old x y : ParsedCall O)
+    → TakesJoined taken word joined old x → TakesJoined taken word joined old y → x ≡ y
+joined-one taken word (Some joined) old x y a b = takes-one joined.0 joined.1 old x y a b
+joined-one taken word None old x y a b = own-one taken word old x y a b
+
+pub dashed-one : {O : Type 0} (taken : O → List ℕ → O × Bool) (options : Options) (word : List ℕ) (old x y : ParsedCall O)
+    → TakesDashed taken options word old x → TakesDashed taken options word old y → x ≡ y
+dashed-one taken options word old x y a b = joined-one taken word (joined_in options word) old x y a b
 
 -- ---- and so do the arguments after it
 
@@ -145,11 +155,11 @@ module _ {O : Type 0} (taken : O → List ℕ → O × Bool) (options : Options)
       rw kind
       (next_one (AddsWord options word old) next adds (λ x a. adds-one options word old x next a adds) (λ x new. Selects taken options None x words new))
 
-  pub own_step : (is_plain : Bool) (next : ParsedCall O) → kind_at is_plain options (word_text word) ≡ kinds.Own → TakesOwn taken (word_text word) old next
+  pub own_step : (is_plain : Bool) (next : ParsedCall O) → kind_at is_plain options (word_text word) ≡ kinds.Own → TakesDashed taken options (word_text word) old next
       → Same (GoesOn taken options None is_plain old (word ∷ words)) (GoesOn taken options None is_plain next words)
   own_step true next kind takes = absurd (other-own kind)
   own_step false next kind takes =
-      rw kind (next_one (TakesOwn taken (word_text word) old) next takes (λ x t. own-one taken (word_text word) old x next t takes)
+      rw kind (next_one (TakesDashed taken options (word_text word) old) next takes (λ x t. dashed-one taken options (word_text word) old x next t takes)
       (λ x new. Selects taken options None x words new))
 
   pub plain_step : (is_plain : Bool) → kind_at is_plain options (word_text word) ≡ kinds.Plain
@@ -196,7 +206,7 @@ module _ {O : Type 0} (taken : O → List ℕ → O × Bool) (options : Options)
   other_made false kind new selects = let all = rw kind at selects in (all.0, all.1)
 
   pub own_made : (is_plain : Bool) → kind_at is_plain options (word_text word) ≡ kinds.Own → (new : ParsedCall O)
-      → GoesOn taken options None is_plain old (word ∷ words) new → (x : ParsedCall O) × TakesOwn taken (word_text word) old x
+      → GoesOn taken options None is_plain old (word ∷ words) new → (x : ParsedCall O) × TakesDashed taken options (word_text word) old x
   own_made true kind new selects = absurd (other-own kind)
   own_made false kind new selects = let all = rw kind at selects in (all.0, all.1)
 

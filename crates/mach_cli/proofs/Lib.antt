@@ -1,4 +1,5 @@
 mod Asking
+mod Joined
 pub mod Lines
 mod Listings
 mod Showing

@@ -169,7 +169,7 @@ module _ (k : SinkTexts) (names : List ℕ) (lines : ImageLines) (cpu : Cpu) (li
 
   pub item_shown : (is_first : Bool) (left : ℕ) (here : List ItemView) (x : ItemView) (rest : List ItemView) (before shown : Shown) → here ≡ x ∷ rest
       → Follows is_first left here before → is_part_for cpu x.place ≡ true
-      → ShowsItem k names lines left (label_of x.place.entry x.content) x.content shown
+      → ShowsItem k names lines left (label_of x.place x.content) x.content shown
       → Follows false shown.left rest (both before (separated k is_first shown))
   item_shown is_first left here x rest before shown is follows selected one later more =
       let last = separated k is_first shown in

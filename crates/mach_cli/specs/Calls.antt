@@ -1,6 +1,7 @@
 -- What the arguments of a call request.
-use Rattle.std.specs.Prelude.{◌≡◌, ◌==◌, ◌||◌, ◌&&◌, ◌<◌, ◌≤◌, ◌^◌, ℕ, List, [], ◌∷◌, ◌++◌, codes, map, length, Bool, true, false, bytes_eq, if◌then◌else◌}
+use Rattle.std.specs.Prelude.{◌≡◌, ◌==◌, ◌||◌, ◌&&◌, ◌<◌, ◌≤◌, ◌^◌, ℕ, List, [], ◌∷◌, ◌++◌, codes, map, length, Bool, true, false, bytes_eq, take, drop, if◌then◌else◌}
 use Rattle.std.specs.Prelude.{⊤, Option, Some, None, get_or, string_bytes}
+use Rattle.std.specs.Borrow.{Bor}
 use Rattle.std.specs.Str.Parse.{IsNumeral, digits_value, without_leading_plus}
 use Rattle.mach_base.specs.Text.{texts}
 use Rattle.mach_cli.specs.Cpus.{ArchRow, arch_named, arch_row_of, arch_rows}
@@ -134,6 +135,33 @@ AddsWords {O} options old (word ∷ words) new = (next : ParsedCall O) × AddsWo
 abbrev pub TakesOwn : {O : Type 0} → (taken : O → List ℕ → O × Bool) → List ℕ → (old new : ParsedCall O) → Type 0
 TakesOwn {O} taken word old new = (own : O) × (taken old.own word ≡ (own, true)) × (new ≡ record old { own = own })
 
+-- what follows an option and `=` in an argument, if the program has that option
+abbrev pub value_after : (has : Bool) → (option word : List ℕ) → Option (List ℕ)
+value_after has option word = if has && bytes_eq (take (length option) word) option then Some (drop (length option) word) else None
+
+abbrev pub joined_or : Valued → Option (List ℕ) → Option (Valued × List ℕ) → Option (Valued × List ℕ)
+joined_or option None other = other
+joined_or option (Some value) other = Some (option, value)
+
+-- the option, and its value, of an argument that has both
+abbrev pub joined_in : Options → List ℕ → Option (Valued × List ℕ)
+joined_in options word =
+    joined_or valued.Limit (value_after options.has_limit (codes "--limit=") word)
+    (joined_or valued.Arch (value_after options.has_arch (codes "--arch=") word)
+    (joined_or valued.Cputype (value_after options.has_cputype (codes "--cputype=") word)
+    (joined_or valued.Names (value_after options.has_files (codes "--names=") word) None)))
+
+abbrev pub joined_view : Valued × Bor (List ℕ) → Valued × List ℕ
+joined_view (option, value) = (option, value.now)
+
+abbrev pub TakesJoined : {O : Type 0} → (taken : O → List ℕ → O × Bool) → List ℕ → Option (Valued × List ℕ) → (old new : ParsedCall O) → Type 0
+TakesJoined taken word (Some joined) old new = TakesValue joined.0 joined.1 old new
+TakesJoined taken word None old new = TakesOwn taken word old new
+
+-- An argument that begins with a dash and is no shared option as a whole: such an option with its value, or one of the program's own.
+abbrev pub TakesDashed : {O : Type 0} → (taken : O → List ℕ → O × Bool) → Options → List ℕ → (old new : ParsedCall O) → Type 0
+TakesDashed taken options word old new = TakesJoined taken word (joined_in options word) old new
+
 -- what holds for an argument, by its kind
 abbrev pub ByKind : Kind → (plain nul : Type 0) → (form : Format → Type 0) → (value : Valued → Type 0) → (other own : Type 0) → Type 0
 ByKind kinds.Plain plain nul form value other own = plain
@@ -146,8 +174,8 @@ ByKind kinds.Other plain nul form value other own = other
 ByKind kinds.Own plain nul form value other own = own
 
 -- Arguments extend the call `old` to `new`. The last argument before them may be an option that lacks its value. An option takes
--- the argument after it; all arguments after `--` are others, and so is each argument that is no option. An option that isn't
--- shared is one of the program's own.
+-- the argument after it, or has its value after `=`; all arguments after `--` are others, and so is each argument that is no
+-- option. An option that isn't shared is one of the program's own.
 abbrev pub Selects : {O : Type 0} → (taken : O → List ℕ → O × Bool) → Options → (option : Option Valued) → (old : ParsedCall O) → List Word
     → (new : ParsedCall O) → Type 0
 Selects taken options None old [] new = new ≡ old
@@ -160,7 +188,7 @@ Selects {O} taken options None old (word ∷ words) new =
     (λ format. Selects taken options None (record old { format = format }) words new)
     (λ option. Selects taken options (Some option) old words new)
     ((next : ParsedCall O) × AddsWord options word old next × Selects taken options None next words new)
-    ((next : ParsedCall O) × TakesOwn taken (word_text word) old next × Selects taken options None next words new)
+    ((next : ParsedCall O) × TakesDashed taken options (word_text word) old next × Selects taken options None next words new)
 
 -- The request is what the arguments add to a call: this call; or they request no call.
 abbrev pub IsRequest : {A O : Type 0} → (taken : O → List ℕ → O × Bool) → Options → (old : ParsedCall O) → List Word → Request A O → Type 0

@@ -7,6 +7,7 @@ use Rattle.mach_parts.specs.Header.{IsHeader}
 use Rattle.mach_parts.specs.declared.fat.FatArch.{FatArch}
 use Rattle.mach_parts.specs.declared.header.Header.{Header}
 use Rattle.goblin_mach.specs.Facts.{OfImage}
+use Rattle.goblin_mach.specs.declared.item.EntryCpu.{EntryCpu}
 use Rattle.mach_cli.specs.declared.cpu.Arch as named
 use Rattle.mach_cli.specs.declared.cpu.Cpu.{Cpu}
 use Rattle.mach_cli.specs.declared.cpu.Cpu.TheVariants.{Any, Number, Arch}
@@ -43,6 +44,16 @@ arch_rows =
 abbrev pub arch_named : List ArchRow → List ℕ → Option ArchRow
 arch_named [] name = None
 arch_named (row ∷ rows) name = if bytes_eq name row.name then Some row else arch_named rows name
+
+-- the name of the first row with these numbers
+abbrev pub cpu_named : List ArchRow → (cputype kind : ℕ) → Option (List ℕ)
+cpu_named [] cputype kind = None
+cpu_named (row ∷ rows) cputype kind = if cputype == row.cputype && kind == row.cpusubtype then Some row.name else cpu_named rows cputype kind
+
+-- the name of the cpu of an entry of a fat file, if its record can be read and the cpu has a name
+abbrev pub entry_cpu_name : Option EntryCpu → Option (List ℕ)
+entry_cpu_name None = None
+entry_cpu_name (Some cpu) = cpu_named arch_rows cpu.cputype (kind_of_cpu cpu.cpusubtype)
 
 abbrev pub arch_row_of : named.Arch → ArchRow
 arch_row_of a = record { name = a.name.now; cputype = a.cputype; cpusubtype = a.cpusubtype }

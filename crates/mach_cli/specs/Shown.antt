@@ -101,7 +101,7 @@ separated k is_first shown = record {
 pub data ShowsItems (k : SinkTexts) (names : List ℕ) (lines : ImageLines) (cpu : Cpu) : (is_first : Bool) → (left : ℕ) → List ItemView → Shown → Type 0 where
   no_items : (is_first : Bool) (left : ℕ) → ShowsItems k names lines cpu is_first left [] (nothing left)
   selected_item : (is_first : Bool) (left : ℕ) (x : ItemView) (xs : List ItemView) (shown later : Shown) → is_part_for cpu x.place ≡ true
-      → ShowsItem k names lines left (label_of x.place.entry x.content) x.content shown → ShowsItems k names lines cpu false shown.left xs later
+      → ShowsItem k names lines left (label_of x.place x.content) x.content shown → ShowsItems k names lines cpu false shown.left xs later
       → ShowsItems k names lines cpu is_first left (x ∷ xs) (both (separated k is_first shown) later)
   other_item : (is_first : Bool) (left : ℕ) (x : ItemView) (xs : List ItemView) (later : Shown) → is_part_for cpu x.place ≡ false
       → ShowsItems k names lines cpu is_first left xs later → ShowsItems k names lines cpu is_first left (x ∷ xs) later

@@ -22,8 +22,8 @@ pub record SinkTexts : Type 0 where
 -- an image that is the whole file is refused on the error output alone
 abbrev pub refused_text : LabelView → (words : List ℕ) → List ℕ
 refused_text unlabelled words = []
-refused_text (of_entry i) words = codes "refused: " ++ (words ++ codes "\n")
-refused_text (of_member i m) words = codes "refused: " ++ (words ++ codes "\n")
+refused_text (of_entry i cpu) words = codes "refused: " ++ (words ++ codes "\n")
+refused_text (of_member i cpu m) words = codes "refused: " ++ (words ++ codes "\n")
 
 -- Each image has a line with its label above it.
 abbrev pub text_texts : SinkTexts

@@ -1,8 +1,9 @@
 //! The arguments of a call.
 
-ghost use Rattle.std.specs.Prelude.{◌≡◌, ℕ, None, IfErr, IfNone, IfOk, IfSome, OnOk};
-ghost use Rattle.mach_cli.specs.Calls.{call_view, empty_call, kind_at, word_kind, AddsWord, AreUntaken, Selects, IsCputype, IsRequest, TakesOwn, TakesValue};
-ghost use Rattle.mach_cli.specs.Calls.{TakesWord};
+ghost use Rattle.std.specs.Prelude.{◌≡◌, ℕ, None, option_map, IfErr, IfNone, IfOk, IfSome, OnOk};
+ghost use Rattle.mach_dyld.specs.Exports.{text_in};
+ghost use Rattle.mach_cli.specs.Calls.{call_view, empty_call, kind_at, word_kind, AddsWord, AreUntaken, Selects, IsCputype, IsRequest, TakesValue};
+ghost use Rattle.mach_cli.specs.Calls.{joined_in, joined_view, value_after, TakesDashed, TakesOwn, TakesWord};
 ghost use Rattle.mach_cli.specs.CallWords.{word_text};
 
 use crate::cpu::{Arch, Cpu};
@@ -66,7 +67,7 @@ enum Kind {
     Valued(Valued),
     // No option.
     Other,
-    // An option of the program's own, or one that it doesn't have.
+    // An option with its value, one of the program's own, or one that it doesn't have.
     Own,
 }
 
@@ -121,6 +122,30 @@ impl Valued {
             Valued::Names => "FILE after --names",
         }
     }
+}
+
+// Returns what follows an option and `=` in an argument, if the program has that option.
+fn value_after<'a>(word: &'a str, option: &str, has: bool) -> Option<&'a str>
+    ensures { text_in result ≡ value_after has option.now word.now }
+{
+    if has { word.strip_prefix(option) } else { None }
+}
+
+// Returns the option and its value, if an argument has both.
+fn joined<'a>(word: &'a str, options: Options) -> Option<(Valued, &'a str)>
+    ensures { option_map joined_view result ≡ joined_in options word.now }
+{
+    if let Some(value) = value_after(word, "--limit=", options.has_limit) {
+        return Some((Valued::Limit, value));
+    }
+    if let Some(value) = value_after(word, "--arch=", options.has_arch) {
+        return Some((Valued::Arch, value));
+    }
+    if let Some(value) = value_after(word, "--cputype=", options.has_cputype) {
+        return Some((Valued::Cputype, value));
+    }
+    let value = value_after(word, "--names=", options.has_files)?;
+    Some((Valued::Names, value))
 }
 
 /// Returns the cpu number in an argument: `0x`, and 1 to 8 hexadecimal digits.
@@ -194,16 +219,28 @@ impl<'a, A: Allocator, O: OwnOptions> Call<'a, A, O> {
         if pushed { Ok(()) } else { Err(Untaken::Memory) }
     }
 
-    // Takes an option that isn't shared.
-    fn take_own(&mut self, word: &'a Word) -> Result<(), Untaken<'a>>
-        ensures taken { OnOk result (TakesOwn O.taken (word_text word.now) (call_view self.old) (call_view self.new)) }
-        ensures untaken { IfErr result (AreUntaken (TakesOwn O.taken (word_text word.now) (call_view self.old))) }
+    // Takes an option of the program's own.
+    fn take_own(&mut self, option: &'a str) -> Result<(), Untaken<'a>>
+        ensures taken { OnOk result (TakesOwn O.taken option.now (call_view self.old) (call_view self.new)) }
+        ensures untaken { IfErr result (AreUntaken (TakesOwn O.taken option.now (call_view self.old))) }
     {
-        let option = word.as_str();
         if !self.own.take(option) {
             return Err(Untaken::Misuse(Misuse::UnknownOption(option)));
         }
         Ok(())
+    }
+
+    // Takes an argument that begins with a dash and is no shared option as a whole: such an option with its value after `=`, or one
+    // of the program's own.
+    fn take_dashed(&mut self, word: &'a Word, options: Options) -> Result<(), Untaken<'a>>
+        ensures taken { OnOk result (TakesDashed O.taken options (word_text word.now) (call_view self.old) (call_view self.new)) }
+        ensures untaken { IfErr result (AreUntaken (TakesDashed O.taken options (word_text word.now) (call_view self.old))) }
+    {
+        let argument = word.as_str();
+        match joined(argument, options) {
+            Some((option, value)) => self.take(option, value),
+            None => self.take_own(argument),
+        }
     }
 }
 
@@ -279,7 +316,7 @@ fn read<'a, A: Allocator, O: OwnOptions>(
                 }
             }
             Kind::Own => {
-                if let Err(untaken) = call.take_own(word) {
+                if let Err(untaken) = call.take_dashed(word, options) {
                     return Err(untaken);
                 }
             }

@@ -245,7 +245,7 @@ impl<V: ImageView, K: Sink> Document<'_, V, K> {
         err: &mut E,
     ) -> io::Result<Outcome>
         ensures { let d = self.now in let file = d.names.file.now in let x = input_item_read item.entry in IfOk result (λ outcome. (shown : Shown)
-            × ShowsItem K.texts (names_text d.names.program.now file) (V.lines d.view.now file d.limit) left (label_of x.place.entry x.content) x.content shown
+            × ShowsItem K.texts (names_text d.names.program.now file) (V.lines d.view.now file d.limit) left (label_of x.place x.content) x.content shown
             × (shown.whole ≡ outcome.whole) × (shown.left ≡ outcome.left)
             × Writes shown (O.contents out.old) (O.contents out.new) (E.contents err.old) (E.contents err.new)) }
     {

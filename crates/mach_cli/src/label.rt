@@ -4,8 +4,11 @@ ghost use Rattle.std.specs.Prelude.{◌≡◌, Some};
 ghost use Rattle.mach_archive.specs.ArchiveViews.{member_view};
 ghost use Rattle.mach_archive.specs.MemberNames.{member_name};
 ghost use Rattle.goblin_mach.specs.ItemsLeft.{input_item_read};
-ghost use Rattle.mach_cli.specs.Labels.{label_line, label_of, label_suffix, label_view, member_text, name_on_line, name_string, object_front};
+ghost use Rattle.mach_dyld.specs.Exports.{text_in};
+ghost use Rattle.mach_cli.specs.Labels.{cpu_string, cpu_suffix, label_line, label_of, label_suffix, label_view, member_text, name_on_line, name_string};
+ghost use Rattle.mach_cli.specs.Labels.{object_front};
 
+use crate::cpu::entry_cpu_name;
 use crate::escaped::Escaped;
 use crate::json::text::JsonString;
 use goblin_mach::{Content, InputItem};
@@ -18,21 +21,22 @@ use std::fmt::{Display, Formatter, Write};
 pub enum Label<'a> {
     /// None, if the image is the whole file.
     None,
-    /// The index of its entry in a fat file.
-    Entry(usize),
-    /// The index of the entry that is an archive, and the member of this archive.
-    Member(usize, Member<'a>),
+    /// The index of its entry in a fat file, and the name of the cpu, if it has one.
+    Entry(usize, Option<&'static str>),
+    /// The same of the entry that is an archive, and the member of this archive.
+    Member(usize, Option<&'static str>, Member<'a>),
 }
 
 impl<'a> Label<'a> {
     /// Returns the label of an item of a file.
     pub fn of(item: &InputItem<'a>) -> Label<'a>
-        ensures { let x = input_item_read item.now in label_view result ≡ label_of x.place.entry x.content }
+        ensures { let x = input_item_read item.now in label_view result ≡ label_of x.place x.content }
     {
+        let cpu = entry_cpu_name(item.place.cpu);
         match item.place.entry {
             Some(index) => match &item.content {
-                Ok(Content::Member(member)) => Label::Member(index, *member),
-                Ok(Content::File(_) | Content::NoMember) | Err(_) => Label::Entry(index),
+                Ok(Content::Member(member)) => Label::Member(index, cpu, *member),
+                Ok(Content::File(_) | Content::NoMember) | Err(_) => Label::Entry(index, cpu),
             },
             None => Label::None,
         }
@@ -71,6 +75,21 @@ impl Display for MemberText<'_> {
     }
 }
 
+// The name of a cpu after the label of an entry, if there is one.
+#[derive(Clone, Copy)]
+struct CpuSuffix(Option<&'static str>);
+
+impl Display for CpuSuffix {
+    ghost output = { λ t. Some (cpu_suffix (text_in t.0)) };
+
+    fn fmt<W: Write>(&self, f: &mut Formatter<W>) -> fmt::Result {
+        match self.0 {
+            Some(name) => write!(f, " ({name})"),
+            None => Ok(()),
+        }
+    }
+}
+
 /// The line above the output of an image.
 #[derive(Clone, Copy)]
 pub struct LabelLine<'a>(pub Label<'a>);
@@ -81,10 +100,14 @@ impl Display for LabelLine<'_> {
     fn fmt<W: Write>(&self, f: &mut Formatter<W>) -> fmt::Result {
         match self.0 {
             Label::None => Ok(()),
-            Label::Entry(index) => writeln!(f, "arch {index}"),
-            Label::Member(index, member) => {
+            Label::Entry(index, cpu) => {
+                let cpu = CpuSuffix(cpu);
+                writeln!(f, "arch {index}{cpu}")
+            }
+            Label::Member(index, cpu, member) => {
                 let text = MemberText(index, member);
-                writeln!(f, "{text}")
+                let cpu = CpuSuffix(cpu);
+                writeln!(f, "{text}{cpu}")
             }
         }
     }
@@ -100,8 +123,8 @@ impl Display for LabelSuffix<'_> {
     fn fmt<W: Write>(&self, f: &mut Formatter<W>) -> fmt::Result {
         match self.0 {
             Label::None => Ok(()),
-            Label::Entry(index) => write!(f, ": arch {index}"),
-            Label::Member(index, member) => {
+            Label::Entry(index, _) => write!(f, ": arch {index}"),
+            Label::Member(index, _, member) => {
                 let text = MemberText(index, member);
                 write!(f, ": {text}")
             }
@@ -127,6 +150,21 @@ impl Display for NameString<'_> {
     }
 }
 
+// The name of a cpu as a string of JSON, `null` if there is none.
+#[derive(Clone, Copy)]
+struct CpuString(Option<&'static str>);
+
+impl Display for CpuString {
+    ghost output = { λ t. Some (cpu_string (text_in t.0)) };
+
+    fn fmt<W: Write>(&self, f: &mut Formatter<W>) -> fmt::Result {
+        match self.0 {
+            Some(name) => write!(f, "\"{name}\""),
+            None => write!(f, "null"),
+        }
+    }
+}
+
 /// The start of an image's object, in JSON.
 #[derive(Clone, Copy)]
 pub struct ObjectFront<'a>(pub Label<'a>);
@@ -137,10 +175,14 @@ impl Display for ObjectFront<'_> {
     fn fmt<W: Write>(&self, f: &mut Formatter<W>) -> fmt::Result {
         match self.0 {
             Label::None => write!(f, "{{"),
-            Label::Entry(index) => write!(f, "{{\"entry\":{index},"),
-            Label::Member(index, member) => {
+            Label::Entry(index, cpu) => {
+                let cpu = CpuString(cpu);
+                write!(f, "{{\"arch\":{cpu},\"entry\":{index},")
+            }
+            Label::Member(index, cpu, member) => {
+                let cpu = CpuString(cpu);
                 let name = NameString(member);
-                write!(f, "{{\"entry\":{index},\"member\":{name},")
+                write!(f, "{{\"arch\":{cpu},\"entry\":{index},\"member\":{name},")
             }
         }
     }

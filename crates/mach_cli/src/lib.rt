@@ -53,7 +53,7 @@ mod terminal;
 pub use crate::bounds::most_items;
 pub use crate::call::{Call, cputype_in};
 pub use crate::complaint::{Complaint, Trouble};
-pub use crate::cpu::{Arch, Cpu};
+pub use crate::cpu::{Arch, Cpu, cpu_name};
 pub use crate::directory_name::print_name;
 pub use crate::document::Document;
 pub use crate::escaped::{Escaped, EscapedBytes, print_bytes, print_escaped};

@@ -1,14 +1,14 @@
 use Rattle.std.proofs.Common.{◌≡◌, ◌+◌, false, drop, refl}
 use Rattle.std.proofs.lemmas.List.{drop_all}
 use Rattle.mach_cli.specs.CallWords.{word_text}
-use Rattle.mach_cli.specs.Calls.{call_view, kind_at, AddsWord, TakesOwn, TakesWord}
+use Rattle.mach_cli.specs.Calls.{call_view, kind_at, AddsWord, TakesDashed, TakesWord}
 use Rattle.mach_cli.specs.declared.call.Kind.{Kind}
 use Rattle.mach_cli.specs.declared.call.Kind.TheVariants as kinds
 use Rattle.mach_cli.proofs.CallsRead.{kind_of-word, option_open, same_over}
 use Rattle.mach_cli.proofs.CallsRead.{form_step, nul_step, option_step, other_made, other_step, own_made, own_step, plain_step, untaken_all}
 use Rattle.mach_cli.proofs.CallsRead.{valued_made, valued_step, words_more, not_plain}
 use Rattle.mach_cli.proofs.call.read.Goals as goal
-use Rattle.mach_cli.proofs.call.read.Goals.{in-Plain, in-Nul, in-Form, in-Valued, in-Other+in_default-add, in-Own+in_default-take_own}
+use Rattle.mach_cli.proofs.call.read.Goals.{in-Plain, in-Nul, in-Form, in-Valued, in-Other+in_default-add, in-Own+in_default-take_dashed}
 
 pub words-preserved-in-Some : goal.words-preserved-in-Some
 words-preserved-in-Some g c =
@@ -43,16 +43,16 @@ returns-in-Err-add-clause-untaken g c =
     (λ new all. other_made g.O.OwnOptions.taken c.args.options w (drop (l.word-index + 1) ws) (call_view l.call) l.is_plain kind new (before.0 new all))
     c.in-Err-add.ensures.untaken
 
-pub returns-in-Err-take_own-clause-untaken : goal.returns-in-Err-take_own-clause-untaken
-returns-in-Err-take_own-clause-untaken g c =
+pub returns-in-Err-take_dashed-clause-untaken : goal.returns-in-Err-take_dashed-clause-untaken
+returns-in-Err-take_dashed-clause-untaken g c =
     let l = c.words in
     let ws = c.args.words.now in
     let w = c.word-item.result in
     let before = rw (c.in_default.is, words_more ws l.word-index w c.words-test.true c.word-item.is) at l.invariant.0 in
     let kind = kind_of-word l.is_plain c.args.options w c.as_str.result.now c.kind_at.result kinds.Own c.as_str.ensures c.kind_at.ensures c.in-Own.is in
-    untaken_all (TakesOwn g.O.OwnOptions.taken (word_text w) (call_view l.call)) _ _
+    untaken_all (TakesDashed g.O.OwnOptions.taken c.args.options (word_text w) (call_view l.call)) _ _
     (λ new all. own_made g.O.OwnOptions.taken c.args.options w (drop (l.word-index + 1) ws) (call_view l.call) l.is_plain kind new (before.0 new all))
-    c.in-Err-take_own.ensures.untaken
+    c.in-Err-take_dashed.ensures.untaken
 
 pub words-preserved : goal.words-preserved
 words-preserved g c =
@@ -88,9 +88,9 @@ words-preserved g c =
             same_over _ _ _ before (other_step g.O.OwnOptions.taken o w rest view l.is_plain _ (kind kinds.Other p.in-Other.is) p.in_default-add.ensures.added),
             λ _. refl,
           )
-      | in-Own+in_default-take_own p ↦
+      | in-Own+in_default-take_dashed p ↦
           rw (p.call-is, p.before-is, p.is_plain-is, c.in_default.is) (
-            same_over _ _ _ before (own_step g.O.OwnOptions.taken o w rest view l.is_plain _ (kind kinds.Own p.in-Own.is) p.in_default-take_own.ensures.taken),
+            same_over _ _ _ before (own_step g.O.OwnOptions.taken o w rest view l.is_plain _ (kind kinds.Own p.in-Own.is) p.in_default-take_dashed.ensures.taken),
             λ _. refl,
           )
     ]

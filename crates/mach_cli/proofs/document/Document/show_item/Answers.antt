@@ -28,7 +28,7 @@ returns-in_ok-end_archive-in-Ok-NoMember g c =
     let is = rw arm.is at arm.field-0-is in
     let here : x.content ≡ Ok no_member = ap (read_as content_view) arm.is ∙ ap (λ (content : Content). Ok (content_view content)) is in (
       shown,
-      subst (λ (content : Result ContentView Fault). ShowsItem k names lines c.args.left (label_of x.place.entry x.content) content shown) (sym here)
+      subst (λ (content : Result ContentView Fault). ShowsItem k names lines c.args.left (label_of x.place x.content) content shown) (sym here)
           (subst (λ (l : LabelView). ShowsItem k names lines c.args.left l (Ok no_member) shown) c.of-label.ensures an_archive),
       refl,
       refl,
@@ -62,7 +62,7 @@ returns-in-Err g c =
     IfOk-weaker c.refuse_image.result _ _
     (λ outcome reported. (
       shown,
-      subst (λ (content : Result ContentView Fault). ShowsItem k names lines c.args.left (label_of x.place.entry x.content) content shown) (sym here)
+      subst (λ (content : Result ContentView Fault). ShowsItem k names lines c.args.left (label_of x.place x.content) content shown) (sym here)
           (subst (λ (l : LabelView). ShowsItem k names lines c.args.left l (Err (fault_of e)) shown) c.of-label.ensures refused),
       sym reported.0,
       sym reported.1,
