@@ -11,7 +11,7 @@ use Rattle.machinfo.specs.Lists.{HasRows}
 use Rattle.machinfo.specs.Rows.{RowView}
 use Rattle.machinfo.specs.Words.{spelling_of}
 use Rattle.machinfo.specs.declared.word.Word.{Word}
-use Rattle.machinfo.specs.declared.word.Word.TheVariants.{Starts, Slots, Indirect, Data, Options, Tools, Notes, Providers, Libraries, Rebases, Weak}
+use Rattle.machinfo.specs.declared.word.Word.TheVariants.{Commands, Starts, Slots, Indirect, Data, Options, Tools, Notes, Providers, Libraries, Rebases, Weak}
 use Rattle.machinfo.specs.declared.counts.Form.{Form}
 use Rattle.machinfo.specs.declared.counts.Form.TheVariants.{Lines, Members}
 
@@ -24,8 +24,18 @@ abbrev pub count_text : ℕ → ListProgress → ℕ → List ℕ
 count_text limit reported past =
     word_if reported.more (codes "more than ") [] ++ decimal (limit - reported.left) ++ word_if reported.whole [] (codes ", not all readable") ++ past_text past
 
+-- all rows were counted, all can be read, and no more are claimed
+abbrev pub are_counted_whole : ListProgress → ℕ → Bool
+are_counted_whole reported past = (reported.whole && not reported.more) && (past == 0)
+
+-- the list has no rows, and none is claimed past the end of the bytes
+abbrev pub has_none : ℕ → ListProgress → ℕ → Bool
+has_none limit reported past = are_counted_whole reported past && (limit - reported.left == 0)
+
+-- the line of a list that has or claims rows
 abbrev pub count_line : Word → ℕ → ListProgress → ℕ → List ℕ
-count_line word limit reported past = spelling_of word ++ codes ": " ++ count_text limit reported past ++ codes "\n"
+count_line word limit reported past =
+    if has_none limit reported past then [] else spelling_of word ++ codes ": " ++ count_text limit reported past ++ codes "\n"
 
 -- the same as members of an object
 abbrev pub count_members : ℕ → ListProgress → ℕ → List ℕ
@@ -44,10 +54,6 @@ abbrev pub count_reported : Form → Word → ℕ → ListProgress → ℕ → L
 count_reported Lines word limit reported past = count_line word limit reported past
 count_reported Members word limit reported past = count_member word limit reported past
 
--- all rows were counted, all can be read, and no more are claimed
-abbrev pub are_counted_whole : ListProgress → ℕ → Bool
-are_counted_whole reported past = (reported.whole && not reported.more) && (past == 0)
-
 -- The text gives one count for each of these words, in order: how many rows the word's list has in the image at the start of the
 -- bytes, counted up to the limit, and how many more the list claims past the end of the bytes. It is whole if no list has or
 -- claims more, and all rows can be read.
@@ -59,4 +65,4 @@ pub data AreCounts (form : Form) (limit : ℕ) (bytes : List ℕ) : List Word �
 
 -- the lists that are counted
 abbrev pub counted_words : List Word
-counted_words = Starts ∷ Slots ∷ Indirect ∷ Data ∷ Options ∷ Tools ∷ Notes ∷ Providers ∷ Libraries ∷ Rebases ∷ Weak ∷ []
+counted_words = Commands ∷ Starts ∷ Slots ∷ Indirect ∷ Data ∷ Options ∷ Tools ∷ Notes ∷ Providers ∷ Libraries ∷ Rebases ∷ Weak ∷ []

@@ -12,6 +12,7 @@ use Rattle.mach_cli.specs.Listings.{reported_by}
 use Rattle.mach_cli.specs.Values.{uuid_text, version_text}
 use Rattle.machinfo.specs.FactRows.{FactView, uuid_fact, platform_fact, tool_fact, library_fact, path_fact, fact_view, fact_rows_left}
 use Rattle.machinfo.specs.Platforms.{platform_name}
+use Rattle.machinfo.specs.Tools.{tool_text}
 use Rattle.machinfo.specs.RowFields.{library_fields}
 use Rattle.machinfo.specs.declared.command_facts.PlatformFact.{PlatformFact}
 use Rattle.machinfo.specs.declared.fact.Fact.{Fact}
@@ -36,7 +37,7 @@ library_fact_text form l = codes "library: " ++ (form (library_fields l) ++ vers
 abbrev pub fact_text : FactView → List ℕ
 fact_text (uuid_fact uuid) = codes "uuid: " ++ uuid_text uuid
 fact_text (platform_fact platform) = platform_text platform
-fact_text (tool_fact tool) = codes "tool: " ++ decimal tool.tool ++ codes " " ++ version_text tool.version
+fact_text (tool_fact tool) = codes "tool: " ++ tool_text tool.tool ++ codes " " ++ version_text tool.version
 fact_text (library_fact library) = library_fact_text fields_line library
 fact_text (path_fact path) = codes "run path: " ++ escaped_text path
 

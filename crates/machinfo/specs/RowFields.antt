@@ -16,7 +16,7 @@ use Rattle.goblin_mach.specs.Libraries.{LibraryView}
 use Rattle.goblin_mach.specs.declared.libraries.LibraryAttributes.{LibraryAttributes}
 use Rattle.goblin_mach.specs.declared.libraries.LibraryKind.{LibraryKind}
 use Rattle.goblin_mach.specs.declared.libraries.LibraryKind.TheVariants.{Lazy}
-use Rattle.mach_cli.specs.Fields.{FieldView, number, signed, hex, text, flag, flags, field_of, line_field, fields_line, fields_pairs, object_field}
+use Rattle.mach_cli.specs.Fields.{FieldView, number, named, signed, hex, text, version, flag, flags, field_of, line_field, fields_line, fields_pairs, object_field}
 use Rattle.mach_cli.specs.Fields.{fields_object, whether}
 use Rattle.mach_cli.specs.Listings.{reported_by}
 use Rattle.mach_cli.specs.Signing.{diverse_by, diversity_by, has_auth, key_by, rebase_type}
@@ -26,6 +26,7 @@ use Rattle.machinfo.specs.ProvidedSymbols.{ProvidedView}
 use Rattle.machinfo.specs.Rows.{RowView, command_row, start_row, slot_row, indirect_row, data_row, option_row, tool_row, note_row}
 use Rattle.machinfo.specs.Rows.{provided_row, library_row, rebase_row, weak_row, list_row_view}
 use Rattle.machinfo.specs.Lists.{list_rows_left}
+use Rattle.machinfo.specs.Tools.{tool_name}
 use Rattle.machinfo.specs.declared.list.ImageList.{ImageList}
 use Rattle.machinfo.specs.declared.row.Row.{Row}
 use Rattle.machinfo.specs.declared.word.Word.{Word}
@@ -63,8 +64,9 @@ option_fields found = field_of (codes "command") (number found.0) 1 ∷ field_of
 abbrev pub tool_fields : ℕ × BuildToolVersion → List FieldView
 tool_fields found =
     field_of (codes "command") (number found.0) 1
-    ∷ field_of (codes "tool") (number found.1.tool) 2
-    ∷ field_of (codes "version") (hex found.1.version) 3
+    ∷ field_of (codes "tool") (named found.1.tool (tool_name found.1.tool)) 2
+    ∷ object_field (codes "version") (number found.1.version)
+    ∷ line_field (version found.1.version) 3
     ∷ []
 
 -- the number of the command, the note's owner, the offset of its bytes, and their number

@@ -1,5 +1,5 @@
 -- The summary of an image before its counts, but for its signature and its state.
-use Rattle.std.specs.Prelude.{◌==◌, ◌&&◌, ◌^◌, ℕ, List, [], ◌∷◌, ◌++◌, codes, take, drop, bit_and, bytes_eq, Bool, Option, Some, None}
+use Rattle.std.specs.Prelude.{◌==◌, ◌^◌, ℕ, List, [], ◌∷◌, ◌++◌, codes, take, drop, bit_and, bytes_eq, Bool, Option, Some, None}
 use Rattle.std.specs.Prelude.{Result, if◌then◌else◌}
 use Rattle.std.specs.Io.KnownBytes.{Appends}
 use Rattle.std.specs.List.{flat_map, range_with_len}
@@ -7,18 +7,13 @@ use Rattle.mach_base.specs.Fault.{Fault}
 use Rattle.mach_parts.specs.Cpu.{kind_of_cpu}
 use Rattle.mach_parts.specs.HeaderNames.{filetype_name, flag_name}
 use Rattle.mach_parts.specs.declared.header.Header.{Header}
-use Rattle.mach_cli.specs.Cpus.{ArchRow, arch_rows}
+use Rattle.mach_cli.specs.Cpus.{arch_rows, cpu_named}
 use Rattle.mach_cli.specs.Escapes.{escaped_text}
 use Rattle.mach_cli.specs.Listings.{hex_text, AreFirstLines}
 use Rattle.machinfo.specs.FactRows.{FactView}
 use Rattle.machinfo.specs.FactTexts.{fact_texts}
 
 -- ---- the header
-
--- the name of the first row with these numbers
-abbrev pub cpu_named : List ArchRow → (cputype kind : ℕ) → Option (List ℕ)
-cpu_named [] cputype kind = None
-cpu_named (row ∷ rows) cputype kind = if cputype == row.cputype && kind == row.cpusubtype then Some row.name else cpu_named rows cputype kind
 
 abbrev pub cpu_in_words : Option (List ℕ) → (cputype cpusubtype : ℕ) → List ℕ
 cpu_in_words None cputype cpusubtype = codes "cpu: cputype " ++ (hex_text cputype ++ (codes ", cpusubtype " ++ (hex_text cpusubtype ++ codes "\n")))

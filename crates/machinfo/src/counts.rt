@@ -6,7 +6,7 @@ ghost use Rattle.goblin_mach.specs.OpenImage.{IsImage};
 ghost use Rattle.mach_cli.specs.Listings.{CountsRows};
 ghost use Rattle.machinfo.specs.RowFields.{row_texts};
 ghost use Rattle.machinfo.specs.Lists.{HasRows};
-ghost use Rattle.machinfo.specs.Counts.{are_counted_whole, count_members, count_text, count_reported, past_text, AreCounts};
+ghost use Rattle.machinfo.specs.Counts.{are_counted_whole, count_members, count_text, count_reported, has_none, past_text, AreCounts};
 
 use crate::list::ImageList;
 use crate::word::Word;
@@ -18,7 +18,8 @@ use std::io::Write;
 use std::{fmt, io};
 
 /// The lists that are counted.
-pub const COUNTED: [Word; 11] = [
+pub const COUNTED: [Word; 12] = [
+    Word::Commands,
     Word::Starts,
     Word::Slots,
     Word::Indirect,
@@ -35,7 +36,7 @@ pub const COUNTED: [Word; 11] = [
 /// The form in which counts are written.
 #[derive(Clone, Copy)]
 pub enum Form {
-    /// One line for each list.
+    /// One line for each list that has or claims rows.
     Lines,
     /// Members of an object, each with a comma after it.
     Members,
@@ -142,6 +143,13 @@ fn print_count<A: Allocator, O: Write>(
     Ok(reported.whole & !reported.more & (past == 0))
 }
 
+// Whether a list has no rows, and none is claimed past the end of the bytes.
+fn has_none(limit: usize, reported: ListProgress, past: usize) -> bool
+    ensures { result ≡ has_none limit reported past }
+{
+    reported.whole && !reported.more && past == 0 && limit.saturating_sub(reported.left) == 0
+}
+
 // Writes the count of a list.
 fn write_count<O: Write>(
     form: Form,
@@ -155,6 +163,7 @@ fn write_count<O: Write>(
 {
     let name = word.name();
     match form {
+        Form::Lines if has_none(limit, reported, past) => Ok(()),
         Form::Lines => {
             let count = CountText {
                 limit,

@@ -9,7 +9,7 @@ ghost use Rattle.machinfo.specs.FactTexts.{fact_lines_left, fact_object_shown, f
 
 use crate::command_facts::{CommandFacts, PlatformFact};
 use crate::fields::write_library;
-use crate::text::{PlatformObject, PlatformText};
+use crate::text::{PlatformObject, PlatformText, ToolText};
 use goblin_mach::load_command::BuildToolVersion;
 use goblin_mach::{BuildToolIterator, Library, LibraryIterator, Result};
 use mach_cli::{Escaped, FieldsForm, JsonString, Line, Listing, Object, UuidText, VersionText};
@@ -90,8 +90,8 @@ impl<'a> Listing for FactLines<'a, '_> {
                 write!(out, "{platform}")
             }
             Fact::Tool(tool) => {
-                let (number, version) = (tool.tool, VersionText(tool.version));
-                write!(out, "tool: {number} {version}")
+                let (name, version) = (ToolText(tool.tool), VersionText(tool.version));
+                write!(out, "tool: {name} {version}")
             }
             Fact::Library(library) => print_library::<Line, O>(library, out),
             Fact::RunPath(path) => {

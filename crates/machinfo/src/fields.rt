@@ -17,6 +17,7 @@ use crate::command_fields::write_command;
 use crate::notes::NumberedNote;
 use crate::providers::Provided;
 use crate::row::Row;
+use crate::text::tool_name;
 use goblin_mach::load_command::{BuildToolVersion, DataInCodeEntry};
 use goblin_mach::slots::{IndirectSymbol, SlotKind, SlotSymbol, SymbolSlot};
 use goblin_mach::{Binding, Library, LibraryAttributes, LibraryKind, Provider, Rebase, WeakBind};
@@ -107,13 +108,18 @@ fn option_fields<'a>(number: usize, text: &'a str) -> [Field<'a>; 2]
 }
 
 // Returns the fields of a tool and its version, with the number of its command.
-fn tool_fields(number: usize, tool: BuildToolVersion) -> [Field<'static>; 3]
+fn tool_fields(number: usize, tool: BuildToolVersion) -> [Field<'static>; 4]
     ensures { map field_view result ≡ tool_fields (number, tool) }
 {
     [
         Field::new("command", Value::Number(number as u64), 1),
-        Field::new("tool", Value::Number(u64::from(tool.tool)), 2),
-        Field::new("version", Value::Hex(u64::from(tool.version)), 3),
+        Field::new(
+            "tool",
+            Value::Named(u64::from(tool.tool), tool_name(tool.tool)),
+            2,
+        ),
+        Field::of_object("version", Value::Number(u64::from(tool.version))),
+        Field::of_line(Value::Version(tool.version), 3),
     ]
 }
 

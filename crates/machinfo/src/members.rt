@@ -10,10 +10,10 @@ use crate::fact::{FactList, FactObjects};
 use crate::segments::{TextOrNull, write_segments};
 use crate::signed::{is_ad_hoc, is_readable};
 use crate::state::{State, state_of};
-use crate::summary::{cpu_name, flag_short_name};
+use crate::summary::flag_short_name;
 use goblin_mach::header::{Header, filetype_to_str};
 use goblin_mach::{Error, MachO, Result, describe};
-use mach_cli::{ListProgress, comma_before, print_member, then};
+use mach_cli::{ListProgress, comma_before, cpu_name, print_member, then};
 use mach_signature::CodeDirectory;
 use mach_signature::image::code_directory;
 use std::alloc::Allocator;
@@ -97,7 +97,7 @@ fn write_header<O: Write>(
     )?;
     write!(
         out,
-        "\"entry\":{entry},\"filetype\":\"{filetype}\",\"name\":{name},"
+        "\"entry_point\":{entry},\"filetype\":\"{filetype}\",\"name\":{name},"
     )
 }
 

@@ -1,14 +1,16 @@
-//! What the summary says of an image's platforms.
+//! What the summary says of an image's platforms and tools.
 
 ghost use Rattle.std.specs.Prelude.{◌≡◌, Some};
 ghost use Rattle.machinfo.specs.FactTexts.{platform_object, platform_text, sdk_object, sdk_text};
 ghost use Rattle.machinfo.specs.Platforms.{platform_name};
+ghost use Rattle.machinfo.specs.Tools.{tool_name, tool_text};
 
 use crate::command_facts::PlatformFact;
 use goblin_mach::load_command::{
     PLATFORM_BRIDGEOS, PLATFORM_DRIVERKIT, PLATFORM_IOS, PLATFORM_IOSSIMULATOR,
     PLATFORM_MACCATALYST, PLATFORM_MACOS, PLATFORM_TVOS, PLATFORM_TVOSSIMULATOR, PLATFORM_VISIONOS,
-    PLATFORM_VISIONOSSIMULATOR, PLATFORM_WATCHOS, PLATFORM_WATCHOSSIMULATOR,
+    PLATFORM_VISIONOSSIMULATOR, PLATFORM_WATCHOS, PLATFORM_WATCHOSSIMULATOR, TOOL_CLANG, TOOL_LD,
+    TOOL_LLD, TOOL_SWIFT,
 };
 use mach_cli::VersionText;
 use std::fmt;
@@ -32,6 +34,43 @@ pub fn platform_name(number: u32) -> &'static str
         PLATFORM_VISIONOS => "visionos",
         PLATFORM_VISIONOSSIMULATOR => "visionos-simulator",
         _ => "unknown",
+    }
+}
+
+/// Returns the name of a tool by its number; none if it is not known.
+pub fn tool_name(number: u32) -> &'static str
+    ensures { result.now ≡ tool_name number }
+{
+    match number {
+        TOOL_CLANG => "clang",
+        TOOL_SWIFT => "swift",
+        TOOL_LD => "ld",
+        TOOL_LLD => "lld",
+        1024 => "metal",
+        1025 => "airlld",
+        1026 => "airnt",
+        1027 => "airnt-plugin",
+        1028 => "airpack",
+        1031 => "gpuarchiver",
+        1032 => "metal-framework",
+        _ => "",
+    }
+}
+
+/// The name of a tool, or its number if that is not known.
+#[derive(Clone, Copy)]
+pub struct ToolText(pub u32);
+
+impl Display for ToolText {
+    ghost output = { λ t. Some (tool_text t.0) };
+
+    fn fmt<W: Write>(&self, f: &mut Formatter<W>) -> fmt::Result {
+        let (number, name) = (self.0, tool_name(self.0));
+        if name.is_empty() {
+            write!(f, "{number}")
+        } else {
+            f.write_str(name)
+        }
     }
 }
 
