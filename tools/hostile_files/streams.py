@@ -197,7 +197,13 @@ class Rebases(Reading):
         width = self.image.width if self.kind == 1 else 4
         data = self.file[fileoff : fileoff + filesize][self.at : self.at + width]
         kind = ["", "", " text-absolute", " text-relative"][self.kind]
-        self.lines.append(f"{address:#x} {name} - rebase {int.from_bytes(data, 'little'):#x}{kind}")
+        target = int.from_bytes(data, "little")
+        self.lines.append(f"{address:#x} {name} - rebase {self.holder(target)} - {target:#x}{kind}")
+
+    def holder(self, target):
+        """The name of the first segment that holds the target; a number that is relative to its own address has none."""
+        names = [name for name, vmaddr, vmsize, _, _ in self.image.segments if vmaddr <= target < vmaddr + vmsize]
+        return names[0] if names and self.kind != 3 else "-"
 
 
 class WeakBinds(Reading):
@@ -211,7 +217,7 @@ class WeakBinds(Reading):
         if opcode == 4:
             self.name, self.flags = self.cut.text(), low
             if low & 8:
-                self.lines.append(f"- - - strong {self.name}")
+                self.lines.append(f"- - - strong - {self.name}")
         elif opcode == 5:
             self.kind = low
         elif opcode == 6:
@@ -238,8 +244,8 @@ class WeakBinds(Reading):
         name, address = self.place_of("a bind has a name, a segment and a type", self.name is None, words)
         if self.image.segments[self.segment][3] + self.at >= WORD:
             raise Fault(words)
-        flags = "weak" if self.flags & 1 else "-"
-        self.lines.append(f"{address:#x} {name} - weak {self.addend} {flags} {self.name}")
+        addend = f" {self.addend}" if self.addend else ""
+        self.lines.append(f"{address:#x} {name} - weak - {self.name}{addend}{' weak' if self.flags & 1 else ''}")
 
 
 def starts_of(image, file, place, size):
@@ -361,12 +367,12 @@ def escaped(line):
 
 
 def entries(text, count):
-    """The lines of each entry of a fat file, with one space between two words."""
+    """The lines of each entry of a fat file, without a heading, with one space between two words."""
     found, at = [[] for _ in range(count)], -1
     for line in text.split("\n"):
-        if line == f"arch {at + 1}":
+        if re.fullmatch(rf"arch {at + 1}( \(\w+\))?", line):
             at += 1
-        elif line and 0 <= at < count:
+        elif line and not line.startswith("ADDRESS ") and 0 <= at < count:
             found[at].append(one_space(line))
     return found
 

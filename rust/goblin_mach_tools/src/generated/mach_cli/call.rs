@@ -64,7 +64,7 @@ enum Kind {
     Valued(Valued),
     // No option.
     Other,
-    // An option of the program's own, or one that it doesn't have.
+    // An option with its value, one of the program's own, or one that it doesn't have.
     Own,
 }
 
@@ -115,6 +115,26 @@ impl Valued {
             Valued::Names => "FILE after --names",
         }
     }
+}
+
+// Returns what follows an option and `=` in an argument, if the program has that option.
+fn value_after<'a>(word: &'a str, option: &str, has: bool) -> Option<&'a str> {
+    if has { word.strip_prefix(option) } else { None }
+}
+
+// Returns the option and its value, if an argument has both.
+fn joined<'a>(word: &'a str, options: Options) -> Option<(Valued, &'a str)> {
+    if let Some(value) = value_after(word, "--limit=", options.has_limit) {
+        return Some((Valued::Limit, value));
+    }
+    if let Some(value) = value_after(word, "--arch=", options.has_arch) {
+        return Some((Valued::Arch, value));
+    }
+    if let Some(value) = value_after(word, "--cputype=", options.has_cputype) {
+        return Some((Valued::Cputype, value));
+    }
+    let value = value_after(word, "--names=", options.has_files)?;
+    Some((Valued::Names, value))
 }
 
 /// Returns the cpu number in an argument: `0x`, and 1 to 8 hexadecimal digits.
@@ -181,13 +201,22 @@ impl<'a, O: OwnOptions> Call<'a, O> {
         if pushed { Ok(()) } else { Err(Untaken::Memory) }
     }
 
-    // Takes an option that isn't shared.
-    fn take_own(&mut self, word: &'a Word) -> Result<(), Untaken<'a>> {
-        let option = word.as_str();
+    // Takes an option of the program's own.
+    fn take_own(&mut self, option: &'a str) -> Result<(), Untaken<'a>> {
         if !self.own.take(option) {
             return Err(Untaken::Misuse(Misuse::UnknownOption(option)));
         }
         Ok(())
+    }
+
+    // Takes an argument that begins with a dash and is no shared option as a whole: such an option with its value after `=`, or one
+    // of the program's own.
+    fn take_dashed(&mut self, word: &'a Word, options: Options) -> Result<(), Untaken<'a>> {
+        let argument = word.as_str();
+        match joined(argument, options) {
+            Some((option, value)) => self.take(option, value),
+            None => self.take_own(argument),
+        }
     }
 }
 
@@ -259,7 +288,7 @@ fn read<'a, O: OwnOptions>(
                 }
             }
             Kind::Own => {
-                if let Err(untaken) = call.take_own(word) {
+                if let Err(untaken) = call.take_dashed(word, options) {
                     return Err(untaken);
                 }
             }

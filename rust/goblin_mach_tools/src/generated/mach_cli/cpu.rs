@@ -4,6 +4,7 @@
 
 use core::fmt;
 use core::fmt::{Display, Formatter};
+use goblin_mach::generated::mach::EntryCpu;
 use goblin_mach::generated::mach::cputype::{
     CPU_ARCH_ABI64, CPU_SUBTYPE_MASK, CPU_TYPE_ARM, CPU_TYPE_ARM64, CPU_TYPE_ARM64_32,
     CPU_TYPE_POWERPC, CPU_TYPE_X86, CPU_TYPE_X86_64,
@@ -132,5 +133,46 @@ impl Arch {
             "ppc64" => row("ppc64", CPU_TYPE_POWERPC64, 0),
             _ => None,
         }
+    }
+}
+
+/// Returns the name of the cpu with this number and this subtype without capabilities, if it has one.
+///
+/// # Proved
+///
+/// - `text_in result ≡ cpu_named arch_rows cputype kind`
+pub fn cpu_name(cputype: u32, kind: u32) -> Option<&'static str> {
+    match (cputype, kind) {
+        (CPU_TYPE_X86, 3) => Some("i386"),
+        (CPU_TYPE_X86_64, 3) => Some("x86_64"),
+        (CPU_TYPE_X86_64, 8) => Some("x86_64h"),
+        (CPU_TYPE_ARM, 5) => Some("armv4t"),
+        (CPU_TYPE_ARM, 7) => Some("armv5e"),
+        (CPU_TYPE_ARM, 8) => Some("xscale"),
+        (CPU_TYPE_ARM, 6) => Some("armv6"),
+        (CPU_TYPE_ARM, 14) => Some("armv6m"),
+        (CPU_TYPE_ARM, 9) => Some("armv7"),
+        (CPU_TYPE_ARM, 16) => Some("armv7em"),
+        (CPU_TYPE_ARM, 12) => Some("armv7k"),
+        (CPU_TYPE_ARM, 15) => Some("armv7m"),
+        (CPU_TYPE_ARM, 11) => Some("armv7s"),
+        (CPU_TYPE_ARM64, 0) => Some("arm64"),
+        (CPU_TYPE_ARM64, 2) => Some("arm64e"),
+        (CPU_TYPE_ARM64_32, 1) => Some("arm64_32"),
+        (CPU_TYPE_POWERPC, 0) => Some("ppc"),
+        (0x0100_0012, 0) => Some("ppc64"),
+        _ => None,
+    }
+}
+
+/// Returns the name of the cpu of an entry of a fat file, if its record can be read and the cpu has a name.
+///
+/// # Proved
+///
+/// - `text_in result ≡ entry_cpu_name cpu`
+pub fn entry_cpu_name(cpu: Option<EntryCpu>) -> Option<&'static str> {
+    match cpu {
+        Some(cpu) => cpu_name(cpu.cputype, cpu.cpusubtype % 0x100_0000),
+        None => None,
     }
 }

@@ -2,6 +2,7 @@
 //! The label of an image within a file.
 #![forbid(unsafe_code)]
 
+use crate::generated::mach_cli::cpu::entry_cpu_name;
 use crate::generated::mach_cli::escaped::Escaped;
 use crate::generated::mach_cli::json::text::JsonString;
 use core::fmt;
@@ -14,10 +15,10 @@ use goblin_mach::generated::mach_archive::Member;
 pub enum Label<'a> {
     /// None, if the image is the whole file.
     None,
-    /// The index of its entry in a fat file.
-    Entry(usize),
-    /// The index of the entry that is an archive, and the member of this archive.
-    Member(usize, Member<'a>),
+    /// The index of its entry in a fat file, and the name of the cpu, if it has one.
+    Entry(usize, Option<&'static str>),
+    /// The same of the entry that is an archive, and the member of this archive.
+    Member(usize, Option<&'static str>, Member<'a>),
 }
 
 impl<'a> Label<'a> {
@@ -25,12 +26,13 @@ impl<'a> Label<'a> {
     ///
     /// # Proved
     ///
-    /// - `let x = input_item_read item in label_view result ≡ label_of x.place.entry x.content`
+    /// - `let x = input_item_read item in label_view result ≡ label_of x.place x.content`
     pub fn of(item: &InputItem<'a>) -> Label<'a> {
+        let cpu = entry_cpu_name(item.place.cpu);
         match item.place.entry {
             Some(index) => match &item.content {
-                Ok(Content::Member(member)) => Label::Member(index, *member),
-                Ok(Content::File(_) | Content::NoMember) | Err(_) => Label::Entry(index),
+                Ok(Content::Member(member)) => Label::Member(index, cpu, *member),
+                Ok(Content::File(_) | Content::NoMember) | Err(_) => Label::Entry(index, cpu),
             },
             None => Label::None,
         }
@@ -65,6 +67,19 @@ impl Display for MemberText<'_> {
     }
 }
 
+// The name of a cpu after the label of an entry, if there is one.
+#[derive(Clone, Copy)]
+struct CpuSuffix(Option<&'static str>);
+
+impl Display for CpuSuffix {
+    fn fmt(&self, f: &mut Formatter<'_>) -> fmt::Result {
+        match self.0 {
+            Some(name) => write!(f, " ({name})"),
+            None => Ok(()),
+        }
+    }
+}
+
 /// The line above the output of an image.
 #[derive(Clone, Copy)]
 pub struct LabelLine<'a>(pub Label<'a>);
@@ -73,10 +88,14 @@ impl Display for LabelLine<'_> {
     fn fmt(&self, f: &mut Formatter<'_>) -> fmt::Result {
         match self.0 {
             Label::None => Ok(()),
-            Label::Entry(index) => writeln!(f, "arch {index}"),
-            Label::Member(index, member) => {
+            Label::Entry(index, cpu) => {
+                let cpu = CpuSuffix(cpu);
+                writeln!(f, "arch {index}{cpu}")
+            }
+            Label::Member(index, cpu, member) => {
                 let text = MemberText(index, member);
-                writeln!(f, "{text}")
+                let cpu = CpuSuffix(cpu);
+                writeln!(f, "{text}{cpu}")
             }
         }
     }
@@ -90,8 +109,8 @@ impl Display for LabelSuffix<'_> {
     fn fmt(&self, f: &mut Formatter<'_>) -> fmt::Result {
         match self.0 {
             Label::None => Ok(()),
-            Label::Entry(index) => write!(f, ": arch {index}"),
-            Label::Member(index, member) => {
+            Label::Entry(index, _) => write!(f, ": arch {index}"),
+            Label::Member(index, _, member) => {
                 let text = MemberText(index, member);
                 write!(f, ": {text}")
             }
@@ -115,6 +134,19 @@ impl Display for NameString<'_> {
     }
 }
 
+// The name of a cpu as a string of JSON, `null` if there is none.
+#[derive(Clone, Copy)]
+struct CpuString(Option<&'static str>);
+
+impl Display for CpuString {
+    fn fmt(&self, f: &mut Formatter<'_>) -> fmt::Result {
+        match self.0 {
+            Some(name) => write!(f, "\"{name}\""),
+            None => write!(f, "null"),
+        }
+    }
+}
+
 /// The start of an image's object, in JSON.
 #[derive(Clone, Copy)]
 pub struct ObjectFront<'a>(pub Label<'a>);
@@ -123,10 +155,14 @@ impl Display for ObjectFront<'_> {
     fn fmt(&self, f: &mut Formatter<'_>) -> fmt::Result {
         match self.0 {
             Label::None => write!(f, "{{"),
-            Label::Entry(index) => write!(f, "{{\"entry\":{index},"),
-            Label::Member(index, member) => {
+            Label::Entry(index, cpu) => {
+                let cpu = CpuString(cpu);
+                write!(f, "{{\"arch\":{cpu},\"entry\":{index},")
+            }
+            Label::Member(index, cpu, member) => {
+                let cpu = CpuString(cpu);
                 let name = NameString(member);
-                write!(f, "{{\"entry\":{index},\"member\":{name},")
+                write!(f, "{{\"arch\":{cpu},\"entry\":{index},\"member\":{name},")
             }
         }
     }

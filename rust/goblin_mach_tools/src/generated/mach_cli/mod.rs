@@ -53,7 +53,7 @@ mod terminal;
 pub use crate::generated::mach_cli::bounds::most_items;
 pub use crate::generated::mach_cli::call::{Call, cputype_in};
 pub use crate::generated::mach_cli::complaint::{Complaint, Trouble};
-pub use crate::generated::mach_cli::cpu::{Arch, Cpu};
+pub use crate::generated::mach_cli::cpu::{Arch, Cpu, cpu_name};
 pub use crate::generated::mach_cli::directory_name::print_name;
 pub use crate::generated::mach_cli::document::Document;
 pub use crate::generated::mach_cli::escaped::{Escaped, EscapedBytes, print_bytes, print_escaped};

@@ -124,7 +124,7 @@ impl Sink for Text {
     ) -> io::Result<()> {
         match label {
             Label::None => Ok(()),
-            Label::Entry(_) | Label::Member(_, _) => writeln!(out, "refused: {refusal}"),
+            Label::Entry(_, _) | Label::Member(_, _, _) => writeln!(out, "refused: {refusal}"),
         }
     }
 }

@@ -12,7 +12,8 @@ use core::fmt::{Display, Formatter};
 use goblin_mach::generated::mach::MachO;
 
 /// The lists that are counted.
-pub const COUNTED: [Word; 11] = [
+pub const COUNTED: [Word; 12] = [
+    Word::Commands,
     Word::Starts,
     Word::Slots,
     Word::Indirect,
@@ -29,7 +30,7 @@ pub const COUNTED: [Word; 11] = [
 /// The form in which counts are written.
 #[derive(Clone, Copy)]
 pub enum Form {
-    /// One line for each list.
+    /// One line for each list that has or claims rows.
     Lines,
     /// Members of an object, each with a comma after it.
     Members,
@@ -127,6 +128,11 @@ fn print_count<O: Write>(
     Ok(reported.whole & !reported.more & (past == 0))
 }
 
+// Whether a list has no rows, and none is claimed past the end of the bytes.
+fn has_none(limit: usize, reported: ListProgress, past: usize) -> bool {
+    reported.whole && !reported.more && past == 0 && limit.saturating_sub(reported.left) == 0
+}
+
 // Writes the count of a list.
 fn write_count<O: Write>(
     form: Form,
@@ -138,6 +144,7 @@ fn write_count<O: Write>(
 ) -> io::Result<()> {
     let name = word.name();
     match form {
+        Form::Lines if has_none(limit, reported, past) => Ok(()),
         Form::Lines => {
             let count = CountText {
                 limit,

@@ -7,7 +7,7 @@ use crate::generated::mach_cli::{
 };
 use crate::generated::machinfo::command_facts::{CommandFacts, PlatformFact};
 use crate::generated::machinfo::fields::write_library;
-use crate::generated::machinfo::text::{PlatformObject, PlatformText};
+use crate::generated::machinfo::text::{PlatformObject, PlatformText, ToolText};
 use crate::shim::io;
 use crate::shim::io::Write;
 use core::slice::Iter;
@@ -79,8 +79,8 @@ impl<'a> Listing for FactLines<'a, '_> {
                 write!(out, "{platform}")
             }
             Fact::Tool(tool) => {
-                let (number, version) = (tool.tool, VersionText(tool.version));
-                write!(out, "tool: {number} {version}")
+                let (name, version) = (ToolText(tool.tool), VersionText(tool.version));
+                write!(out, "tool: {name} {version}")
             }
             Fact::Library(library) => print_library::<Line, O>(library, out),
             Fact::RunPath(path) => {

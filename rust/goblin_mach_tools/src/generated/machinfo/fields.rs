@@ -9,6 +9,7 @@ use crate::generated::machinfo::command_fields::write_command;
 use crate::generated::machinfo::notes::NumberedNote;
 use crate::generated::machinfo::providers::Provided;
 use crate::generated::machinfo::row::Row;
+use crate::generated::machinfo::text::tool_name;
 use crate::shim::io;
 use crate::shim::io::Write;
 use goblin_mach::generated::mach::load_command::{BuildToolVersion, DataInCodeEntry};
@@ -95,11 +96,16 @@ fn option_fields<'a>(number: usize, text: &'a str) -> [Field<'a>; 2] {
 }
 
 // Returns the fields of a tool and its version, with the number of its command.
-fn tool_fields(number: usize, tool: BuildToolVersion) -> [Field<'static>; 3] {
+fn tool_fields(number: usize, tool: BuildToolVersion) -> [Field<'static>; 4] {
     [
         Field::new("command", Value::Number(number as u64), 1),
-        Field::new("tool", Value::Number(u64::from(tool.tool)), 2),
-        Field::new("version", Value::Hex(u64::from(tool.version)), 3),
+        Field::new(
+            "tool",
+            Value::Named(u64::from(tool.tool), tool_name(tool.tool)),
+            2,
+        ),
+        Field::of_object("version", Value::Number(u64::from(tool.version))),
+        Field::of_line(Value::Version(tool.version), 3),
     ]
 }
 

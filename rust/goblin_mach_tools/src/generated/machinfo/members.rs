@@ -2,13 +2,13 @@
 //! The members of an image's object that say what it is, before those of its counts.
 #![forbid(unsafe_code)]
 
-use crate::generated::mach_cli::{ListProgress, comma_before, print_member, then};
+use crate::generated::mach_cli::{ListProgress, comma_before, cpu_name, print_member, then};
 use crate::generated::machinfo::command_facts::{CommandFacts, Question};
 use crate::generated::machinfo::fact::{FactList, FactObjects};
 use crate::generated::machinfo::segments::{TextOrNull, write_segments};
 use crate::generated::machinfo::signed::{is_ad_hoc, is_readable};
 use crate::generated::machinfo::state::{State, state_of};
-use crate::generated::machinfo::summary::{cpu_name, flag_short_name};
+use crate::generated::machinfo::summary::flag_short_name;
 use crate::shim::io;
 use crate::shim::io::Write;
 use goblin_mach::generated::mach::header::{Header, filetype_to_str};
@@ -81,7 +81,7 @@ fn write_header<O: Write>(
     )?;
     write!(
         out,
-        "\"entry\":{entry},\"filetype\":\"{filetype}\",\"name\":{name},"
+        "\"entry_point\":{entry},\"filetype\":\"{filetype}\",\"name\":{name},"
     )
 }
 

@@ -2,17 +2,13 @@
 //! The summary of an image before its counts, but for its signature and its state.
 #![forbid(unsafe_code)]
 
-use crate::generated::mach_cli::{Escaped, print_listing};
+use crate::generated::mach_cli::{Escaped, cpu_name, print_listing};
 use crate::generated::machinfo::command_facts::{CommandFacts, Question};
 use crate::generated::machinfo::fact::{FactLines, FactList};
 use crate::generated::machinfo::segments::print_segments;
 use crate::shim::io;
 use crate::shim::io::Write;
 use goblin_mach::generated::mach::MachO;
-use goblin_mach::generated::mach::cputype::{
-    CPU_TYPE_ARM, CPU_TYPE_ARM64, CPU_TYPE_ARM64_32, CPU_TYPE_POWERPC, CPU_TYPE_X86,
-    CPU_TYPE_X86_64,
-};
 use goblin_mach::generated::mach::header::{Header, filetype_to_str, flag_to_str};
 
 /// Prints the lines of an image before those of its signature, each list up to the limit. Returns whether all was printed and can
@@ -79,35 +75,6 @@ fn print_cpu<O: Write>(cputype: u32, cpusubtype: u32, out: &mut O) -> io::Result
             out,
             "cpu: cputype 0x{cputype:x}, cpusubtype 0x{cpusubtype:x}"
         ),
-    }
-}
-
-/// Returns the name of the cpu with this number and kind, if it has one.
-///
-/// # Proved
-///
-/// - `text_in result ≡ cpu_named arch_rows cputype kind`
-pub fn cpu_name(cputype: u32, kind: u32) -> Option<&'static str> {
-    match (cputype, kind) {
-        (CPU_TYPE_X86, 3) => Some("i386"),
-        (CPU_TYPE_X86_64, 3) => Some("x86_64"),
-        (CPU_TYPE_X86_64, 8) => Some("x86_64h"),
-        (CPU_TYPE_ARM, 5) => Some("armv4t"),
-        (CPU_TYPE_ARM, 7) => Some("armv5e"),
-        (CPU_TYPE_ARM, 8) => Some("xscale"),
-        (CPU_TYPE_ARM, 6) => Some("armv6"),
-        (CPU_TYPE_ARM, 14) => Some("armv6m"),
-        (CPU_TYPE_ARM, 9) => Some("armv7"),
-        (CPU_TYPE_ARM, 16) => Some("armv7em"),
-        (CPU_TYPE_ARM, 12) => Some("armv7k"),
-        (CPU_TYPE_ARM, 15) => Some("armv7m"),
-        (CPU_TYPE_ARM, 11) => Some("armv7s"),
-        (CPU_TYPE_ARM64, 0) => Some("arm64"),
-        (CPU_TYPE_ARM64, 2) => Some("arm64e"),
-        (CPU_TYPE_ARM64_32, 1) => Some("arm64_32"),
-        (CPU_TYPE_POWERPC, 0) => Some("ppc"),
-        (0x0100_0012, 0) => Some("ppc64"),
-        _ => None,
     }
 }
 
