@@ -3,3 +3,4 @@ mod Changes
 mod PartLists
 mod ShortNames
 mod KeptFixups
+mod HeadingRows

@@ -1,5 +1,5 @@
 -- The segments and the sections that hold addresses, and their names (`mach-o/loader.h`).
-use Rattle.std.specs.Prelude.{ℕ, ◌-◌, List, [], ◌∷◌, codes, map, Option, Some, None, Result, Ok, Err, nat_le}
+use Rattle.std.specs.Prelude.{ℕ, ◌-◌, List, [], ◌∷◌, codes, map, Option, option_map, Result, Ok, Err, nat_le}
 use Rattle.std.specs.Prelude.{if◌then◌else◌}
 use Rattle.std.specs.Result.{result_unwrap_or}
 use Rattle.mach_base.specs.Fault.{Fault}
@@ -18,10 +18,9 @@ shown_name (Ok []) = codes "-"
 shown_name (Ok (first ∷ rest)) = first ∷ rest
 shown_name (Err f) = codes "-"
 
--- the printed name of a segment or a section, `-` if there is none
-abbrev pub stretch_name : Option Stretch → List ℕ
-stretch_name None = codes "-"
-stretch_name (Some s) = shown_name (text_at s.name 0)
+-- the printed name of a segment or a section
+abbrev pub stretch_name : Stretch → List ℕ
+stretch_name s = shown_name (text_at s.name 0)
 
 -- a segment with its sections: their ranges of memory, and their names
 pub record SegmentStretches : Type 0 where
@@ -52,9 +51,9 @@ parts_of room (s ∷ ss) = record { memory = memory_of_segment s; sections = sec
 abbrev pub part_with : ℕ → List SegmentStretches → Option SegmentStretches
 part_with address parts = at_number parts (first_holder address 0 (map (λ p. p.memory) parts))
 
--- the printed name of the first section that holds an address, `-` if none does
-abbrev pub section_with : ℕ → List Stretch → List ℕ
-section_with address sections = stretch_name (at_number sections (first_holder address 0 sections))
+-- the printed name of the first section that holds an address, if one does
+abbrev pub section_with : ℕ → List Stretch → Option (List ℕ)
+section_with address sections = option_map stretch_name (at_number sections (first_holder address 0 sections))
 
 -- ---- what the code's values stand for
 

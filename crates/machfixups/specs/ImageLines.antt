@@ -7,7 +7,8 @@ use Rattle.goblin_mach.specs.Facts.{HasSegments, HasLibraries, HasChainedFixups}
 use Rattle.goblin_mach.specs.Image.{Opens}
 use Rattle.machfixups.specs.Lists.{PointerLists, HasPointerLists}
 use Rattle.machfixups.specs.AllStretches.{parts_of}
-use Rattle.machfixups.specs.RowFields.{texts_reported}
+use Rattle.machfixups.specs.Headed.{headed}
+use Rattle.machfixups.specs.RowFields.{heading_line, texts_reported}
 use Rattle.machfixups.specs.Rows.{PointerRows, line_rows, readable_table, rows_in_order}
 use Rattle.mach_cli.specs.Fields.{fields_line}
 use Rattle.mach_cli.specs.Listings.{AreFirstLines}
@@ -15,10 +16,10 @@ use Rattle.mach_cli.specs.Shown.{ImageLines}
 use Rattle.machfixups.specs.declared.rows.Selection.{Selection}
 
 -- The text is the lines of the first of these rows, as many as are left of the limit, in order, and a line if there are more. A row
--- that can't be read has a line with the error.
+-- that can't be read has a line with the error. The heading is before the first row that can be read, if it is one of these.
 abbrev pub ArePointerLines : (limit left : ℕ) → PointerRows → (text : List ℕ) → (whole : Bool) → (rest : ℕ) → Type 0
 ArePointerLines limit left rows text whole rest =
-    AreFirstLines (codes "unreadable") limit left (texts_reported fields_line (rows_in_order rows)) [] 0 text whole rest
+    AreFirstLines (codes "unreadable") limit left (headed heading_line (texts_reported fields_line (rows_in_order rows))) [] 0 text whole rest
 
 -- The text is the lines of the image at the start of the bytes, by what is selected: one for each rebase of its opcodes, in order,
 -- then one for each of their binds, then one for each row of its weak binds, then one for each fixup of its chains, in their order,

@@ -8,5 +8,6 @@ pub mod Rows
 pub mod PickWords
 pub mod RowsLeft
 pub mod RowFields
+pub mod Headed
 pub mod ImageLines
 pub mod JsonImages

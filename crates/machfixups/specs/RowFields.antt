@@ -1,10 +1,13 @@
 -- What is shown of rebases, binds and fixups, field by field: the members of an object in their order, each with its column in a
 -- line, and the parts that only a line has.
-use Rattle.std.specs.Prelude.{ℕ, ℤ, List, [], ◌∷◌, codes, map, true, false, Option, None, Some, Result, Ok}
+use Rattle.std.specs.Prelude.{ℕ, ◌-◌, ℤ, pos, List, [], ◌∷◌, codes, length, map, true, false, ◌||◌, Option, None, Some, Result, Ok, if◌then◌else◌}
+use Rattle.std.specs.Ordering.{int_eq}
+use Rattle.std.specs.Str.{chars}
 use Rattle.mach_base.specs.Answer.{◌>>=◌}
 use Rattle.mach_base.specs.Fault.{Fault}
 use Rattle.mach_parts.specs.PointerSigning.{Auth}
-use Rattle.mach_cli.specs.Fields.{FieldView, ValueView, field_of, flags, hex, line_field, number, object_field, signed, text, whether, wide_field}
+use Rattle.mach_cli.specs.Fields.{FieldView, ValueView, field_of, flags, hex, line_field, number, object_field, optional_text, signed, text, whether}
+use Rattle.mach_cli.specs.Fields.{wide_field}
 use Rattle.mach_cli.specs.Listings.{reported_by}
 use Rattle.mach_cli.specs.Signing.{diverse_by, diversity_by, has_auth, key_by, rebase_type}
 use Rattle.mach_dyld.specs.declared.rebases.RebaseKind.{RebaseKind}
@@ -12,39 +15,59 @@ use Rattle.mach_dyld.specs.declared.rebases.RebaseKind.TheVariants.{Pointer, Tex
 use Rattle.machfixups.specs.Rows.{PointerPlace, PointerBind, binds, binds_weakly, rebases, is_value, PointerRow, corrects, is_strong, row_view}
 use Rattle.machfixups.specs.declared.row.Row.{Row}
 
--- the flags of a bind
-abbrev pub bind_flags : PointerBind → ValueView
-bind_flags b = flags b.is_weak b.is_lazy b.auth
+-- the line above the rows of an image: what their first six columns hold
+abbrev pub heading_line : List ℕ
+heading_line = codes "ADDRESS     SEGMENT      SECTION          KIND   FROM                 TARGET\n"
+
+-- the addend of a bind; no line has it if it is 0
+abbrev pub addend_field : ℤ → FieldView
+addend_field addend = field_of (codes "addend") (signed addend) (if int_eq addend (pos 0) then 0 else 7)
+
+-- the flags of a bind, in a line, if there are some
+abbrev pub bind_flags : PointerBind → FieldView
+bind_flags b = line_field (flags b.is_weak b.is_lazy b.auth) (if b.is_weak || (b.is_lazy || has_auth b.auth) then 8 else 0)
 
 -- from which image a bind takes its symbol: its short name; if there is none, only a line has the field, with the ordinal
 abbrev pub from_field : Option (List ℕ) → (ordinal : ℤ) → FieldView
-from_field (Some name) ordinal = wide_field 15 (field_of (codes "from") (text name) 5)
+from_field (Some name) ordinal = wide_field 20 (field_of (codes "from") (text name) 5)
 from_field None ordinal = line_field (signed ordinal) 5
 
 -- what a rebase adjusts, in a line, unless it is a pointer
 abbrev pub rebase_word : RebaseKind → FieldView
 rebase_word Pointer = line_field (text []) 0
-rebase_word TextAbsolute32 = line_field (text (codes "text-absolute")) 6
-rebase_word TextRelative32 = line_field (text (codes "text-relative")) 6
+rebase_word TextAbsolute32 = line_field (text (codes "text-absolute")) 7
+rebase_word TextRelative32 = line_field (text (codes "text-relative")) 7
 
 -- how a pointer is signed, in a line, if it is
 abbrev pub signed_flags : Option Auth → FieldView
 signed_flags None = line_field (flags false false None) 0
-signed_flags (Some a) = line_field (flags false false (Some a)) 7
+signed_flags (Some a) = line_field (flags false false (Some a)) 8
+
+-- a printed name, `-` if there is none
+abbrev pub name_or_dash : Option (List ℕ) → List ℕ
+name_or_dash None = codes "-"
+name_or_dash (Some name) = name
 
 -- the place of a row, in columns as wide as most addresses and names
 abbrev pub address_field : PointerPlace → FieldView
 address_field p = wide_field 11 (field_of (codes "address") (hex p.address) 1)
 
 abbrev pub segment_field : PointerPlace → FieldView
-segment_field p = wide_field 12 (field_of (codes "segment") (text p.segment) 2)
+segment_field p = wide_field 12 (field_of (codes "segment") (text (name_or_dash p.segment)) 2)
 
 abbrev pub section_field : PointerPlace → FieldView
-section_field p = wide_field 16 (field_of (codes "section") (text p.section) 3)
+section_field p = wide_field 16 (field_of (codes "section") (text (name_or_dash p.section)) 3)
 
 -- what a row is: a word that an object has too, or only a line
 abbrev pub kind_field : (name word : List ℕ) → FieldView
 kind_field name word = wide_field 6 (field_of name (text word) 4)
+
+-- the names of the target's segment and section, in a line, in a column of 20 characters
+abbrev pub target_segment : PointerPlace → FieldView
+target_segment target = line_field (text (name_or_dash target.segment)) 5
+
+abbrev pub target_section : PointerPlace → FieldView
+target_section target = wide_field (19 - length (chars (name_or_dash target.segment))) (line_field (text (name_or_dash target.section)) 5)
 
 -- a dash in a column of this width
 abbrev pub dash_field : (column width : ℕ) → FieldView
@@ -52,7 +75,7 @@ dash_field column width = wide_field width (line_field (text (codes "-")) column
 
 abbrev pub bind_fields : PointerPlace → PointerBind → List FieldView
 bind_fields p b =
-    field_of (codes "addend") (signed b.addend) 6
+    addend_field b.addend
     ∷ address_field p
     ∷ object_field (codes "diversity") (number (diversity_by b.auth))
     ∷ from_field b.from b.ordinal
@@ -63,27 +86,28 @@ bind_fields p b =
     ∷ object_field (codes "key") (number (key_by b.auth))
     ∷ kind_field (codes "kind") (codes "bind")
     ∷ object_field (codes "library") (signed b.ordinal)
-    ∷ field_of (codes "name") (text b.name) 8
+    ∷ field_of (codes "name") (text b.name) 6
     ∷ section_field p
     ∷ segment_field p
-    ∷ line_field (bind_flags b) 7
+    ∷ bind_flags b
     ∷ []
 
 abbrev pub weak_fields : PointerPlace → PointerBind → List FieldView
 weak_fields p b =
-    field_of (codes "addend") (signed b.addend) 5
+    addend_field b.addend
     ∷ address_field p
     ∷ whether (codes "is_strong") false
     ∷ whether (codes "is_weak") b.is_weak
     ∷ object_field (codes "kind") (text (codes "weak bind"))
-    ∷ field_of (codes "name") (text b.name) 7
+    ∷ field_of (codes "name") (text b.name) 6
     ∷ section_field p
     ∷ segment_field p
     ∷ kind_field [] (codes "weak")
-    ∷ line_field (bind_flags b) 6
+    ∷ dash_field 5 20
+    ∷ bind_flags b
     ∷ []
 
-abbrev pub rebase_fields : PointerPlace → (target : ℕ) → RebaseKind → Option Auth → List FieldView
+abbrev pub rebase_fields : (place target : PointerPlace) → RebaseKind → Option Auth → List FieldView
 rebase_fields p target kind auth =
     address_field p
     ∷ object_field (codes "diversity") (number (diversity_by auth))
@@ -93,10 +117,14 @@ rebase_fields p target kind auth =
     ∷ kind_field (codes "kind") (codes "rebase")
     ∷ section_field p
     ∷ segment_field p
-    ∷ field_of (codes "target") (hex target) 5
+    ∷ field_of (codes "target") (hex target.address) 6
+    ∷ object_field (codes "target_section") (optional_text target.section)
+    ∷ object_field (codes "target_segment") (optional_text target.segment)
     ∷ object_field (codes "type") (text (rebase_type kind))
     ∷ rebase_word kind
     ∷ signed_flags auth
+    ∷ target_segment target
+    ∷ target_section target
     ∷ []
 
 abbrev pub value_fields : PointerPlace → (value : ℕ) → List FieldView
@@ -105,8 +133,9 @@ value_fields p value =
     ∷ object_field (codes "kind") (text (codes "number"))
     ∷ section_field p
     ∷ segment_field p
-    ∷ field_of (codes "target") (hex value) 5
+    ∷ field_of (codes "target") (hex value) 6
     ∷ kind_field [] (codes "value")
+    ∷ dash_field 5 20
     ∷ []
 
 -- a strong definition has no place
@@ -114,11 +143,12 @@ abbrev pub strong_fields : List ℕ → List FieldView
 strong_fields name =
     whether (codes "is_strong") true
     ∷ object_field (codes "kind") (text (codes "weak bind"))
-    ∷ field_of (codes "name") (text name) 5
+    ∷ field_of (codes "name") (text name) 6
     ∷ dash_field 1 11
     ∷ dash_field 2 12
     ∷ dash_field 3 16
     ∷ kind_field [] (codes "strong")
+    ∷ dash_field 5 20
     ∷ []
 
 -- the fields of a row

@@ -1,5 +1,5 @@
 -- The rows of the rebases, binds and weak binds of the opcodes and of the fixups of the chains.
-use Rattle.std.specs.Prelude.{ℕ, ℤ, pos, negsuc, ◌+ℤ◌, List, [], codes, map, ◌++◌, slice_get, Bool, false, not, ◌||◌, if◌then◌else◌}
+use Rattle.std.specs.Prelude.{ℕ, ℤ, pos, negsuc, ◌+ℤ◌, List, [], map, ◌++◌, slice_get, Bool, false, not, ◌||◌, if◌then◌else◌}
 use Rattle.std.specs.Prelude.{Option, Some, None, option_map, Result, Ok, Err}
 use Rattle.mach_base.specs.Answer.{◌>>=◌}
 use Rattle.mach_base.specs.Fault.{Fault, malformed}
@@ -14,10 +14,11 @@ use Rattle.mach_chained.specs.Views.{fixups_view}
 use Rattle.mach_chained.specs.declared.header.ChainedFixups.{ChainedFixups}
 use Rattle.mach_chained.specs.Pointers.{KindOfFixup, rebase, bind, value}
 use Rattle.mach_parts.specs.PointerSigning.{Auth}
+use Rattle.mach_dyld.specs.Exports.{text_in}
 use Rattle.mach_dyld.specs.Rebases.{Rebase}
 use Rattle.mach_dyld.specs.WeakBinds.{WeakBind, strong_name, weakly_bound}
 use Rattle.mach_dyld.specs.declared.rebases.RebaseKind.{RebaseKind}
-use Rattle.mach_dyld.specs.declared.rebases.RebaseKind.TheVariants.{Pointer}
+use Rattle.mach_dyld.specs.declared.rebases.RebaseKind.TheVariants.{Pointer, TextAbsolute32, TextRelative32}
 use Rattle.machfixups.specs.Lists.{PointerLists}
 use Rattle.machfixups.specs.Origins.{origin_of, provider_name}
 use Rattle.machfixups.specs.AllStretches.{SegmentStretches, part_with, section_with, stretch_name}
@@ -32,11 +33,11 @@ use Rattle.machfixups.specs.declared.row.Row as declared
 use Rattle.machfixups.specs.declared.row.Row.TheVariants as rows
 use Rattle.machfixups.specs.declared.rows.Selection.{Selection}
 
--- the place of a pointer: its address, and the printed names of its segment and its section
+-- an address, and the printed names of the segment and of the section that hold it, if they do
 pub record PointerPlace : Type 0 where
   pub address : ℕ
-  pub segment : List ℕ
-  pub section : List ℕ
+  pub segment : Option (List ℕ)
+  pub section : Option (List ℕ)
 
 -- A symbol whose address a pointer takes. The ordinal is 0 for the image itself, above 0 for a library of the image's list, -1
 -- for the main executable, -2 for any image (flat lookup), -3 for weak lookup.
@@ -55,7 +56,7 @@ pub record PointerBind : Type 0 where
 pub data Action : Type 0 where
   binds : PointerBind → Action
   binds_weakly : PointerBind → Action
-  rebases : (target : ℕ) → RebaseKind → Option Auth → Action
+  rebases : (target : PointerPlace) → RebaseKind → Option Auth → Action
   is_value : ℕ → Action
 
 -- a place and what is stored there; or the name of a strong definition of the image's own
@@ -65,12 +66,16 @@ pub data PointerRow : Type 0 where
 
 -- the place of an address in a segment, if there is one
 abbrev pub place_in : Option SegmentStretches → ℕ → PointerPlace
-place_in None address = record { address = address; segment = codes "-"; section = codes "-" }
-place_in (Some p) address = record { address = address; segment = stretch_name (Some p.memory); section = section_with address p.sections }
+place_in None address = record { address = address; segment = None; section = None }
+place_in (Some p) address = record { address = address; segment = Some (stretch_name p.memory); section = section_with address p.sections }
+
+-- the place of an address in the first segment that holds it, if one does
+abbrev pub place_by_address : List SegmentStretches → ℕ → PointerPlace
+place_by_address parts address = place_in (part_with address parts) address
 
 -- the row of an address, in the first segment that holds it
 abbrev pub row_by_address : List SegmentStretches → ℕ → Action → PointerRow
-row_by_address parts address action = corrects (place_in (part_with address parts) address) action
+row_by_address parts address action = corrects (place_by_address parts address) action
 
 -- the row of an address, in the segment with a number
 abbrev pub row_by_segment : List SegmentStretches → (segment address : ℕ) → Action → PointerRow
@@ -100,9 +105,16 @@ bind_of_binding b = record {
 abbrev pub row_of_binding : List SegmentStretches → Binding → PointerRow
 row_of_binding parts b = row_by_address parts b.address (binds (bind_of_binding b))
 
+-- The place of the address that a rebase corrects. A number that is relative to its own address (`REBASE_TYPE_TEXT_PCREL32` of
+-- `mach-o/loader.h`) has none.
+abbrev pub target_by_kind : List SegmentStretches → RebaseKind → (target : ℕ) → PointerPlace
+target_by_kind parts Pointer target = place_by_address parts target
+target_by_kind parts TextAbsolute32 target = place_by_address parts target
+target_by_kind parts TextRelative32 target = place_in None target
+
 -- the row of a rebase, in its segment
 abbrev pub row_of_rebase : List SegmentStretches → Rebase → PointerRow
-row_of_rebase parts r = row_by_segment parts r.segment r.address (rebases r.target r.kind r.auth)
+row_of_rebase parts r = row_by_segment parts r.segment r.address (rebases (target_by_kind parts r.kind r.target) r.kind r.auth)
 
 -- the row of a strong name; or that of a weak bind, in the first segment that holds its address
 abbrev pub row_of_weak : List SegmentStretches → WeakBind → PointerRow
@@ -128,14 +140,14 @@ bind_of_import libs i inline auth = record {
   auth = auth;
 }
 
-abbrev pub action_of : (libs : List (List ℕ)) → Option Fixups → KindOfFixup → Option Auth → Result Action Fault
-action_of libs table (rebase target) auth = Ok (rebases target Pointer auth)
-action_of libs table (value number) auth = Ok (is_value number)
-action_of libs table (bind import inline) auth = import_in table import >>= (λ i. Ok (binds (bind_of_import libs i inline auth)))
+abbrev pub action_of : List SegmentStretches → (libs : List (List ℕ)) → Option Fixups → KindOfFixup → Option Auth → Result Action Fault
+action_of parts libs table (rebase target) auth = Ok (rebases (place_by_address parts target) Pointer auth)
+action_of parts libs table (value number) auth = Ok (is_value number)
+action_of parts libs table (bind import inline) auth = import_in table import >>= (λ i. Ok (binds (bind_of_import libs i inline auth)))
 
 -- the row of a fixup, in its segment
 abbrev pub row_of_fixup : List SegmentStretches → (libs : List (List ℕ)) → Option Fixups → Fixup → Result PointerRow Fault
-row_of_fixup parts libs table f = action_of libs table f.kind f.auth >>= (λ action. Ok (row_by_segment parts f.segment f.address action))
+row_of_fixup parts libs table f = action_of parts libs table f.kind f.auth >>= (λ action. Ok (row_by_segment parts f.segment f.address action))
 
 -- ---- all rows
 
@@ -212,13 +224,13 @@ abbrev pub fixups_table_view : Option ChainedFixups → Option Fixups
 fixups_table_view table = option_map fixups_view table
 
 abbrev pub place_view : declared_place.Location → PointerPlace
-place_view p = record { address = p.address; segment = p.segment.now; section = p.section.now }
+place_view p = record { address = p.address; segment = text_in p.segment; section = text_in p.section }
 
 abbrev pub bind_view : declared_bind.Bind → PointerBind
 bind_view b = record {
   name = b.name.now;
   ordinal = b.ordinal;
-  from = option_map (λ name. name.now) b.from;
+  from = text_in b.from;
   addend = b.addend;
   is_weak = b.is_weak;
   is_lazy = b.is_lazy;
@@ -228,7 +240,7 @@ bind_view b = record {
 abbrev pub action_view : declared_action.Action → Action
 action_view (variants.Bind b) = binds (bind_view b)
 action_view (variants.Weak b) = binds_weakly (bind_view b)
-action_view (variants.Rebase target kind auth) = rebases target kind (auth_option_view auth)
+action_view (variants.Rebase target kind auth) = rebases (place_view target) kind (auth_option_view auth)
 action_view (variants.Value number) = is_value number
 
 abbrev pub row_view : declared.Row → PointerRow

@@ -2,6 +2,7 @@
 
 ghost use Rattle.machfixups.specs.ImageLines.{image_pointer_lines};
 
+use crate::headed::Headed;
 use crate::lists::ImageRows;
 use crate::rows::Selection;
 use crate::section_names::AllStretches;
@@ -9,6 +10,10 @@ use goblin_mach::MachO;
 use mach_cli::{ImageView, InForm, Line, Outcome, ShowFailure, print_listing};
 use std::alloc::Allocator;
 use std::io::Write;
+
+// The line above the rows of an image.
+const HEADING: &str =
+    "ADDRESS     SEGMENT      SECTION          KIND   FROM                 TARGET\n";
 
 /// The lines of the selected lists.
 #[derive(Clone, Copy)]
@@ -31,7 +36,11 @@ impl ImageView for FixupLines {
         let parts = AllStretches::of_image(alloc, image)?;
         let shown = self.selection.shown();
         let list = ImageRows::of(image, &parts, shown, shown.kinds_in_lines());
-        let mut lines = InForm { list, form: Line };
+        let mut lines = Headed {
+            list: InForm { list, form: Line },
+            heading: HEADING,
+            is_written: false,
+        };
         Ok(print_listing(&mut lines, "unreadable", limit, left, out)?)
     }
 }

@@ -1,6 +1,6 @@
 //! The ranges of memory of segments and sections, and their names.
 
-ghost use Rattle.std.specs.Prelude.{◌≡◌, Some, map, IfOk, OnOk};
+ghost use Rattle.std.specs.Prelude.{◌≡◌, map, IfOk, OnOk};
 ghost use Rattle.mach_base.specs.Items.{read_as};
 ghost use Rattle.mach_parts.specs.Segment.{segment_view};
 ghost use Rattle.mach_parts.specs.SectionItems.{section_and_bytes};
@@ -70,7 +70,7 @@ fn stretches_of<A: Allocator>(
 
 /// Returns the printed name of a segment or a section.
 pub fn name_of(stretch: &Stretch) -> &str
-    ensures { result.now ≡ stretch_name (Some stretch.now) }
+    ensures { result.now ≡ stretch_name stretch.now }
 {
     shown_name(read_text(&stretch.name, 0))
 }

@@ -11,7 +11,8 @@ ghost use Rattle.mach_parts.specs.PointerSigning.{auth_option_view};
 ghost use Rattle.mach_chained.specs.Views.{import_view};
 ghost use Rattle.mach_chained.specs.WalkViews.{fixup_view, fixup_read};
 ghost use Rattle.machfixups.specs.AllStretches.{part_with, part_view, parts_view};
-ghost use Rattle.machfixups.specs.Rows.{place_in, ordinal_of, bind_of_binding, row_by_address, row_by_segment, import_in, action_of, bind_of_import};
+ghost use Rattle.machfixups.specs.Rows.{place_by_address, place_in, target_by_kind, ordinal_of, bind_of_binding, row_by_address, row_by_segment};
+ghost use Rattle.machfixups.specs.Rows.{import_in, action_of, bind_of_import};
 ghost use Rattle.machfixups.specs.Rows.{row_for_binding, row_for_rebase, row_for_weak, row_for_fixup, place_view, bind_view, action_view, row_view};
 ghost use Rattle.machfixups.specs.Rows.{row_of_fixup, row_read, fixups_table_view};
 
@@ -21,13 +22,13 @@ use goblin_mach::chained_fixups::{ChainedFixups, ChainedImport, Fixup, FixupKind
 use goblin_mach::{Binding, Error, Provider, Rebase, RebaseKind, Result, WeakBind};
 use std::alloc::Allocator;
 
-/// The place of a pointer.
+/// An address.
 #[derive(Clone, Copy)]
 pub struct Location<'a> {
     pub address: u64,
-    /// The printed names of the segment and of the section.
-    pub segment: &'a str,
-    pub section: &'a str,
+    /// The printed names of the segment and of the section that hold it, if they do.
+    pub segment: Option<&'a str>,
+    pub section: Option<&'a str>,
 }
 
 /// A symbol whose address a pointer takes.
@@ -47,14 +48,14 @@ pub struct Bind<'a> {
 
 /// What is stored at a place.
 #[derive(Clone, Copy)]
-pub enum Action<'a> {
+pub enum Action<'b, 'a> {
     /// The address of a symbol.
     Bind(Bind<'a>),
     /// The address of the definition that all images share.
     Weak(Bind<'a>),
     /// An address that moves with the image.
     Rebase {
-        target: u64,
+        target: Location<'b>,
         kind: RebaseKind,
         auth: Option<PointerAuth>,
     },
@@ -68,7 +69,7 @@ pub enum Row<'b, 'a> {
     /// A place, and what is stored there.
     At {
         place: Location<'b>,
-        action: Action<'a>,
+        action: Action<'b, 'a>,
     },
     /// The name of a strong definition of the image's own.
     Strong(&'a str),
@@ -81,13 +82,38 @@ fn place_in<'b, A: Allocator>(part: Option<&'b SegmentStretches<A>>, address: u6
     match part {
         Some(part) => Location {
             address,
-            segment: part.name(),
+            segment: Some(part.name()),
             section: part.section_with(address),
         },
         None => Location {
             address,
-            segment: "-",
-            section: "-",
+            segment: None,
+            section: None,
+        },
+    }
+}
+
+// Returns the place of an address in the first segment that holds it, if one does.
+fn place_by_address<'b, A: Allocator>(parts: &'b AllStretches<A>, address: u64) -> Location<'b>
+    ensures { place_view result ≡ place_by_address (parts_view parts.now) address }
+{
+    place_in(parts.first_with(address), address)
+}
+
+// Returns the place of the address that a rebase corrects; a relative number has none.
+fn target_by_kind<'b, A: Allocator>(
+    parts: &'b AllStretches<A>,
+    kind: RebaseKind,
+    target: u64,
+) -> Location<'b>
+    ensures { place_view result ≡ target_by_kind (parts_view parts.now) kind target }
+{
+    match kind {
+        RebaseKind::Pointer | RebaseKind::TextAbsolute32 => place_by_address(parts, target),
+        RebaseKind::TextRelative32 => Location {
+            address: target,
+            segment: None,
+            section: None,
         },
     }
 }
@@ -124,12 +150,12 @@ fn bind_of_binding<'a>(binding: &Binding<'a>) -> Bind<'a>
 fn row_by_address<'b, 'a, A: Allocator>(
     parts: &'b AllStretches<A>,
     address: u64,
-    action: Action<'a>,
+    action: Action<'b, 'a>,
 ) -> Row<'b, 'a>
     ensures { row_view result ≡ row_by_address (parts_view parts.now) address (action_view action.entry) }
 {
     Row::At {
-        place: place_in(parts.first_with(address), address),
+        place: place_by_address(parts, address),
         action,
     }
 }
@@ -139,7 +165,7 @@ fn row_by_segment<'b, 'a, A: Allocator>(
     parts: &'b AllStretches<A>,
     segment: u32,
     address: u64,
-    action: Action<'a>,
+    action: Action<'b, 'a>,
 ) -> Row<'b, 'a>
     ensures { row_view result ≡ row_by_segment (parts_view parts.now) segment address (action_view action.entry) }
 {
@@ -181,18 +207,19 @@ fn bind_of_import<'a>(
 }
 
 // Returns what a fixup stores.
-fn action_of<'a>(
+fn action_of<'b, 'a, A: Allocator>(
+    parts: &'b AllStretches<A>,
     libs: &[&'a str],
     table: &Option<ChainedFixups<'a>>,
     fixup: &Fixup,
-) -> Result<Action<'a>>
-    ensures { Reads action_view result (action_of (texts libs.now) (fixups_table_view table.now) (kind_view fixup.now.kind)
+) -> Result<Action<'b, 'a>>
+    ensures { Reads action_view result (action_of (parts_view parts.now) (texts libs.now) (fixups_table_view table.now) (kind_view fixup.now.kind)
         (auth_option_view fixup.now.auth)) }
 {
     let auth = fixup.auth;
     match fixup.kind {
         FixupKind::Rebase { target } => Ok(Action::Rebase {
-            target,
+            target: place_by_address(parts, target),
             kind: RebaseKind::Pointer,
             auth,
         }),
@@ -213,7 +240,7 @@ fn row_of_fixup<'b, 'a, A: Allocator>(
 ) -> Result<Row<'b, 'a>>
     ensures { Reads row_view result (row_of_fixup (parts_view parts.now) (texts libs.now) (fixups_table_view table.now) (fixup_view fixup.now)) }
 {
-    let action = action_of(libs, table, fixup)?;
+    let action = action_of(parts, libs, table, fixup)?;
     Ok(row_by_segment(parts, fixup.segment, fixup.address, action))
 }
 
@@ -226,7 +253,7 @@ pub fn rebase_row<'b, 'a, A: Allocator>(
 {
     let rebase = item?;
     let action = Action::Rebase {
-        target: rebase.target,
+        target: target_by_kind(parts, rebase.kind, rebase.target),
         kind: rebase.kind,
         auth: rebase.auth,
     };

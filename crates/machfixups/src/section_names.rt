@@ -47,27 +47,23 @@ impl<A: Allocator + Clone> SegmentStretches<A> {
 }
 
 impl<A: Allocator> SegmentStretches<A> {
-    ghost use Rattle.std.specs.Prelude.{Some};
+    ghost use Rattle.mach_dyld.specs.Exports.{text_in};
     ghost use Rattle.machfixups.specs.AllStretches.{part_view, section_with, stretch_name};
 
     /// Returns the printed name of the segment.
     pub fn name(&self) -> &str
-        ensures { result.now ≡ stretch_name (Some (part_view self.now).memory) }
+        ensures { result.now ≡ stretch_name (part_view self.now).memory }
     {
         name_of(&self.memory)
     }
 
-    /// Returns the printed name of the first section that holds an address.
-    pub fn section_with(&self, address: u64) -> &str
-        ensures { result.now ≡ section_with address (part_view self.now).sections }
+    /// Returns the printed name of the first section that holds an address, if one does.
+    pub fn section_with(&self, address: u64) -> Option<&str>
+        ensures { text_in result ≡ section_with address (part_view self.now).sections }
     {
-        match self.sections.first_with(address) {
-            Some(number) => match self.sections.items.get(number) {
-                Some(section) => name_of(section),
-                None => "-",
-            },
-            None => "-",
-        }
+        let number = self.sections.first_with(address)?;
+        let section = self.sections.items.get(number)?;
+        Some(name_of(section))
     }
 }
 
