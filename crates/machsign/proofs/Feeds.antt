@@ -10,7 +10,7 @@ use Rattle.mach_cli.proofs.OneLine.{no_feeds, no_feed-append, no_feed-hex, no_fe
 use Rattle.mach_signature.specs.SignWords.{hexadecimal, slot_names, slot_words}
 use Rattle.machsign.specs.Blobs.{blob_text}
 use Rattle.machsign.specs.Blocks.{name_line}
-use Rattle.machsign.specs.Special.{SlotView, hash_after, slot_line, state_text}
+use Rattle.machsign.specs.Special.{SlotView, hash_after, sealed_text, slot_line, state_text}
 use Rattle.machsign.specs.declared.special.SlotState.{SlotState}
 use Rattle.machsign.specs.declared.special.SlotState.TheVariants.{AsSigned, OtherFile, Unreadable, Unknown, Unsealed, Changed, Absent}
 
@@ -43,6 +43,15 @@ no_feed-state Unsealed = refl
 no_feed-state Changed = refl
 no_feed-state Absent = refl
 
+no_feed-sealed : (state : SlotState) → has_no_feed (sealed_text state) ≡ true
+no_feed-sealed AsSigned = refl
+no_feed-sealed OtherFile = refl
+no_feed-sealed Unreadable = refl
+no_feed-sealed Unknown = refl
+no_feed-sealed Unsealed = refl
+no_feed-sealed Changed = refl
+no_feed-sealed Absent = refl
+
 no_feed-hash : (state : SlotState) (hash : List ℕ) → has_no_feed (hash_after state hash) ≡ true
 no_feed-hash AsSigned hash = refl
 no_feed-hash OtherFile hash = search (no_feeds, rules)
@@ -53,7 +62,7 @@ no_feed-hash Changed hash = refl
 no_feed-hash Absent hash = refl
 
 no_feed-slot_line : (s : SlotView) → has_no_feed (slot_line s) ≡ true
-no_feed-slot_line s = search (no_feeds, no_feed-slot, no_feed-state, no_feed-hash, rules)
+no_feed-slot_line s = search (no_feeds, no_feed-slot, no_feed-sealed, no_feed-state, no_feed-hash, rules)
 
 no_feed-blob : (slot len : ℕ) → has_no_feed (blob_text slot len) ≡ true
 no_feed-blob slot len = search (no_feeds, no_feed-slot, rules)

@@ -7,3 +7,4 @@ pub mod Whole
 pub mod SignedFacts
 pub mod Opened
 pub mod Feeds
+pub mod Checked

@@ -2,11 +2,11 @@
 use Rattle.std.proofs.Common.{◌≡◌, ◌≤◌, ◌+◌, ◌∙◌, ◌∷◌, [], ℕ, suc, List, Option, Some, None, length, map, take, ap, arith}
 use Rattle.std.proofs.lemmas.List.{take_all}
 use Rattle.std.proofs.lemmas.List.FromFn.{length-range_with_len}
-use Rattle.std.specs.Prelude.{filter_map, min}
+use Rattle.std.specs.Prelude.{filter_map}
 use Rattle.std.specs.List.{range_with_len, cons_option}
 use Rattle.mach_signature.specs.AsSigned.{SignedImage}
 use Rattle.mach_signature.specs.Directories.{Directory}
-use Rattle.machsign.specs.Special.{SlotView, shown_slot, shown_slots, slot_reported}
+use Rattle.machsign.specs.Special.{SlotView, slot_in, slots_in, slot_reported}
 use Rattle.machsign.specs.SpecialLeft.{slots_yet, slot_rows_left}
 use Rattle.machsign.specs.declared.form.Form.{Form}
 use Rattle.machsign.specs.declared.special.SpecialSlots.{SpecialSlots}
@@ -20,16 +20,11 @@ no_more : {V : Type 0} (f : ℕ → Option V) (xs : List ℕ) → length (filter
 no_more f [] = omega arith
 no_more f (x ∷ xs) = one_at_most (f x) (filter_map f xs) (length xs) (no_more f xs)
 
-pub few_slots : (x : SignedImage) (d : Directory) → length (shown_slots x d) ≤ 11
-few_slots x d =
-    omega (
-      arith,
-      no_more (λ k. shown_slot x d (k + 1)) (range_with_len 0 (min d.head.n_special_slots 11)),
-      length-range_with_len 0 (min d.head.n_special_slots 11),
-    )
+pub few_slots : (form : Form) (x : SignedImage) (d : Directory) → length (slots_in form x d) ≤ 11
+few_slots form x d = omega (arith, no_more (λ k. slot_in form x d (k + 1)) (range_with_len 0 11), length-range_with_len 0 11)
 
-pub all_slots : (x : SignedImage) (d : Directory) → take 11 (shown_slots x d) ≡ shown_slots x d
-all_slots x d = take_all 11 (shown_slots x d) (few_slots x d)
+pub all_slots : (form : Form) (x : SignedImage) (d : Directory) → take 11 (slots_in form x d) ≡ slots_in form x d
+all_slots form x d = take_all 11 (slots_in form x d) (few_slots form x d)
 
 -- the rows of the slots that are left to print, in a form
 pub slot_rows_are : (it : SpecialSlots) (form : Form) (slots : List SlotView) → slots_yet it ≡ slots → it.form ≡ form

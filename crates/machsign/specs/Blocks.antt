@@ -1,20 +1,25 @@
 -- The lines of a code directory.
-use Rattle.std.specs.Prelude.{◌+◌, ◌-◌, ◌^◌, ℕ, List, [], ◌∷◌, ◌++◌, codes, min, flat_map, Option, Some, None, Result, Ok, Err}
+use Rattle.std.specs.Prelude.{◌+◌, ◌-◌, ◌^◌, ℕ, List, [], ◌∷◌, ◌++◌, codes, Bool, true, false, length, min, flat_map, nat_le, if◌then◌else◌, Option, Some, None, Result, Ok, Err}
 use Rattle.std.specs.Fmt.{decimal}
+use Rattle.std.specs.List.{list_all}
 use Rattle.mach_base.specs.Fault.{Fault}
 use Rattle.mach_signature.specs.AsSigned.{SignedImage}
 use Rattle.mach_signature.specs.Chosen.{SlotDirectory}
 use Rattle.mach_signature.specs.CodeFaults.{code_faults_of}
 use Rattle.mach_signature.specs.Directories.{Directory, code_limit_of, page_count_of, identifier_of, team_of, cdhash_of}
+use Rattle.mach_signature.specs.Hashes.{hash_len, hash_of}
 use Rattle.mach_signature.specs.SignWords.{hexadecimal, slot_words}
+use Rattle.mach_signature.specs.SpecialFaults.{special_faults_of}
 use Rattle.mach_signature.specs.declared.fault.CodeFault.{CodeFault}
+use Rattle.mach_signature.specs.declared.fault.CodeFault.TheVariants.{Scattered, Limit, Slots, Page}
+use Rattle.mach_signature.specs.declared.fault.SpecialFault.{SpecialFault}
 use Rattle.mach_signature.specs.declared.hash.HashType.{HashType}
 use Rattle.mach_signature.specs.declared.records.DirectoryHead.{DirectoryHead}
 use Rattle.mach_signature.specs.declared.records.ExecutableSegment.{ExecutableSegment}
 use Rattle.mach_signature.specs.declared.records.RuntimeFields.{RuntimeFields}
 use Rattle.mach_cli.specs.Flags.{code_flags, segment_flags, worded_flags_text}
 use Rattle.mach_cli.specs.SignatureNames.{bytes_text, name_text}
-use Rattle.machsign.specs.Special.{shown_slots, slot_reported}
+use Rattle.machsign.specs.Special.{slot_reported, slots_in}
 use Rattle.machsign.specs.Texts.{hash_name, pages_text, runtime_text}
 use Rattle.machsign.specs.declared.form.Form.TheVariants.{Lines}
 
@@ -63,17 +68,40 @@ runtime_line (Some r) = codes "  runtime: " ++ (runtime_text r.version ++ codes 
 abbrev pub cdhash_line : List ℕ → List ℕ
 cdhash_line cdhash = codes "  cdhash: " ++ (bytes_text cdhash ++ codes "\n")
 
--- the code is as signed, with the number of its pages; or it isn't
-abbrev pub code_text : (pages : ℕ) → List CodeFault → List ℕ
-code_text pages [] = decimal pages ++ codes " pages as signed"
-code_text pages (fault ∷ faults) = codes "not as signed"
+-- the whole hash of the directory, of which the cdhash is the first 20 bytes; and its line, if it has more bytes
+abbrev pub full_cdhash_of : Directory → List ℕ
+full_cdhash_of d = hash_of d.hash d.bytes
 
-abbrev pub code_line : Directory → List ℕ → List ℕ
-code_line d image = codes "  code: " ++ (code_text (page_count_of d) (code_faults_of d image) ++ codes "\n")
+abbrev pub full_cdhash_line : Directory → List ℕ
+full_cdhash_line d = if nat_le (hash_len d.hash) 20 then [] else codes "  full cdhash: " ++ (bytes_text (full_cdhash_of d) ++ codes "\n")
+
+-- whether a fault is one of a page, and no reason why the pages can't be judged
+abbrev pub is_of_page : CodeFault → Bool
+is_of_page (Page k start end) = true
+is_of_page (Scattered place) = false
+is_of_page (Limit limit len) = false
+is_of_page (Slots slots pages) = false
+
+-- how many pages are as signed: those without a fault, and none if the pages can't be judged
+abbrev pub sound_pages : (pages : ℕ) → List CodeFault → ℕ
+sound_pages pages faults = if list_all is_of_page faults then pages - length faults else 0
+
+abbrev pub slots_words : List SpecialFault → List ℕ
+slots_words [] = codes "without a fault"
+slots_words (fault ∷ faults) = codes "with faults"
+
+-- what was checked: how many pages of how many are as signed, and whether special slots have faults
+abbrev pub checked_text : (sound pages : ℕ) → (slots : List ℕ) → List ℕ
+checked_text sound pages slots =
+    codes "  checked: " ++ (decimal sound ++ (codes " of " ++ (decimal pages ++ (codes " pages as signed, special slots " ++ (slots ++ codes "\n")))))
+
+abbrev pub checked_line : SignedImage → Directory → List ℕ
+checked_line x d =
+    checked_text (sound_pages (page_count_of d) (code_faults_of d x.bytes)) (page_count_of d) (slots_words (special_faults_of d x.signature x.plist))
 
 -- the lines of the special slots
 abbrev pub special_lines : SignedImage → Directory → List ℕ
-special_lines x d = flat_map (λ s. slot_reported Lines s ++ codes "\n") (shown_slots x d)
+special_lines x d = flat_map (λ s. slot_reported Lines s ++ codes "\n") (slots_in Lines x d)
 
 -- ---- the whole directory
 
@@ -84,7 +112,7 @@ naming_lines slot d =
 
 -- its runtime and its hashes
 abbrev pub hashing_lines : SignedImage → Directory → List ℕ
-hashing_lines x d = runtime_line d.runtime ++ (cdhash_line (cdhash_of d) ++ (code_line d x.bytes ++ special_lines x d))
+hashing_lines x d = (runtime_line d.runtime ++ (cdhash_line (cdhash_of d) ++ full_cdhash_line d)) ++ (special_lines x d ++ checked_line x d)
 
 unfoldable pub directory_lines : SignedImage → (slot : ℕ) → Directory → List ℕ
 directory_lines x slot d = naming_lines slot d ++ hashing_lines x d

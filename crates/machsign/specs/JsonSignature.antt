@@ -16,15 +16,17 @@ use Rattle.mach_signature.specs.Directories.{Directory, cdhash_of, code_limit_of
 use Rattle.mach_signature.specs.DirectoryViews.{directory_view}
 use Rattle.mach_signature.specs.SignedFacts.{HoldsAsSigned}
 use Rattle.mach_signature.specs.declared.directory.CodeDirectory.{CodeDirectory}
-use Rattle.mach_signature.specs.declared.records.DirectoryHead.{DirectoryHead}
 use Rattle.mach_signature.specs.declared.records.ExecutableSegment.{ExecutableSegment}
 use Rattle.mach_signature.specs.declared.records.RuntimeFields.{RuntimeFields}
 use Rattle.machsign.specs.Blobs.{blobs_array}
+use Rattle.machsign.specs.Blocks.{full_cdhash_of}
 use Rattle.machsign.specs.Faults.{fault_strings, ReportsFaults}
 use Rattle.machsign.specs.ImageLines.{HasSigned, is_there_cut}
+use Rattle.machsign.specs.Kinds.{has_cms, has_hardened_runtime, has_library_validation, is_ad_hoc, is_linker_signed, kind_of}
 use Rattle.machsign.specs.Signatures.{blobs_counted, is_cut, is_unfaulted_whole, limited_count}
 use Rattle.machsign.specs.Special.{slots_array}
 use Rattle.machsign.specs.Texts.{runtime_text}
+use Rattle.machsign.specs.declared.kind.Kind.{Kind}
 
 -- a name that a directory may have
 abbrev pub json_name : Result (Option (List ℕ)) Fault → List ℕ
@@ -49,9 +51,16 @@ runtime_object (Some r) = codes "\"" ++ (runtime_text r.version ++ codes "\"")
 
 -- ---- the members of a directory
 
-abbrev pub hashing_members : DirectoryHead → List ℕ
-hashing_members head =
-    codes "],\"flags\":" ++ (decimal head.flags ++ (codes ",\"hash_type\":" ++ (decimal head.hash_type ++ codes ",\"identifier\":")))
+-- its flags, what they and the CMS message say, and its hash
+abbrev pub kind_members : Kind → (hash_type : ℕ) → List ℕ
+kind_members k hash_type =
+    codes "],\"flags\":" ++ (decimal k.flags ++ (codes ",\"has_cms\":" ++ (json_bool (has_cms k.cms)
+    ++ (codes ",\"has_hardened_runtime\":" ++ (json_bool (has_hardened_runtime k)
+    ++ (codes ",\"has_library_validation\":" ++ (json_bool (has_library_validation k)
+    ++ (codes ",\"hash_type\":" ++ (decimal hash_type ++ codes ",\"identifier\":")))))))))
+
+abbrev pub origin_members : Kind → List ℕ
+origin_members k = codes ",\"is_ad_hoc\":" ++ (json_bool (is_ad_hoc k) ++ (codes ",\"is_linker_signed\":" ++ json_bool (is_linker_signed k)))
 
 abbrev pub identifier_text : Directory → List ℕ
 identifier_text d = json_name (identifier_of d)
@@ -80,13 +89,14 @@ naming_members d = team_text d ++ (codes ",\"version\":" ++ (decimal d.head.vers
 -- the members after the faults
 abbrev pub directory_members : SignedImage → (more : Bool) → Directory → List ℕ
 directory_members x more d =
-    (hashing_members d.head ++ (identifier_text d ++ pages_members more d))
+    (kind_members (kind_of x d) d.head.hash_type ++ (identifier_text d ++ (origin_members (kind_of x d) ++ pages_members more d)))
     ++ (running_members d.head.platform d.runtime ++ (special_members x d ++ naming_members d))
 
 -- the members before the faults
 abbrev pub cdhash_members : Directory → List ℕ
 cdhash_members d =
-    codes ",\"cdhash\":\"" ++ (bytes_text (cdhash_of d) ++ (codes "\",\"executable\":" ++ (executable_object d.executable ++ codes ",\"faults\":[")))
+    codes ",\"cdhash\":\"" ++ (bytes_text (cdhash_of d) ++ (codes "\",\"cdhash_full\":\"" ++ (bytes_text (full_cdhash_of d)
+    ++ (codes "\",\"executable\":" ++ (executable_object d.executable ++ codes ",\"faults\":[")))))
 
 -- ---- the object
 

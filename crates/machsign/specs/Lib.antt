@@ -3,6 +3,7 @@ pub mod Texts
 pub mod Special
 pub mod SpecialLeft
 pub mod Blocks
+pub mod Kinds
 pub mod Blobs
 pub mod BlobsLeft
 pub mod Faults

@@ -11,14 +11,19 @@ use Rattle.mach_cli.specs.Listings.{cut_line}
 use Rattle.machsign.specs.Blobs.{blobs_lines, other_blobs_of}
 use Rattle.machsign.specs.Blocks.{slot_directory_lines}
 use Rattle.machsign.specs.Faults.{signature_fault_lines, has_none, ReportsFaults}
+use Rattle.machsign.specs.Kinds.{cms_of, kind_line, kind_of, unchecked_line}
 
--- the lines of its directories, in the order of the index; if none is used, no directory has lines
-abbrev pub directories_lines_by : Result Directory Fault → (lines : List ℕ) → List ℕ
-directories_lines_by (Ok d) lines = lines
-directories_lines_by (Err f) lines = []
+-- the line of its kind, and the lines of its directories, in the order of the index; if none is used, there is no such line
+abbrev pub front_by : SignedImage → Result Directory Fault → List ℕ
+front_by x (Ok d) = kind_line (kind_of x d) ++ flat_map (slot_directory_lines x) (directories_of x.signature)
+front_by x (Err f) = []
 
-abbrev pub directories_lines : SignedImage → List ℕ
-directories_lines x = directories_lines_by (directory_of x.signature) (flat_map (slot_directory_lines x) (directories_of x.signature))
+abbrev pub front_lines : SignedImage → List ℕ
+front_lines x = front_by x (directory_of x.signature)
+
+-- the line that says that there is more than the limit, if so, and the line of what isn't checked
+abbrev pub back_lines : SignedImage → (limit : ℕ) → (more : Bool) → List ℕ
+back_lines x limit more = cut_line limit more ++ unchecked_line (cms_of x)
 
 -- how many blobs that are no directories a signature has, and how many faults
 abbrev pub blobs_counted : SignedImage → ℕ
@@ -35,13 +40,13 @@ is_cut left x = nat_lt left (limited_count x)
 abbrev pub is_unfaulted_whole : (left : ℕ) → SignedImage → Bool
 is_unfaulted_whole left x = has_none (signature_faults_of x) && not (is_cut left x)
 
--- The text is the lines of the directories, of the other blobs, and of all that differs from what was signed. Of blobs and faults
--- together these are the first ones, no more than `left`, and a line follows if there are more. It is whole if there is no fault,
--- and all is printed.
+-- The text is the lines of its kind and of the directories, of the other blobs, and of all that differs from what was signed. Of blobs and faults
+-- together these are the first ones, no more than `left`, and a line follows if there are more. The last line says what isn't
+-- checked. It is whole if there is no fault, and all is printed.
 pub record AreSignedLines (limit left : ℕ) (x : SignedImage) (text : List ℕ) (whole : Bool) (rest : ℕ) : Type 0 where
   pub faults : List ℕ
   pub are_faults : ReportsFaults signature_fault_lines (left - blobs_counted x) (signature_faults_of x) faults
-  pub is_text : text ≡ directories_lines x ++ (blobs_lines left x.signature ++ (faults ++ cut_line limit (is_cut left x)))
+  pub is_text : text ≡ front_lines x ++ (blobs_lines left x.signature ++ (faults ++ back_lines x limit (is_cut left x)))
   pub is_whole : whole ≡ is_unfaulted_whole left x
   pub is_rest : rest ≡ left - limited_count x
 

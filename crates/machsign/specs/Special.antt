@@ -1,5 +1,6 @@
--- The special slots of a code directory that seal something, or have a fault, as they are printed.
-use Rattle.std.specs.Prelude.{ℕ, ◌+◌, List, [], ◌++◌, codes, min, map, filter_map, if◌then◌else◌, Option, Some, None, Result, Ok, Err}
+-- The special slots of a code directory, as they are printed: those that seal something or have a fault, and as lines some that
+-- seal nothing.
+use Rattle.std.specs.Prelude.{ℕ, ◌+◌, ◌==◌, ◌||◌, Bool, List, [], ◌++◌, codes, map, filter_map, if◌then◌else◌, Option, Some, None, Result, Ok, Err}
 use Rattle.std.specs.Fmt.{decimal}
 use Rattle.std.specs.List.{range_with_len}
 use Rattle.mach_base.specs.Fault.{Fault}
@@ -68,11 +69,35 @@ shown_if_any x d k (Some hash) = if_shown k hash (special_fault d x.signature x.
 abbrev pub shown_slot : SignedImage → Directory → ℕ → Option SlotView
 shown_slot x d k = shown_if_any x d k (special_slot_of d k)
 
--- the shown slots up to 11, from 1 on
-abbrev pub shown_slots : SignedImage → Directory → List SlotView
-shown_slots x d = filter_map (λ k. shown_slot x d (k + 1)) (range_with_len 0 (min d.head.n_special_slots 11))
+-- the slots that have a line even if they seal nothing: the Info.plist, the requirements, the resources, and the entitlements in
+-- XML and in DER
+abbrev pub has_line : ℕ → Bool
+has_line k = k == 1 || k == 2 || k == 3 || k == 5 || k == 7
+
+abbrev pub or_unsealed : ℕ → Option SlotView → Option SlotView
+or_unsealed k (Some s) = Some s
+or_unsealed k None = if has_line k then Some (seen_slot k [] Unsealed) else None
+
+-- a slot in a form: as an object if it is shown, as a line also if it seals nothing
+abbrev pub slot_in : Form → SignedImage → Directory → ℕ → Option SlotView
+slot_in Lines x d k = or_unsealed k (shown_slot x d k)
+slot_in Objects x d k = shown_slot x d k
+
+-- these slots up to 11, from 1 on
+abbrev pub slots_in : Form → SignedImage → Directory → List SlotView
+slots_in form x d = filter_map (λ k. slot_in form x d (k + 1)) (range_with_len 0 11)
 
 -- ---- their texts
+
+-- what a line has before the state of a slot that seals something
+abbrev pub sealed_text : SlotState → List ℕ
+sealed_text AsSigned = codes "sealed, "
+sealed_text OtherFile = codes "sealed, "
+sealed_text Unreadable = codes "sealed, "
+sealed_text Changed = codes "sealed, "
+sealed_text Unknown = []
+sealed_text Unsealed = []
+sealed_text Absent = []
 
 -- the hash of a slot that seals another file
 abbrev pub hash_after : SlotState → List ℕ → List ℕ
@@ -85,7 +110,7 @@ hash_after Changed hash = []
 hash_after Absent hash = []
 
 abbrev pub slot_line : SlotView → List ℕ
-slot_line s = (codes "  " ++ (slot_words s.number ++ (codes ": " ++ state_text s.state))) ++ hash_after s.state s.hash
+slot_line s = (codes "  " ++ (slot_words s.number ++ (codes ": " ++ (sealed_text s.state ++ state_text s.state)))) ++ hash_after s.state s.hash
 
 abbrev pub special_slot_object : SlotView → List ℕ
 special_slot_object s =
@@ -97,4 +122,4 @@ slot_reported form s = by_form form (slot_line s) (special_slot_object s)
 
 -- the array of them
 abbrev pub slots_array : SignedImage → Directory → List ℕ
-slots_array x d = codes "[" ++ (with_commas (map special_slot_object (shown_slots x d)) ++ codes "]")
+slots_array x d = codes "[" ++ (with_commas (map special_slot_object (slots_in Objects x d)) ++ codes "]")

@@ -1,6 +1,6 @@
 //! The lines of a code directory.
 
-ghost use Rattle.std.specs.Prelude.{◌++◌, codes, OnOk};
+ghost use Rattle.std.specs.Prelude.{◌≡◌, ◌++◌, codes, nat_le, OnOk};
 ghost use Rattle.std.specs.Option.{option_map};
 ghost use Rattle.std.specs.Io.KnownBytes.{Appends};
 ghost use Rattle.mach_base.specs.Items.{read_as};
@@ -8,13 +8,19 @@ ghost use Rattle.mach_signature.specs.CodeFaultViews.{code_faults_left};
 ghost use Rattle.mach_signature.specs.Directories.{cdhash_of, code_limit_of, identifier_of, team_of};
 ghost use Rattle.mach_signature.specs.DirectoryViews.{directory_view};
 ghost use Rattle.mach_signature.specs.FaultViews.{signed_view};
+ghost use Rattle.mach_signature.specs.Hashes.{hash_len};
+ghost use Rattle.mach_signature.specs.SpecialFaultViews.{special_faults_left};
 ghost use Rattle.machsign.specs.Blocks as defined;
 
 use crate::form::Form;
+use crate::full_hash::print_hash_of;
 use crate::special::{MOST_SLOTS, SpecialSlots};
 use crate::text::{HeadFront, RuntimeText, SegmentFront, ShapeText};
 use mach_cli::{print_bytes, print_code_flags, print_rows, print_segment_flags};
-use mach_signature::{CodeDirectory, CodeFaults, ExecutableSegment, RuntimeFields, SignedBytes};
+use mach_signature::{
+    CodeDirectory, CodeFault, CodeFaults, ExecutableSegment, HashType, RuntimeFields, SignedBytes,
+    SpecialFaults,
+};
 use std::io;
 use std::io::Write;
 
@@ -54,8 +60,9 @@ fn print_hashing<O: Write>(
 {
     print_runtime(directory.runtime, out)?;
     print_cdhash(directory, out)?;
-    print_code(directory, signed.image, out)?;
-    print_special_slots(signed, directory, out)
+    print_full_cdhash(directory, out)?;
+    print_special_slots(signed, directory, out)?;
+    print_checked(signed, directory, out)
 }
 
 // Prints the first line of a directory, which begins with the name of its slot.
@@ -157,23 +164,78 @@ fn print_cdhash<O: Write>(directory: &CodeDirectory<'_>, out: &mut O) -> io::Res
     writeln!(out)
 }
 
-// Prints whether the code is as signed, and the number of its pages then. The pages that are not as signed are among the faults.
-fn print_code_text<O: Write>(pages: u64, mut faults: CodeFaults<'_>, out: &mut O) -> io::Result<()>
-    ensures { OnOk result (Appends (O.contents out.old) (O.contents out.new) (defined.code_text pages (code_faults_left faults.entry))) }
+// Whether the first 20 bytes of a hash are all of it.
+fn is_short(hash: HashType) -> bool
+    ensures { result ≡ nat_le (hash_len hash) 20 }
 {
-    match faults.next() {
-        Some(_) => write!(out, "not as signed"),
-        None => write!(out, "{pages} pages as signed"),
+    hash.size() <= 20
+}
+
+// Prints the line of the whole hash of a directory, if it has more bytes than the cdhash.
+fn print_full_cdhash<O: Write>(directory: &CodeDirectory<'_>, out: &mut O) -> io::Result<()>
+    ensures { OnOk result (Appends (O.contents out.old) (O.contents out.new) (defined.full_cdhash_line (directory_view directory.now))) }
+{
+    if is_short(directory.hash) {
+        return Ok(());
+    }
+    write!(out, "  full cdhash: ")?;
+    print_hash_of(directory.hash, directory.bytes, out)?;
+    writeln!(out)
+}
+
+// Returns how many pages are as signed: those without a fault, and none if the pages can't be judged.
+#[tactic(auto, using(crate::proofs::Checked::none_counted, crate::proofs::Checked::one_counted, crate::proofs::Checked::all_counted, crate::proofs::Checked::none_judged))]
+fn sound_pages(pages: u64, mut faults: CodeFaults<'_>) -> u64
+    ensures { result ≡ defined.sound_pages pages (code_faults_left faults.entry) }
+{
+    let mut sound = pages;
+    'faults: while let Some(fault) = faults.next() {
+        if is_of_page(fault) {
+            sound = sound.saturating_sub(1);
+        } else {
+            return 0;
+        }
+    }
+    sound
+}
+
+// Whether a fault is one of a page, and no reason why the pages can't be judged.
+fn is_of_page(fault: CodeFault) -> bool
+    ensures { result ≡ defined.is_of_page fault }
+{
+    match fault {
+        CodeFault::Page { .. } => true,
+        CodeFault::Scattered { .. } => false,
+        CodeFault::Limit { .. } => false,
+        CodeFault::Slots { .. } => false,
     }
 }
 
-// Prints the line of the code.
-fn print_code<O: Write>(directory: &CodeDirectory<'_>, image: &[u8], out: &mut O) -> io::Result<()>
-    ensures { OnOk result (Appends (O.contents out.old) (O.contents out.new) (defined.code_line (directory_view directory.now) image.now)) }
+// Returns whether special slots have faults, in words.
+fn slots_words(mut faults: SpecialFaults<'_>) -> &'static str
+    ensures { result.now ≡ defined.slots_words (special_faults_left faults.entry) }
 {
-    write!(out, "  code: ")?;
-    print_code_text(directory.page_count(), directory.code_faults(image), out)?;
-    writeln!(out)
+    match faults.next() {
+        Some(_) => "with faults",
+        None => "without a fault",
+    }
+}
+
+// Prints what was checked: how many pages of how many are as signed, and whether special slots have faults.
+fn print_checked<O: Write>(
+    signed: &SignedBytes<'_>,
+    directory: &CodeDirectory<'_>,
+    out: &mut O,
+) -> io::Result<()>
+    ensures { OnOk result (Appends (O.contents out.old) (O.contents out.new) (defined.checked_line (signed_view signed.now) (directory_view directory.now))) }
+{
+    let pages = directory.page_count();
+    let sound = sound_pages(pages, directory.code_faults(signed.image));
+    let slots = slots_words(directory.special_faults(&signed.signature, signed.plist));
+    writeln!(
+        out,
+        "  checked: {sound} of {pages} pages as signed, special slots {slots}"
+    )
 }
 
 // Prints the lines of the special slots.

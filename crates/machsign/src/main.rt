@@ -1,8 +1,8 @@
-//! Prints the code signature of a Mach-O file: the fields of each code directory, its cdhash, and whether the code and what it
-//! seals besides are as they were signed; how many bytes the other blobs have; and a line `fault:` for everything that differs
-//! from what was signed. Of a fat file it prints that of each entry, or of the entries for one cpu, under a line that says which.
-//! With `--entitlements` it writes the entitlements of the first image that has them, and nothing else. With `--json` it writes
-//! one object for each file, on a line.
+//! Prints the code signature of a Mach-O file: what kind it is; the fields of each code directory, its cdhash, what it seals
+//! besides the code, and how many pages are as they were signed; how many bytes the other blobs have; a line `fault:` for
+//! everything that differs from what was signed; and what isn't checked. Of a fat file it prints that of each entry, or of the
+//! entries for one cpu, under a line that says which. With `--entitlements` it writes the entitlements of the first image that
+//! has them, and nothing else. With `--json` it writes one object for each file, on a line.
 //!
 //! It does not check who signed: a CMS blob is not verified, and no other file is read.
 #![tactic(auto)]
@@ -20,7 +20,9 @@ mod blobs;
 mod block;
 mod entitlements;
 mod form;
+mod full_hash;
 mod json;
+mod kind;
 mod laws;
 mod members;
 mod print;

@@ -11,11 +11,13 @@ ghost use Rattle.mach_signature.specs.SignViews.{signature_view};
 ghost use Rattle.machsign.specs.Blocks.{slot_directory_lines};
 ghost use Rattle.machsign.specs.Faults.{WritesFaults, fault_line, signature_fault_lines};
 ghost use Rattle.machsign.specs.ImageLines.{image_signed};
+ghost use Rattle.machsign.specs.Kinds.{kind_line, unchecked_line};
 ghost use Rattle.machsign.specs.Signatures as defined;
 
 use crate::blobs::OtherBlobs;
 use crate::block::print_directory;
 use crate::form::Form;
+use crate::kind::{Cms, Kind, cms_of};
 use crate::signed::signed_image;
 use goblin_mach::{Error, MachO, describe};
 use mach_cli::{ListProgress, Outcome, print_cut, print_rows};
@@ -73,26 +75,36 @@ fn print_signed<O: Write>(
     ensures { IfOk result (λ outcome. defined.WritesSigned limit left (signed_view signed.now) outcome.whole outcome.left
         (O.contents out.old) (O.contents out.new)) }
 {
-    print_directories(signed, out)?;
+    print_front(signed, out)?;
     let mut rows = OtherBlobs::of(&signed.signature, Form::Lines);
     let blobs = print_rows(&mut rows, "", left, out)?;
     let faults = print_faults(signed.faults(), blobs.left, out)?;
     let more = blobs.more | faults.more;
-    print_cut(limit, more, out)?;
+    print_back(signed, limit, more, out)?;
     Ok(Outcome {
         whole: faults.whole & !more,
         left: faults.left,
     })
 }
 
-// Prints the lines of the directories, if one of them is used.
-fn print_directories<O: Write>(signed: &SignedBytes<'_>, out: &mut O) -> io::Result<()>
-    ensures { OnOk result (Appends (O.contents out.old) (O.contents out.new) (defined.directories_lines (signed_view signed.now))) }
+// Prints the kind of a signature and the lines of its directories, if one of them is used.
+fn print_front<O: Write>(signed: &SignedBytes<'_>, out: &mut O) -> io::Result<()>
+    ensures { OnOk result (Appends (O.contents out.old) (O.contents out.new) (defined.front_lines (signed_view signed.now))) }
 {
     match signed.signature.directory() {
-        Ok(_) => print_each_directory(signed, out),
+        Ok(directory) => {
+            print_kind(Kind::of(signed, &directory), out)?;
+            print_each_directory(signed, out)
+        }
         Err(_) => Ok(()),
     }
+}
+
+// Prints the line of the kind of a signature.
+fn print_kind<O: Write>(kind: Kind, out: &mut O) -> io::Result<()>
+    ensures { OnOk result (Appends (O.contents out.old) (O.contents out.new) (kind_line kind)) }
+{
+    writeln!(out, "signature: {kind}")
 }
 
 // Prints the lines of all directories.
@@ -119,6 +131,27 @@ fn print_found<O: Write>(
         Ok(directory) => print_directory(signed, found.0, directory, out),
         Err(_) => Ok(()),
     }
+}
+
+// Prints whether there are more lines than the limit, and what isn't checked.
+fn print_back<O: Write>(
+    signed: &SignedBytes<'_>,
+    limit: usize,
+    more: bool,
+    out: &mut O,
+) -> io::Result<()>
+    ensures { OnOk result (Appends (O.contents out.old) (O.contents out.new) (defined.back_lines (signed_view signed.now) limit more)) }
+{
+    print_cut(limit, more, out)?;
+    print_unchecked(cms_of(signed), out)
+}
+
+// Prints why it isn't known who signed.
+fn print_unchecked<O: Write>(cms: Cms, out: &mut O) -> io::Result<()>
+    ensures { OnOk result (Appends (O.contents out.old) (O.contents out.new) (unchecked_line cms)) }
+{
+    let why = cms.why_unknown();
+    writeln!(out, "not checked: who signed ({why})")
 }
 
 // Prints the line of a fault.

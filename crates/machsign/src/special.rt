@@ -1,4 +1,4 @@
-//! The special slots of a code directory that seal something, or have a fault.
+//! The special slots of a code directory: those that seal something or have a fault, and as lines some that seal nothing.
 
 ghost use Rattle.std.specs.Prelude.{◌≡◌, Some, OnOk};
 ghost use Rattle.std.specs.Option.{option_map};
@@ -30,9 +30,11 @@ pub enum SlotState {
     OtherFile,
     /// What the slot seals can't be read.
     Unreadable,
-    /// The faults of a slot.
+    /// The slot isn't known.
     Unknown,
+    /// The slot seals nothing.
     Unsealed,
+    /// The other faults of a slot.
     Changed,
     Absent,
 }
@@ -49,6 +51,24 @@ impl Display for SlotState {
             SlotState::Unsealed => "not sealed",
             SlotState::Changed => "not what was signed",
             SlotState::Absent => "sealed, and absent",
+        })
+    }
+}
+
+// The words of a line before the state of a slot that seals something.
+#[derive(Clone, Copy)]
+struct SealedText(SlotState);
+
+impl Display for SealedText {
+    ghost output = { λ t. Some (defined.sealed_text t.0) };
+
+    fn fmt<W: fmt::Write>(&self, f: &mut Formatter<W>) -> fmt::Result {
+        f.write_str(match self.0 {
+            SlotState::AsSigned
+            | SlotState::OtherFile
+            | SlotState::Unreadable
+            | SlotState::Changed => "sealed, ",
+            SlotState::Unknown | SlotState::Unsealed | SlotState::Absent => "",
         })
     }
 }
@@ -77,7 +97,7 @@ fn slot_state(fault: Option<SpecialFault>, there: Result<Option<&[u8]>>) -> Slot
     }
 }
 
-/// A special slot that seals something, or has a fault.
+/// A special slot, with its hash if it has one.
 #[derive(Clone, Copy, Drop)]
 pub struct SpecialSlot<'a> {
     number: u32,
@@ -119,7 +139,29 @@ fn shown_slot<'a>(
     if_shown(number, hash, fault, there)
 }
 
-/// The known special slots of a directory that seal something or have a fault, in order, one at a time.
+// Whether a slot has a line even if it seals nothing: the Info.plist, the requirements, the resources, or entitlements.
+fn has_line(number: u32) -> bool
+    ensures { result ≡ defined.has_line number }
+{
+    number == 1 || number == 2 || number == 3 || number == 5 || number == 7
+}
+
+// Returns a slot that has a line: a shown one, or one that seals nothing.
+fn or_unsealed<'a>(number: u32, shown: Option<SpecialSlot<'a>>) -> Option<SpecialSlot<'a>>
+    ensures { option_map special_slot_view result ≡ defined.or_unsealed number (option_map special_slot_view shown.entry) }
+{
+    if shown.is_some() || !has_line(number) {
+        return shown;
+    }
+    Some(SpecialSlot {
+        number,
+        hash: &[],
+        state: SlotState::Unsealed,
+    })
+}
+
+/// The known special slots of a directory in a form, in order, one at a time. Objects are those that seal something or have a
+/// fault; lines are also some that seal nothing.
 #[derive(Clone, Copy)]
 pub struct SpecialSlots<'a> {
     signed: SignedBytes<'a>,
@@ -132,7 +174,7 @@ pub struct SpecialSlots<'a> {
 impl<'a> SpecialSlots<'a> {
     /// Returns the slots of an image's directory.
     pub fn of(signed: &SignedBytes<'a>, directory: &CodeDirectory<'a>, form: Form) -> Self
-        ensures slots { slots_yet result ≡ defined.shown_slots (signed_view signed.now) (directory_view directory.now) }
+        ensures slots { slots_yet result ≡ defined.slots_in form (signed_view signed.now) (directory_view directory.now) }
         ensures form { result.form ≡ form }
     {
         SpecialSlots {
@@ -143,16 +185,26 @@ impl<'a> SpecialSlots<'a> {
         }
     }
 
+    // Returns the slot with a number, if it is one of the form.
+    fn slot(&self, number: u32) -> Option<SpecialSlot<'a>>
+        ensures { option_map special_slot_view result ≡ defined.slot_in self.now.form (signed_view self.now.signed) (directory_view self.now.directory) number }
+    {
+        let shown = shown_slot(&self.signed, &self.directory, number);
+        match self.form {
+            Form::Lines => or_unsealed(number, shown),
+            Form::Objects => shown,
+        }
+    }
+
     // Returns the next slot.
     #[tactic(auto, using(mach_signature::proofs::NumberedLists::reported_first, mach_signature::proofs::NumberedLists::reported_none))]
     fn take_next(&mut self) -> Option<SpecialSlot<'a>>
         ensures slot { YieldsFirstBy special_slot_view slots_yet self.old result self.new }
         ensures form { self.new.form ≡ self.old.form }
     {
-        let count = self.directory.head.n_special_slots.min(11);
-        'slots: while self.taken < count {
+        'slots: while self.taken < 11 {
             self.taken += 1;
-            if let Some(slot) = shown_slot(&self.signed, &self.directory, self.taken) {
+            if let Some(slot) = self.slot(self.taken) {
                 return Some(slot);
             }
         }
@@ -204,8 +256,8 @@ impl<'a> Listing for SpecialSlots<'a> {
 fn print_line<O: Write>(slot: &SpecialSlot<'_>, out: &mut O) -> io::Result<()>
     ensures { OnOk result (Appends (O.contents out.old) (O.contents out.new) (defined.slot_line (special_slot_view slot.now))) }
 {
-    let (name, state) = (SlotName(slot.number), slot.state);
-    write!(out, "  {name}: {state}")?;
+    let (name, state, sealed) = (SlotName(slot.number), slot.state, SealedText(slot.state));
+    write!(out, "  {name}: {sealed}{state}")?;
     print_hash(state, slot.hash, out)
 }
 

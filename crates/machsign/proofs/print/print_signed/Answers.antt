@@ -1,11 +1,10 @@
 use Rattle.std.proofs.Common.{◌++◌, ℕ, List, Bool, length, refl, subst}
 use Rattle.std.specs.Io.KnownBytes.{Appends}
-use Rattle.mach_cli.specs.Listings.{cut_line}
 use Rattle.mach_signature.specs.AsSigned.{SignatureFaultView, signature_faults_of}
 use Rattle.mach_signature.specs.FaultViews.{signed_view}
 use Rattle.machsign.specs.Blobs.{blobs_lines, other_blobs_of}
 use Rattle.machsign.specs.Faults.{signature_fault_lines, ReportsFaults, WritesFaults}
-use Rattle.machsign.specs.Signatures.{directories_lines, is_cut}
+use Rattle.machsign.specs.Signatures.{back_lines, front_lines, is_cut}
 use Rattle.machsign.proofs.Limited.{blobs_written}
 use Rattle.machsign.proofs.ListProgress.{counted}
 use Rattle.machsign.proofs.Written.{four}
@@ -27,9 +26,9 @@ returns g c =
     c.faults.ensures c.in_ok-faults.ensures in
     let count = counted left (length blobs) seen before.left before.more following rows.1 rows.2 reported.counts in
     let cut = subst
-    (λ (more : Bool). Appends (g.O.Write.contents c.print_faults.new.out) (g.O.Write.contents c.print_cut.new.out) (cut_line limit more))
-    count.0 c.in_ok-print_cut.ensures in record {
-      text = directories_lines x ++ (blobs_lines left x.signature ++ (reported.text ++ cut_line limit (is_cut left x)));
+    (λ (more : Bool). Appends (g.O.Write.contents c.print_faults.new.out) (g.O.Write.contents c.print_back.new.out) (back_lines x limit more))
+    count.0 c.in_ok-print_back.ensures in record {
+      text = front_lines x ++ (blobs_lines left x.signature ++ (reported.text ++ back_lines x limit (is_cut left x)));
       lines = record {
         faults = reported.text;
         are_faults = subst (λ (n : ℕ). ReportsFaults signature_fault_lines n seen reported.text) rows.1 reported.reports;
@@ -37,6 +36,6 @@ returns g c =
         is_whole = count.1;
         is_rest = count.2;
       };
-      written = four _ _ _ _ _ (directories_lines x) (blobs_lines left x.signature) reported.text (cut_line limit (is_cut left x))
-          c.in_ok-print_directories.ensures rows.0 reported.written cut;
+      written = four _ _ _ _ _ (front_lines x) (blobs_lines left x.signature) reported.text (back_lines x limit (is_cut left x))
+          c.in_ok-print_front.ensures rows.0 reported.written cut;
     }
