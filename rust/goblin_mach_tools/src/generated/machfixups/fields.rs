@@ -11,20 +11,34 @@ use crate::shim::io::Write;
 use goblin_mach::generated::mach::RebaseKind;
 use goblin_mach::generated::mach::chained_fixups::PointerAuth;
 
-// Returns the flags of a bind.
-fn flags_of<'a>(bind: &Bind<'_>) -> Value<'a> {
-    Value::Flags {
-        is_weak: bind.is_weak,
-        is_lazy: bind.is_lazy,
-        auth: bind.auth,
-    }
+// Returns the field for the addend of a bind; no line has it if it is 0.
+fn addend_field(addend: i128) -> Field<'static> {
+    let column = if addend == 0 { 0 } else { 7 };
+    Field::new("addend", Value::Signed(addend), column)
+}
+
+// Returns the field of a line for the flags of a bind; if there are none, no line has it.
+fn bind_flags(bind: &Bind<'_>) -> Field<'static> {
+    let column = if bind.is_weak || bind.is_lazy || has_auth(bind.auth) {
+        8
+    } else {
+        0
+    };
+    Field::of_line(
+        Value::Flags {
+            is_weak: bind.is_weak,
+            is_lazy: bind.is_lazy,
+            auth: bind.auth,
+        },
+        column,
+    )
 }
 
 // Returns the field for the image from which a bind takes its symbol: its short name; if there is none, only a line has it, with
 // the ordinal.
 fn from_field<'a>(bind: &Bind<'a>) -> Field<'a> {
     match bind.from {
-        Some(name) => Field::new("from", Value::Text(name), 5).wide(15),
+        Some(name) => Field::new("from", Value::Text(name), 5).wide(20),
         None => Field::of_line(Value::Signed(bind.ordinal), 5),
     }
 }
@@ -33,14 +47,14 @@ fn from_field<'a>(bind: &Bind<'a>) -> Field<'a> {
 fn rebase_word(kind: RebaseKind) -> Field<'static> {
     match kind {
         RebaseKind::Pointer => Field::of_line(Value::Text(""), 0),
-        RebaseKind::TextAbsolute32 => Field::of_line(Value::Text("text-absolute"), 6),
-        RebaseKind::TextRelative32 => Field::of_line(Value::Text("text-relative"), 6),
+        RebaseKind::TextAbsolute32 => Field::of_line(Value::Text("text-absolute"), 7),
+        RebaseKind::TextRelative32 => Field::of_line(Value::Text("text-relative"), 7),
     }
 }
 
 // Returns the field of a line for how a pointer is signed; if it isn't, no line has it.
 fn signed_flags(auth: Option<PointerAuth>) -> Field<'static> {
-    let column = if has_auth(auth) { 7 } else { 0 };
+    let column = if has_auth(auth) { 8 } else { 0 };
     Field::of_line(
         Value::Flags {
             is_weak: false,
@@ -51,6 +65,11 @@ fn signed_flags(auth: Option<PointerAuth>) -> Field<'static> {
     )
 }
 
+// Returns a printed name, `-` if there is none.
+fn name_or_dash<'a>(name: Option<&'a str>) -> &'a str {
+    name.unwrap_or("-")
+}
+
 // Returns the field for an address.
 fn address_field<'a>(place: &Location<'a>) -> Field<'a> {
     Field::new("address", Value::Hex(place.address), 1).wide(11)
@@ -58,12 +77,33 @@ fn address_field<'a>(place: &Location<'a>) -> Field<'a> {
 
 // Returns the field for the name of a segment.
 fn segment_field<'a>(place: &Location<'a>) -> Field<'a> {
-    Field::new("segment", Value::Text(place.segment), 2).wide(12)
+    Field::new("segment", Value::Text(name_or_dash(place.segment)), 2).wide(12)
 }
 
 // Returns the field for the name of a section.
 fn section_field<'a>(place: &Location<'a>) -> Field<'a> {
-    Field::new("section", Value::Text(place.section), 3).wide(16)
+    Field::new("section", Value::Text(name_or_dash(place.section)), 3).wide(16)
+}
+
+// Returns the field of a line for the name of a target's segment.
+fn target_segment<'a>(target: &Location<'a>) -> Field<'a> {
+    Field::of_line(Value::Text(name_or_dash(target.segment)), 5)
+}
+
+// Returns how many characters a text has.
+fn char_len(text: &str) -> usize {
+    text.chars().count()
+}
+
+// Returns how many characters a name and a space after it leave of a column of 20.
+fn width_after(name: &str) -> usize {
+    19usize.saturating_sub(char_len(name))
+}
+
+// Returns the field of a line for the name of a target's section. Both names have 20 characters together, if they aren't longer.
+fn target_section<'a>(target: &Location<'a>) -> Field<'a> {
+    let width = width_after(name_or_dash(target.segment));
+    Field::of_line(Value::Text(name_or_dash(target.section)), 5).wide(width)
 }
 
 // Returns the field for what a row is; without a name only a line has it.
@@ -80,7 +120,7 @@ fn dash_field(column: usize, width: usize) -> Field<'static> {
 fn bind_fields<'a>(place: &Location<'a>, bind: &Bind<'a>) -> [Field<'a>; 15] {
     let auth = bind.auth;
     [
-        Field::new("addend", Value::Signed(bind.addend), 6),
+        addend_field(bind.addend),
         address_field(place),
         Field::of_object("diversity", Value::Number(u64::from(diversity_by(auth)))),
         from_field(bind),
@@ -91,36 +131,37 @@ fn bind_fields<'a>(place: &Location<'a>, bind: &Bind<'a>) -> [Field<'a>; 15] {
         Field::of_object("key", Value::Number(u64::from(key_by(auth)))),
         kind_field("kind", "bind"),
         Field::of_object("library", Value::Signed(bind.ordinal)),
-        Field::new("name", Value::Text(bind.name), 8),
+        Field::new("name", Value::Text(bind.name), 6),
         section_field(place),
         segment_field(place),
-        Field::of_line(flags_of(bind), 7),
+        bind_flags(bind),
     ]
 }
 
 // Returns the fields of a weak bind.
-fn weak_fields<'a>(place: &Location<'a>, bind: &Bind<'a>) -> [Field<'a>; 10] {
+fn weak_fields<'a>(place: &Location<'a>, bind: &Bind<'a>) -> [Field<'a>; 11] {
     [
-        Field::new("addend", Value::Signed(bind.addend), 5),
+        addend_field(bind.addend),
         address_field(place),
         Field::whether("is_strong", false),
         Field::whether("is_weak", bind.is_weak),
         Field::of_object("kind", Value::Text("weak bind")),
-        Field::new("name", Value::Text(bind.name), 7),
+        Field::new("name", Value::Text(bind.name), 6),
         section_field(place),
         segment_field(place),
         kind_field("", "weak"),
-        Field::of_line(flags_of(bind), 6),
+        dash_field(5, 20),
+        bind_flags(bind),
     ]
 }
 
 // Returns the fields of a rebase.
 fn rebase_fields<'a>(
     place: &Location<'a>,
-    target: u64,
+    target: &Location<'a>,
     kind: RebaseKind,
     auth: Option<PointerAuth>,
-) -> [Field<'a>; 12] {
+) -> [Field<'a>; 16] {
     [
         address_field(place),
         Field::of_object("diversity", Value::Number(u64::from(diversity_by(auth)))),
@@ -130,35 +171,41 @@ fn rebase_fields<'a>(
         kind_field("kind", "rebase"),
         section_field(place),
         segment_field(place),
-        Field::new("target", Value::Hex(target), 5),
+        Field::new("target", Value::Hex(target.address), 6),
+        Field::of_object("target_section", Value::OptionalText(target.section)),
+        Field::of_object("target_segment", Value::OptionalText(target.segment)),
         Field::of_object("type", Value::Text(rebase_type(kind))),
         rebase_word(kind),
         signed_flags(auth),
+        target_segment(target),
+        target_section(target),
     ]
 }
 
 // Returns the fields of a number.
-fn value_fields<'a>(place: &Location<'a>, number: u32) -> [Field<'a>; 6] {
+fn value_fields<'a>(place: &Location<'a>, number: u32) -> [Field<'a>; 7] {
     [
         address_field(place),
         Field::of_object("kind", Value::Text("number")),
         section_field(place),
         segment_field(place),
-        Field::new("target", Value::Hex(u64::from(number)), 5),
+        Field::new("target", Value::Hex(u64::from(number)), 6),
         kind_field("", "value"),
+        dash_field(5, 20),
     ]
 }
 
 // Returns the fields of a strong definition of this name.
-fn strong_fields(name: &str) -> [Field<'_>; 7] {
+fn strong_fields(name: &str) -> [Field<'_>; 8] {
     [
         Field::whether("is_strong", true),
         Field::of_object("kind", Value::Text("weak bind")),
-        Field::new("name", Value::Text(name), 5),
+        Field::new("name", Value::Text(name), 6),
         dash_field(1, 11),
         dash_field(2, 12),
         dash_field(3, 16),
         kind_field("", "strong"),
+        dash_field(5, 20),
     ]
 }
 
@@ -173,7 +220,7 @@ pub fn write_row<F: FieldsForm, O: Write>(row: &Row<'_, '_>, out: &mut O) -> io:
             Action::Bind(bind) => F::write(&bind_fields(place, bind), out),
             Action::Weak(bind) => F::write(&weak_fields(place, bind), out),
             Action::Rebase { target, kind, auth } => {
-                F::write(&rebase_fields(place, *target, *kind, *auth), out)
+                F::write(&rebase_fields(place, target, *kind, *auth), out)
             }
             Action::Value(number) => F::write(&value_fields(place, *number), out),
         },

@@ -3,11 +3,16 @@
 #![forbid(unsafe_code)]
 
 use crate::generated::mach_cli::{ImageView, InForm, Line, Outcome, ShowFailure, print_listing};
+use crate::generated::machfixups::headed::Headed;
 use crate::generated::machfixups::lists::ImageRows;
 use crate::generated::machfixups::rows::Selection;
 use crate::generated::machfixups::section_names::AllStretches;
 use crate::shim::io::Write;
 use goblin_mach::generated::mach::MachO;
+
+// The line above the rows of an image.
+const HEADING: &str =
+    "ADDRESS     SEGMENT      SECTION          KIND   FROM                 TARGET\n";
 
 /// The lines of the selected lists.
 #[derive(Clone, Copy)]
@@ -27,7 +32,11 @@ impl ImageView for FixupLines {
         let parts = AllStretches::of_image(image)?;
         let shown = self.selection.shown();
         let list = ImageRows::of(image, &parts, shown, shown.kinds_in_lines());
-        let mut lines = InForm { list, form: Line };
+        let mut lines = Headed {
+            list: InForm { list, form: Line },
+            heading: HEADING,
+            is_written: false,
+        };
         Ok(print_listing(&mut lines, "unreadable", limit, left, out)?)
     }
 }

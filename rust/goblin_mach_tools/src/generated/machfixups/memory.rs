@@ -63,7 +63,7 @@ fn stretches_of(sections: &[(Section, SectionData<'_>)]) -> Result<Vec<Stretch>,
 ///
 /// # Proved
 ///
-/// - `result ≡ stretch_name (Some stretch)`
+/// - `result ≡ stretch_name stretch`
 pub fn name_of(stretch: &Stretch) -> &str {
     shown_name(read_text(&stretch.name, 0))
 }

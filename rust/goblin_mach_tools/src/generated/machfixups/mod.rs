@@ -11,9 +11,10 @@
 //! or a bind of the chains is in two arrays.
 //!
 //! A line has the address, the names of the segment and of the section, and what is stored there: `bind` with the short name of the
-//! image that the symbol comes from, the addend, flags and the symbol's name; `weak` with addend, flags and name; `rebase` with the
-//! address that moves with the image, and flags if the pointer is signed; or `value` with a number. A strong definition of the
-//! image's own has a line `- - - strong` with its name.
+//! image that the symbol comes from and the symbol's name, the addend if it isn't 0, and flags; `weak` with a name, addend and flags;
+//! `rebase` with the segment and the section that hold the address that moves with the image, the address, and flags if the pointer
+//! is signed; or `value` with a number. A strong definition of the image's own has a line `- - - strong -` with its name. Above the
+//! first line is one with the names of the columns.
 //!
 //! The short name of a library is the last component of its path, without `.dylib` at its end. Other names are `itself`,
 //! `main-executable`, `flat` for any image, and `weak-lookup`. The ordinal takes its place if the image's list has no library with
@@ -34,6 +35,7 @@ use crate::shim::rt::HostRuntime;
 mod arguments;
 mod fields;
 mod fixup_view;
+mod headed;
 mod json;
 mod kept_fixups;
 mod lists;

@@ -11,13 +11,13 @@ use goblin_mach::generated::mach::{
     Binding, Error, Provider, Rebase, RebaseKind, Result, WeakBind,
 };
 
-/// The place of a pointer.
+/// An address.
 #[derive(Clone, Copy)]
 pub struct Location<'a> {
     pub address: u64,
-    /// The printed names of the segment and of the section.
-    pub segment: &'a str,
-    pub section: &'a str,
+    /// The printed names of the segment and of the section that hold it, if they do.
+    pub segment: Option<&'a str>,
+    pub section: Option<&'a str>,
 }
 
 /// A symbol whose address a pointer takes.
@@ -37,14 +37,14 @@ pub struct Bind<'a> {
 
 /// What is stored at a place.
 #[derive(Clone, Copy)]
-pub enum Action<'a> {
+pub enum Action<'b, 'a> {
     /// The address of a symbol.
     Bind(Bind<'a>),
     /// The address of the definition that all images share.
     Weak(Bind<'a>),
     /// An address that moves with the image.
     Rebase {
-        target: u64,
+        target: Location<'b>,
         kind: RebaseKind,
         auth: Option<PointerAuth>,
     },
@@ -58,7 +58,7 @@ pub enum Row<'b, 'a> {
     /// A place, and what is stored there.
     At {
         place: Location<'b>,
-        action: Action<'a>,
+        action: Action<'b, 'a>,
     },
     /// The name of a strong definition of the image's own.
     Strong(&'a str),
@@ -69,13 +69,30 @@ fn place_in<'b>(part: Option<&'b SegmentStretches>, address: u64) -> Location<'b
     match part {
         Some(part) => Location {
             address,
-            segment: part.name(),
+            segment: Some(part.name()),
             section: part.section_with(address),
         },
         None => Location {
             address,
-            segment: "-",
-            section: "-",
+            segment: None,
+            section: None,
+        },
+    }
+}
+
+// Returns the place of an address in the first segment that holds it, if one does.
+fn place_by_address<'b>(parts: &'b AllStretches, address: u64) -> Location<'b> {
+    place_in(parts.first_with(address), address)
+}
+
+// Returns the place of the address that a rebase corrects; a relative number has none.
+fn target_by_kind<'b>(parts: &'b AllStretches, kind: RebaseKind, target: u64) -> Location<'b> {
+    match kind {
+        RebaseKind::Pointer | RebaseKind::TextAbsolute32 => place_by_address(parts, target),
+        RebaseKind::TextRelative32 => Location {
+            address: target,
+            segment: None,
+            section: None,
         },
     }
 }
@@ -108,10 +125,10 @@ fn bind_of_binding<'a>(binding: &Binding<'a>) -> Bind<'a> {
 fn row_by_address<'b, 'a>(
     parts: &'b AllStretches,
     address: u64,
-    action: Action<'a>,
+    action: Action<'b, 'a>,
 ) -> Row<'b, 'a> {
     Row::At {
-        place: place_in(parts.first_with(address), address),
+        place: place_by_address(parts, address),
         action,
     }
 }
@@ -121,7 +138,7 @@ fn row_by_segment<'b, 'a>(
     parts: &'b AllStretches,
     segment: u32,
     address: u64,
-    action: Action<'a>,
+    action: Action<'b, 'a>,
 ) -> Row<'b, 'a> {
     let part = parts.get(segment as usize);
     Row::At {
@@ -157,15 +174,16 @@ fn bind_of_import<'a>(
 }
 
 // Returns what a fixup stores.
-fn action_of<'a>(
+fn action_of<'b, 'a>(
+    parts: &'b AllStretches,
     libs: &[&'a str],
     table: &Option<ChainedFixups<'a>>,
     fixup: &Fixup,
-) -> Result<Action<'a>> {
+) -> Result<Action<'b, 'a>> {
     let auth = fixup.auth;
     match fixup.kind {
         FixupKind::Rebase { target } => Ok(Action::Rebase {
-            target,
+            target: place_by_address(parts, target),
             kind: RebaseKind::Pointer,
             auth,
         }),
@@ -184,7 +202,7 @@ fn row_of_fixup<'b, 'a>(
     table: &Option<ChainedFixups<'a>>,
     fixup: &Fixup,
 ) -> Result<Row<'b, 'a>> {
-    let action = action_of(libs, table, fixup)?;
+    let action = action_of(parts, libs, table, fixup)?;
     Ok(row_by_segment(parts, fixup.segment, fixup.address, action))
 }
 
@@ -196,7 +214,7 @@ fn row_of_fixup<'b, 'a>(
 pub fn rebase_row<'b, 'a>(parts: &'b AllStretches, item: Result<Rebase>) -> Result<Row<'b, 'a>> {
     let rebase = item?;
     let action = Action::Rebase {
-        target: rebase.target,
+        target: target_by_kind(parts, rebase.kind, rebase.target),
         kind: rebase.kind,
         auth: rebase.auth,
     };

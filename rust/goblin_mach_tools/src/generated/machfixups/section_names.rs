@@ -44,24 +44,20 @@ impl SegmentStretches {
     ///
     /// # Proved
     ///
-    /// - `result ≡ stretch_name (Some (part_view self).memory)`
+    /// - `result ≡ stretch_name (part_view self).memory`
     pub fn name(&self) -> &str {
         name_of(&self.memory)
     }
 
-    /// Returns the printed name of the first section that holds an address.
+    /// Returns the printed name of the first section that holds an address, if one does.
     ///
     /// # Proved
     ///
-    /// - `result ≡ section_with address (part_view self).sections`
-    pub fn section_with(&self, address: u64) -> &str {
-        match self.sections.first_with(address) {
-            Some(number) => match self.sections.items.get(number) {
-                Some(section) => name_of(section),
-                None => "-",
-            },
-            None => "-",
-        }
+    /// - `text_in result ≡ section_with address (part_view self).sections`
+    pub fn section_with(&self, address: u64) -> Option<&str> {
+        let number = self.sections.first_with(address)?;
+        let section = self.sections.items.get(number)?;
+        Some(name_of(section))
     }
 }
 

@@ -4,12 +4,14 @@
 
 use crate::generated::mach_cli::{print_bytes, print_code_flags, print_rows, print_segment_flags};
 use crate::generated::machsign::form::Form;
+use crate::generated::machsign::full_hash::print_hash_of;
 use crate::generated::machsign::special::{MOST_SLOTS, SpecialSlots};
 use crate::generated::machsign::text::{HeadFront, RuntimeText, SegmentFront, ShapeText};
 use crate::shim::io;
 use crate::shim::io::Write;
 use goblin_mach::generated::mach_signature::{
-    CodeDirectory, CodeFaults, ExecutableSegment, RuntimeFields, SignedBytes,
+    CodeDirectory, CodeFault, CodeFaults, ExecutableSegment, HashType, RuntimeFields, SignedBytes,
+    SpecialFaults,
 };
 
 /// Prints the lines of an image's code directory in a slot.
@@ -43,8 +45,9 @@ fn print_hashing<O: Write>(
 ) -> io::Result<()> {
     print_runtime(directory.runtime, out)?;
     print_cdhash(directory, out)?;
-    print_code(directory, signed.image, out)?;
-    print_special_slots(signed, directory, out)
+    print_full_cdhash(directory, out)?;
+    print_special_slots(signed, directory, out)?;
+    print_checked(signed, directory, out)
 }
 
 // Prints the first line of a directory, which begins with the name of its slot.
@@ -127,27 +130,65 @@ fn print_cdhash<O: Write>(directory: &CodeDirectory<'_>, out: &mut O) -> io::Res
     writeln!(out)
 }
 
-// Prints whether the code is as signed, and the number of its pages then. The pages that are not as signed are among the faults.
-fn print_code_text<O: Write>(
-    pages: u64,
-    mut faults: CodeFaults<'_>,
-    out: &mut O,
-) -> io::Result<()> {
-    match faults.next() {
-        Some(_) => write!(out, "not as signed"),
-        None => write!(out, "{pages} pages as signed"),
+// Whether the first 20 bytes of a hash are all of it.
+fn is_short(hash: HashType) -> bool {
+    hash.size() <= 20
+}
+
+// Prints the line of the whole hash of a directory, if it has more bytes than the cdhash.
+fn print_full_cdhash<O: Write>(directory: &CodeDirectory<'_>, out: &mut O) -> io::Result<()> {
+    if is_short(directory.hash) {
+        return Ok(());
+    }
+    write!(out, "  full cdhash: ")?;
+    print_hash_of(directory.hash, directory.bytes, out)?;
+    writeln!(out)
+}
+
+// Returns how many pages are as signed: those without a fault, and none if the pages can't be judged.
+fn sound_pages(pages: u64, mut faults: CodeFaults<'_>) -> u64 {
+    let mut sound = pages;
+    while let Some(fault) = faults.next() {
+        if is_of_page(fault) {
+            sound = sound.saturating_sub(1);
+        } else {
+            return 0;
+        }
+    }
+    sound
+}
+
+// Whether a fault is one of a page, and no reason why the pages can't be judged.
+fn is_of_page(fault: CodeFault) -> bool {
+    match fault {
+        CodeFault::Page { .. } => true,
+        CodeFault::Scattered { .. } => false,
+        CodeFault::Limit { .. } => false,
+        CodeFault::Slots { .. } => false,
     }
 }
 
-// Prints the line of the code.
-fn print_code<O: Write>(
+// Returns whether special slots have faults, in words.
+fn slots_words(mut faults: SpecialFaults<'_>) -> &'static str {
+    match faults.next() {
+        Some(_) => "with faults",
+        None => "without a fault",
+    }
+}
+
+// Prints what was checked: how many pages of how many are as signed, and whether special slots have faults.
+fn print_checked<O: Write>(
+    signed: &SignedBytes<'_>,
     directory: &CodeDirectory<'_>,
-    image: &[u8],
     out: &mut O,
 ) -> io::Result<()> {
-    write!(out, "  code: ")?;
-    print_code_text(directory.page_count(), directory.code_faults(image), out)?;
-    writeln!(out)
+    let pages = directory.page_count();
+    let sound = sound_pages(pages, directory.code_faults(signed.image));
+    let slots = slots_words(directory.special_faults(&signed.signature, signed.plist));
+    writeln!(
+        out,
+        "  checked: {sound} of {pages} pages as signed, special slots {slots}"
+    )
 }
 
 // Prints the lines of the special slots.

@@ -5,6 +5,8 @@
 use crate::generated::mach_cli::{JsonString, ListProgress, Outcome, print_array, print_bytes};
 use crate::generated::machsign::blobs::OtherBlobs;
 use crate::generated::machsign::form::Form;
+use crate::generated::machsign::full_hash::print_hash_of;
+use crate::generated::machsign::kind::Kind;
 use crate::generated::machsign::signed::signed_image;
 use crate::generated::machsign::special::{MOST_SLOTS, SpecialSlots};
 use crate::generated::machsign::text::RuntimeText;
@@ -76,10 +78,12 @@ fn write_before<O: Write>(directory: &Result<CodeDirectory<'_>>, out: &mut O) ->
     }
 }
 
-// Writes the hash of a directory, its executable segment, and the start of the faults.
+// Writes the hash of a directory, cut to 20 bytes and whole, its executable segment, and the start of the faults.
 fn write_cdhash<O: Write>(directory: &CodeDirectory<'_>, out: &mut O) -> io::Result<()> {
     write!(out, ",\"cdhash\":\"")?;
     print_bytes(&directory.cdhash(), out)?;
+    write!(out, "\",\"cdhash_full\":\"")?;
+    print_hash_of(directory.hash, directory.bytes, out)?;
     let executable = ExecutableObject(directory.executable);
     write!(out, "\",\"executable\":{executable},\"faults\":[")
 }
@@ -119,21 +123,31 @@ fn write_fields<O: Write>(
     more: bool,
     out: &mut O,
 ) -> io::Result<()> {
-    write_hashing(directory, out)?;
+    let kind = Kind::of(signed, directory);
+    write_kind(kind, directory.head.hash_type, out)?;
     write_identifier(directory, out)?;
+    write_origin(kind, out)?;
     write_pages(directory, more, out)?;
     write_running(directory, out)?;
     write_special(signed, directory, out)?;
     write_naming(directory, out)
 }
 
-// Writes the flags, the kind of hash, and the name of the member after them.
-fn write_hashing<O: Write>(directory: &CodeDirectory<'_>, out: &mut O) -> io::Result<()> {
-    let (flags, hash_type) = (directory.head.flags, directory.head.hash_type);
+// Writes the flags, what they and the CMS message say, the kind of hash, and the name of the member after them.
+fn write_kind<O: Write>(kind: Kind, hash_type: u8, out: &mut O) -> io::Result<()> {
+    let (flags, cms) = (kind.flags, kind.cms.is_there());
+    let (runtime, validation) = (kind.has_hardened_runtime(), kind.has_library_validation());
     write!(
         out,
-        "],\"flags\":{flags},\"hash_type\":{hash_type},\"identifier\":"
+        "],\"flags\":{flags},\"has_cms\":{cms},\"has_hardened_runtime\":{runtime},\"has_library_validation\":{validation},\
+         \"hash_type\":{hash_type},\"identifier\":"
     )
+}
+
+// Writes whether no one signed, and whether a linker did.
+fn write_origin<O: Write>(kind: Kind, out: &mut O) -> io::Result<()> {
+    let (ad_hoc, linker) = (kind.is_ad_hoc(), kind.is_linker_signed());
+    write!(out, ",\"is_ad_hoc\":{ad_hoc},\"is_linker_signed\":{linker}")
 }
 
 // Writes the covered bytes and the pages, and whether there are more blobs or faults than were written.

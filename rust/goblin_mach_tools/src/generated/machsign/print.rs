@@ -6,6 +6,7 @@ use crate::generated::mach_cli::{ListProgress, Outcome, print_cut, print_rows};
 use crate::generated::machsign::blobs::OtherBlobs;
 use crate::generated::machsign::block::print_directory;
 use crate::generated::machsign::form::Form;
+use crate::generated::machsign::kind::{Cms, Kind, cms_of};
 use crate::generated::machsign::signed::signed_image;
 use crate::shim::io;
 use crate::shim::io::Write;
@@ -54,24 +55,32 @@ fn print_signed<O: Write>(
     left: usize,
     out: &mut O,
 ) -> io::Result<Outcome> {
-    print_directories(signed, out)?;
+    print_front(signed, out)?;
     let mut rows = OtherBlobs::of(&signed.signature, Form::Lines);
     let blobs = print_rows(&mut rows, "", left, out)?;
     let faults = print_faults(signed.faults(), blobs.left, out)?;
     let more = blobs.more | faults.more;
-    print_cut(limit, more, out)?;
+    print_back(signed, limit, more, out)?;
     Ok(Outcome {
         whole: faults.whole & !more,
         left: faults.left,
     })
 }
 
-// Prints the lines of the directories, if one of them is used.
-fn print_directories<O: Write>(signed: &SignedBytes<'_>, out: &mut O) -> io::Result<()> {
+// Prints the kind of a signature and the lines of its directories, if one of them is used.
+fn print_front<O: Write>(signed: &SignedBytes<'_>, out: &mut O) -> io::Result<()> {
     match signed.signature.directory() {
-        Ok(_) => print_each_directory(signed, out),
+        Ok(directory) => {
+            print_kind(Kind::of(signed, &directory), out)?;
+            print_each_directory(signed, out)
+        }
         Err(_) => Ok(()),
     }
+}
+
+// Prints the line of the kind of a signature.
+fn print_kind<O: Write>(kind: Kind, out: &mut O) -> io::Result<()> {
+    writeln!(out, "signature: {kind}")
 }
 
 // Prints the lines of all directories.
@@ -92,6 +101,23 @@ fn print_found<O: Write>(
         Ok(directory) => print_directory(signed, found.0, directory, out),
         Err(_) => Ok(()),
     }
+}
+
+// Prints whether there are more lines than the limit, and what isn't checked.
+fn print_back<O: Write>(
+    signed: &SignedBytes<'_>,
+    limit: usize,
+    more: bool,
+    out: &mut O,
+) -> io::Result<()> {
+    print_cut(limit, more, out)?;
+    print_unchecked(cms_of(signed), out)
+}
+
+// Prints why it isn't known who signed.
+fn print_unchecked<O: Write>(cms: Cms, out: &mut O) -> io::Result<()> {
+    let why = cms.why_unknown();
+    writeln!(out, "not checked: who signed ({why})")
 }
 
 // Prints the line of a fault.
