@@ -1,16 +1,22 @@
 -- Lines in which only the last byte is a line feed.
 use Rattle.std.proofs.Common.{rules, ◌≡◌, ◌++◌, ◌∷◌, [], ℕ, List, Bool, true, false, Option, Some, None, Result, Ok, Err, refl}
+use Rattle.std.specs.Fmt.{decimal}
 use Rattle.std.specs.Prelude.{codes, ◌==◌, ◌&&◌}
 use Rattle.std.specs.List.{list_all}
 use Rattle.mach_base.specs.Fault.{Fault}
 use Rattle.mach_base.specs.Named.{Named, name_or}
 use Rattle.mach_cli.specs.Escapes.{has_no_feed, IsOneLine}
 use Rattle.mach_cli.specs.SignatureNames.{name_text}
-use Rattle.mach_cli.proofs.OneLine.{no_feeds, no_feed-append, no_feed-hex, no_feed-if, line-end, line-more}
+use Rattle.mach_cli.proofs.OneLine.{no_feeds, no_feed-append, no_feed-decimal, no_feed-hex, no_feed-if, line-end, line-more}
 use Rattle.mach_signature.specs.SignWords.{hexadecimal, slot_names, slot_words}
+use Rattle.mach_signature.specs.declared.fault.SpecialFault.{SpecialFault}
 use Rattle.machsign.specs.Blobs.{blob_text}
-use Rattle.machsign.specs.Blocks.{name_line}
+use Rattle.machsign.specs.Blocks.{checked_text, name_line, slots_words}
+use Rattle.machsign.specs.Kinds.{cms_words, kind_line, signature_words, unchecked_line, why_unknown}
 use Rattle.machsign.specs.Special.{SlotView, hash_after, sealed_text, slot_line, state_text}
+use Rattle.machsign.specs.declared.kind.Cms.{Cms}
+use Rattle.machsign.specs.declared.kind.Cms.TheVariants as messages
+use Rattle.machsign.specs.declared.kind.Kind.{Kind}
 use Rattle.machsign.specs.declared.special.SlotState.{SlotState}
 use Rattle.machsign.specs.declared.special.SlotState.TheVariants.{AsSigned, OtherFile, Unreadable, Unknown, Unsealed, Changed, Absent}
 
@@ -66,6 +72,41 @@ no_feed-slot_line s = search (no_feeds, no_feed-slot, no_feed-sealed, no_feed-st
 
 no_feed-blob : (slot len : ℕ) → has_no_feed (blob_text slot len) ≡ true
 no_feed-blob slot len = search (no_feeds, no_feed-slot, rules)
+
+no_feed-cms : (cms : Cms) → has_no_feed (cms_words cms) ≡ true
+no_feed-cms messages.Lacking = refl
+no_feed-cms (messages.Long len) = search (no_feeds, rules)
+no_feed-cms messages.Unreadable = refl
+
+no_feed-why : (cms : Cms) → has_no_feed (why_unknown cms) ≡ true
+no_feed-why messages.Lacking = refl
+no_feed-why (messages.Long len) = refl
+no_feed-why messages.Unreadable = refl
+
+no_feed-signature : (k : Kind) → has_no_feed (signature_words k) ≡ true
+no_feed-signature k = search (no_feeds, no_feed-cms, rules)
+
+no_feed-slots : (faults : List SpecialFault) → has_no_feed (slots_words faults) ≡ true
+no_feed-slots [] = refl
+no_feed-slots (fault ∷ faults) = refl
+
+pub kind_is_line : (k : Kind) → IsOneLine (kind_line k)
+kind_is_line k =
+    line-more (codes "signature: ") (signature_words k ++ codes "\n") refl (line-end (signature_words k) (no_feed-signature k))
+
+pub unchecked_is_line : (cms : Cms) → IsOneLine (unchecked_line cms)
+unchecked_is_line cms =
+    line-more (codes "not checked: who signed (") (why_unknown cms ++ codes ")\n") refl
+    (line-more (why_unknown cms) (codes ")\n") (no_feed-why cms) (line-end (codes ")") refl))
+
+pub checked_is_line : (sound pages : ℕ) (faults : List SpecialFault) → IsOneLine (checked_text sound pages (slots_words faults))
+checked_is_line sound pages faults =
+    let last = codes " pages as signed, special slots " ++ (slots_words faults ++ codes "\n") in
+    line-more (codes "  checked: ") (decimal sound ++ (codes " of " ++ (decimal pages ++ last))) refl
+    (line-more (decimal sound) (codes " of " ++ (decimal pages ++ last)) (no_feed-decimal sound)
+    (line-more (codes " of ") (decimal pages ++ last) refl
+    (line-more (decimal pages) last (no_feed-decimal pages)
+    (line-more (codes " pages as signed, special slots ") (slots_words faults ++ codes "\n") refl (line-end (slots_words faults) (no_feed-slots faults))))))
 
 pub name_is_line : (label : List ℕ) (name : Result (Option (List ℕ)) Fault) → has_no_feed label ≡ true → IsOneLine (name_line label name)
 name_is_line label name one =

@@ -66,14 +66,12 @@ has_library_validation k = has_flag k.flags 0x2000
 
 -- ---- its words
 
-abbrev pub yes_or_no : Bool → List ℕ
-yes_or_no is_so = word_if is_so (codes "yes") (codes "no")
-
-abbrev pub kind_words : Kind → List ℕ
-kind_words k =
+abbrev pub signature_words : Kind → List ℕ
+signature_words k =
     word_if (is_ad_hoc k) (codes "ad hoc, ") [] ++ (word_if (is_linker_signed k) (codes "linker-signed, ") [] ++ (cms_words k.cms
-    ++ (codes ", hardened runtime " ++ (yes_or_no (has_hardened_runtime k) ++ (codes ", library validation " ++ yes_or_no (has_library_validation k))))))
+    ++ (codes ", hardened runtime " ++ (word_if (has_hardened_runtime k) (codes "yes") (codes "no")
+    ++ (codes ", library validation " ++ word_if (has_library_validation k) (codes "yes") (codes "no"))))))
 
 -- its line
 abbrev pub kind_line : Kind → List ℕ
-kind_line k = codes "signature: " ++ (kind_words k ++ codes "\n")
+kind_line k = codes "signature: " ++ (signature_words k ++ codes "\n")

@@ -14,12 +14,12 @@ use Rattle.machsign.specs.Faults.{signature_fault_lines, has_none, ReportsFaults
 use Rattle.machsign.specs.Kinds.{cms_of, kind_line, kind_of, unchecked_line}
 
 -- the line of its kind, and the lines of its directories, in the order of the index; if none is used, there is no such line
-abbrev pub front_by : SignedImage → Result Directory Fault → List ℕ
-front_by x (Ok d) = kind_line (kind_of x d) ++ flat_map (slot_directory_lines x) (directories_of x.signature)
-front_by x (Err f) = []
+abbrev pub directories_front : SignedImage → Result Directory Fault → List ℕ
+directories_front x (Ok d) = kind_line (kind_of x d) ++ flat_map (slot_directory_lines x) (directories_of x.signature)
+directories_front x (Err f) = []
 
 abbrev pub front_lines : SignedImage → List ℕ
-front_lines x = front_by x (directory_of x.signature)
+front_lines x = directories_front x (directory_of x.signature)
 
 -- the line that says that there is more than the limit, if so, and the line of what isn't checked
 abbrev pub back_lines : SignedImage → (limit : ℕ) → (more : Bool) → List ℕ

@@ -134,7 +134,7 @@ pub fn cms_of(signed: &SignedBytes<'_>) -> Cms
 }
 
 impl Display for Kind {
-    ghost output = { λ kind. Some (defined.kind_words kind) };
+    ghost output = { λ kind. Some (defined.signature_words kind) };
 
     fn fmt<W: Write>(&self, f: &mut Formatter<W>) -> fmt::Result {
         let cms = self.cms;

@@ -7,7 +7,7 @@ use Rattle.mach_base.specs.Fault.{Fault}
 use Rattle.mach_signature.specs.Directories.{Directory}
 use Rattle.mach_signature.specs.FaultViews.{signed_view}
 use Rattle.machsign.specs.Kinds.{kind_line}
-use Rattle.machsign.specs.Signatures.{front_by}
+use Rattle.machsign.specs.Signatures.{directories_front}
 use Rattle.machsign.specs.declared.kind.Kind.{Kind}
 use Rattle.machsign.proofs.print.print_front.Goals as goal
 
@@ -16,6 +16,6 @@ returns-in_ok-print_kind-in-Ok g c =
     let old = g.O.Write.contents c.args.out.now in
     let new = g.O.Write.contents c.print_each_directory.new.out in
     let kind = subst (λ (k : Kind). Appends old (g.O.Write.contents c.print_kind.new.out) (kind_line k)) c.of.ensures c.in_ok-print_kind-in-Ok.ensures in
-    subst (λ (d : Result Directory Fault). OnOk c.print_each_directory.result (Appends old new (front_by (signed_view c.args.signed.now) d)))
+    subst (λ (d : Result Directory Fault). OnOk c.print_each_directory.result (Appends old new (directories_front (signed_view c.args.signed.now) d)))
     (sym c.in-Ok.ensures.value)
     (on_ok_weaker c.print_each_directory.result (λ last. Appends-both _ _ _ _ _ kind last) c.print_each_directory.ensures)
