@@ -8,10 +8,12 @@ use Rattle.mach_base.specs.declared.hint.Hint.{Hint}
 use Rattle.mach_base.specs.declared.hint.Hint.TheVariants as hints
 use Rattle.mach_archive.specs.Members.{MemberView}
 use Rattle.mach_cli.proofs.OneLine.{no_feeds, no_feed-append, no_feed-if, no_feed-printed, printed-digits, line-end, line-more}
+use Rattle.mach_cli.proofs.FieldLines.{no_feed-line}
 use Rattle.mach_cli.specs.Escapes.{IsOneLine, escaped_text, has_no_feed}
 use Rattle.mach_fat_writer.specs.declared.entry_record.EntryRecord.{EntryRecord}
+use Rattle.mach_cli.specs.Fields.{fields_line}
 use Rattle.mach_cli.specs.Kinds.{entry_kind, hint_text}
-use Rattle.machfat.specs.Lines.{cpu_text, entry_place_text, image_line, in_units, reached_units, record_line, record_text, size_text}
+use Rattle.machfat.specs.Lines.{cpu_of_numbers, cpu_text, image_line, in_units, line_end, name_or_numbers, reached_units, record_fields, record_line}
 use Rattle.machfat.specs.MemberLines.{MemberReported, a_member, member_front, member_line, member_name_end, member_reason, name_reason, no_more_members}
 use Rattle.machfat.specs.MemberLines.{number_or_dash, octal_or_dash}
 use Rattle.machfat.specs.SymbolLines.{SymbolReported, a_symbol, no_more_symbols, of_no_member, of_no_name, symbol_at_text, symbol_line, symbol_reason}
@@ -40,23 +42,21 @@ no_feed-units : (unit size : ℕ) (name : List ℕ) → has_no_feed name ≡ tru
 no_feed-units unit size name h = search (no_feeds, h, rules)
 
 no_feed-reached : (size : ℕ) → has_no_feed (reached_units size) ≡ true
+unfolding reached_units
 no_feed-reached size =
     no_feed-if (nat_lt size (2 ^ 10)) [] _ refl
     (no_feed-if (nat_lt size (2 ^ 20)) _ _ (no_feed-units (2 ^ 10) size (codes "KiB") refl)
     (no_feed-if (nat_lt size (2 ^ 30)) _ _ (no_feed-units (2 ^ 20) size (codes "MiB") refl) (no_feed-units (2 ^ 30) size (codes "GiB") refl)))
 
-no_feed-size : (size : ℕ) → has_no_feed (size_text size) ≡ true
-unfolding size_text
-no_feed-size size = no_feed-append (decimal size) (reached_units size) (search (no_feeds, rules)) (no_feed-reached size)
+no_feed-end : (size align : ℕ) → has_no_feed (line_end size align) ≡ true
+no_feed-end size align = no_feed-append (reached_units size) (codes ", align 2^" ++ decimal align) (no_feed-reached size) (search (no_feeds, rules))
 
-no_feed-place : (r : EntryRecord) → has_no_feed (entry_place_text r) ≡ true
-no_feed-place r = search (no_feeds, no_feed-size, rules)
+no_feed-named : (name : Option (List ℕ)) (cputype cpusubtype : ℕ) → has_no_feed (name_or_numbers name cputype cpusubtype) ≡ true
+no_feed-named (Some name) cputype cpusubtype = search (no_feeds, rules)
+no_feed-named None cputype cpusubtype = search (no_feeds, rules)
 
 no_feed-cpu : (cputype cpusubtype : ℕ) → has_no_feed (cpu_text cputype cpusubtype) ≡ true
-no_feed-cpu cputype cpusubtype = search (no_feeds, rules)
-
-no_feed-record : (bytes : List ℕ) (r : EntryRecord) → has_no_feed (record_text bytes r) ≡ true
-no_feed-record bytes r = search (no_feeds, no_feed-cpu, no_feed-place, no_feed-kind, rules)
+no_feed-cpu cputype cpusubtype = no_feed-named (cpu_of_numbers cputype cpusubtype) cputype cpusubtype
 
 no_feed-front : (number : ℕ) (m : MemberView) → has_no_feed (member_front number m) ≡ true
 no_feed-front number m = search (no_feeds, no_feed-kind, no_feed-number, no_feed-octal, rules)
@@ -68,7 +68,9 @@ words_end front words before h = line-more front (words ++ codes "\n") before (l
 pub one_record_line : (bytes : List ℕ) (i : ℕ) (r : EntryRecord) → IsOneLine (record_line bytes i r)
 one_record_line bytes i r =
     line-more (codes "arch ") _ refl
-    (line-more (decimal i) _ (search (no_feeds, rules)) (words_end (codes ": ") (record_text bytes r) refl (no_feed-record bytes r)))
+    (line-more (decimal i) _ (search (no_feeds, rules))
+    (line-more (codes ": ") _ refl
+    (words_end (fields_line (record_fields bytes r)) (line_end r.size r.align) (no_feed-line (record_fields bytes r)) (no_feed-end r.size r.align))))
 
 pub one_image_line : (file : List ℕ) (cputype cpusubtype : ℕ) → IsOneLine (image_line file cputype cpusubtype)
 one_image_line file cputype cpusubtype =

@@ -1,5 +1,6 @@
 pub mod Arguments
 pub mod Entry
+pub mod ImageKinds
 pub mod Faults
 pub mod Lines
 pub mod ListedFiles

@@ -1,66 +1,97 @@
 -- The text of a fat file's records, or of an image: lines, or an object.
-use Rattle.std.specs.Prelude.{◌≡◌, ◌==◌, ℕ, ◌+◌, ◌*◌, ◌/◌, ◌%◌, ◌^◌, List, [], ◌∷◌, ◌++◌, codes, length, take, nat_lt, Bool, false, Option, Ok, unwrap_or}
+use Rattle.std.specs.Prelude.{◌≡◌, ◌==◌, ℕ, ◌+◌, ◌*◌, ◌/◌, ◌%◌, ◌^◌, List, [], ◌∷◌, ◌++◌, codes, length, take, nat_lt, Bool, Option, Some, None, Ok, unwrap_or}
 use Rattle.std.specs.Prelude.{if◌then◌else◌}
-use Rattle.std.specs.Fmt.{decimal, digits}
+use Rattle.std.specs.Fmt.{decimal}
 use Rattle.std.specs.Io.KnownBytes.{Appends}
 use Rattle.mach_fat_writer.specs.EntriesRead.{slice_of}
 use Rattle.mach_fat_writer.specs.declared.entry_record.EntryRecord.{EntryRecord}
-use Rattle.mach_cli.specs.Fields.{FieldView, fields_object, number, object_field, text}
+use Rattle.mach_parts.specs.Cpu.{kind_of_cpu}
+use Rattle.mach_cli.specs.Cpus.{arch_rows, cpu_named}
+use Rattle.mach_cli.specs.Fields.{FieldView, field_of, fields_line, fields_object, hex, line_field, number, object_field, optional_text, text}
+use Rattle.mach_cli.specs.Fields.{value_in_object, wide_field}
 use Rattle.mach_cli.specs.JsonArrays.{comma_before}
 use Rattle.mach_cli.specs.Escapes.{escaped_text}
 use Rattle.mach_cli.specs.JsonText.{json_bool, json_string}
-use Rattle.mach_cli.specs.Listings.{cut_line}
+use Rattle.mach_cli.specs.Listings.{cut_line, hex_text}
 use Rattle.mach_cli.specs.Kinds.{entry_kind}
+use Rattle.machfat.specs.ImageKinds.{image_words}
 use Rattle.machfat.specs.ListedFiles.{ListedFile, a_fat_file, one_image, listed_file_in, has_at_most}
 use Rattle.machfat.specs.declared.entry.ListForm.{ListForm}
 use Rattle.machfat.specs.declared.entry.ListForm.TheVariants.{Lines, Objects}
 
--- the kind of a record's entry; an entry outside the file has no bytes
-abbrev pub record_kind : List ℕ → EntryRecord → List ℕ
-record_kind bytes r = entry_kind (unwrap_or (slice_of bytes r) [])
+-- the bytes of a record's entry; an entry outside the file has none
+abbrev pub bytes_of_entry : List ℕ → EntryRecord → List ℕ
+bytes_of_entry bytes r = unwrap_or (slice_of bytes r) []
 
--- a cpu by its numbers
+-- the name of the cpu with these numbers, if it has one, whatever its capabilities
+unfoldable pub cpu_of_numbers : (cputype cpusubtype : ℕ) → Option (List ℕ)
+cpu_of_numbers cputype cpusubtype = cpu_named arch_rows cputype (kind_of_cpu cpusubtype)
+
+-- a cpu by its name, or by its numbers if it has none
+abbrev pub name_or_numbers : Option (List ℕ) → (cputype cpusubtype : ℕ) → List ℕ
+name_or_numbers (Some name) cputype cpusubtype = escaped_text name
+name_or_numbers None cputype cpusubtype = codes "cputype " ++ (hex_text cputype ++ (codes ", cpusubtype " ++ hex_text cpusubtype))
+
 abbrev pub cpu_text : (cputype cpusubtype : ℕ) → List ℕ
-cpu_text cputype cpusubtype = codes "cputype 0x" ++ digits 16 false cputype ++ codes ", cpusubtype 0x" ++ digits 16 false cpusubtype
+cpu_text cputype cpusubtype = name_or_numbers (cpu_of_numbers cputype cpusubtype) cputype cpusubtype
 
 -- a size in units of so many bytes, in brackets: whole units, and tenths of a unit, rounded down
 abbrev pub in_units : (unit : ℕ) → (name : List ℕ) → (size : ℕ) → List ℕ
 in_units unit name size = codes " (" ++ decimal (size / unit) ++ codes "." ++ decimal (size % unit * 10 / unit) ++ codes " " ++ name ++ codes ")"
 
 -- a size in the largest unit that it reaches, if it reaches one
-abbrev pub reached_units : ℕ → List ℕ
+unfoldable pub reached_units : ℕ → List ℕ
 reached_units size =
     if nat_lt size (2 ^ 10) then []
     else (if nat_lt size (2 ^ 20) then in_units (2 ^ 10) (codes "KiB") size
     else (if nat_lt size (2 ^ 30) then in_units (2 ^ 20) (codes "MiB") size
     else in_units (2 ^ 30) (codes "GiB") size))
 
--- a size in bytes, and then in units
-unfoldable pub size_text : ℕ → List ℕ
-size_text size = decimal size ++ reached_units size
+-- the end of a line, after a size in bytes: the size in units, and the alignment
+abbrev pub line_end : (size align : ℕ) → List ℕ
+line_end size align = reached_units size ++ (codes ", align 2^" ++ decimal align)
 
--- the offset, the size and the alignment of an entry
-abbrev pub entry_place_text : EntryRecord → List ℕ
-entry_place_text r = codes "offset 0x" ++ digits 16 false r.offset ++ codes ", size " ++ size_text r.size ++ codes ", align 2^" ++ decimal r.align
+-- the fields of an alignment and a cpu; a line has the name of the cpu, or its numbers if it has none
+abbrev pub cpu_fields : Option (List ℕ) → EntryRecord → List FieldView
+cpu_fields (Some name) r =
+    object_field (codes "align") (number r.align)
+    ∷ wide_field 8 (field_of (codes "cpu") (text name) 1)
+    ∷ object_field (codes "cpusubtype") (number r.cpusubtype)
+    ∷ object_field (codes "cputype") (number r.cputype)
+    ∷ []
+cpu_fields None r =
+    object_field (codes "align") (number r.align)
+    ∷ object_field (codes "cpu") (optional_text None)
+    ∷ line_field (text (codes "cpusubtype")) 3
+    ∷ field_of (codes "cpusubtype") (hex r.cpusubtype) 3
+    ∷ line_field (text (codes "cputype")) 1
+    ∷ field_of (codes "cputype") (hex r.cputype) 2
+    ∷ []
 
--- a record, and the kind of its entry
-abbrev pub record_text : List ℕ → EntryRecord → List ℕ
-record_text bytes r = cpu_text r.cputype r.cpusubtype ++ (codes ", " ++ (entry_place_text r ++ (codes ", " ++ record_kind bytes r)))
+-- what an entry is, in a line: of an image its kind
+abbrev pub words_or_kind : Option (List ℕ) → (kind : List ℕ) → List ℕ
+words_or_kind (Some words) kind = words
+words_or_kind None kind = kind
+
+-- the fields of an entry and of its place
+abbrev pub place_fields : (entry : List ℕ) → EntryRecord → List FieldView
+place_fields entry r =
+    wide_field 15 (line_field (text (words_or_kind (image_words entry) (entry_kind entry))) 4)
+    ∷ object_field (codes "filetype") (optional_text (image_words entry))
+    ∷ object_field (codes "kind") (text (entry_kind entry))
+    ∷ line_field (text (codes "offset")) 5
+    ∷ wide_field 10 (field_of (codes "offset") (hex r.offset) 5)
+    ∷ line_field (text (codes "size")) 6
+    ∷ wide_field 9 (field_of (codes "size") (number r.size) 6)
+    ∷ []
+
+-- the fields of a record
+unfoldable pub record_fields : List ℕ → EntryRecord → List FieldView
+record_fields bytes r = cpu_fields (cpu_of_numbers r.cputype r.cpusubtype) r ++ place_fields (bytes_of_entry bytes r) r
 
 -- the line of a record with its number
 abbrev pub record_line : List ℕ → ℕ → EntryRecord → List ℕ
-record_line bytes i r = codes "arch " ++ (decimal i ++ (codes ": " ++ (record_text bytes r ++ codes "\n")))
-
--- the fields of its object
-abbrev pub record_fields : List ℕ → EntryRecord → List FieldView
-record_fields bytes r =
-    object_field (codes "align") (number r.align)
-    ∷ object_field (codes "cpusubtype") (number r.cpusubtype)
-    ∷ object_field (codes "cputype") (number r.cputype)
-    ∷ object_field (codes "kind") (text (record_kind bytes r))
-    ∷ object_field (codes "offset") (number r.offset)
-    ∷ object_field (codes "size") (number r.size)
-    ∷ []
+record_line bytes i r = codes "arch " ++ (decimal i ++ (codes ": " ++ (fields_line (record_fields bytes r) ++ (line_end r.size r.align ++ codes "\n"))))
 
 -- its object, after a comma unless it is the first
 abbrev pub next_object : List ℕ → ℕ → EntryRecord → List ℕ
@@ -100,8 +131,9 @@ records_document limit file bytes records =
 -- the object of an image
 abbrev pub image_document : (file : List ℕ) (cputype cpusubtype : ℕ) → List ℕ
 image_document file cputype cpusubtype =
-    codes "{\"cpusubtype\":" ++ (decimal cpusubtype ++ (codes ",\"cputype\":" ++ (decimal cputype
-    ++ (codes ",\"entries\":[],\"kind\":\"image\",\"limit_met\":false,\"name\":" ++ (json_string file ++ codes "}\n")))))
+    codes "{\"cpu\":" ++ (value_in_object (optional_text (cpu_of_numbers cputype cpusubtype))
+    ++ (codes ",\"cpusubtype\":" ++ (decimal cpusubtype ++ (codes ",\"cputype\":" ++ (decimal cputype
+    ++ (codes ",\"entries\":[],\"kind\":\"image\",\"limit_met\":false,\"name\":" ++ (json_string file ++ codes "}\n")))))))
 
 abbrev pub document_text : (limit : ℕ) (file bytes : List ℕ) → ListedFile → List ℕ
 document_text limit file bytes (a_fat_file records) = records_document limit file bytes records

@@ -9,8 +9,8 @@ ghost use Rattle.machfat.specs.Refusals.{Refuses, RefusesUnwritten, kind_by_fron
 
 use crate::listed::{Listed, list_of};
 use crate::refusal::{Refusal, WriteFailure};
-use crate::text::{CpuText, RecordText, record_fields};
-use mach_cli::{Escaped, FieldsForm, Foreign, Object, print_cut, refused_kind};
+use crate::text::{CpuText, EndText, write_record};
+use mach_cli::{Escaped, Foreign, Line, Object, print_cut, refused_kind};
 use mach_fat_writer::{EntryRecord, EntryRefusal, indexed_entry};
 use std::alloc::{Allocator, Global};
 use std::io;
@@ -88,8 +88,11 @@ fn print_line<O: Write>(
 ) -> io::Result<()>
     ensures { OnOk result (Appends (O.contents out.old) (O.contents out.new) (record_line bytes.now index arch)) }
 {
-    let record = RecordText { bytes, arch };
-    writeln!(out, "arch {index}: {record}")
+    write!(out, "arch {index}: ")?;
+    write_record::<Line, O>(bytes, arch, out)?;
+    let EntryRecord { size, align, .. } = arch;
+    let end = EndText { size, align };
+    writeln!(out, "{end}")
 }
 
 // Prints the object of a record, after a comma unless it is the first.
@@ -103,7 +106,7 @@ fn print_object<O: Write>(
 {
     let comma = if index == 0 { "" } else { "," };
     write!(out, "{comma}")?;
-    Object::write(&record_fields(bytes, arch), out)
+    write_record::<Object, O>(bytes, arch, out)
 }
 
 /// Returns the first of some items, no more than a limit.

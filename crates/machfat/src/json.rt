@@ -4,8 +4,9 @@ ghost use Rattle.std.specs.Prelude.{◌≡◌, ◌≤◌, ◌⊎◌, [], true, f
 ghost use Rattle.std.specs.Io.Buffered.{writer_buffer, writer_contents};
 ghost use Rattle.std.specs.Io.KnownBytes.{Appends};
 ghost use Rattle.mach_cli.specs.Bounds.{most_items};
+ghost use Rattle.mach_cli.specs.Fields.{optional_text, value_in_object};
 ghost use Rattle.mach_cli.specs.Statuses.{IsStatus};
-ghost use Rattle.machfat.specs.Lines.{document_text, records_document, refusal_document, document_tail, image_document, ReportsDocument};
+ghost use Rattle.machfat.specs.Lines.{cpu_of_numbers, document_text, records_document, refusal_document, document_tail, image_document, ReportsDocument};
 ghost use Rattle.machfat.specs.ListedFiles.{has_at_most, listed_file_in, listed_view};
 ghost use Rattle.machfat.specs.Refusals.{Refuses, refusal_line, refusal_words};
 ghost use Rattle.machfat.specs.declared.refusal.Refusal.{Refusal};
@@ -14,6 +15,7 @@ use crate::commands::{NAME, refused};
 use crate::entry::{ListForm, first_of, print_records};
 use crate::listed::{Listed, list_of};
 use crate::refusal::Refusal;
+use crate::text::cpu_of;
 use mach_cli::output::failed;
 use mach_cli::{JsonString, most_items};
 use mach_fat_writer::EntryRecord;
@@ -142,11 +144,27 @@ fn print_object<A: Allocator, O: Write>(
 fn print_image<O: Write>(file: &str, cputype: u32, cpusubtype: u32, out: &mut O) -> io::Result<()>
     ensures { OnOk result (Appends (O.contents out.old) (O.contents out.new) (image_document file.now cputype cpusubtype)) }
 {
+    write!(out, "{{\"cpu\":")?;
+    print_cpu(cputype, cpusubtype, out)?;
     let name = JsonString(file);
     writeln!(
         out,
-        "{{\"cpusubtype\":{cpusubtype},\"cputype\":{cputype},\"entries\":[],\"kind\":\"image\",\"limit_met\":false,\"name\":{name}}}"
+        ",\"cpusubtype\":{cpusubtype},\"cputype\":{cputype},\"entries\":[],\"kind\":\"image\",\"limit_met\":false,\"name\":{name}}}"
     )
+}
+
+// Writes the name of a cpu, or null if it has none.
+fn print_cpu<O: Write>(cputype: u32, cpusubtype: u32, out: &mut O) -> io::Result<()>
+    ensures { OnOk result (Appends (O.contents out.old) (O.contents out.new)
+        (value_in_object (optional_text (cpu_of_numbers cputype cpusubtype)))) }
+{
+    match cpu_of(cputype, cpusubtype) {
+        Some(name) => {
+            let name = JsonString(name);
+            write!(out, "{name}")
+        }
+        None => write!(out, "null"),
+    }
 }
 
 // Writes the object of a fat file with the first of these records, no more than the limit.

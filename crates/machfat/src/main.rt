@@ -1,10 +1,10 @@
 //! Lists the entries of a fat file or the members of an archive, a line each; or writes the bytes of an entry to a file; or
 //! writes a fat file.
 //!
-//! With `--json` the list is one object for each file, on a line. A line has the fields of `llvm-objdump --universal-headers`,
-//! and the kind of the entry by its first bytes. Numbers of cpus are not given names, and the capabilities stay in the top 8 bits
-//! of `cpusubtype`. An entry is selected by its place in the list, or by its cpu. A fat file of 32 or of 64 bits is created
-//! from files as `llvm-lipo -create` does, an entry is replaced as by `-replace`, or removed by its place. A file is written
+//! With `--json` the list is one object for each file, on a line. A line has the name of the cpu, or its numbers if it has none;
+//! what the entry is; and its offset, size and alignment. The capabilities are in the top 8 bits of `cpusubtype`, and not in the
+//! name. An entry is selected by its place in the list, or by its cpu. A fat file of 32 or of 64 bits is created from files as
+//! `llvm-lipo -create` does, an entry is replaced as by `-replace`, or removed by its place. A file is written
 //! under another name beside its target, and is renamed once it is whole.
 #![tactic(auto)]
 
@@ -12,6 +12,7 @@
 mod arguments;
 mod commands;
 mod entry;
+mod image_kind;
 mod json;
 mod laws;
 mod listed;
@@ -27,8 +28,12 @@ mod verify;
 // The list of an archive: a line for each member, and one for each symbol of its index.
 mod archive;
 
-ghost use Rattle.std.specs.Prelude.{◌≡◌, if◌then◌else◌, IfErr, IfOk};
-ghost use Rattle.mach_cli.specs.Statuses.{IsUnwritten};
+ghost use Rattle.std.specs.Prelude.{◌≡◌, if◌then◌else◌, Ok, Err, IfErr, IfOk, OnOk};
+ghost use Rattle.mach_cli.specs.FileTitles.{IsUnreadStatus};
+ghost use Rattle.mach_cli.specs.Statuses.{IsStatus, IsUnwritten};
+ghost use Rattle.mach_cli.specs.declared.cpu.Cpu.{Cpu};
+ghost use Rattle.machfat.specs.OfCpu.{SaysCpu};
+ghost use Rattle.machfat.specs.Same.{IsOther};
 ghost use Rattle.machfat.specs.ShownFiles.{AreShownWhole, ShowsSelectedFiles};
 ghost use Rattle.mach_fat_writer.specs.declared.form.Form.TheVariants.{Bits32, Bits64};
 
@@ -295,8 +300,15 @@ fn extract_at(rt: &HostRuntime, file: &str, index: usize, target: &str) -> Resul
     ))
 }
 
-// Writes the first entry for the cpu that a word says.
-fn extract_for(rt: &HostRuntime, file: &str, word: &str, target: &str) -> Result<u8, u8> {
+// Writes the first entry for the cpu that a word says, and returns the exit status. The error is the status if the word says no
+// cpu, or the file can't be read.
+fn extract_for(rt: &HostRuntime, file: &str, word: &str, target: &str) -> Result<u8, u8>
+    ensures misused { ((cpu : Cpu) → SaysCpu word.now cpu → ⊥) → result ≡ Err 2 }
+    ensures status { IfOk result (λ status. IsStatus status) }
+    ensures said { OnOk result ((cpu : Cpu) × SaysCpu word.now cpu) }
+    ensures apart { result ≡ Ok 0 → IsOther file.now target.now }
+    ensures unread { IfErr result IsUnreadStatus }
+{
     let Some(cpu) = cpu_in(word) else {
         return Err(PROGRAM.bad_usage(rt, Misuse::NoCpu(word)));
     };
