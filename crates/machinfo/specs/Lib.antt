@@ -13,5 +13,6 @@ pub mod Lists
 pub mod States
 pub mod Segments
 pub mod Summary
+pub mod Tools
 pub mod RowFields
 pub mod FactTexts

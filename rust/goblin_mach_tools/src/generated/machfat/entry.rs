@@ -2,10 +2,10 @@
 //! The records and the entries of a fat file.
 #![forbid(unsafe_code)]
 
-use crate::generated::mach_cli::{Escaped, FieldsForm, Foreign, Object, print_cut, refused_kind};
+use crate::generated::mach_cli::{Escaped, Foreign, Line, Object, print_cut, refused_kind};
 use crate::generated::machfat::listed::{Listed, list_of};
 use crate::generated::machfat::refusal::{Refusal, WriteFailure};
-use crate::generated::machfat::text::{CpuText, RecordText, record_fields};
+use crate::generated::machfat::text::{CpuText, EndText, write_record};
 use crate::shim::io;
 use crate::shim::io::Write;
 use goblin_mach::generated::mach_fat_writer::{EntryRecord, EntryRefusal, indexed_entry};
@@ -80,8 +80,11 @@ fn print_line<O: Write>(
     arch: EntryRecord,
     out: &mut O,
 ) -> io::Result<()> {
-    let record = RecordText { bytes, arch };
-    writeln!(out, "arch {index}: {record}")
+    write!(out, "arch {index}: ")?;
+    write_record::<Line, O>(bytes, arch, out)?;
+    let EntryRecord { size, align, .. } = arch;
+    let end = EndText { size, align };
+    writeln!(out, "{end}")
 }
 
 // Prints the object of a record, after a comma unless it is the first.
@@ -93,7 +96,7 @@ fn print_object<O: Write>(
 ) -> io::Result<()> {
     let comma = if index == 0 { "" } else { "," };
     write!(out, "{comma}")?;
-    Object::write(&record_fields(bytes, arch), out)
+    write_record::<Object, O>(bytes, arch, out)
 }
 
 /// Returns the first of some items, no more than a limit.

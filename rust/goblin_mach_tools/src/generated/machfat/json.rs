@@ -8,6 +8,7 @@ use crate::generated::machfat::commands::{NAME, refused};
 use crate::generated::machfat::entry::{ListForm, first_of, print_records};
 use crate::generated::machfat::listed::{Listed, list_of};
 use crate::generated::machfat::refusal::Refusal;
+use crate::generated::machfat::text::cpu_of;
 use crate::shim::io;
 use crate::shim::io::{BufWriter, Write};
 use goblin_mach::generated::mach_fat_writer::EntryRecord;
@@ -105,11 +106,24 @@ fn print_object<O: Write>(
 
 // Writes the object of an image.
 fn print_image<O: Write>(file: &str, cputype: u32, cpusubtype: u32, out: &mut O) -> io::Result<()> {
+    write!(out, "{{\"cpu\":")?;
+    print_cpu(cputype, cpusubtype, out)?;
     let name = JsonString(file);
     writeln!(
         out,
-        "{{\"cpusubtype\":{cpusubtype},\"cputype\":{cputype},\"entries\":[],\"kind\":\"image\",\"limit_met\":false,\"name\":{name}}}"
+        ",\"cpusubtype\":{cpusubtype},\"cputype\":{cputype},\"entries\":[],\"kind\":\"image\",\"limit_met\":false,\"name\":{name}}}"
     )
+}
+
+// Writes the name of a cpu, or null if it has none.
+fn print_cpu<O: Write>(cputype: u32, cpusubtype: u32, out: &mut O) -> io::Result<()> {
+    match cpu_of(cputype, cpusubtype) {
+        Some(name) => {
+            let name = JsonString(name);
+            write!(out, "{name}")
+        }
+        None => write!(out, "null"),
+    }
 }
 
 // Writes the object of a fat file with the first of these records, no more than the limit.

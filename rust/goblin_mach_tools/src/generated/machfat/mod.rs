@@ -2,10 +2,10 @@
 //! Lists the entries of a fat file or the members of an archive, a line each; or writes the bytes of an entry to a file; or
 //! writes a fat file.
 //!
-//! With `--json` the list is one object for each file, on a line. A line has the fields of `llvm-objdump --universal-headers`,
-//! and the kind of the entry by its first bytes. Numbers of cpus are not given names, and the capabilities stay in the top 8 bits
-//! of `cpusubtype`. An entry is selected by its place in the list, or by its cpu. A fat file of 32 or of 64 bits is created
-//! from files as `llvm-lipo -create` does, an entry is replaced as by `-replace`, or removed by its place. A file is written
+//! With `--json` the list is one object for each file, on a line. A line has the name of the cpu, or its numbers if it has none;
+//! what the entry is; and its offset, size and alignment. The capabilities are in the top 8 bits of `cpusubtype`, and not in the
+//! name. An entry is selected by its place in the list, or by its cpu. A fat file of 32 or of 64 bits is created from files as
+//! `llvm-lipo -create` does, an entry is replaced as by `-replace`, or removed by its place. A file is written
 //! under another name beside its target, and is renamed once it is whole.
 #![forbid(unsafe_code)]
 
@@ -17,6 +17,7 @@ use alloc::vec::Vec;
 mod arguments;
 mod commands;
 mod entry;
+mod image_kind;
 mod json;
 mod listed;
 mod made;
@@ -285,7 +286,8 @@ fn extract_at(rt: &HostRuntime, file: &str, index: usize, target: &str) -> Resul
     ))
 }
 
-// Writes the first entry for the cpu that a word says.
+// Writes the first entry for the cpu that a word says, and returns the exit status. The error is the status if the word says no
+// cpu, or the file can't be read.
 fn extract_for(rt: &HostRuntime, file: &str, word: &str, target: &str) -> Result<u8, u8> {
     let Some(cpu) = cpu_in(word) else {
         return Err(PROGRAM.bad_usage(rt, Misuse::NoCpu(word)));
