@@ -7,7 +7,8 @@ use Rattle.std.proofs.lemmas.Grind.{flat_map-append}
 use Rattle.std.proofs.lemmas.List.{take-append-drop}
 use Rattle.std.proofs.lemmas.Nat.{one_shl}
 use Rattle.std.proofs.lemmas.Slice.Eq.{bytes_eq-Decides}
-use Rattle.machinfo.specs.Summary.{flag_word, flag_short_name}
+use Rattle.machinfo.specs.HeaderWords.{flag_short_name}
+use Rattle.machinfo.specs.Summary.{flag_word}
 
 pub short_some : (s name rest : List ℕ) → s ≡ 77 ∷ 72 ∷ 95 ∷ rest → name ≡ rest → Some name ≡ flag_short_name s
 short_some s name rest is named = ap (λ (x : List ℕ). Some x) named ∙ sym (ap flag_short_name is)

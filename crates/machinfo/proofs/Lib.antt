@@ -3,4 +3,5 @@ mod Counted
 mod Facts
 mod Flags
 mod RowLines
+mod SectionRows
 mod Some

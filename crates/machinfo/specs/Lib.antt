@@ -7,11 +7,15 @@ pub mod CommandFields
 pub mod NumberedCommands
 pub mod NumberedNotes
 pub mod ProvidedSymbols
+pub mod SectionRows
+pub mod Parts
+pub mod PartFields
 pub mod Rows
 pub mod FactRows
 pub mod Lists
 pub mod States
 pub mod Segments
+pub mod HeaderWords
 pub mod Summary
 pub mod Tools
 pub mod RowFields

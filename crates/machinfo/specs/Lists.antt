@@ -17,8 +17,9 @@ use Rattle.machinfo.specs.NumberedCommands.{NumberedCommandView, HasNumberedComm
 use Rattle.machinfo.specs.NumberedNotes.{HasNumberedNotes, notes_numbered_left}
 use Rattle.goblin_mach.specs.ImageFacts.{OfFacts}
 use Rattle.machinfo.specs.ProvidedSymbols.{HasProvidedSymbols, provided_left, symbols_past_in}
+use Rattle.machinfo.specs.Parts.{HasPart, part_past_name, part_rows_left, part_rows_past, part_name_of}
 use Rattle.machinfo.specs.Rows.{RowView, command_row, start_row, slot_row, indirect_row, data_row, option_row, tool_row, note_row}
-use Rattle.machinfo.specs.Rows.{provided_row, library_row, rebase_row, weak_row}
+use Rattle.machinfo.specs.Rows.{provided_row, library_row, rebase_row, weak_row, part_row}
 use Rattle.machinfo.specs.declared.list.ImageList.{ImageList}
 use Rattle.machinfo.specs.declared.list.ImageList.TheVariants as lists
 use Rattle.machinfo.specs.declared.word.Word.{Word}
@@ -63,12 +64,14 @@ HasRows words.Libraries bytes o found past =
     (libraries : List LibraryView) × HasLibrariesByKind bytes o libraries × (found ≡ as_rows library_row (libraries_there libraries)) × (past ≡ 0)
 HasRows words.Rebases bytes o found past = AreRowsOf rebase_row (HasRebases bytes o) found × (past ≡ 0)
 HasRows words.Weak bytes o found past = AreRowsOf weak_row (HasWeakBinds bytes o) found × (past ≡ 0)
+HasRows (words.Part part) bytes o found past = AreRowsOf part_row (λ items. HasPart part bytes o items past) found
 
 -- the name of a word's items, if more of them may be claimed past the end of the bytes
 abbrev pub past_name : Word → List ℕ
 past_name words.Indirect = codes "indirect symbols"
 past_name words.Data = codes "data in code entries"
 past_name words.Providers = codes "symbols"
+past_name (words.Part part) = part_past_name part
 past_name _ = []
 
 -- ---- what is left of a list
@@ -87,16 +90,19 @@ list_rows_left (lists.Providers it) = as_rows provided_row (provided_left it)
 list_rows_left (lists.Libraries it) = as_rows library_row (libraries_there (libraries_left it))
 list_rows_left (lists.Rebases it) = as_rows rebase_row (rebases_left it)
 list_rows_left (lists.Weak it) = as_rows weak_row (weak_binds_left it)
+list_rows_left (lists.Part it) = as_rows part_row (part_rows_left it)
 
 -- how many more rows a list claims past the end of the bytes, and their name
 abbrev pub list_rows_past : {A : Type 0} → ImageList A → ℕ
 list_rows_past (lists.Indirect it past) = past
 list_rows_past (lists.Data it past) = past
 list_rows_past (lists.Providers it) = it.past
+list_rows_past (lists.Part it) = part_rows_past it
 list_rows_past _ = 0
 
 abbrev pub rows_name_of : {A : Type 0} → ImageList A → List ℕ
 rows_name_of (lists.Indirect it past) = codes "indirect symbols"
 rows_name_of (lists.Data it past) = codes "data in code entries"
 rows_name_of (lists.Providers it) = codes "symbols"
+rows_name_of (lists.Part it) = part_name_of it
 rows_name_of _ = []

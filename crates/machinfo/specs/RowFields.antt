@@ -22,23 +22,17 @@ use Rattle.mach_cli.specs.Listings.{reported_by}
 use Rattle.mach_cli.specs.Signing.{diverse_by, diversity_by, has_auth, key_by, rebase_type}
 use Rattle.machinfo.specs.NumberedCommands.{numbered_command_fields}
 use Rattle.machinfo.specs.NumberedNotes.{NumberedNoteView}
+use Rattle.machinfo.specs.PartFields.{column_if, flag_field, part_fields}
 use Rattle.machinfo.specs.ProvidedSymbols.{ProvidedView}
 use Rattle.machinfo.specs.Rows.{RowView, command_row, start_row, slot_row, indirect_row, data_row, option_row, tool_row, note_row}
-use Rattle.machinfo.specs.Rows.{provided_row, library_row, rebase_row, weak_row, list_row_view}
+use Rattle.machinfo.specs.Rows.{provided_row, library_row, rebase_row, weak_row, part_row, list_row_view}
 use Rattle.machinfo.specs.Lists.{list_rows_left}
 use Rattle.machinfo.specs.Tools.{tool_name}
 use Rattle.machinfo.specs.declared.list.ImageList.{ImageList}
 use Rattle.machinfo.specs.declared.row.Row.{Row}
+use Rattle.machinfo.specs.declared.word.Part.TheVariants as parts
 use Rattle.machinfo.specs.declared.word.Word.{Word}
 use Rattle.machinfo.specs.declared.word.Word.TheVariants as words
-
--- the column of a field that a line has only if something is so
-abbrev pub column_if : Bool → (column : ℕ) → ℕ
-column_if is_so column = if is_so then column else 0
-
--- a flag, of which a line has the word if it is so
-abbrev pub flag_field : (name : List ℕ) → Bool → (word : List ℕ) → (column : ℕ) → FieldView
-flag_field name is_so word column = field_of name (flag is_so word []) (column_if is_so column)
 
 -- ---- code and commands
 
@@ -195,6 +189,7 @@ row_fields (provided_row provided) = provided_fields provided
 row_fields (library_row library) = library_fields library
 row_fields (rebase_row rebase) = rebase_row_fields rebase
 row_fields (weak_row bind) = weak_row_fields bind
+row_fields (part_row row) = part_fields row
 
 -- the fields of rows; a fault stays in its place
 abbrev pub fields_of_rows : List (Result RowView Fault) → List (Result (List FieldView) Fault)
@@ -207,9 +202,10 @@ row_texts found = map (reported_by fields_line) (fields_of_rows found)
 abbrev pub row_objects : List (Result RowView Fault) → List (Result (List ℕ) Fault)
 row_objects found = map (reported_by fields_object) (fields_of_rows found)
 
--- the lines of commands have the names of fields
+-- the lines of commands and of the header have the names of fields
 abbrev pub has_names : Word → Bool
 has_names words.Commands = true
+has_names (words.Part parts.Header) = true
 has_names _ = false
 
 -- the form of the lines of a word's list

@@ -13,6 +13,7 @@ use Rattle.goblin_mach.specs.Libraries.{LibraryView, library_view}
 use Rattle.machinfo.specs.NumberedCommands.{NumberedCommandView, numbered_command_view}
 use Rattle.machinfo.specs.NumberedNotes.{NumberedNoteView, numbered_note_view}
 use Rattle.machinfo.specs.ProvidedSymbols.{ProvidedView, provided_view}
+use Rattle.machinfo.specs.Parts.{PartRowView, part_row_view}
 use Rattle.machinfo.specs.declared.row.Row.{Row}
 use Rattle.machinfo.specs.declared.row.Row.TheVariants as rows
 
@@ -32,6 +33,7 @@ pub data RowView : Type 0 where
   library_row : (library : LibraryView) → RowView
   rebase_row : (rebase : Rebase) → RowView
   weak_row : (bind : WeakBind) → RowView
+  part_row : (row : PartRowView) → RowView
 
 -- ---- what the code's values stand for
 
@@ -48,3 +50,4 @@ list_row_view (rows.Provided provided) = provided_row (provided_view provided)
 list_row_view (rows.Library library) = library_row (library_view library)
 list_row_view (rows.Rebase rebase) = rebase_row (rebase_view rebase)
 list_row_view (rows.Weak bind) = weak_row (weak_bind_view bind)
+list_row_view (rows.Part row) = part_row (part_row_view row)

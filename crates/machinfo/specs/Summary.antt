@@ -1,5 +1,5 @@
 -- The summary of an image before its counts, but for its signature and its state.
-use Rattle.std.specs.Prelude.{◌==◌, ◌^◌, ℕ, List, [], ◌∷◌, ◌++◌, codes, take, drop, bit_and, bytes_eq, Bool, Option, Some, None}
+use Rattle.std.specs.Prelude.{◌==◌, ◌^◌, ℕ, List, [], ◌++◌, codes, bit_and, Bool, Option, Some, None}
 use Rattle.std.specs.Prelude.{Result, if◌then◌else◌}
 use Rattle.std.specs.Io.KnownBytes.{Appends}
 use Rattle.std.specs.List.{flat_map, range_with_len}
@@ -12,6 +12,7 @@ use Rattle.mach_cli.specs.Escapes.{escaped_text}
 use Rattle.mach_cli.specs.Listings.{hex_text, AreFirstLines}
 use Rattle.machinfo.specs.FactRows.{FactView}
 use Rattle.machinfo.specs.FactTexts.{fact_texts}
+use Rattle.machinfo.specs.HeaderWords.{flag_short_name}
 
 -- ---- the header
 
@@ -34,10 +35,6 @@ own_name_line (Some name) = codes "name: " ++ (escaped_text name ++ codes "\n")
 -- the entry point, if it is known
 abbrev pub entry_point_line : ℕ → List ℕ
 entry_point_line entry = if entry == 0 then [] else codes "entry: " ++ (hex_text entry ++ codes "\n")
-
--- a name without its prefix `MH_`, if it has that prefix
-abbrev pub flag_short_name : List ℕ → Option (List ℕ)
-flag_short_name name = if bytes_eq (take 3 name) (codes "MH_") then Some (drop 3 name) else None
 
 -- the name of a bit, or its number if it has none
 abbrev pub flag_text : ℕ → Option (List ℕ) → List ℕ

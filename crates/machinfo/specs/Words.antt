@@ -1,8 +1,13 @@
 -- The words that select a list.
-use Rattle.std.specs.Prelude.{ℕ, List, [], ◌∷◌, codes, Option, Some, None, bytes_eq, drop, if◌then◌else◌}
+use Rattle.std.specs.Prelude.{◌≡◌, ◌&&◌, ℕ, List, [], ◌∷◌, codes, Bool, true, Option, Some, None, bytes_eq, drop, nat_le, if◌then◌else◌}
 use Rattle.std.specs.Borrow.{Bor}
+use Rattle.std.specs.List.{list_all}
+use Rattle.mach_cli.specs.declared.misuse.Misuse.{Misuse}
+use Rattle.mach_cli.specs.declared.misuse.Misuse.TheVariants.{UnknownWord}
 use Rattle.machinfo.specs.declared.word.Word.{Word}
-use Rattle.machinfo.specs.declared.word.Word.TheVariants.{Commands, Starts, Slots, Indirect, Data, Options, Tools, Notes, Providers, Libraries, Rebases, Weak}
+use Rattle.machinfo.specs.declared.word.Word.TheVariants.{Commands, Starts, Slots, Indirect, Data, Options, Tools, Notes, Providers, Libraries, Rebases}
+use Rattle.machinfo.specs.declared.word.Word.TheVariants.{Weak, Part}
+use Rattle.machinfo.specs.declared.word.Part.TheVariants as parts
 
 -- a word, and how it is spelled
 pub record SpelledWord : Type 0 where
@@ -23,6 +28,12 @@ list_words =
     ∷ record { spelling = codes "libraries"; word = Libraries }
     ∷ record { spelling = codes "rebases"; word = Rebases }
     ∷ record { spelling = codes "weak"; word = Weak }
+    ∷ record { spelling = codes "segments"; word = Part parts.Segments }
+    ∷ record { spelling = codes "sections"; word = Part parts.Sections }
+    ∷ record { spelling = codes "uuid"; word = Part parts.Uuid }
+    ∷ record { spelling = codes "rpaths"; word = Part parts.Rpaths }
+    ∷ record { spelling = codes "entrypoint"; word = Part parts.Entry }
+    ∷ record { spelling = codes "header"; word = Part parts.Header }
     ∷ []
 
 -- the first word with a spelling
@@ -47,6 +58,12 @@ spelling_of Providers = codes "providers"
 spelling_of Libraries = codes "libraries"
 spelling_of Rebases = codes "rebases"
 spelling_of Weak = codes "weak"
+spelling_of (Part parts.Segments) = codes "segments"
+spelling_of (Part parts.Sections) = codes "sections"
+spelling_of (Part parts.Uuid) = codes "uuid"
+spelling_of (Part parts.Rpaths) = codes "rpaths"
+spelling_of (Part parts.Entry) = codes "entrypoint"
+spelling_of (Part parts.Header) = codes "header"
 
 -- ---- the arguments of a call
 
@@ -62,3 +79,14 @@ files_after (Some word) arguments = drop 1 arguments
 
 abbrev pub files_named : List (Bor (List ℕ)) → List (Bor (List ℕ))
 files_named arguments = files_after (word_selected arguments) arguments
+
+-- a small letter (ASCII)
+abbrev pub is_small_letter : ℕ → Bool
+is_small_letter byte = nat_le 0x61 byte && nat_le byte 0x7a
+
+-- This is wrong with the arguments: the first, which others follow, is an unknown word of small letters alone.
+abbrev pub IsMisspelled : List (Bor (List ℕ)) → Misuse → Type 0
+IsMisspelled [] misuse = ⊥
+IsMisspelled (first ∷ []) misuse = ⊥
+IsMisspelled (first ∷ next ∷ others) misuse =
+    (misuse ≡ UnknownWord first) × (word_named first.now ≡ None) × (list_all is_small_letter first.now ≡ true)

@@ -59,8 +59,8 @@ fn platform_by(command: &LoadCommand) -> Option<PlatformFact>
     }
 }
 
-// Returns the UUID that a command gives, if it gives one.
-fn uuid_by(command: &LoadCommand) -> Option<[u8; 16]>
+/// Returns the UUID that a command gives, if it gives one.
+pub fn uuid_by(command: &LoadCommand) -> Option<[u8; 16]>
     ensures { result ≡ defined.uuid_by (command_of command.now) }
 {
     match &command.command {

@@ -88,8 +88,8 @@ fn bytes_of_command<'a>(bytes: &'a [u8], command: &LoadCommand) -> &'a [u8]
     &rest[..command.command.cmdsize().min(rest.len())]
 }
 
-// Returns a number by its name, unless that is the one of all that have none.
-fn named<'a>(number: u32, name: &'static str, unknown: &'static str) -> Value<'a>
+/// Returns a number by its name, unless that is the one of all that have none.
+pub fn named<'a>(number: u32, name: &'static str, unknown: &'static str) -> Value<'a>
     ensures { value_view result ≡ named number (if_known unknown.now name.now) }
 {
     Value::Named(u64::from(number), if name == unknown { "" } else { name })
@@ -102,15 +102,15 @@ fn platform<'a>(number: u32) -> Value<'a>
     named(number, platform_name(number), "unknown")
 }
 
-// Returns a protection by its letters.
-fn rights<'a>(protection: u32) -> Value<'a>
+/// Returns a protection by its letters.
+pub fn rights<'a>(protection: u32) -> Value<'a>
     ensures { value_view result ≡ named protection (rights_text protection) }
 {
     Value::Named(u64::from(protection), rights_name(protection))
 }
 
-// Returns the text that begins at a place of some bytes, if there is one.
-fn text_from(bytes: &[u8], place: usize) -> Option<&str>
+/// Returns the text that begins at a place of some bytes, if there is one.
+pub fn text_from(bytes: &[u8], place: usize) -> Option<&str>
     ensures { text_in result ≡ result_ok (text_at bytes.now place) }
 {
     match read_text(bytes, place) {

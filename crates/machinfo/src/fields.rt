@@ -9,12 +9,14 @@ ghost use Rattle.mach_dyld.specs.RebasesLeft.{rebase_view};
 ghost use Rattle.mach_cli.specs.Fields.{field_view};
 ghost use Rattle.machinfo.specs.NumberedNotes.{numbered_note_view};
 ghost use Rattle.machinfo.specs.ProvidedSymbols.{provided_view};
-ghost use Rattle.machinfo.specs.RowFields.{binding_fields, column_if, data_fields, fields_shown, flag_field, indirect_fields};
+ghost use Rattle.machinfo.specs.PartFields.{column_if, flag_field};
+ghost use Rattle.machinfo.specs.RowFields.{binding_fields, data_fields, fields_shown, indirect_fields};
 ghost use Rattle.machinfo.specs.RowFields.{is_lazy_kind, is_plain, library_fields, note_fields, option_fields, provided_fields, rebase_row_fields};
 ghost use Rattle.machinfo.specs.RowFields.{slot_fields, slot_kind_text, strong_row_fields, tool_fields};
 
 use crate::command_fields::write_command;
 use crate::notes::NumberedNote;
+use crate::part_fields::write_part;
 use crate::providers::Provided;
 use crate::row::Row;
 use crate::text::tool_name;
@@ -43,18 +45,24 @@ pub fn write_fields<F: FieldsForm, O: Write>(row: &Row<'_, '_>, out: &mut O) -> 
         Row::Rebase(rebase) => F::write(&rebase_fields(rebase), out),
         Row::Weak(WeakBind::Strong { name }) => F::write(&strong_fields(name), out),
         Row::Weak(WeakBind::Bind(binding)) => F::write(&binding_fields(binding), out),
+        Row::Part(part) => write_part::<F, O>(&part, out),
     }
 }
 
-// Returns the column of a field that a line has only if something is so.
-fn column_if(is_so: bool, column: usize) -> usize
+/// Returns the column of a field that a line has only if something is so.
+pub fn column_if(is_so: bool, column: usize) -> usize
     ensures { result ≡ column_if is_so column }
 {
     if is_so { column } else { 0 }
 }
 
-// Returns a flag, of which a line has the word if it is so.
-fn flag_field(name: &'static str, is_so: bool, word: &'static str, column: usize) -> Field<'static>
+/// Returns a flag, of which a line has the word if it is so.
+pub fn flag_field(
+    name: &'static str,
+    is_so: bool,
+    word: &'static str,
+    column: usize,
+) -> Field<'static>
     ensures { field_view result ≡ flag_field name.now is_so word.now column }
 {
     let value = Value::Flag {

@@ -11,6 +11,7 @@ ghost use Rattle.machinfo.specs.Lists.{HasRows, list_rows_left, list_rows_past, 
 use crate::commands::NumberedCommands;
 use crate::fields::write_fields;
 use crate::notes::NumberedNotes;
+use crate::parts::PartList;
 use crate::providers::ProvidedSymbols;
 use crate::row::Row;
 use crate::word::Word;
@@ -40,6 +41,7 @@ pub enum ImageList<'a, 'b, A: Allocator> {
     Libraries(LibraryIterator<'a, 'b>),
     Rebases(RebaseIterator<'a, 'b>),
     Weak(WeakBindIterator<'a, 'b>),
+    Part(PartList<'a, 'b>),
 }
 
 // Returns the indirect symbols that begin within the bytes, and how many more are claimed.
@@ -89,6 +91,7 @@ impl<'a, 'b, A: Allocator> ImageList<'a, 'b, A> {
             Word::Libraries => ImageList::Libraries(image.libraries()),
             Word::Rebases => ImageList::Rebases(image.rebases()),
             Word::Weak => ImageList::Weak(image.weak_binds()),
+            Word::Part(part) => ImageList::Part(PartList::of(part, image)),
         }
     }
 }
@@ -148,6 +151,10 @@ impl<'a, 'b, A: Allocator> ItemList for ImageList<'a, 'b, A> {
                 Ok(bind) => Some(Ok(Row::Weak(bind))),
                 Err(error) => Some(Err(error)),
             },
+            ImageList::Part(list) => match list.take_next()? {
+                Ok(row) => Some(Ok(Row::Part(row))),
+                Err(error) => Some(Err(error)),
+            },
         }
     }
 
@@ -155,6 +162,7 @@ impl<'a, 'b, A: Allocator> ItemList for ImageList<'a, 'b, A> {
         match self {
             ImageList::Indirect(_, past) | ImageList::Data(_, past) => *past,
             ImageList::Providers(list) => list.past,
+            ImageList::Part(list) => list.past(),
             _ => 0,
         }
     }
@@ -164,6 +172,7 @@ impl<'a, 'b, A: Allocator> ItemList for ImageList<'a, 'b, A> {
             ImageList::Indirect(..) => "indirect symbols",
             ImageList::Data(..) => "data in code entries",
             ImageList::Providers(_) => "symbols",
+            ImageList::Part(list) => list.past_name(),
             _ => "",
         }
     }

@@ -3,7 +3,8 @@
 ghost use Rattle.std.specs.Prelude.{OnOk};
 ghost use Rattle.std.specs.Io.KnownBytes.{Appends};
 ghost use Rattle.mach_parts.specs.HeaderNames.{flag_name};
-ghost use Rattle.machinfo.specs.Summary.{flag_text, flag_short_name, WritesSome};
+ghost use Rattle.machinfo.specs.HeaderWords.{flag_short_name};
+ghost use Rattle.machinfo.specs.Summary.{flag_text, WritesSome};
 
 use crate::command_facts::{CommandFacts, Question};
 use crate::fact::{FactList, FactObjects};

@@ -12,6 +12,7 @@ ghost use Rattle.machinfo.specs.Segments.{section_summary_text};
 
 use crate::commands::NumberedCommand;
 use crate::notes::NumberedNote;
+use crate::parts::PartRow;
 use crate::providers::Provided;
 use goblin_mach::load_command::{BuildToolVersion, DataInCodeEntry};
 use goblin_mach::slots::{IndirectSymbol, SymbolSlot};
@@ -32,6 +33,7 @@ pub enum Row<'a, 'b> {
     Library(Library<'a>),
     Rebase(Rebase),
     Weak(WeakBind<'a>),
+    Part(PartRow<'a, 'b>),
 }
 
 /// Each row of a list, each row of the summary and each section is one line, whatever the names in the file hold.

@@ -77,16 +77,18 @@ impl Display for NameText<'_> {
     }
 }
 
-// The sections that are left of a segment, those whose records begin within the bytes, and how many more it claims.
+/// The sections that are left of a segment, those whose records begin within the bytes, and how many more it claims.
 #[derive(Drop)]
-struct SectionList<'a> {
-    sections: SectionIterator<'a>,
-    past: usize,
+pub struct SectionList<'a> {
+    /// The sections that begin within the bytes.
+    pub sections: SectionIterator<'a>,
+    /// How many more are claimed.
+    pub past: usize,
 }
 
 impl<'a> SectionList<'a> {
-    // Returns the sections of a segment.
-    fn of(segment: &Segment<'a>) -> Self
+    /// Returns the sections of a segment.
+    pub fn of(segment: &Segment<'a>) -> Self
         ensures left { sections_left result.sections ≡ items_in_bounds (sections_of (segment_view segment.now)) }
         ensures past { result.past ≡ sections_past_the_end (segment_view segment.now) }
     {

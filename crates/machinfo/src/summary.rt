@@ -6,7 +6,8 @@ ghost use Rattle.mach_dyld.specs.Exports.{text_in};
 ghost use Rattle.machinfo.specs.FactRows.{fact_rows_left};
 ghost use Rattle.machinfo.specs.Summary.{cpu_line, entry_point_line, flag_word, flags_line, kind_lines, own_name_line};
 ghost use Rattle.mach_parts.specs.HeaderNames.{flag_name};
-ghost use Rattle.machinfo.specs.Summary.{flag_short_name, WritesSummary, WritesSome};
+ghost use Rattle.machinfo.specs.HeaderWords.{flag_short_name};
+ghost use Rattle.machinfo.specs.Summary.{WritesSummary, WritesSome};
 
 use crate::command_facts::{CommandFacts, Question};
 use crate::fact::{FactLines, FactList};

@@ -11,7 +11,7 @@ use crate::list::ImageList;
 use crate::signed::print_signed;
 use crate::state::{print_state, state_of};
 use crate::summary::print_front;
-use crate::word::Word;
+use crate::word::{Part, Word};
 use goblin_mach::MachO;
 use mach_cli::{ImageView, InForm, Line, Outcome, Pairs, ShowFailure, print_listing};
 use std::alloc::Allocator;
@@ -82,6 +82,8 @@ fn has_names(word: Word) -> bool
         Word::Libraries => false,
         Word::Rebases => false,
         Word::Weak => false,
+        Word::Part(Part::Header) => true,
+        Word::Part(_) => false,
     }
 }
 

@@ -8,7 +8,8 @@ use Rattle.machinfo.specs.NumberedCommands.{numbered_commands_left}
 use Rattle.machinfo.specs.NumberedNotes.{notes_numbered_left}
 use Rattle.machinfo.specs.ProvidedSymbols.{provided_left}
 use Rattle.machinfo.proofs.Facts.{command_rows, starts_are, slot_rows, indirect_rows, data_rows, option_rows, tool_rows, note_rows, provider_rows, library_rows}
-use Rattle.machinfo.proofs.Facts.{rebase_rows, weak_rows}
+use Rattle.machinfo.proofs.Facts.{part_rows, rebase_rows, weak_rows}
+use Rattle.machinfo.specs.Parts.{part_rows_left, part_rows_past}
 use Rattle.machinfo.proofs.list.ImageList.of.Goals as goal
 
 pub returns-in-Commands-clause-rows : goal.returns-in-Commands-clause-rows
@@ -62,3 +63,8 @@ returns-in-Rebases-clause-rows g c = rw c.in-Rebases.is (λ bytes o p. rebase_ro
 
 pub returns-in-Weak-clause-rows : goal.returns-in-Weak-clause-rows
 returns-in-Weak-clause-rows g c = rw c.in-Weak.is (λ bytes o p. weak_rows c.args.image.now bytes o p (weak_binds_left c.weak_binds.result) c.weak_binds.ensures)
+
+pub returns-in-Part-clause-rows : goal.returns-in-Part-clause-rows
+returns-in-Part-clause-rows g c =
+    rw c.in-Part.is (λ bytes o p. part_rows c.args.image.now bytes o p c.in-Part.part (part_rows_left c.of-in-Part.result)
+    (part_rows_past c.of-in-Part.result) c.of-in-Part.ensures.rows c.of-in-Part.ensures.past)

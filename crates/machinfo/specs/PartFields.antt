@@ -1,0 +1,204 @@
+-- What the rows of parts of an image show, field by field: as lines, and as objects of JSON (`mach-o/loader.h`).
+use Rattle.std.specs.Prelude.{◌==◌, ◌&&◌, ◌∷◌, ◌++◌, ℕ, ◌-◌, ◌%◌, List, [], codes, length, map, bit_and, Bool, not, Option, Some, None, if◌then◌else◌}
+use Rattle.std.specs.Result.{result_ok}
+use Rattle.mach_base.specs.Named.{Named, name_or}
+use Rattle.mach_base.specs.Text.{text_at}
+use Rattle.mach_parts.specs.Cpu.{caps_of_cpu, kind_of_cpu}
+use Rattle.mach_parts.specs.HeaderNames.{filetype_name, flag_name, flag_names}
+use Rattle.mach_parts.specs.Segment.{SegmentView}
+use Rattle.mach_parts.specs.declared.header.Header.{Header}
+use Rattle.mach_parts.specs.declared.segment.numbered.NumberedSection.{NumberedSection}
+use Rattle.mach_cli.specs.Fields.{FieldView, ValueView, alone_field, field_of, flag, hex, line_field, named, number, object_field, optional_text}
+use Rattle.mach_cli.specs.Fields.{text, uuid, wide_field}
+use Rattle.mach_cli.specs.Cpus.{arch_rows, cpu_named}
+use Rattle.machinfo.specs.CommandFields.{if_known}
+use Rattle.machinfo.specs.Parts.{PartRowView, entry_part, header_part, rpath_part, section_part, segment_part, uuid_part}
+use Rattle.machinfo.specs.Segments.{rights_text}
+use Rattle.machinfo.specs.HeaderWords.{flag_short_name}
+use Rattle.machinfo.specs.declared.parts.EntryRow.{EntryRow}
+use Rattle.machinfo.specs.declared.parts.UuidRow.{UuidRow}
+use Rattle.machinfo.specs.declared.sections.SectionRow.{SectionRow}
+
+-- a text, `-` if there is none or it is empty
+abbrev pub text_or_dash : Option (List ℕ) → List ℕ
+text_or_dash None = codes "-"
+text_or_dash (Some t) = if length t == 0 then codes "-" else t
+
+-- the name in a field of sixteen bytes
+abbrev pub name_in_field : List ℕ → Option (List ℕ)
+name_in_field field = result_ok (text_at field 0)
+
+-- the column of a field that a line has only if something is so
+abbrev pub column_if : Bool → (column : ℕ) → ℕ
+column_if is_so column = if is_so then column else 0
+
+-- a flag, of which a line has the word if it is so
+abbrev pub flag_field : (name : List ℕ) → Bool → (word : List ℕ) → (column : ℕ) → FieldView
+flag_field name is_so word column = field_of name (flag is_so word []) (column_if is_so column)
+
+-- a protection by its letters
+abbrev pub protection : ℕ → ValueView
+protection rights = named rights (rights_text rights)
+
+-- ---- segments (struct segment_command_64)
+
+-- The name, the address, the size, the range in the file, and both protections; `!` if the memory may become writable and
+-- executable at once (VM_PROT_WRITE, VM_PROT_EXECUTE); and the flags that are set (SG_).
+abbrev pub segment_part_fields : ℕ × SegmentView → List FieldView
+segment_part_fields found =
+    let c = found.1.command in
+    let name = name_in_field c.segname in
+    object_field (codes "number") (number found.0)
+    ∷ alone_field (codes "name") (optional_text name)
+    ∷ wide_field 12 (line_field (text (text_or_dash name)) 1)
+    ∷ wide_field 11 (field_of (codes "address") (hex c.vmaddr) 2)
+    ∷ wide_field 11 (field_of (codes "size") (hex c.vmsize) 3)
+    ∷ wide_field 10 (field_of (codes "file_offset") (hex c.fileoff) 4)
+    ∷ wide_field 10 (field_of (codes "file_size") (hex c.filesize) 5)
+    ∷ field_of (codes "initial_protection") (protection c.initprot) 6
+    ∷ field_of (codes "maximum_protection") (protection c.maxprot) 7
+    ∷ object_field (codes "sections") (number c.nsects)
+    ∷ object_field (codes "flags") (hex c.flags)
+    ∷ flag_field (codes "is_writable_code") (not (bit_and c.maxprot 2 == 0) && not (bit_and c.maxprot 4 == 0)) (codes "!") 8
+    ∷ flag_field (codes "is_high_vm") (not (bit_and c.flags 1 == 0)) (codes "high-vm") 9
+    ∷ flag_field (codes "is_fvmlib") (not (bit_and c.flags 2 == 0)) (codes "fvmlib") 9
+    ∷ flag_field (codes "is_noreloc") (not (bit_and c.flags 4 == 0)) (codes "noreloc") 9
+    ∷ flag_field (codes "is_protected") (not (bit_and c.flags 8 == 0)) (codes "protected") 9
+    ∷ flag_field (codes "is_read_only") (not (bit_and c.flags 0x10 == 0)) (codes "read-only") 9
+    ∷ []
+
+-- ---- sections (struct section_64)
+
+-- types of sections (S_)
+abbrev pub section_types : List Named
+section_types =
+    record { number = 0x0; name = codes "regular" }
+    ∷ record { number = 0x1; name = codes "zerofill" }
+    ∷ record { number = 0x2; name = codes "cstring literals" }
+    ∷ record { number = 0x3; name = codes "4-byte literals" }
+    ∷ record { number = 0x4; name = codes "8-byte literals" }
+    ∷ record { number = 0x5; name = codes "literal pointers" }
+    ∷ record { number = 0x6; name = codes "non-lazy symbol pointers" }
+    ∷ record { number = 0x7; name = codes "lazy symbol pointers" }
+    ∷ record { number = 0x8; name = codes "symbol stubs" }
+    ∷ record { number = 0x9; name = codes "module init function pointers" }
+    ∷ record { number = 0xa; name = codes "module term function pointers" }
+    ∷ record { number = 0xb; name = codes "coalesced" }
+    ∷ record { number = 0xc; name = codes "gb zerofill" }
+    ∷ record { number = 0xd; name = codes "interposing" }
+    ∷ record { number = 0xe; name = codes "16-byte literals" }
+    ∷ record { number = 0xf; name = codes "dtrace dof" }
+    ∷ record { number = 0x10; name = codes "lazy dylib symbol pointers" }
+    ∷ record { number = 0x11; name = codes "thread-local regular" }
+    ∷ record { number = 0x12; name = codes "thread-local zerofill" }
+    ∷ record { number = 0x13; name = codes "thread-local variables" }
+    ∷ record { number = 0x14; name = codes "thread-local variable pointers" }
+    ∷ record { number = 0x15; name = codes "thread-local init function pointers" }
+    ∷ record { number = 0x16; name = codes "init function offsets" }
+    ∷ []
+
+-- the words for a type, none if it has no name
+abbrev pub section_type_name : ℕ → List ℕ
+section_type_name kind = name_or [] section_types kind
+
+-- The number, the segment's name and its own, the address, the size, the place in the file, and the type (SECTION_TYPE). An
+-- object also has the alignment as a power of 2, the attributes (SECTION_ATTRIBUTES), the relocations and the reserved fields.
+abbrev pub section_part_fields : SectionRow → List FieldView
+section_part_fields row =
+    let s = row.section.section in
+    let segment = name_in_field s.segname in
+    let name = name_in_field s.sectname in
+    let type_name = section_type_name (s.flags % 0x100) in
+    wide_field 3 (field_of (codes "number") (number row.number) 1)
+    ∷ object_field (codes "segment_number") (number row.section.segment)
+    ∷ alone_field (codes "segment") (optional_text segment)
+    ∷ wide_field 12 (line_field (text (text_or_dash segment)) 2)
+    ∷ alone_field (codes "name") (optional_text name)
+    ∷ wide_field 16 (line_field (text (text_or_dash name)) 3)
+    ∷ wide_field 11 (field_of (codes "address") (hex s.addr) 4)
+    ∷ wide_field 8 (field_of (codes "size") (hex s.size) 5)
+    ∷ wide_field 8 (field_of (codes "file_offset") (hex s.offset) 6)
+    ∷ field_of (codes "type") (named (s.flags % 0x100) type_name) 7
+    ∷ alone_field (codes "type_name") (text type_name)
+    ∷ object_field (codes "align") (number s.align)
+    ∷ object_field (codes "attributes") (hex (s.flags - s.flags % 0x100))
+    ∷ object_field (codes "relocation_offset") (hex s.reloff)
+    ∷ object_field (codes "relocations") (number s.nreloc)
+    ∷ object_field (codes "reserved1") (number s.reserved1)
+    ∷ object_field (codes "reserved2") (number s.reserved2)
+    ∷ object_field (codes "reserved3") (number s.reserved3)
+    ∷ []
+
+-- ---- UUIDs, run paths and the entry point
+
+-- the name of a cpu, if it has one
+abbrev pub cpu_of : (cputype cpusubtype : ℕ) → Option (List ℕ)
+cpu_of cputype cpusubtype = cpu_named arch_rows cputype (kind_of_cpu cpusubtype)
+
+-- as `dwarfdump --uuid` prints it, but for its parentheses
+abbrev pub uuid_part_fields : UuidRow → List FieldView
+uuid_part_fields row =
+    field_of (codes "uuid") (uuid row.uuid) 2
+    ∷ field_of (codes "cpu") (optional_text (cpu_of row.cputype row.cpusubtype)) 3
+    ∷ object_field (codes "cputype") (number row.cputype)
+    ∷ object_field (codes "cpusubtype") (number row.cpusubtype)
+    ∷ line_field (text (codes "UUID:")) 1
+    ∷ []
+
+abbrev pub rpath_part_fields : ℕ × List ℕ → List FieldView
+rpath_part_fields found = wide_field 3 (field_of (codes "number") (number found.0) 1) ∷ field_of (codes "path") (text found.1) 2 ∷ []
+
+-- the names of a section's segment and of the section
+abbrev pub segment_of_found : Option NumberedSection → Option (List ℕ)
+segment_of_found None = None
+segment_of_found (Some found) = name_in_field found.section.segname
+
+abbrev pub name_of_found : Option NumberedSection → Option (List ℕ)
+name_of_found None = None
+name_of_found (Some found) = name_in_field found.section.sectname
+
+-- the address, and the first section that holds it
+abbrev pub entry_part_fields : EntryRow → List FieldView
+entry_part_fields row =
+    field_of (codes "address") (hex row.address) 1
+    ∷ field_of (codes "segment") (optional_text (segment_of_found row.section)) 2
+    ∷ field_of (codes "section") (optional_text (name_of_found row.section)) 3
+    ∷ []
+
+-- ---- the header (struct mach_header_64)
+
+-- a flag that a line has if it is set, without its prefix `MH_`
+abbrev pub header_flag : (flags flag : ℕ) → FieldView
+header_flag flags bit = line_field (optional_text (flag_short_name (flag_name bit))) (column_if (not (bit_and flags bit == 0)) 3)
+
+abbrev pub header_flags : (flags : ℕ) → List FieldView
+header_flags flags = map (λ x. header_flag flags x.number) flag_names
+
+-- The cpu, the kind of the file and the flags that are set; and all fields, the subtype of the cpu without its capabilities.
+abbrev pub header_members : Header → List FieldView
+header_members h =
+    object_field (codes "magic") (hex h.magic)
+    ∷ field_of (codes "cpu") (optional_text (cpu_of h.cputype h.cpusubtype)) 1
+    ∷ object_field (codes "cputype") (hex h.cputype)
+    ∷ object_field (codes "cpusubtype") (number (kind_of_cpu h.cpusubtype))
+    ∷ object_field (codes "capabilities") (hex (caps_of_cpu h.cpusubtype))
+    ∷ field_of (codes "filetype") (named h.filetype (if_known (codes "UNKNOWN FILETYPE") (filetype_name h.filetype))) 2
+    ∷ alone_field (codes "kind") (text (filetype_name h.filetype))
+    ∷ object_field (codes "commands") (number h.ncmds)
+    ∷ object_field (codes "size_of_commands") (number h.sizeofcmds)
+    ∷ object_field (codes "flags") (hex h.flags)
+    ∷ object_field (codes "reserved") (number h.reserved)
+    ∷ []
+
+abbrev pub header_part_fields : Header → List FieldView
+header_part_fields h = header_members h ++ header_flags h.flags
+
+-- ---- rows
+
+abbrev pub part_fields : PartRowView → List FieldView
+part_fields (segment_part found) = segment_part_fields found
+part_fields (section_part row) = section_part_fields row
+part_fields (uuid_part row) = uuid_part_fields row
+part_fields (rpath_part found) = rpath_part_fields found
+part_fields (entry_part row) = entry_part_fields row
+part_fields (header_part h) = header_part_fields h
