@@ -49,8 +49,12 @@ fn platform_by(command: &LoadCommand) -> Option<PlatformFact> {
     }
 }
 
-// Returns the UUID that a command gives, if it gives one.
-fn uuid_by(command: &LoadCommand) -> Option<[u8; 16]> {
+/// Returns the UUID that a command gives, if it gives one.
+///
+/// # Proved
+///
+/// - `result ≡ defined.uuid_by (command_of command)`
+pub fn uuid_by(command: &LoadCommand) -> Option<[u8; 16]> {
     match &command.command {
         CommandVariant::Uuid(c) => Some(c.uuid),
         _ => None,

@@ -54,8 +54,12 @@ fn bytes_of_command<'a>(bytes: &'a [u8], command: &LoadCommand) -> &'a [u8] {
     &rest[..command.command.cmdsize().min(rest.len())]
 }
 
-// Returns a number by its name, unless that is the one of all that have none.
-fn named<'a>(number: u32, name: &'static str, unknown: &'static str) -> Value<'a> {
+/// Returns a number by its name, unless that is the one of all that have none.
+///
+/// # Proved
+///
+/// - `value_view result ≡ named number (if_known unknown name)`
+pub fn named<'a>(number: u32, name: &'static str, unknown: &'static str) -> Value<'a> {
     Value::Named(u64::from(number), if name == unknown { "" } else { name })
 }
 
@@ -64,13 +68,21 @@ fn platform<'a>(number: u32) -> Value<'a> {
     named(number, platform_name(number), "unknown")
 }
 
-// Returns a protection by its letters.
-fn rights<'a>(protection: u32) -> Value<'a> {
+/// Returns a protection by its letters.
+///
+/// # Proved
+///
+/// - `value_view result ≡ named protection (rights_text protection)`
+pub fn rights<'a>(protection: u32) -> Value<'a> {
     Value::Named(u64::from(protection), rights_name(protection))
 }
 
-// Returns the text that begins at a place of some bytes, if there is one.
-fn text_from(bytes: &[u8], place: usize) -> Option<&str> {
+/// Returns the text that begins at a place of some bytes, if there is one.
+///
+/// # Proved
+///
+/// - `text_in result ≡ result_ok (text_at bytes place)`
+pub fn text_from(bytes: &[u8], place: usize) -> Option<&str> {
     match read_text(bytes, place) {
         Ok(text) => Some(text),
         Err(_) => None,

@@ -7,6 +7,7 @@ use crate::generated::mach_cli::{
 };
 use crate::generated::machinfo::command_fields::write_command;
 use crate::generated::machinfo::notes::NumberedNote;
+use crate::generated::machinfo::part_fields::write_part;
 use crate::generated::machinfo::providers::Provided;
 use crate::generated::machinfo::row::Row;
 use crate::generated::machinfo::text::tool_name;
@@ -38,16 +39,25 @@ pub fn write_fields<F: FieldsForm, O: Write>(row: &Row<'_, '_>, out: &mut O) -> 
         Row::Rebase(rebase) => F::write(&rebase_fields(rebase), out),
         Row::Weak(WeakBind::Strong { name }) => F::write(&strong_fields(name), out),
         Row::Weak(WeakBind::Bind(binding)) => F::write(&binding_fields(binding), out),
+        Row::Part(part) => write_part::<F, O>(&part, out),
     }
 }
 
-// Returns the column of a field that a line has only if something is so.
-fn column_if(is_so: bool, column: usize) -> usize {
+/// Returns the column of a field that a line has only if something is so.
+///
+/// # Proved
+///
+/// - `result ≡ column_if is_so column`
+pub fn column_if(is_so: bool, column: usize) -> usize {
     if is_so { column } else { 0 }
 }
 
-// Returns a flag, of which a line has the word if it is so.
-fn flag_field(
+/// Returns a flag, of which a line has the word if it is so.
+///
+/// # Proved
+///
+/// - `field_view result ≡ flag_field name is_so word column`
+pub fn flag_field(
     name: &'static str,
     is_so: bool,
     word: &'static str,

@@ -6,6 +6,7 @@ use crate::generated::mach_cli::{FieldsForm, ItemList};
 use crate::generated::machinfo::commands::NumberedCommands;
 use crate::generated::machinfo::fields::write_fields;
 use crate::generated::machinfo::notes::NumberedNotes;
+use crate::generated::machinfo::parts::PartList;
 use crate::generated::machinfo::providers::ProvidedSymbols;
 use crate::generated::machinfo::row::Row;
 use crate::generated::machinfo::word::Word;
@@ -32,6 +33,7 @@ pub enum ImageList<'a, 'b> {
     Libraries(LibraryIterator<'a, 'b>),
     Rebases(RebaseIterator<'a, 'b>),
     Weak(WeakBindIterator<'a, 'b>),
+    Part(PartList<'a, 'b>),
 }
 
 // Returns the indirect symbols that begin within the bytes, and how many more are claimed.
@@ -77,6 +79,7 @@ impl<'a, 'b> ImageList<'a, 'b> {
             Word::Libraries => ImageList::Libraries(image.libraries()),
             Word::Rebases => ImageList::Rebases(image.rebases()),
             Word::Weak => ImageList::Weak(image.weak_binds()),
+            Word::Part(part) => ImageList::Part(PartList::of(part, image)),
         }
     }
 }
@@ -128,6 +131,10 @@ impl<'a, 'b> ItemList for ImageList<'a, 'b> {
                 Ok(bind) => Some(Ok(Row::Weak(bind))),
                 Err(error) => Some(Err(error)),
             },
+            ImageList::Part(list) => match list.take_next()? {
+                Ok(row) => Some(Ok(Row::Part(row))),
+                Err(error) => Some(Err(error)),
+            },
         }
     }
 
@@ -135,6 +142,7 @@ impl<'a, 'b> ItemList for ImageList<'a, 'b> {
         match self {
             ImageList::Indirect(_, past) | ImageList::Data(_, past) => *past,
             ImageList::Providers(list) => list.past,
+            ImageList::Part(list) => list.past(),
             _ => 0,
         }
     }
@@ -144,6 +152,7 @@ impl<'a, 'b> ItemList for ImageList<'a, 'b> {
             ImageList::Indirect(..) => "indirect symbols",
             ImageList::Data(..) => "data in code entries",
             ImageList::Providers(_) => "symbols",
+            ImageList::Part(list) => list.past_name(),
             _ => "",
         }
     }

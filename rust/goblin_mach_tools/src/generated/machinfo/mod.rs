@@ -2,8 +2,9 @@
 //! Prints a summary of a Mach-O image: what it is, how it is signed, and how many items its lists have.
 //!
 //! With a word it prints one list instead, an item a line: load commands, function starts, stubs and pointers, indirect symbols,
-//! data in code, linker options, tools, notes, providers of symbols, libraries, rebases or weak binds. Of a fat file it prints that
-//! of each entry, or of the entries for one cpu, under a line that says which.
+//! data in code, linker options, tools, notes, providers of symbols, libraries, rebases, weak binds, segments, sections,
+//! UUIDs, run paths, the entry point or the header. Of a fat file it prints that of each entry, or of the entries for one cpu,
+//! under a line that says which.
 //!
 //! It prints at most as many rows of a file as `--limit` says, and a line after those of an image that has more. A row that can't
 //! be read is a line with the error. With `--json` it writes one object for each file instead, on a line.
@@ -30,8 +31,11 @@ mod commands;
 mod fields;
 mod list;
 mod notes;
+mod part_fields;
+mod parts;
 mod providers;
 mod row;
+mod sections;
 mod word;
 
 use crate::generated::mach_cli::{
@@ -51,7 +55,8 @@ const PROGRAM: Program = Program {
     name: "machinfo",
     usage: "usage: machinfo [--json] [--limit N] [--arch NAME | --cputype 0xN] [--names FILE] [-0] [WORD] FILE..
        machinfo -h | --help | --version
-WORD: commands, starts, slots, indirect, data, options, tools, notes, providers, libraries, rebases, weak
+WORD: commands, starts, slots, indirect, data, options, tools, notes, providers, libraries, rebases, weak,
+      segments, sections, uuid, rpaths, entrypoint, header
 ",
     version: "machinfo 0.2.0\n",
     options: Options::OF_IMAGES,
@@ -66,15 +71,21 @@ WORD: commands, starts, slots, indirect, data, options, tools, notes, providers,
         "--version",
         "commands",
         "data",
+        "entrypoint",
+        "header",
         "indirect",
         "libraries",
         "notes",
         "options",
         "providers",
         "rebases",
+        "rpaths",
+        "sections",
+        "segments",
         "slots",
         "starts",
         "tools",
+        "uuid",
         "weak",
     ],
 };
@@ -108,13 +119,22 @@ fn answer(rt: &HostRuntime, call: &Call<'_, SharedOnly>) -> Result<u8, u8> {
     show(rt, &shown_by(call), files, others, &mut out)
 }
 
+// Whether all bytes of a text are small letters.
+fn has_small_letters(text: &[u8]) -> bool {
+    let mut all = true;
+    for byte in text {
+        all &= *byte >= b'a' && *byte <= b'z';
+    }
+    all
+}
+
 // Returns what is wrong with a first argument before others that is nearly a word: one of small letters alone that is no word,
 // but similar to one.
 fn misspelled<'a>(rt: &HostRuntime, arguments: &[&'a str]) -> Option<Misuse<'a>> {
     let [first, _, ..] = arguments else {
         return None;
     };
-    if selected_by(arguments).is_some() || !first.bytes().all(|byte| byte >= b'a' && byte <= b'z') {
+    if Word::named(first).is_some() || !has_small_letters(first.as_bytes()) {
         return None;
     }
     let misuse = Misuse::UnknownWord(first);

@@ -4,6 +4,7 @@
 
 use crate::generated::machinfo::commands::NumberedCommand;
 use crate::generated::machinfo::notes::NumberedNote;
+use crate::generated::machinfo::parts::PartRow;
 use crate::generated::machinfo::providers::Provided;
 use goblin_mach::generated::mach::load_command::{BuildToolVersion, DataInCodeEntry};
 use goblin_mach::generated::mach::slots::{IndirectSymbol, SymbolSlot};
@@ -24,4 +25,5 @@ pub enum Row<'a, 'b> {
     Library(Library<'a>),
     Rebase(Rebase),
     Weak(WeakBind<'a>),
+    Part(PartRow<'a, 'b>),
 }

@@ -60,15 +60,22 @@ impl Display for NameText<'_> {
     }
 }
 
-// The sections that are left of a segment, those whose records begin within the bytes, and how many more it claims.
-struct SectionList<'a> {
-    sections: SectionIterator<'a>,
-    past: usize,
+/// The sections that are left of a segment, those whose records begin within the bytes, and how many more it claims.
+pub struct SectionList<'a> {
+    /// The sections that begin within the bytes.
+    pub sections: SectionIterator<'a>,
+    /// How many more are claimed.
+    pub past: usize,
 }
 
 impl<'a> SectionList<'a> {
-    // Returns the sections of a segment.
-    fn of(segment: &Segment<'a>) -> Self {
+    /// Returns the sections of a segment.
+    ///
+    /// # Proved
+    ///
+    /// - *left*: `sections_left result.sections ≡ items_in_bounds (sections_of (segment_view segment))`
+    /// - *past*: `result.past ≡ sections_past_the_end (segment_view segment)`
+    pub fn of(segment: &Segment<'a>) -> Self {
         let all = segment.into_iter();
         let sections = all.in_bounds();
         let past = all.len() - sections.len();

@@ -10,7 +10,7 @@ use crate::generated::machinfo::list::ImageList;
 use crate::generated::machinfo::signed::print_signed;
 use crate::generated::machinfo::state::{print_state, state_of};
 use crate::generated::machinfo::summary::print_front;
-use crate::generated::machinfo::word::Word;
+use crate::generated::machinfo::word::{Part, Word};
 use crate::shim::io;
 use crate::shim::io::Write;
 use goblin_mach::generated::mach::MachO;
@@ -71,6 +71,8 @@ fn has_names(word: Word) -> bool {
         Word::Libraries => false,
         Word::Rebases => false,
         Word::Weak => false,
+        Word::Part(Part::Header) => true,
+        Word::Part(_) => false,
     }
 }
 

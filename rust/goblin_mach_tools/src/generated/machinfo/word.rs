@@ -29,6 +29,25 @@ pub enum Word {
     Rebases,
     /// Its weak binds.
     Weak,
+    /// A part of it.
+    Part(Part),
+}
+
+/// A part of an image that is a list of rows, none of which takes memory.
+#[derive(Clone, Copy, PartialEq)]
+pub enum Part {
+    /// Its segments.
+    Segments,
+    /// The sections of all segments.
+    Sections,
+    /// Its UUIDs.
+    Uuid,
+    /// Its run paths.
+    Rpaths,
+    /// Where it begins to run.
+    Entry,
+    /// Its header.
+    Header,
 }
 
 impl Word {
@@ -51,6 +70,12 @@ impl Word {
             "libraries" => Some(Word::Libraries),
             "rebases" => Some(Word::Rebases),
             "weak" => Some(Word::Weak),
+            "segments" => Some(Word::Part(Part::Segments)),
+            "sections" => Some(Word::Part(Part::Sections)),
+            "uuid" => Some(Word::Part(Part::Uuid)),
+            "rpaths" => Some(Word::Part(Part::Rpaths)),
+            "entrypoint" => Some(Word::Part(Part::Entry)),
+            "header" => Some(Word::Part(Part::Header)),
             _ => None,
         }
     }
@@ -74,6 +99,12 @@ impl Word {
             Word::Libraries => "libraries",
             Word::Rebases => "rebases",
             Word::Weak => "weak",
+            Word::Part(Part::Segments) => "segments",
+            Word::Part(Part::Sections) => "sections",
+            Word::Part(Part::Uuid) => "uuid",
+            Word::Part(Part::Rpaths) => "rpaths",
+            Word::Part(Part::Entry) => "entrypoint",
+            Word::Part(Part::Header) => "header",
         }
     }
 }
