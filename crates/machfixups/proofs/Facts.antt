@@ -9,7 +9,7 @@ use Rattle.goblin_mach.specs.Fixups.{AreImageFixups, chained_view}
 use Rattle.goblin_mach.specs.ImageStreams.{AreRebasesByOpcodes, AreImageWeakBinds, rebase_stream_in, weak_stream_in}
 use Rattle.goblin_mach.specs.OpenImage.{IsLossyImage, binds_view, bytes_view, commands_view, ctx_view, segments_view}
 use Rattle.goblin_mach.specs.declared.macho.MachO.{MachO}
-use Rattle.goblin_mach.proofs.ImageFacts.{chained_fixups_are, fixups_are, facts_are, libraries_are}
+use Rattle.goblin_mach.proofs.ImageFacts.{chained_fixups_are, fixups_are, facts_are, libraries_are, segments_are}
 use Rattle.goblin_mach.proofs.StreamFacts.{weak_binds_are}
 use Rattle.mach_base.specs.Fault.{Fault}
 use Rattle.machfixups.specs.Lists.{PointerLists, HasPointerLists}
@@ -30,13 +30,16 @@ module _ {A : Type 0} (bytes : List ℕ) (o : ℕ) (m : MachO A) (p : IsLossyIma
       lists.rebases
       → AreOpcodeBindings (binds_view m) (pointer_size (ctx_view m).container) (texts m.libs.items) (segments_view m) lists.bindings
       → AreImageWeakBinds (weak_stream_in (bytes_view m) (commands_view m)) (pointer_size (ctx_view m).container) (segments_view m) lists.weak_binds
-      → AreImageFixups (chained_view m) (segments_view m) lists.fixups → HasPointerLists bytes o lists
-  has_lists lists rebases bindings weak fixups = record {
+      → AreImageFixups (chained_view m) (segments_view m) lists.fixups
+      → lists.source ≡ record { segments = segments_view m; le = (ctx_view m).le } → HasPointerLists bytes o lists
+  has_lists lists rebases bindings weak fixups source = record {
     rebases = (facts_are bytes o m p (λ f. AreRebasesByOpcodes (rebase_stream_in f.bytes f.commands) f.ctx.le (pointer_size f.ctx.container) f.segments
         lists.rebases)).1 rebases;
     bindings = (facts_are bytes o m p (λ f. AreOpcodeBindings f.binds (pointer_size f.ctx.container) f.libs f.segments lists.bindings)).1 bindings;
     weak_binds = ((weak_binds_are m).lossy bytes o p lists.weak_binds).1 weak;
     fixups = has_fixups lists.fixups fixups;
+    segments = ((segments_are m).lossy bytes o p lists.source.segments).1 (ap (λ s. s.segments) source);
+    le = (facts_are bytes o m p (λ f. lists.source.le ≡ f.ctx.le)).1 (ap (λ s. s.le) source);
   }
 
 -- rows are those of four lists, if each list is

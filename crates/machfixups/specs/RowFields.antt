@@ -6,7 +6,7 @@ use Rattle.std.specs.Str.{chars}
 use Rattle.mach_base.specs.Answer.{◌>>=◌}
 use Rattle.mach_base.specs.Fault.{Fault}
 use Rattle.mach_parts.specs.PointerSigning.{Auth}
-use Rattle.mach_cli.specs.Fields.{FieldView, ValueView, field_of, flags, hex, line_field, number, object_field, optional_text, signed, text, whether}
+use Rattle.mach_cli.specs.Fields.{FieldView, field_of, flags, hex, line_field, number, object_field, optional_text, signed, text, whether}
 use Rattle.mach_cli.specs.Fields.{wide_field}
 use Rattle.mach_cli.specs.Listings.{reported_by}
 use Rattle.mach_cli.specs.Signing.{diverse_by, diversity_by, has_auth, key_by, rebase_type}
@@ -73,8 +73,13 @@ target_section target = wide_field (19 - length (chars (name_or_dash target.segm
 abbrev pub dash_field : (column width : ℕ) → FieldView
 dash_field column width = wide_field width (line_field (text (codes "-")) column)
 
-abbrev pub bind_fields : PointerPlace → PointerBind → List FieldView
-bind_fields p b =
+-- the pointer of a chain as it is stored, if it is shown
+abbrev pub raw_field : Option ℕ → FieldView
+raw_field (Some raw) = field_of (codes "raw") (hex raw) 9
+raw_field None = line_field (text []) 0
+
+abbrev pub bind_fields : PointerPlace → PointerBind → (raw : Option ℕ) → List FieldView
+bind_fields p b raw =
     addend_field b.addend
     ∷ address_field p
     ∷ object_field (codes "diversity") (number (diversity_by b.auth))
@@ -87,6 +92,7 @@ bind_fields p b =
     ∷ kind_field (codes "kind") (codes "bind")
     ∷ object_field (codes "library") (signed b.ordinal)
     ∷ field_of (codes "name") (text b.name) 6
+    ∷ raw_field raw
     ∷ section_field p
     ∷ segment_field p
     ∷ bind_flags b
@@ -107,14 +113,15 @@ weak_fields p b =
     ∷ bind_flags b
     ∷ []
 
-abbrev pub rebase_fields : (place target : PointerPlace) → RebaseKind → Option Auth → List FieldView
-rebase_fields p target kind auth =
+abbrev pub rebase_fields : (place target : PointerPlace) → RebaseKind → Option Auth → (raw : Option ℕ) → List FieldView
+rebase_fields p target kind auth raw =
     address_field p
     ∷ object_field (codes "diversity") (number (diversity_by auth))
     ∷ whether (codes "is_address_diverse") (diverse_by auth)
     ∷ whether (codes "is_signed") (has_auth auth)
     ∷ object_field (codes "key") (number (key_by auth))
     ∷ kind_field (codes "kind") (codes "rebase")
+    ∷ raw_field raw
     ∷ section_field p
     ∷ segment_field p
     ∷ field_of (codes "target") (hex target.address) 6
@@ -127,10 +134,11 @@ rebase_fields p target kind auth =
     ∷ target_section target
     ∷ []
 
-abbrev pub value_fields : PointerPlace → (value : ℕ) → List FieldView
-value_fields p value =
+abbrev pub value_fields : PointerPlace → (value : ℕ) → (raw : Option ℕ) → List FieldView
+value_fields p value raw =
     address_field p
     ∷ object_field (codes "kind") (text (codes "number"))
+    ∷ raw_field raw
     ∷ section_field p
     ∷ segment_field p
     ∷ field_of (codes "target") (hex value) 6
@@ -153,10 +161,10 @@ strong_fields name =
 
 -- the fields of a row
 abbrev pub pointer_fields : PointerRow → List FieldView
-pointer_fields (corrects p (binds b)) = bind_fields p b
-pointer_fields (corrects p (binds_weakly b)) = weak_fields p b
-pointer_fields (corrects p (rebases target kind auth)) = rebase_fields p target kind auth
-pointer_fields (corrects p (is_value value)) = value_fields p value
+pointer_fields (corrects p (binds b) raw) = bind_fields p b raw
+pointer_fields (corrects p (binds_weakly b) raw) = weak_fields p b
+pointer_fields (corrects p (rebases target kind auth) raw) = rebase_fields p target kind auth raw
+pointer_fields (corrects p (is_value value) raw) = value_fields p value raw
 pointer_fields (is_strong name) = strong_fields name
 
 -- those of a row of the code's

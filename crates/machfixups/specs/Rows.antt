@@ -1,5 +1,5 @@
 -- The rows of the rebases, binds and weak binds of the opcodes and of the fixups of the chains.
-use Rattle.std.specs.Prelude.{ℕ, ℤ, pos, negsuc, ◌+ℤ◌, List, [], map, ◌++◌, slice_get, Bool, false, not, ◌||◌, if◌then◌else◌}
+use Rattle.std.specs.Prelude.{ℕ, ℤ, pos, negsuc, ◌+ℤ◌, List, [], map, ◌++◌, slice_get, Bool, true, false, not, ◌||◌, if◌then◌else◌}
 use Rattle.std.specs.Prelude.{Option, Some, None, option_map, Result, Ok, Err}
 use Rattle.mach_base.specs.Answer.{◌>>=◌}
 use Rattle.mach_base.specs.Fault.{Fault, malformed}
@@ -21,6 +21,7 @@ use Rattle.mach_dyld.specs.declared.rebases.RebaseKind.{RebaseKind}
 use Rattle.mach_dyld.specs.declared.rebases.RebaseKind.TheVariants.{Pointer, TextAbsolute32, TextRelative32}
 use Rattle.machfixups.specs.Lists.{PointerLists}
 use Rattle.machfixups.specs.Origins.{origin_of, provider_name}
+use Rattle.machfixups.specs.StoredPointers.{PointerSource, raw_of}
 use Rattle.machfixups.specs.AllStretches.{SegmentStretches, part_with, section_with, stretch_name}
 use Rattle.machfixups.specs.KeptFixups.{kept_fixups, kinds_in_lines, kinds_in_objects}
 use Rattle.machfixups.specs.declared.kept_fixups.KindsOfLists.{KindsOfLists}
@@ -59,9 +60,9 @@ pub data Action : Type 0 where
   rebases : (target : PointerPlace) → RebaseKind → Option Auth → Action
   is_value : ℕ → Action
 
--- a place and what is stored there; or the name of a strong definition of the image's own
+-- a place and what is stored there, with the pointer of a chain that is shown; or the name of a strong definition of the image's own
 pub data PointerRow : Type 0 where
-  corrects : PointerPlace → Action → PointerRow
+  corrects : PointerPlace → Action → (raw : Option ℕ) → PointerRow
   is_strong : (name : List ℕ) → PointerRow
 
 -- the place of an address in a segment, if there is one
@@ -75,11 +76,11 @@ place_by_address parts address = place_in (part_with address parts) address
 
 -- the row of an address, in the first segment that holds it
 abbrev pub row_by_address : List SegmentStretches → ℕ → Action → PointerRow
-row_by_address parts address action = corrects (place_by_address parts address) action
+row_by_address parts address action = corrects (place_by_address parts address) action None
 
 -- the row of an address, in the segment with a number
-abbrev pub row_by_segment : List SegmentStretches → (segment address : ℕ) → Action → PointerRow
-row_by_segment parts segment address action = corrects (place_in (slice_get parts segment) address) action
+abbrev pub row_by_segment : List SegmentStretches → (segment address : ℕ) → Action → (raw : Option ℕ) → PointerRow
+row_by_segment parts segment address action raw = corrects (place_in (slice_get parts segment) address) action raw
 
 -- ---- rebases and binds of the opcodes
 
@@ -114,7 +115,7 @@ target_by_kind parts TextRelative32 target = place_in None target
 
 -- the row of a rebase, in its segment
 abbrev pub row_of_rebase : List SegmentStretches → Rebase → PointerRow
-row_of_rebase parts r = row_by_segment parts r.segment r.address (rebases (target_by_kind parts r.kind r.target) r.kind r.auth)
+row_of_rebase parts r = row_by_segment parts r.segment r.address (rebases (target_by_kind parts r.kind r.target) r.kind r.auth) None
 
 -- the row of a strong name; or that of a weak bind, in the first segment that holds its address
 abbrev pub row_of_weak : List SegmentStretches → WeakBind → PointerRow
@@ -146,8 +147,9 @@ action_of parts libs table (value number) auth = Ok (is_value number)
 action_of parts libs table (bind import inline) auth = import_in table import >>= (λ i. Ok (binds (bind_of_import libs i inline auth)))
 
 -- the row of a fixup, in its segment
-abbrev pub row_of_fixup : List SegmentStretches → (libs : List (List ℕ)) → Option Fixups → Fixup → Result PointerRow Fault
-row_of_fixup parts libs table f = action_of parts libs table f.kind f.auth >>= (λ action. Ok (row_by_segment parts f.segment f.address action))
+abbrev pub row_of_fixup : List SegmentStretches → (libs : List (List ℕ)) → Option Fixups → Option PointerSource → Fixup → Result PointerRow Fault
+row_of_fixup parts libs table source f =
+    action_of parts libs table f.kind f.auth >>= (λ action. Ok (row_by_segment parts f.segment f.address action (raw_of source table f)))
 
 -- ---- all rows
 
@@ -160,8 +162,9 @@ row_for_weak parts item = item >>= (λ w. Ok (row_of_weak parts w))
 abbrev pub row_for_binding : List SegmentStretches → Result Binding Fault → Result PointerRow Fault
 row_for_binding parts item = item >>= (λ b. Ok (row_of_binding parts b))
 
-abbrev pub row_for_fixup : List SegmentStretches → (libs : List (List ℕ)) → Option Fixups → Result Fixup Fault → Result PointerRow Fault
-row_for_fixup parts libs table item = item >>= row_of_fixup parts libs table
+abbrev pub row_for_fixup : List SegmentStretches → (libs : List (List ℕ)) → Option Fixups → Option PointerSource → Result Fixup Fault
+    → Result PointerRow Fault
+row_for_fixup parts libs table source item = item >>= row_of_fixup parts libs table source
 
 -- the chained fixups, if they can be read
 abbrev pub readable_table : Result (Option Fixups) Fault → Option Fixups
@@ -192,27 +195,32 @@ pub record PointerRows : Type 0 where
   pub chains : List (Result PointerRow Fault)
 
 -- a row, or its fault, for each fixup of the chains that is shown
-abbrev pub chain_rows : List SegmentStretches → (libs : List (List ℕ)) → Option Fixups → ShownKinds → List (Result Fixup Fault)
+abbrev pub chain_rows : List SegmentStretches → (libs : List (List ℕ)) → Option Fixups → Option PointerSource → ShownKinds → List (Result Fixup Fault)
     → List (Result PointerRow Fault)
-chain_rows parts libs table kinds fixups = map (row_for_fixup parts libs table) (kept_fixups kinds fixups)
+chain_rows parts libs table source kinds fixups = map (row_for_fixup parts libs table source) (kept_fixups kinds fixups)
+
+-- what the pointers of chains are read from, if they are shown
+abbrev pub source_if : Bool → PointerSource → Option PointerSource
+source_if has_raw source = if has_raw then Some source else None
 
 -- A row, or its fault, for each rebase of the opcodes, each of their binds, and each weak bind, of the lists that are shown; and for
--- each fixup of the chains that a list has, after those of the opcodes.
-abbrev pub rows_shown : (shown : Selection) → KindsOfLists → List SegmentStretches → (libs : List (List ℕ)) → Option Fixups → PointerLists → PointerRows
-rows_shown shown kinds parts libs table lists = record {
-  rebases = picked shown.rebases (map (row_for_rebase parts) lists.rebases) ++ chain_rows parts libs table kinds.rebases lists.fixups;
-  binds = picked shown.binds (map (row_for_binding parts) lists.bindings) ++ chain_rows parts libs table kinds.binds lists.fixups;
+-- each fixup of the chains that a list has, after those of the opcodes, perhaps with its pointer.
+abbrev pub rows_shown : (has_raw : Bool) → (shown : Selection) → KindsOfLists → List SegmentStretches → (libs : List (List ℕ)) → Option Fixups
+    → PointerLists → PointerRows
+rows_shown has_raw shown kinds parts libs table lists = let source = source_if has_raw lists.source in record {
+  rebases = picked shown.rebases (map (row_for_rebase parts) lists.rebases) ++ chain_rows parts libs table source kinds.rebases lists.fixups;
+  binds = picked shown.binds (map (row_for_binding parts) lists.bindings) ++ chain_rows parts libs table source kinds.binds lists.fixups;
   weak = picked shown.weak (map (row_for_weak parts) lists.weak_binds);
-  chains = chain_rows parts libs table kinds.chains lists.fixups;
+  chains = chain_rows parts libs table source kinds.chains lists.fixups;
 }
 
--- the rows that have lines, by what is selected
+-- the rows that have lines, by what is selected; the pointers of chains are shown if the chains are
 abbrev pub line_rows : Selection → List SegmentStretches → (libs : List (List ℕ)) → Option Fixups → PointerLists → PointerRows
-line_rows p parts libs table lists = rows_shown (shown_picks p) (kinds_in_lines (shown_picks p)) parts libs table lists
+line_rows p parts libs table lists = rows_shown p.chains (shown_picks p) (kinds_in_lines (shown_picks p)) parts libs table lists
 
--- the rows that have objects, by what is selected
+-- the rows that have objects, by what is selected; the pointers of chains are shown
 abbrev pub object_rows : Selection → List SegmentStretches → (libs : List (List ℕ)) → Option Fixups → PointerLists → PointerRows
-object_rows p parts libs table lists = rows_shown (shown_picks p) (kinds_in_objects (shown_picks p)) parts libs table lists
+object_rows p parts libs table lists = rows_shown true (shown_picks p) (kinds_in_objects (shown_picks p)) parts libs table lists
 
 -- one list after the other
 abbrev pub rows_in_order : PointerRows → List (Result PointerRow Fault)
@@ -244,7 +252,7 @@ action_view (variants.Rebase target kind auth) = rebases (place_view target) kin
 action_view (variants.Value number) = is_value number
 
 abbrev pub row_view : declared.Row → PointerRow
-row_view (rows.At place action) = corrects (place_view place) (action_view action)
+row_view (rows.At place action raw) = corrects (place_view place) (action_view action) raw
 row_view (rows.Strong name) = is_strong name.now
 
 -- the row of an answer

@@ -8,6 +8,7 @@ use Rattle.mach_dyld.specs.WeakBindsLeft.{weak_binds_left}
 use Rattle.machfixups.specs.AllStretches.{SegmentStretches, parts_view}
 use Rattle.machfixups.specs.KeptLeft.{kept_left}
 use Rattle.machfixups.specs.Rows.{PointerRow, PointerRows, row_for_rebase, row_for_binding, row_for_weak, row_for_fixup, fixups_table_view}
+use Rattle.machfixups.specs.StoredPointers.{source_option_view}
 use Rattle.machfixups.specs.declared.lists.ImageRows as image
 use Rattle.machfixups.specs.declared.rows.Items as declared
 use Rattle.machfixups.specs.declared.rows.Items.TheVariants as variants
@@ -24,7 +25,8 @@ rows_of_items parts (variants.Weak items) = map (row_for_weak parts) (weak_binds
 abbrev pub rows_left : {A : Type 0} → over.Rows A → List (Result PointerRow Fault)
 rows_left rows =
     rows_of_items (parts_view rows.parts.now) rows.items
-    ++ map (row_for_fixup (parts_view rows.parts.now) (texts rows.libs.now) (fixups_table_view rows.table)) (kept_left rows.fixups)
+    ++ map (row_for_fixup (parts_view rows.parts.now) (texts rows.libs.now) (fixups_table_view rows.table) (source_option_view rows.source))
+    (kept_left rows.fixups)
 
 -- what is left of each list of an image
 abbrev pub image_rows_left : {A : Type 0} → image.ImageRows A → PointerRows

@@ -8,7 +8,7 @@ ghost use Rattle.mach_cli.specs.Fields.{field_view, value_view};
 ghost use Rattle.mach_dyld.specs.Exports.{text_in};
 ghost use Rattle.machfixups.specs.RowFields.{addend_field, address_field, bind_fields, bind_flags, dash_field, from_field, kind_field, name_or_dash};
 ghost use Rattle.machfixups.specs.RowFields.{rebase_fields, rebase_word, section_field, segment_field, signed_flags, strong_fields, value_fields};
-ghost use Rattle.machfixups.specs.RowFields.{pointer_fields, target_section, target_segment, weak_fields};
+ghost use Rattle.machfixups.specs.RowFields.{pointer_fields, raw_field, target_section, target_segment, weak_fields};
 ghost use Rattle.machfixups.specs.Rows.{bind_view, place_view, row_view};
 
 use crate::row::{Action, Bind, Location, Row};
@@ -153,9 +153,19 @@ fn dash_field(column: usize, width: usize) -> Field<'static>
     Field::of_line(Value::Text("-"), column).wide(width)
 }
 
+// Returns the field for the pointer of a chain as it is stored, if it is shown.
+fn raw_field(raw: Option<u64>) -> Field<'static>
+    ensures { field_view result ≡ raw_field raw }
+{
+    match raw {
+        Some(raw) => Field::new("raw", Value::Hex(raw), 9),
+        None => Field::of_line(Value::Text(""), 0),
+    }
+}
+
 // Returns the fields of a bind.
-fn bind_fields<'a>(place: &Location<'a>, bind: &Bind<'a>) -> [Field<'a>; 15]
-    ensures { map field_view result ≡ bind_fields (place_view place.now) (bind_view bind.now) }
+fn bind_fields<'a>(place: &Location<'a>, bind: &Bind<'a>, raw: Option<u64>) -> [Field<'a>; 16]
+    ensures { map field_view result ≡ bind_fields (place_view place.now) (bind_view bind.now) raw }
 {
     let auth = bind.auth;
     [
@@ -171,6 +181,7 @@ fn bind_fields<'a>(place: &Location<'a>, bind: &Bind<'a>) -> [Field<'a>; 15]
         kind_field("kind", "bind"),
         Field::of_object("library", Value::Signed(bind.ordinal)),
         Field::new("name", Value::Text(bind.name), 6),
+        raw_field(raw),
         section_field(place),
         segment_field(place),
         bind_flags(bind),
@@ -202,8 +213,9 @@ fn rebase_fields<'a>(
     target: &Location<'a>,
     kind: RebaseKind,
     auth: Option<PointerAuth>,
-) -> [Field<'a>; 16]
-    ensures { map field_view result ≡ rebase_fields (place_view place.now) (place_view target.now) kind (auth_option_view auth) }
+    raw: Option<u64>,
+) -> [Field<'a>; 17]
+    ensures { map field_view result ≡ rebase_fields (place_view place.now) (place_view target.now) kind (auth_option_view auth) raw }
 {
     [
         address_field(place),
@@ -212,6 +224,7 @@ fn rebase_fields<'a>(
         Field::whether("is_signed", has_auth(auth)),
         Field::of_object("key", Value::Number(u64::from(key_by(auth)))),
         kind_field("kind", "rebase"),
+        raw_field(raw),
         section_field(place),
         segment_field(place),
         Field::new("target", Value::Hex(target.address), 6),
@@ -226,12 +239,13 @@ fn rebase_fields<'a>(
 }
 
 // Returns the fields of a number.
-fn value_fields<'a>(place: &Location<'a>, number: u32) -> [Field<'a>; 7]
-    ensures { map field_view result ≡ value_fields (place_view place.now) number }
+fn value_fields<'a>(place: &Location<'a>, number: u32, raw: Option<u64>) -> [Field<'a>; 8]
+    ensures { map field_view result ≡ value_fields (place_view place.now) number raw }
 {
     [
         address_field(place),
         Field::of_object("kind", Value::Text("number")),
+        raw_field(raw),
         section_field(place),
         segment_field(place),
         Field::new("target", Value::Hex(u64::from(number)), 6),
@@ -261,13 +275,13 @@ pub fn write_row<F: FieldsForm, O: Write>(row: &Row<'_, '_>, out: &mut O) -> io:
     ensures { OnOk result (Appends (O.contents out.old) (O.contents out.new) (F.fields_text (pointer_fields (row_view row.now)))) }
 {
     match row {
-        Row::At { place, action } => match action {
-            Action::Bind(bind) => F::write(&bind_fields(place, bind), out),
+        Row::At { place, action, raw } => match action {
+            Action::Bind(bind) => F::write(&bind_fields(place, bind, *raw), out),
             Action::Weak(bind) => F::write(&weak_fields(place, bind), out),
             Action::Rebase { target, kind, auth } => {
-                F::write(&rebase_fields(place, target, *kind, *auth), out)
+                F::write(&rebase_fields(place, target, *kind, *auth, *raw), out)
             }
-            Action::Value(number) => F::write(&value_fields(place, *number), out),
+            Action::Value(number) => F::write(&value_fields(place, *number, *raw), out),
         },
         Row::Strong(name) => F::write(&strong_fields(name), out),
     }

@@ -13,12 +13,14 @@ ghost use Rattle.machfixups.specs.RowFields.{fields_reported, pointer_row_fields
 ghost use Rattle.machfixups.specs.KeptLeft.{kept_left};
 ghost use Rattle.machfixups.specs.Rows.{fixups_table_view, picked, readable_table, row_for_fixup, rows_in_order, rows_shown};
 ghost use Rattle.machfixups.specs.RowsLeft.{image_rows_left, rows_left, rows_of_items};
+ghost use Rattle.machfixups.specs.StoredPointers.{source_option_view};
 
 use crate::fields::write_row;
 use crate::kept_fixups::{KeptFixups, KindsOfLists};
 use crate::row::Row;
 use crate::rows::{Items, Rows, Selection};
 use crate::section_names::AllStretches;
+use crate::stored_pointers::StoredPointers;
 use goblin_mach::chained_fixups::ChainedFixups;
 use goblin_mach::{MachO, laws};
 use mach_cli::{FieldsForm, ItemList};
@@ -76,34 +78,39 @@ fn rows_of<'p, 'a, 'b, A: Allocator>(
     parts: &'p AllStretches<A>,
     libs: &'b [&'a str],
     table: Option<ChainedFixups<'a>>,
+    source: Option<StoredPointers<'a, 'b>>,
     items: Items<'a, 'b>,
     fixups: KeptFixups<'a, 'b>,
 ) -> Rows<'p, 'a, 'b, A>
     ensures { rows_left result ≡ picked is_shown (rows_of_items (parts_view parts.now) items.entry)
-        ++ map (row_for_fixup (parts_view parts.now) (texts libs.now) (fixups_table_view table.entry)) (kept_left fixups.entry) }
+        ++ map (row_for_fixup (parts_view parts.now) (texts libs.now) (fixups_table_view table.entry) (source_option_view source.entry))
+        (kept_left fixups.entry) }
 {
     Rows {
         parts,
         libs,
         table,
+        source,
         items: if is_shown { items } else { Items::Hidden },
         fixups,
     }
 }
 
 impl<'p, 'a, 'b, B: Allocator> ImageRows<'p, 'a, 'b, B> {
-    /// Returns the rows of an image of the lists that are shown, given its segments, and which fixups of the chains each list has.
+    /// Returns the rows of an image of the lists that are shown, given its segments, which fixups of the chains each list has, and
+    /// whether these are shown with their pointers.
     pub fn of<A: Allocator>(
         image: &'b MachO<'a, A>,
         parts: &'p AllStretches<B>,
         shown: Selection,
         kinds: KindsOfLists,
+        has_raw: bool,
     ) -> Self
         ensures { (bytes : List ℕ) (o : ℕ) → IsImage bytes o image.now
             → (lists : PointerLists) × HasPointerLists bytes o lists
             × (libs : List (List ℕ)) × HasLibraries bytes o libs
             × (chained : Result (Option Fixups) Fault) × HasChainedFixups bytes o chained
-            × (image_rows_left result ≡ rows_shown shown kinds (parts_view parts.now) libs (readable_table chained) lists) }
+            × (image_rows_left result ≡ rows_shown has_raw shown kinds (parts_view parts.now) libs (readable_table chained) lists) }
     {
         laws::strict_image_is_lossy(image);
         laws::one_list_of_image_fixups();
@@ -114,11 +121,28 @@ impl<'p, 'a, 'b, B: Allocator> ImageRows<'p, 'a, 'b, B> {
         let of_binds = KeptFixups::of(image.fixups(), kinds.binds);
         let of_chains = KeptFixups::of(image.fixups(), kinds.chains);
         let (libs, table) = (image.libs.as_slice(), table_of(image));
+        let source = StoredPointers::of(image, has_raw);
         ImageRows {
-            rebases: rows_of(shown.rebases, parts, libs, table, rebases, of_rebases),
-            binds: rows_of(shown.binds, parts, libs, table, binds, of_binds),
-            weak: rows_of(shown.weak, parts, libs, table, weak, KeptFixups::none()),
-            chains: rows_of(false, parts, libs, table, Items::Hidden, of_chains),
+            rebases: rows_of(
+                shown.rebases,
+                parts,
+                libs,
+                table,
+                source,
+                rebases,
+                of_rebases,
+            ),
+            binds: rows_of(shown.binds, parts, libs, table, source, binds, of_binds),
+            weak: rows_of(
+                shown.weak,
+                parts,
+                libs,
+                table,
+                source,
+                weak,
+                KeptFixups::none(),
+            ),
+            chains: rows_of(false, parts, libs, table, source, Items::Hidden, of_chains),
         }
     }
 }

@@ -1,6 +1,6 @@
 //! The rows of the rebases, binds and weak binds of the opcodes and of the fixups of the chains.
 
-ghost use Rattle.std.specs.Prelude.{◌≡◌, ℤ, option_map, slice_get};
+ghost use Rattle.std.specs.Prelude.{◌≡◌, ℤ, None, option_map, slice_get};
 ghost use Rattle.mach_base.specs.Answer.{Reads};
 ghost use Rattle.mach_base.specs.Text.{texts};
 ghost use Rattle.mach_dyld.specs.RebasesLeft.{rebase_read};
@@ -15,9 +15,11 @@ ghost use Rattle.machfixups.specs.Rows.{place_by_address, place_in, target_by_ki
 ghost use Rattle.machfixups.specs.Rows.{import_in, action_of, bind_of_import};
 ghost use Rattle.machfixups.specs.Rows.{row_for_binding, row_for_rebase, row_for_weak, row_for_fixup, place_view, bind_view, action_view, row_view};
 ghost use Rattle.machfixups.specs.Rows.{row_of_fixup, row_read, fixups_table_view};
+ghost use Rattle.machfixups.specs.StoredPointers.{source_option_view};
 
 use crate::origins::{origin_of, provider_name};
 use crate::section_names::{AllStretches, SegmentStretches};
+use crate::stored_pointers::{StoredPointers, raw_of};
 use goblin_mach::chained_fixups::{ChainedFixups, ChainedImport, Fixup, FixupKind, PointerAuth};
 use goblin_mach::{Binding, Error, Provider, Rebase, RebaseKind, Result, WeakBind};
 use std::alloc::Allocator;
@@ -70,6 +72,8 @@ pub enum Row<'b, 'a> {
     At {
         place: Location<'b>,
         action: Action<'b, 'a>,
+        /// The pointer of a chain as it is stored, if it is shown.
+        raw: Option<u64>,
     },
     /// The name of a strong definition of the image's own.
     Strong(&'a str),
@@ -157,6 +161,7 @@ fn row_by_address<'b, 'a, A: Allocator>(
     Row::At {
         place: place_by_address(parts, address),
         action,
+        raw: None,
     }
 }
 
@@ -166,13 +171,15 @@ fn row_by_segment<'b, 'a, A: Allocator>(
     segment: u32,
     address: u64,
     action: Action<'b, 'a>,
+    raw: Option<u64>,
 ) -> Row<'b, 'a>
-    ensures { row_view result ≡ row_by_segment (parts_view parts.now) segment address (action_view action.entry) }
+    ensures { row_view result ≡ row_by_segment (parts_view parts.now) segment address (action_view action.entry) raw }
 {
     let part = parts.get(segment as usize);
     Row::At {
         place: place_in(part, address),
         action,
+        raw,
     }
 }
 
@@ -236,12 +243,15 @@ fn row_of_fixup<'b, 'a, A: Allocator>(
     parts: &'b AllStretches<A>,
     libs: &[&'a str],
     table: &Option<ChainedFixups<'a>>,
+    source: &Option<StoredPointers<'_, '_>>,
     fixup: &Fixup,
 ) -> Result<Row<'b, 'a>>
-    ensures { Reads row_view result (row_of_fixup (parts_view parts.now) (texts libs.now) (fixups_table_view table.now) (fixup_view fixup.now)) }
+    ensures { Reads row_view result (row_of_fixup (parts_view parts.now) (texts libs.now) (fixups_table_view table.now) (source_option_view source.now)
+        (fixup_view fixup.now)) }
 {
     let action = action_of(parts, libs, table, fixup)?;
-    Ok(row_by_segment(parts, fixup.segment, fixup.address, action))
+    let raw = raw_of(source, table, fixup);
+    Ok(row_by_segment(parts, fixup.segment, fixup.address, action, raw))
 }
 
 /// Returns the row of a rebase of the opcodes; its place is in its own segment.
@@ -257,7 +267,7 @@ pub fn rebase_row<'b, 'a, A: Allocator>(
         kind: rebase.kind,
         auth: rebase.auth,
     };
-    Ok(row_by_segment(parts, rebase.segment, rebase.address, action))
+    Ok(row_by_segment(parts, rebase.segment, rebase.address, action, None))
 }
 
 /// Returns the row of a weak bind of the opcodes.
@@ -293,12 +303,14 @@ pub fn fixup_row<'b, 'a, A: Allocator>(
     parts: &'b AllStretches<A>,
     libs: &[&'a str],
     table: &Option<ChainedFixups<'a>>,
+    source: &Option<StoredPointers<'_, '_>>,
     item: Result<Fixup>,
 ) -> Result<Row<'b, 'a>>
-    ensures { row_read result ≡ row_for_fixup (parts_view parts.now) (texts libs.now) (fixups_table_view table.now) (fixup_read item) }
+    ensures { row_read result ≡ row_for_fixup (parts_view parts.now) (texts libs.now) (fixups_table_view table.now) (source_option_view source.now)
+        (fixup_read item) }
 {
     match item {
-        Ok(fixup) => row_of_fixup(parts, libs, table, &fixup),
+        Ok(fixup) => row_of_fixup(parts, libs, table, source, &fixup),
         Err(error) => Err(error),
     }
 }

@@ -10,6 +10,7 @@ ghost use Rattle.machfixups.specs.RowsLeft.{rows_left, rows_of_items};
 use crate::kept_fixups::{KeptFixups, KindsOfLists, ShownKinds};
 use crate::row::{Row, binding_row, fixup_row, rebase_row, weak_row};
 use crate::section_names::AllStretches;
+use crate::stored_pointers::StoredPointers;
 use goblin_mach::chained_fixups::ChainedFixups;
 use goblin_mach::{OpcodeBindingIterator, OpcodeRebaseIterator, Result, WeakBindIterator};
 use std::alloc::Allocator;
@@ -131,6 +132,8 @@ pub struct Rows<'p, 'a, 'b, A: Allocator> {
     pub libs: &'b [&'a str],
     /// The chained fixups with the imports of its binds.
     pub table: Option<ChainedFixups<'a>>,
+    /// What the pointers of its fixups are read from, if they are shown.
+    pub source: Option<StoredPointers<'a, 'b>>,
     pub items: Items<'a, 'b>,
     pub fixups: KeptFixups<'a, 'b>,
 }
@@ -145,11 +148,11 @@ impl<'p, 'a, A: Allocator> Iterator for Rows<'p, 'a, '_, A> {
     ghost remaining = { item_count rows_left };
 
     fn next(&mut self) -> Option<Result<Row<'p, 'a>>> {
-        let (parts, libs, table) = (self.parts, self.libs, self.table);
+        let (parts, libs, table, source) = (self.parts, self.libs, self.table, self.source);
         match self.items.next_row(parts) {
             Some(row) => Some(row),
             None => match self.fixups.next() {
-                Some(item) => Some(fixup_row(parts, libs, &table, item)),
+                Some(item) => Some(fixup_row(parts, libs, &table, &source, item)),
                 None => None,
             },
         }

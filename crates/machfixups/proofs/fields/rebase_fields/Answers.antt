@@ -16,6 +16,7 @@ returns c =
       c.from-2.ensures,
       c.key_by.ensures,
       c.kind_field.ensures,
+      c.raw_field.ensures,
       c.section_field.ensures,
       c.segment_field.ensures,
       c.new.ensures,

@@ -17,8 +17,8 @@ returns-clause-shown g c = λ bytes opened.
     let over = λ (rows : PointerRows). ArePointerLines c.args.limit c.args.left rows written.text outcome.whole outcome.left in
     let parts = parts_view c.in_ok-parts.parts in
     let table = readable_table listed.4 in
-    let in_kinds = λ (kinds : KindsOfLists). over (rows_shown c.shown-shown.result kinds parts listed.2 table listed.0) in
-    let by_shown = λ (shown : Selection). over (rows_shown shown (kinds_in_lines shown) parts listed.2 table listed.0) in
+    let in_kinds = λ (kinds : KindsOfLists). over (rows_shown c.args.self.now.selection.chains c.shown-shown.result kinds parts listed.2 table listed.0) in
+    let by_shown = λ (shown : Selection). over (rows_shown c.args.self.now.selection.chains shown (kinds_in_lines shown) parts listed.2 table listed.0) in
     let in_parts = λ (parts : List SegmentStretches). over (line_rows c.args.self.now.selection parts listed.2 table listed.0) in (
       written.text,
       record {

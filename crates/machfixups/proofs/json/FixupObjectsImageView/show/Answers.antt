@@ -1,4 +1,4 @@
-use Rattle.std.proofs.Common.{List, subst}
+use Rattle.std.proofs.Common.{List, subst, true}
 use Rattle.goblin_mach.specs.OpenImage.{commands_view}
 use Rattle.mach_cli.specs.JsonArrays.{AreListMembers}
 use Rattle.machfixups.specs.AllStretches.{SegmentStretches, parts_view}
@@ -18,8 +18,8 @@ returns-clause-shown g c = λ bytes opened.
     let over = λ (rows : PointerRows). AreListMembers c.args.left (pointer_members rows) written.text outcome.whole outcome.left in
     let parts = parts_view c.in_ok-parts.parts in
     let table = readable_table listed.4 in
-    let in_kinds = λ (kinds : KindsOfLists). over (rows_shown c.shown-shown.result kinds parts listed.2 table listed.0) in
-    let by_shown = λ (shown : Selection). over (rows_shown shown (kinds_in_objects shown) parts listed.2 table listed.0) in
+    let in_kinds = λ (kinds : KindsOfLists). over (rows_shown true c.shown-shown.result kinds parts listed.2 table listed.0) in
+    let by_shown = λ (shown : Selection). over (rows_shown true shown (kinds_in_objects shown) parts listed.2 table listed.0) in
     let in_parts = λ (parts : List SegmentStretches). over (object_rows c.args.self.now.selection parts listed.2 table listed.0) in (
       written.text,
       record {
