@@ -5,3 +5,4 @@ mod Flags
 mod RowLines
 mod SectionRows
 mod Some
+mod Verdicts

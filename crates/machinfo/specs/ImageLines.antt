@@ -15,7 +15,8 @@ use Rattle.machinfo.specs.RowFields.{row_objects, list_texts}
 use Rattle.machinfo.specs.Rows.{RowView}
 use Rattle.machinfo.specs.Words.{spelling_of}
 use Rattle.machinfo.specs.Signed.{AreSignatureLinesOf, is_readable}
-use Rattle.machinfo.specs.States.{state_of_commands, state_lines}
+use Rattle.machinfo.specs.StateLines.{state_lines}
+use Rattle.machinfo.specs.States.{state_of_commands}
 use Rattle.machinfo.specs.declared.word.Word.{Word}
 use Rattle.machinfo.specs.declared.counts.Form.TheVariants.{Lines, Members}
 

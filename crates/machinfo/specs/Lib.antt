@@ -10,10 +10,12 @@ pub mod ProvidedSymbols
 pub mod SectionRows
 pub mod Parts
 pub mod PartFields
+pub mod Security
 pub mod Rows
 pub mod FactRows
 pub mod Lists
 pub mod States
+pub mod StateLines
 pub mod Segments
 pub mod HeaderWords
 pub mod Summary

@@ -19,7 +19,8 @@ use Rattle.goblin_mach.specs.ImageFacts.{OfFacts}
 use Rattle.machinfo.specs.ProvidedSymbols.{HasProvidedSymbols, provided_left, symbols_past_in}
 use Rattle.machinfo.specs.Parts.{HasPart, part_past_name, part_rows_left, part_rows_past, part_name_of}
 use Rattle.machinfo.specs.Rows.{RowView, command_row, start_row, slot_row, indirect_row, data_row, option_row, tool_row, note_row}
-use Rattle.machinfo.specs.Rows.{provided_row, library_row, rebase_row, weak_row, part_row}
+use Rattle.machinfo.specs.Rows.{provided_row, library_row, rebase_row, weak_row, part_row, verdict_row}
+use Rattle.machinfo.specs.Security.{HasFindings, findings_left}
 use Rattle.machinfo.specs.declared.list.ImageList.{ImageList}
 use Rattle.machinfo.specs.declared.list.ImageList.TheVariants as lists
 use Rattle.machinfo.specs.declared.word.Word.{Word}
@@ -65,6 +66,7 @@ HasRows words.Libraries bytes o found past =
 HasRows words.Rebases bytes o found past = AreRowsOf rebase_row (HasRebases bytes o) found × (past ≡ 0)
 HasRows words.Weak bytes o found past = AreRowsOf weak_row (HasWeakBinds bytes o) found × (past ≡ 0)
 HasRows (words.Part part) bytes o found past = AreRowsOf part_row (λ items. HasPart part bytes o items past) found
+HasRows words.Security bytes o found past = AreRowsOf verdict_row (HasFindings bytes o) found × (past ≡ 0)
 
 -- the name of a word's items, if more of them may be claimed past the end of the bytes
 abbrev pub past_name : Word → List ℕ
@@ -91,6 +93,7 @@ list_rows_left (lists.Libraries it) = as_rows library_row (libraries_there (libr
 list_rows_left (lists.Rebases it) = as_rows rebase_row (rebases_left it)
 list_rows_left (lists.Weak it) = as_rows weak_row (weak_binds_left it)
 list_rows_left (lists.Part it) = as_rows part_row (part_rows_left it)
+list_rows_left (lists.Security it) = as_rows verdict_row (findings_left it)
 
 -- how many more rows a list claims past the end of the bytes, and their name
 abbrev pub list_rows_past : {A : Type 0} → ImageList A → ℕ

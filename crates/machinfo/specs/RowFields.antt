@@ -25,7 +25,8 @@ use Rattle.machinfo.specs.NumberedNotes.{NumberedNoteView}
 use Rattle.machinfo.specs.PartFields.{column_if, flag_field, part_fields}
 use Rattle.machinfo.specs.ProvidedSymbols.{ProvidedView}
 use Rattle.machinfo.specs.Rows.{RowView, command_row, start_row, slot_row, indirect_row, data_row, option_row, tool_row, note_row}
-use Rattle.machinfo.specs.Rows.{provided_row, library_row, rebase_row, weak_row, part_row, list_row_view}
+use Rattle.machinfo.specs.Rows.{provided_row, library_row, rebase_row, weak_row, part_row, verdict_row, list_row_view}
+use Rattle.machinfo.specs.Security.{finding_fields}
 use Rattle.machinfo.specs.Lists.{list_rows_left}
 use Rattle.machinfo.specs.Tools.{tool_name}
 use Rattle.machinfo.specs.declared.list.ImageList.{ImageList}
@@ -190,6 +191,7 @@ row_fields (library_row library) = library_fields library
 row_fields (rebase_row rebase) = rebase_row_fields rebase
 row_fields (weak_row bind) = weak_row_fields bind
 row_fields (part_row row) = part_fields row
+row_fields (verdict_row finding) = finding_fields finding
 
 -- the fields of rows; a fault stays in its place
 abbrev pub fields_of_rows : List (Result RowView Fault) → List (Result (List FieldView) Fault)

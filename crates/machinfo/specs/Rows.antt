@@ -14,6 +14,7 @@ use Rattle.machinfo.specs.NumberedCommands.{NumberedCommandView, numbered_comman
 use Rattle.machinfo.specs.NumberedNotes.{NumberedNoteView, numbered_note_view}
 use Rattle.machinfo.specs.ProvidedSymbols.{ProvidedView, provided_view}
 use Rattle.machinfo.specs.Parts.{PartRowView, part_row_view}
+use Rattle.machinfo.specs.declared.security.Finding.{Finding}
 use Rattle.machinfo.specs.declared.row.Row.{Row}
 use Rattle.machinfo.specs.declared.row.Row.TheVariants as rows
 
@@ -34,6 +35,7 @@ pub data RowView : Type 0 where
   rebase_row : (rebase : Rebase) → RowView
   weak_row : (bind : WeakBind) → RowView
   part_row : (row : PartRowView) → RowView
+  verdict_row : (finding : Finding) → RowView
 
 -- ---- what the code's values stand for
 
@@ -51,3 +53,4 @@ list_row_view (rows.Library library) = library_row (library_view library)
 list_row_view (rows.Rebase rebase) = rebase_row (rebase_view rebase)
 list_row_view (rows.Weak bind) = weak_row (weak_bind_view bind)
 list_row_view (rows.Part row) = part_row (part_row_view row)
+list_row_view (rows.Verdict finding) = verdict_row finding

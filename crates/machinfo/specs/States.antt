@@ -1,6 +1,5 @@
 -- Whether an image is encrypted and stripped, and how many symbols it has.
-use Rattle.std.specs.Prelude.{◌==◌, ℕ, ◌-◌, List, ◌++◌, codes, bit_and, Bool, true, false, not, Option, Some, None, Result, Ok, Err, if◌then◌else◌}
-use Rattle.std.specs.Fmt.{decimal}
+use Rattle.std.specs.Prelude.{◌==◌, ℕ, ◌-◌, List, bit_and, Bool, true, false, not, Option, Some, None, Result, Ok, Err, if◌then◌else◌}
 use Rattle.std.specs.List.{list_any}
 use Rattle.mach_base.specs.Fault.{Fault}
 use Rattle.mach_base.specs.Record.{Value, number_among}
@@ -8,7 +7,6 @@ use Rattle.mach_load.specs.Command.{Command}
 use Rattle.mach_load.specs.Commands.{Kind, encryption_info32, encryption_info64}
 use Rattle.mach_parts.specs.Symbols.{SymbolTable, table_in_bounds, is_stab, symbols_of}
 use Rattle.mach_parts.specs.declared.symbols.nlist.Nlist.{Nlist}
-use Rattle.machinfo.specs.Counts.{past_text}
 use Rattle.machinfo.specs.declared.state.State.{State}
 
 -- a command that says that something is encrypted (struct encryption_info_command, cryptid)
@@ -39,13 +37,3 @@ state_of_commands cs (Some t) = record {
   symbols = (table_in_bounds t).nsyms;
   past = t.nsyms - (table_in_bounds t).nsyms;
 }
-
-abbrev pub yes_or_no : Bool → List ℕ
-yes_or_no is_so = if is_so then codes "yes" else codes "no"
-
--- the lines of this state
-abbrev pub state_lines : State → List ℕ
-state_lines s =
-    (codes "encrypted: " ++ (yes_or_no s.is_encrypted ++ codes "\n"))
-    ++ ((codes "stripped: " ++ (yes_or_no s.is_stripped ++ codes "\n"))
-    ++ (codes "symbols: " ++ (decimal s.symbols ++ (past_text s.past ++ codes "\n"))))

@@ -6,7 +6,7 @@ use Rattle.mach_cli.specs.declared.misuse.Misuse.{Misuse}
 use Rattle.mach_cli.specs.declared.misuse.Misuse.TheVariants.{UnknownWord}
 use Rattle.machinfo.specs.declared.word.Word.{Word}
 use Rattle.machinfo.specs.declared.word.Word.TheVariants.{Commands, Starts, Slots, Indirect, Data, Options, Tools, Notes, Providers, Libraries, Rebases}
-use Rattle.machinfo.specs.declared.word.Word.TheVariants.{Weak, Part}
+use Rattle.machinfo.specs.declared.word.Word.TheVariants.{Weak, Part, Security}
 use Rattle.machinfo.specs.declared.word.Part.TheVariants as parts
 
 -- a word, and how it is spelled
@@ -34,6 +34,7 @@ list_words =
     ∷ record { spelling = codes "rpaths"; word = Part parts.Rpaths }
     ∷ record { spelling = codes "entrypoint"; word = Part parts.Entry }
     ∷ record { spelling = codes "header"; word = Part parts.Header }
+    ∷ record { spelling = codes "security"; word = Security }
     ∷ []
 
 -- the first word with a spelling
@@ -64,6 +65,7 @@ spelling_of (Part parts.Uuid) = codes "uuid"
 spelling_of (Part parts.Rpaths) = codes "rpaths"
 spelling_of (Part parts.Entry) = codes "entrypoint"
 spelling_of (Part parts.Header) = codes "header"
+spelling_of Security = codes "security"
 
 -- ---- the arguments of a call
 

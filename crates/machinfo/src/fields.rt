@@ -20,6 +20,7 @@ use crate::part_fields::write_part;
 use crate::providers::Provided;
 use crate::row::Row;
 use crate::text::tool_name;
+use crate::security::finding_fields;
 use goblin_mach::load_command::{BuildToolVersion, DataInCodeEntry};
 use goblin_mach::slots::{IndirectSymbol, SlotKind, SlotSymbol, SymbolSlot};
 use goblin_mach::{Binding, Library, LibraryAttributes, LibraryKind, Provider, Rebase, WeakBind};
@@ -46,6 +47,7 @@ pub fn write_fields<F: FieldsForm, O: Write>(row: &Row<'_, '_>, out: &mut O) -> 
         Row::Weak(WeakBind::Strong { name }) => F::write(&strong_fields(name), out),
         Row::Weak(WeakBind::Bind(binding)) => F::write(&binding_fields(binding), out),
         Row::Part(part) => write_part::<F, O>(&part, out),
+        Row::Verdict(finding) => F::write(&finding_fields(finding), out),
     }
 }
 

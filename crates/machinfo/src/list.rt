@@ -14,6 +14,7 @@ use crate::notes::NumberedNotes;
 use crate::parts::PartList;
 use crate::providers::ProvidedSymbols;
 use crate::row::Row;
+use crate::security::Findings;
 use crate::word::Word;
 use goblin_mach::slots::{IndirectSymbolIterator, SlotIterator};
 use goblin_mach::{
@@ -42,6 +43,7 @@ pub enum ImageList<'a, 'b, A: Allocator> {
     Rebases(RebaseIterator<'a, 'b>),
     Weak(WeakBindIterator<'a, 'b>),
     Part(PartList<'a, 'b>),
+    Security(Findings<'a, 'b, A>),
 }
 
 // Returns the indirect symbols that begin within the bytes, and how many more are claimed.
@@ -92,6 +94,7 @@ impl<'a, 'b, A: Allocator> ImageList<'a, 'b, A> {
             Word::Rebases => ImageList::Rebases(image.rebases()),
             Word::Weak => ImageList::Weak(image.weak_binds()),
             Word::Part(part) => ImageList::Part(PartList::of(part, image)),
+            Word::Security => ImageList::Security(Findings::of(image)),
         }
     }
 }
@@ -153,6 +156,10 @@ impl<'a, 'b, A: Allocator> ItemList for ImageList<'a, 'b, A> {
             },
             ImageList::Part(list) => match list.take_next()? {
                 Ok(row) => Some(Ok(Row::Part(row))),
+                Err(error) => Some(Err(error)),
+            },
+            ImageList::Security(list) => match list.take_next()? {
+                Ok(finding) => Some(Ok(Row::Verdict(finding))),
                 Err(error) => Some(Err(error)),
             },
         }

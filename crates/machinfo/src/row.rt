@@ -14,6 +14,7 @@ use crate::commands::NumberedCommand;
 use crate::notes::NumberedNote;
 use crate::parts::PartRow;
 use crate::providers::Provided;
+use crate::security::Finding;
 use goblin_mach::load_command::{BuildToolVersion, DataInCodeEntry};
 use goblin_mach::slots::{IndirectSymbol, SymbolSlot};
 use goblin_mach::{Library, Rebase, WeakBind};
@@ -34,6 +35,7 @@ pub enum Row<'a, 'b> {
     Rebase(Rebase),
     Weak(WeakBind<'a>),
     Part(PartRow<'a, 'b>),
+    Verdict(Finding),
 }
 
 /// Each row of a list, each row of the summary and each section is one line, whatever the names in the file hold.

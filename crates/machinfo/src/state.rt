@@ -9,7 +9,8 @@ ghost use Rattle.mach_load.specs.Variants.{command_of};
 ghost use Rattle.mach_parts.specs.Symbols.{table_in_bounds, symbols_of};
 ghost use Rattle.mach_parts.specs.SymbolViews.{table_of};
 ghost use Rattle.machinfo.specs.Counts.{past_text};
-ghost use Rattle.machinfo.specs.States.{is_encrypting, is_local_symbol, is_local_item, state_of_commands, state_lines, yes_or_no};
+ghost use Rattle.machinfo.specs.States.{is_encrypting, is_local_symbol, is_local_item, state_of_commands};
+ghost use Rattle.machinfo.specs.StateLines.{state_lines, yes_or_no};
 
 use crate::counts::PastText;
 use goblin_mach::MachO;
@@ -41,8 +42,8 @@ fn is_encrypting(command: &LoadCommand) -> bool
     }
 }
 
-// Whether one of these commands says so.
-fn is_encrypted(commands: &[LoadCommand]) -> bool
+/// Whether one of these commands says so.
+pub fn is_encrypted(commands: &[LoadCommand]) -> bool
     ensures { result ≡ list_any is_encrypting (map command_of commands.now) }
 {
     let mut is_encrypted = false;

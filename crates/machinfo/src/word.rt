@@ -49,6 +49,8 @@ pub enum Part {
     Entry,
     /// Its header.
     Header,
+    /// How it is hardened.
+    Security,
 }
 
 impl Word {
@@ -75,6 +77,7 @@ impl Word {
             "rpaths" => Some(Word::Part(Part::Rpaths)),
             "entrypoint" => Some(Word::Part(Part::Entry)),
             "header" => Some(Word::Part(Part::Header)),
+            "security" => Some(Word::Security),
             _ => None,
         }
     }
@@ -102,6 +105,7 @@ impl Word {
             Word::Part(Part::Rpaths) => "rpaths",
             Word::Part(Part::Entry) => "entrypoint",
             Word::Part(Part::Header) => "header",
+            Word::Security => "security",
         }
     }
 }

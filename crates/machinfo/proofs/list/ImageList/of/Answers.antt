@@ -10,6 +10,8 @@ use Rattle.machinfo.specs.ProvidedSymbols.{provided_left}
 use Rattle.machinfo.proofs.Facts.{command_rows, starts_are, slot_rows, indirect_rows, data_rows, option_rows, tool_rows, note_rows, provider_rows, library_rows}
 use Rattle.machinfo.proofs.Facts.{part_rows, rebase_rows, weak_rows}
 use Rattle.machinfo.specs.Parts.{part_rows_left, part_rows_past}
+use Rattle.machinfo.specs.Security.{findings_left}
+use Rattle.machinfo.proofs.Verdicts.{verdict_rows}
 use Rattle.machinfo.proofs.list.ImageList.of.Goals as goal
 
 pub returns-in-Commands-clause-rows : goal.returns-in-Commands-clause-rows
@@ -68,3 +70,7 @@ pub returns-in-Part-clause-rows : goal.returns-in-Part-clause-rows
 returns-in-Part-clause-rows g c =
     rw c.in-Part.is (λ bytes o p. part_rows c.args.image.now bytes o p c.in-Part.part (part_rows_left c.of-in-Part.result)
     (part_rows_past c.of-in-Part.result) c.of-in-Part.ensures.rows c.of-in-Part.ensures.past)
+
+pub returns-in-Security-clause-rows : goal.returns-in-Security-clause-rows
+returns-in-Security-clause-rows g c =
+    rw c.in-Security.is (λ bytes o p. verdict_rows c.args.image.now bytes o p (findings_left c.of-in-Security.result) c.of-in-Security.ensures)

@@ -1,0 +1,249 @@
+//! Verdicts on how an image is hardened.
+
+ghost use Rattle.std.specs.Prelude.{◌≡◌, map, option_map};
+ghost use Rattle.std.specs.Iterator.{YieldsFirstBy};
+ghost use Rattle.mach_base.specs.Answer.{Reads};
+ghost use Rattle.goblin_mach.specs.ImageFacts.{facts_view};
+ghost use Rattle.mach_cli.specs.Fields.{field_view};
+ghost use Rattle.machinfo.specs.Security as defined;
+ghost use Rattle.machinfo.specs.declared.security.Verdict.TheVariants as verdicts;
+
+use crate::hardening::{
+    has_bit, has_canary, has_chained_fixups, has_relative_path, has_restricted, has_writable_code,
+    is_arm64e, may_have_writable_code,
+};
+use crate::state::{is_encrypted, state_of};
+use goblin_mach::header::{MH_ALLOW_STACK_EXECUTION, MH_NO_HEAP_EXECUTION, MH_PIE};
+use goblin_mach::{MachO, Result};
+use mach_cli::{Field, Value};
+use mach_signature::image::{code_directory, code_signature};
+use std::alloc::Allocator;
+
+/// A verdict on how an image is hardened.
+#[derive(Clone, Copy)]
+pub enum Verdict {
+    Pie,
+    NoHeapExecution,
+    StackExecution,
+    PointerAuthentication,
+    StackCanary,
+    WritableCode,
+    WritableCodeAllowed,
+    Restricted,
+    ChainedFixups,
+    RelativeRunPaths,
+    Encrypted,
+    Stripped,
+    Signed,
+    AdHoc,
+    Cms,
+    HardenedRuntime,
+    LibraryValidation,
+    Entitlements,
+}
+
+// All verdicts, in order.
+const VERDICTS: [Verdict; 18] = [
+    Verdict::Pie,
+    Verdict::NoHeapExecution,
+    Verdict::StackExecution,
+    Verdict::PointerAuthentication,
+    Verdict::StackCanary,
+    Verdict::WritableCode,
+    Verdict::WritableCodeAllowed,
+    Verdict::Restricted,
+    Verdict::ChainedFixups,
+    Verdict::RelativeRunPaths,
+    Verdict::Encrypted,
+    Verdict::Stripped,
+    Verdict::Signed,
+    Verdict::AdHoc,
+    Verdict::Cms,
+    Verdict::HardenedRuntime,
+    Verdict::LibraryValidation,
+    Verdict::Entitlements,
+];
+
+impl Verdict {
+    // Returns its name, and what `yes` means.
+    fn words(self) -> (&'static str, &'static str)
+        ensures { defined.words_read result ≡ defined.finding_words self }
+    {
+        match self {
+            Verdict::Pie => ("pie", "loaded at a random address"),
+            Verdict::NoHeapExecution => ("no-heap-execution", "execution refused on the heap"),
+            Verdict::StackExecution => ("stack-execution", "execution allowed on the stack"),
+            Verdict::PointerAuthentication => (
+                "pointer-authentication",
+                "for arm64e, which signs pointers",
+            ),
+            Verdict::StackCanary => ("stack-canary", "code that checks its stack by canaries"),
+            Verdict::WritableCode => ("writable-code", "a segment both writable and executable"),
+            Verdict::WritableCodeAllowed => (
+                "writable-code-allowed",
+                "a segment that may become both",
+            ),
+            Verdict::Restricted => ("restricted", "dyld is to ignore environment variables"),
+            Verdict::ChainedFixups => ("chained-fixups", "pointers in chains of fixups"),
+            Verdict::RelativeRunPaths => (
+                "relative-run-paths",
+                "a run path that doesn't begin with /",
+            ),
+            Verdict::Encrypted => ("encrypted", "a part is encrypted"),
+            Verdict::Stripped => ("stripped", "no local symbols"),
+            Verdict::Signed => ("signed", "a code directory"),
+            Verdict::AdHoc => ("ad-hoc", "signed without an identity"),
+            Verdict::Cms => ("cms", "a CMS message, which says who signed"),
+            Verdict::HardenedRuntime => ("hardened-runtime", "started in the hardened runtime"),
+            Verdict::LibraryValidation => (
+                "library-validation",
+                "only libraries of its team or of the system",
+            ),
+            Verdict::Entitlements => ("entitlements", "entitlements in the signature"),
+        }
+    }
+}
+
+/// A verdict, and whether it holds.
+#[derive(Clone, Copy)]
+pub struct Finding {
+    pub verdict: Verdict,
+    pub is_so: bool,
+}
+
+/// Returns the fields of a finding: the name of the verdict, whether it holds, and what `yes` means.
+pub fn finding_fields(finding: Finding) -> [Field<'static>; 3]
+    ensures { map field_view result ≡ defined.finding_fields finding }
+{
+    let (name, meaning) = finding.verdict.words();
+    let is_so = Value::Flag {
+        is_so: finding.is_so,
+        yes: "yes",
+        no: "no ",
+    };
+    [
+        Field::new("is_so", is_so, 2),
+        Field::new("meaning", Value::Text(meaning), 3),
+        Field::new("name", Value::Text(name), 1).wide(22),
+    ]
+}
+
+// Whether an image has a code directory.
+fn is_signed<A: Allocator>(image: &MachO<'_, A>) -> Result<bool>
+    ensures { Reads (λ it. it) result (defined.directory_meets defined.has_directory (facts_view image.now)) }
+{
+    match code_directory(image)? {
+        Some(_) => Ok(true),
+        None => Ok(false),
+    }
+}
+
+// Whether the code directory of an image has a flag.
+fn has_code_flag<A: Allocator>(image: &MachO<'_, A>, flag: u32) -> Result<bool>
+    ensures { Reads (λ it. it) result (defined.directory_meets (defined.has_code_flag flag) (facts_view image.now)) }
+{
+    match code_directory(image)? {
+        Some(directory) => Ok(has_bit(directory.head.flags, flag)),
+        None => Ok(false),
+    }
+}
+
+// Whether there are bytes.
+fn is_filled(content: Option<&[u8]>) -> bool
+    ensures { result ≡ defined.is_filled (option_map (λ bytes. bytes.now) content.entry) }
+{
+    match content {
+        Some([_, ..]) => true,
+        _ => false,
+    }
+}
+
+// Whether the signature of an image has a CMS message.
+fn has_cms<A: Allocator>(image: &MachO<'_, A>) -> Result<bool>
+    ensures { Reads (λ it. it) result (defined.is_so (facts_view image.now) verdicts.Cms) }
+{
+    match code_signature(image)? {
+        Some(signature) => Ok(is_filled(signature.cms()?)),
+        None => Ok(false),
+    }
+}
+
+// Whether the signature of an image has entitlements.
+fn has_entitlements<A: Allocator>(image: &MachO<'_, A>) -> Result<bool>
+    ensures { Reads (λ it. it) result (defined.is_so (facts_view image.now) verdicts.Entitlements) }
+{
+    match code_signature(image)? {
+        Some(signature) => {
+            let xml = is_filled(signature.entitlements()?);
+            let der = is_filled(signature.der_entitlements()?);
+            Ok(xml || der)
+        }
+        None => Ok(false),
+    }
+}
+
+// Whether a verdict holds of an image, or why its signature can't be read.
+#[tactic(auto, using(crate::proofs::Verdicts::any_of_views))]
+fn is_so<A: Allocator>(image: &MachO<'_, A>, verdict: Verdict) -> Result<bool>
+    ensures { Reads (λ it. it) result (defined.is_so (facts_view image.now) verdict) }
+{
+    let flags = image.header.flags;
+    let segments = image.segments.as_slice();
+    let commands = image.load_commands.as_slice();
+    match verdict {
+        Verdict::Pie => Ok(has_bit(flags, MH_PIE)),
+        Verdict::NoHeapExecution => Ok(has_bit(flags, MH_NO_HEAP_EXECUTION)),
+        Verdict::StackExecution => Ok(has_bit(flags, MH_ALLOW_STACK_EXECUTION)),
+        Verdict::PointerAuthentication => Ok(is_arm64e(&image.header)),
+        Verdict::StackCanary => Ok(has_canary(image)),
+        Verdict::WritableCode => Ok(has_writable_code(segments)),
+        Verdict::WritableCodeAllowed => Ok(may_have_writable_code(segments)),
+        Verdict::Restricted => Ok(has_restricted(image.ctx(), segments)),
+        Verdict::ChainedFixups => Ok(has_chained_fixups(commands)),
+        Verdict::RelativeRunPaths => Ok(has_relative_path(image.rpaths.as_slice())),
+        Verdict::Encrypted => Ok(is_encrypted(commands)),
+        Verdict::Stripped => Ok(state_of(image).is_stripped),
+        Verdict::Signed => is_signed(image),
+        Verdict::AdHoc => has_code_flag(image, 0x2),
+        Verdict::Cms => has_cms(image),
+        Verdict::HardenedRuntime => has_code_flag(image, 0x1_0000),
+        Verdict::LibraryValidation => has_code_flag(image, 0x2000),
+        Verdict::Entitlements => has_entitlements(image),
+    }
+}
+
+/// Some verdicts, and the image that they are on.
+#[derive(Clone, Copy)]
+pub struct Findings<'a, 'b, A: Allocator> {
+    /// The image.
+    pub image: &'b MachO<'a, A>,
+    /// The verdicts that are left.
+    pub rest: &'b [Verdict],
+}
+
+impl<'a, 'b, A: Allocator> Findings<'a, 'b, A> {
+    /// Returns all verdicts on an image.
+    pub fn of(image: &'b MachO<'a, A>) -> Self
+        ensures { defined.findings_left result ≡ defined.findings_in (facts_view image.now) defined.all_verdicts }
+    {
+        Findings {
+            image,
+            rest: &VERDICTS,
+        }
+    }
+
+    /// Returns whether the next verdict holds, or the error if the signature can't be read.
+    pub fn take_next(&mut self) -> Option<Result<Finding>>
+        ensures { YieldsFirstBy defined.finding_read defined.findings_left self.old result self.new }
+    {
+        let [verdict, rest @ ..] = self.rest else {
+            return None;
+        };
+        self.rest = rest;
+        let verdict = *verdict;
+        match is_so(self.image, verdict) {
+            Ok(is_so) => Some(Ok(Finding { verdict, is_so })),
+            Err(error) => Some(Err(error)),
+        }
+    }
+}
