@@ -32,6 +32,8 @@ pub enum Word {
     Weak,
     /// A part of it.
     Part(Part),
+    /// How it is hardened.
+    Security,
 }
 
 /// A part of an image that is a list of rows, none of which takes memory.
@@ -49,8 +51,6 @@ pub enum Part {
     Entry,
     /// Its header.
     Header,
-    /// How it is hardened.
-    Security,
 }
 
 impl Word {
