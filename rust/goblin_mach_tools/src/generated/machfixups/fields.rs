@@ -116,8 +116,16 @@ fn dash_field(column: usize, width: usize) -> Field<'static> {
     Field::of_line(Value::Text("-"), column).wide(width)
 }
 
+// Returns the field for the pointer of a chain as it is stored, if it is shown.
+fn raw_field(raw: Option<u64>) -> Field<'static> {
+    match raw {
+        Some(raw) => Field::new("raw", Value::Hex(raw), 9),
+        None => Field::of_line(Value::Text(""), 0),
+    }
+}
+
 // Returns the fields of a bind.
-fn bind_fields<'a>(place: &Location<'a>, bind: &Bind<'a>) -> [Field<'a>; 15] {
+fn bind_fields<'a>(place: &Location<'a>, bind: &Bind<'a>, raw: Option<u64>) -> [Field<'a>; 16] {
     let auth = bind.auth;
     [
         addend_field(bind.addend),
@@ -132,6 +140,7 @@ fn bind_fields<'a>(place: &Location<'a>, bind: &Bind<'a>) -> [Field<'a>; 15] {
         kind_field("kind", "bind"),
         Field::of_object("library", Value::Signed(bind.ordinal)),
         Field::new("name", Value::Text(bind.name), 6),
+        raw_field(raw),
         section_field(place),
         segment_field(place),
         bind_flags(bind),
@@ -161,7 +170,8 @@ fn rebase_fields<'a>(
     target: &Location<'a>,
     kind: RebaseKind,
     auth: Option<PointerAuth>,
-) -> [Field<'a>; 16] {
+    raw: Option<u64>,
+) -> [Field<'a>; 17] {
     [
         address_field(place),
         Field::of_object("diversity", Value::Number(u64::from(diversity_by(auth)))),
@@ -169,6 +179,7 @@ fn rebase_fields<'a>(
         Field::whether("is_signed", has_auth(auth)),
         Field::of_object("key", Value::Number(u64::from(key_by(auth)))),
         kind_field("kind", "rebase"),
+        raw_field(raw),
         section_field(place),
         segment_field(place),
         Field::new("target", Value::Hex(target.address), 6),
@@ -183,10 +194,11 @@ fn rebase_fields<'a>(
 }
 
 // Returns the fields of a number.
-fn value_fields<'a>(place: &Location<'a>, number: u32) -> [Field<'a>; 7] {
+fn value_fields<'a>(place: &Location<'a>, number: u32, raw: Option<u64>) -> [Field<'a>; 8] {
     [
         address_field(place),
         Field::of_object("kind", Value::Text("number")),
+        raw_field(raw),
         section_field(place),
         segment_field(place),
         Field::new("target", Value::Hex(u64::from(number)), 6),
@@ -216,13 +228,13 @@ fn strong_fields(name: &str) -> [Field<'_>; 8] {
 /// - if `Ok`: `Appends (O.contents out.old) (O.contents out.new) (F.fields_text (pointer_fields (row_view row)))`
 pub fn write_row<F: FieldsForm, O: Write>(row: &Row<'_, '_>, out: &mut O) -> io::Result<()> {
     match row {
-        Row::At { place, action } => match action {
-            Action::Bind(bind) => F::write(&bind_fields(place, bind), out),
+        Row::At { place, action, raw } => match action {
+            Action::Bind(bind) => F::write(&bind_fields(place, bind, *raw), out),
             Action::Weak(bind) => F::write(&weak_fields(place, bind), out),
             Action::Rebase { target, kind, auth } => {
-                F::write(&rebase_fields(place, target, *kind, *auth), out)
+                F::write(&rebase_fields(place, target, *kind, *auth, *raw), out)
             }
-            Action::Value(number) => F::write(&value_fields(place, *number), out),
+            Action::Value(number) => F::write(&value_fields(place, *number, *raw), out),
         },
         Row::Strong(name) => F::write(&strong_fields(name), out),
     }

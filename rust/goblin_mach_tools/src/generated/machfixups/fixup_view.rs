@@ -31,7 +31,13 @@ impl ImageView for FixupLines {
     ) -> Result<Outcome, ShowFailure> {
         let parts = AllStretches::of_image(image)?;
         let shown = self.selection.shown();
-        let list = ImageRows::of(image, &parts, shown, shown.kinds_in_lines());
+        let list = ImageRows::of(
+            image,
+            &parts,
+            shown,
+            shown.kinds_in_lines(),
+            self.selection.chains,
+        );
         let mut lines = Headed {
             list: InForm { list, form: Line },
             heading: HEADING,

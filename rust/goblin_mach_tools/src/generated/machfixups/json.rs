@@ -27,7 +27,7 @@ impl ImageView for FixupObjects {
     ) -> Result<Outcome, ShowFailure> {
         let parts = AllStretches::of_image(image)?;
         let shown = self.selection.shown();
-        let rows = ImageRows::of(image, &parts, shown, shown.kinds_in_objects());
+        let rows = ImageRows::of(image, &parts, shown, shown.kinds_in_objects(), true);
         Ok(write_members(rows, left, out)?)
     }
 }

@@ -8,6 +8,7 @@ use crate::generated::machfixups::kept_fixups::{KeptFixups, KindsOfLists};
 use crate::generated::machfixups::row::Row;
 use crate::generated::machfixups::rows::{Items, Rows, Selection};
 use crate::generated::machfixups::section_names::AllStretches;
+use crate::generated::machfixups::stored_pointers::StoredPointers;
 use crate::shim::io;
 use crate::shim::io::Write;
 use goblin_mach::generated::mach::MachO;
@@ -56,6 +57,7 @@ fn rows_of<'p, 'a, 'b>(
     parts: &'p AllStretches,
     libs: &'b [&'a str],
     table: Option<ChainedFixups<'a>>,
+    source: Option<StoredPointers<'a, 'b>>,
     items: Items<'a, 'b>,
     fixups: KeptFixups<'a, 'b>,
 ) -> Rows<'p, 'a, 'b> {
@@ -63,22 +65,25 @@ fn rows_of<'p, 'a, 'b>(
         parts,
         libs,
         table,
+        source,
         items: if is_shown { items } else { Items::Hidden },
         fixups,
     }
 }
 
 impl<'p, 'a, 'b> ImageRows<'p, 'a, 'b> {
-    /// Returns the rows of an image of the lists that are shown, given its segments, and which fixups of the chains each list has.
+    /// Returns the rows of an image of the lists that are shown, given its segments, which fixups of the chains each list has, and
+    /// whether these are shown with their pointers.
     ///
     /// # Proved
     ///
-    /// - for each `bytes : List ℕ`, `o : ℕ`, if `IsImage bytes o image`, there is `lists : PointerLists` with: `HasPointerLists bytes o lists × (libs : List (List ℕ)) × HasLibraries bytes o libs × (chained : Result (Option Fixups) Fault) × HasChainedFixups bytes o chained × (image_rows_left result ≡ rows_shown shown kinds (parts_view parts) libs (readable_table chained) lists)`
+    /// - for each `bytes : List ℕ`, `o : ℕ`, if `IsImage bytes o image`, there is `lists : PointerLists` with: `HasPointerLists bytes o lists × (libs : List (List ℕ)) × HasLibraries bytes o libs × (chained : Result (Option Fixups) Fault) × HasChainedFixups bytes o chained × (image_rows_left result ≡ rows_shown has_raw shown kinds (parts_view parts) libs (readable_table chained) lists)`
     pub fn of(
         image: &'b MachO<'a>,
         parts: &'p AllStretches,
         shown: Selection,
         kinds: KindsOfLists,
+        has_raw: bool,
     ) -> Self {
         let rebases = Items::Rebases(image.opcode_rebases());
         let binds = Items::Binds(image.opcode_bindings());
@@ -87,11 +92,28 @@ impl<'p, 'a, 'b> ImageRows<'p, 'a, 'b> {
         let of_binds = KeptFixups::of(image.fixups(), kinds.binds);
         let of_chains = KeptFixups::of(image.fixups(), kinds.chains);
         let (libs, table) = (image.libs.as_slice(), table_of(image));
+        let source = StoredPointers::of(image, has_raw);
         ImageRows {
-            rebases: rows_of(shown.rebases, parts, libs, table, rebases, of_rebases),
-            binds: rows_of(shown.binds, parts, libs, table, binds, of_binds),
-            weak: rows_of(shown.weak, parts, libs, table, weak, KeptFixups::none()),
-            chains: rows_of(false, parts, libs, table, Items::Hidden, of_chains),
+            rebases: rows_of(
+                shown.rebases,
+                parts,
+                libs,
+                table,
+                source,
+                rebases,
+                of_rebases,
+            ),
+            binds: rows_of(shown.binds, parts, libs, table, source, binds, of_binds),
+            weak: rows_of(
+                shown.weak,
+                parts,
+                libs,
+                table,
+                source,
+                weak,
+                KeptFixups::none(),
+            ),
+            chains: rows_of(false, parts, libs, table, source, Items::Hidden, of_chains),
         }
     }
 }

@@ -13,8 +13,9 @@
 //! A line has the address, the names of the segment and of the section, and what is stored there: `bind` with the short name of the
 //! image that the symbol comes from and the symbol's name, the addend if it isn't 0, and flags; `weak` with a name, addend and flags;
 //! `rebase` with the segment and the section that hold the address that moves with the image, the address, and flags if the pointer
-//! is signed; or `value` with a number. A strong definition of the image's own has a line `- - - strong -` with its name. Above the
-//! first line is one with the names of the columns.
+//! is signed; or `value` with a number. A strong definition of the image's own has a line `- - - strong -` with its name. With
+//! `--chains` the line of a fixup of the chains ends with the pointer that is stored there; an object always has it, as `raw`. Above
+//! the first line is one with the names of the columns.
 //!
 //! The short name of a library is the last component of its path, without `.dylib` at its end. Other names are `itself`,
 //! `main-executable`, `flat` for any image, and `weak-lookup`. The ordinal takes its place if the image's list has no library with
@@ -45,6 +46,7 @@ mod origins;
 mod row;
 mod rows;
 mod section_names;
+mod stored_pointers;
 mod stretches;
 
 use crate::generated::mach_cli::{

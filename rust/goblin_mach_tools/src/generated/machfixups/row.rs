@@ -4,6 +4,7 @@
 
 use crate::generated::machfixups::origins::{origin_of, provider_name};
 use crate::generated::machfixups::section_names::{AllStretches, SegmentStretches};
+use crate::generated::machfixups::stored_pointers::{StoredPointers, raw_of};
 use goblin_mach::generated::mach::chained_fixups::{
     ChainedFixups, ChainedImport, Fixup, FixupKind, PointerAuth,
 };
@@ -59,6 +60,8 @@ pub enum Row<'b, 'a> {
     At {
         place: Location<'b>,
         action: Action<'b, 'a>,
+        /// The pointer of a chain as it is stored, if it is shown.
+        raw: Option<u64>,
     },
     /// The name of a strong definition of the image's own.
     Strong(&'a str),
@@ -130,6 +133,7 @@ fn row_by_address<'b, 'a>(
     Row::At {
         place: place_by_address(parts, address),
         action,
+        raw: None,
     }
 }
 
@@ -139,11 +143,13 @@ fn row_by_segment<'b, 'a>(
     segment: u32,
     address: u64,
     action: Action<'b, 'a>,
+    raw: Option<u64>,
 ) -> Row<'b, 'a> {
     let part = parts.get(segment as usize);
     Row::At {
         place: place_in(part, address),
         action,
+        raw,
     }
 }
 
@@ -200,10 +206,18 @@ fn row_of_fixup<'b, 'a>(
     parts: &'b AllStretches,
     libs: &[&'a str],
     table: &Option<ChainedFixups<'a>>,
+    source: &Option<StoredPointers<'_, '_>>,
     fixup: &Fixup,
 ) -> Result<Row<'b, 'a>> {
     let action = action_of(parts, libs, table, fixup)?;
-    Ok(row_by_segment(parts, fixup.segment, fixup.address, action))
+    let raw = raw_of(source, table, fixup);
+    Ok(row_by_segment(
+        parts,
+        fixup.segment,
+        fixup.address,
+        action,
+        raw,
+    ))
 }
 
 /// Returns the row of a rebase of the opcodes; its place is in its own segment.
@@ -223,6 +237,7 @@ pub fn rebase_row<'b, 'a>(parts: &'b AllStretches, item: Result<Rebase>) -> Resu
         rebase.segment,
         rebase.address,
         action,
+        None,
     ))
 }
 
@@ -262,15 +277,16 @@ pub fn binding_row<'b, 'a>(
 ///
 /// # Proved
 ///
-/// - `row_read result ≡ row_for_fixup (parts_view parts) (texts libs) (fixups_table_view table) (fixup_read item)`
+/// - `row_read result ≡ row_for_fixup (parts_view parts) (texts libs) (fixups_table_view table) (source_option_view source) (fixup_read item)`
 pub fn fixup_row<'b, 'a>(
     parts: &'b AllStretches,
     libs: &[&'a str],
     table: &Option<ChainedFixups<'a>>,
+    source: &Option<StoredPointers<'_, '_>>,
     item: Result<Fixup>,
 ) -> Result<Row<'b, 'a>> {
     match item {
-        Ok(fixup) => row_of_fixup(parts, libs, table, &fixup),
+        Ok(fixup) => row_of_fixup(parts, libs, table, source, &fixup),
         Err(error) => Err(error),
     }
 }

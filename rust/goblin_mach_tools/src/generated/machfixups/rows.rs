@@ -5,6 +5,7 @@
 use crate::generated::machfixups::kept_fixups::{KeptFixups, KindsOfLists, ShownKinds};
 use crate::generated::machfixups::row::{Row, binding_row, fixup_row, rebase_row, weak_row};
 use crate::generated::machfixups::section_names::AllStretches;
+use crate::generated::machfixups::stored_pointers::StoredPointers;
 use goblin_mach::generated::mach::chained_fixups::ChainedFixups;
 use goblin_mach::generated::mach::{
     OpcodeBindingIterator, OpcodeRebaseIterator, Result, WeakBindIterator,
@@ -126,6 +127,8 @@ pub struct Rows<'p, 'a, 'b> {
     pub libs: &'b [&'a str],
     /// The chained fixups with the imports of its binds.
     pub table: Option<ChainedFixups<'a>>,
+    /// What the pointers of its fixups are read from, if they are shown.
+    pub source: Option<StoredPointers<'a, 'b>>,
     pub items: Items<'a, 'b>,
     pub fixups: KeptFixups<'a, 'b>,
 }
@@ -134,11 +137,11 @@ impl<'p, 'a> Iterator for Rows<'p, 'a, '_> {
     type Item = Result<Row<'p, 'a>>;
 
     fn next(&mut self) -> Option<Result<Row<'p, 'a>>> {
-        let (parts, libs, table) = (self.parts, self.libs, self.table);
+        let (parts, libs, table, source) = (self.parts, self.libs, self.table, self.source);
         match self.items.next_row(parts) {
             Some(row) => Some(row),
             None => match self.fixups.next() {
-                Some(item) => Some(fixup_row(parts, libs, &table, item)),
+                Some(item) => Some(fixup_row(parts, libs, &table, &source, item)),
                 None => None,
             },
         }

@@ -10,6 +10,7 @@ use crate::generated::machinfo::notes::NumberedNote;
 use crate::generated::machinfo::part_fields::write_part;
 use crate::generated::machinfo::providers::Provided;
 use crate::generated::machinfo::row::Row;
+use crate::generated::machinfo::security::finding_fields;
 use crate::generated::machinfo::text::tool_name;
 use crate::shim::io;
 use crate::shim::io::Write;
@@ -40,6 +41,7 @@ pub fn write_fields<F: FieldsForm, O: Write>(row: &Row<'_, '_>, out: &mut O) -> 
         Row::Weak(WeakBind::Strong { name }) => F::write(&strong_fields(name), out),
         Row::Weak(WeakBind::Bind(binding)) => F::write(&binding_fields(binding), out),
         Row::Part(part) => write_part::<F, O>(&part, out),
+        Row::Verdict(finding) => F::write(&finding_fields(finding), out),
     }
 }
 

@@ -9,6 +9,7 @@ use crate::generated::machinfo::notes::NumberedNotes;
 use crate::generated::machinfo::parts::PartList;
 use crate::generated::machinfo::providers::ProvidedSymbols;
 use crate::generated::machinfo::row::Row;
+use crate::generated::machinfo::security::Findings;
 use crate::generated::machinfo::word::Word;
 use crate::shim::io;
 use crate::shim::io::Write;
@@ -34,6 +35,7 @@ pub enum ImageList<'a, 'b> {
     Rebases(RebaseIterator<'a, 'b>),
     Weak(WeakBindIterator<'a, 'b>),
     Part(PartList<'a, 'b>),
+    Security(Findings<'a, 'b>),
 }
 
 // Returns the indirect symbols that begin within the bytes, and how many more are claimed.
@@ -80,6 +82,7 @@ impl<'a, 'b> ImageList<'a, 'b> {
             Word::Rebases => ImageList::Rebases(image.rebases()),
             Word::Weak => ImageList::Weak(image.weak_binds()),
             Word::Part(part) => ImageList::Part(PartList::of(part, image)),
+            Word::Security => ImageList::Security(Findings::of(image)),
         }
     }
 }
@@ -133,6 +136,10 @@ impl<'a, 'b> ItemList for ImageList<'a, 'b> {
             },
             ImageList::Part(list) => match list.take_next()? {
                 Ok(row) => Some(Ok(Row::Part(row))),
+                Err(error) => Some(Err(error)),
+            },
+            ImageList::Security(list) => match list.take_next()? {
+                Ok(finding) => Some(Ok(Row::Verdict(finding))),
                 Err(error) => Some(Err(error)),
             },
         }

@@ -3,8 +3,8 @@
 //!
 //! With a word it prints one list instead, an item a line: load commands, function starts, stubs and pointers, indirect symbols,
 //! data in code, linker options, tools, notes, providers of symbols, libraries, rebases, weak binds, segments, sections,
-//! UUIDs, run paths, the entry point or the header. Of a fat file it prints that of each entry, or of the entries for one cpu,
-//! under a line that says which.
+//! UUIDs, run paths, the entry point, the header or how it is hardened. Of a fat file it prints that of each entry, or of the
+//! entries for one cpu, under a line that says which.
 //!
 //! It prints at most as many rows of a file as `--limit` says, and a line after those of an image that has more. A row that can't
 //! be read is a line with the error. With `--json` it writes one object for each file instead, on a line.
@@ -29,6 +29,7 @@ mod views;
 mod command_fields;
 mod commands;
 mod fields;
+mod hardening;
 mod list;
 mod notes;
 mod part_fields;
@@ -36,6 +37,7 @@ mod parts;
 mod providers;
 mod row;
 mod sections;
+mod security;
 mod word;
 
 use crate::generated::mach_cli::{
@@ -56,7 +58,7 @@ const PROGRAM: Program = Program {
     usage: "usage: machinfo [--json] [--limit N] [--arch NAME | --cputype 0xN] [--names FILE] [-0] [WORD] FILE..
        machinfo -h | --help | --version
 WORD: commands, starts, slots, indirect, data, options, tools, notes, providers, libraries, rebases, weak,
-      segments, sections, uuid, rpaths, entrypoint, header
+      segments, sections, uuid, rpaths, entrypoint, header, security
 ",
     version: "machinfo 0.2.0\n",
     options: Options::OF_IMAGES,
@@ -82,6 +84,7 @@ WORD: commands, starts, slots, indirect, data, options, tools, notes, providers,
         "rpaths",
         "sections",
         "segments",
+        "security",
         "slots",
         "starts",
         "tools",

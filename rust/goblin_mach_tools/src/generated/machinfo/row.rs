@@ -6,6 +6,7 @@ use crate::generated::machinfo::commands::NumberedCommand;
 use crate::generated::machinfo::notes::NumberedNote;
 use crate::generated::machinfo::parts::PartRow;
 use crate::generated::machinfo::providers::Provided;
+use crate::generated::machinfo::security::Finding;
 use goblin_mach::generated::mach::load_command::{BuildToolVersion, DataInCodeEntry};
 use goblin_mach::generated::mach::slots::{IndirectSymbol, SymbolSlot};
 use goblin_mach::generated::mach::{Library, Rebase, WeakBind};
@@ -26,4 +27,5 @@ pub enum Row<'a, 'b> {
     Rebase(Rebase),
     Weak(WeakBind<'a>),
     Part(PartRow<'a, 'b>),
+    Verdict(Finding),
 }

@@ -29,8 +29,12 @@ fn is_encrypting(command: &LoadCommand) -> bool {
     }
 }
 
-// Whether one of these commands says so.
-fn is_encrypted(commands: &[LoadCommand]) -> bool {
+/// Whether one of these commands says so.
+///
+/// # Proved
+///
+/// - `result ≡ list_any is_encrypting (map command_of commands)`
+pub fn is_encrypted(commands: &[LoadCommand]) -> bool {
     let mut is_encrypted = false;
     for command in commands {
         is_encrypted |= is_encrypting(command);

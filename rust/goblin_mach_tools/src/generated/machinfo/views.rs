@@ -73,6 +73,7 @@ fn has_names(word: Word) -> bool {
         Word::Weak => false,
         Word::Part(Part::Header) => true,
         Word::Part(_) => false,
+        Word::Security => false,
     }
 }
 

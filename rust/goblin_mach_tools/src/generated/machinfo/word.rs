@@ -31,6 +31,8 @@ pub enum Word {
     Weak,
     /// A part of it.
     Part(Part),
+    /// How it is hardened.
+    Security,
 }
 
 /// A part of an image that is a list of rows, none of which takes memory.
@@ -76,6 +78,7 @@ impl Word {
             "rpaths" => Some(Word::Part(Part::Rpaths)),
             "entrypoint" => Some(Word::Part(Part::Entry)),
             "header" => Some(Word::Part(Part::Header)),
+            "security" => Some(Word::Security),
             _ => None,
         }
     }
@@ -105,6 +108,7 @@ impl Word {
             Word::Part(Part::Rpaths) => "rpaths",
             Word::Part(Part::Entry) => "entrypoint",
             Word::Part(Part::Header) => "header",
+            Word::Security => "security",
         }
     }
 }
