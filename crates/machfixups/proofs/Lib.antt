@@ -3,4 +3,3 @@ mod Changes
 mod PartLists
 mod ShortNames
 mod KeptFixups
-mod HeadingRows

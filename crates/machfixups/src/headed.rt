@@ -1,6 +1,6 @@
 //! Lists with a heading above their rows.
 
-ghost use Rattle.std.specs.Prelude.{◌≡◌, ◌++◌, [], if◌then◌else◌};
+ghost use Rattle.std.specs.Prelude.{◌++◌};
 ghost use Rattle.machfixups.specs.Headed.{headed_unless};
 
 use mach_cli::Listing;
@@ -25,13 +25,6 @@ pub struct HeadedRow<R> {
     pub row: R,
 }
 
-// Returns the heading, or nothing if it is written.
-fn line_before(is_written: bool, heading: &'static str) -> &'static str
-    ensures { result.now ≡ if is_written then [] else heading.now }
-{
-    if is_written { "" } else { heading }
-}
-
 impl<L: Listing> Listing for Headed<L> {
     type Row = HeadedRow<L::Row>;
 
@@ -43,11 +36,10 @@ impl<L: Listing> Listing for Headed<L> {
 
     ghost past_name = { λ s. L.past_name s.list };
 
-    #[tactic(auto, using(crate::proofs::HeadingRows::headed_none, crate::proofs::HeadingRows::headed_row, crate::proofs::HeadingRows::headed_fault))]
     fn next_row(&mut self) -> Option<goblin_mach::Result<HeadedRow<L::Row>>> {
         match self.list.next_row() {
             Some(Ok(row)) => {
-                let heading = line_before(self.is_written, self.heading);
+                let heading = if self.is_written { "" } else { self.heading };
                 self.is_written = true;
                 Some(Ok(HeadedRow { heading, row }))
             }
