@@ -1,29 +1,30 @@
 -- Each row is one line.
 use Rattle.std.proofs.Common.{◌≡◌, ◌-◌, ◌^◌, ◌++◌, [], ◌∷◌, ℕ, List, true, false, codes, refl, arith, rules}
 use Rattle.std.specs.Fmt.{digits}
-use Rattle.mach_parts.specs.declared.segment.section.Section.{Section}
 use Rattle.mach_cli.specs.Escapes.{has_no_feed, IsOneLine}
 use Rattle.mach_cli.specs.Fields.{fields_line, fields_pairs}
-use Rattle.mach_cli.proofs.OneLine.{no_feeds, no_feed-escaped_bytes, no_feed-flat_map, no_feed-padded, no_feed-printed, printed-digits, line-end}
+use Rattle.mach_cli.proofs.OneLine.{no_feeds, no_feed-flat_map, no_feed-padded, no_feed-printed, printed-digits, line-end}
 use Rattle.machinfo.specs.FactRows.{FactView, uuid_fact, platform_fact, tool_fact, library_fact, path_fact}
 use Rattle.machinfo.specs.FactTexts.{fact_text}
 use Rattle.machinfo.specs.Platforms.{platform_name}
 use Rattle.machinfo.specs.RowFields.{row_fields}
 use Rattle.machinfo.specs.Rows.{RowView}
-use Rattle.machinfo.specs.Segments.{field_text, section_summary_text}
+use Rattle.machinfo.specs.PartLines.{part_line}
+use Rattle.machinfo.specs.Tools.{tool_text}
+use Rattle.machinfo.specs.declared.word.Part.{Part}
+use Rattle.machinfo.specs.declared.word.Part.TheVariants as parts
 use Rattle.mach_cli.proofs.FieldLines.{no_feed-line, no_feed-uuid, pairs_are_one_line}
 
 no_feed-platform : (number : ℕ) → has_no_feed (platform_name number) ≡ true
 no_feed-platform number = search (no_feeds, rules)
 
-no_feed-field : (name : List ℕ) → has_no_feed (field_text name) ≡ true
-no_feed-field [] = refl
-no_feed-field (b ∷ bs) = no_feed-escaped_bytes (b ∷ bs)
+no_feed-tool : (number : ℕ) → has_no_feed (tool_text number) ≡ true
+no_feed-tool number = search (no_feeds, rules)
 
 no_feed-fact : (fact : FactView) → has_no_feed (fact_text fact) ≡ true
 no_feed-fact (uuid_fact uuid) = search (no_feeds, no_feed-uuid, rules)
 no_feed-fact (platform_fact platform) = search (no_feeds, no_feed-platform, rules)
-no_feed-fact (tool_fact tool) = search (no_feeds, rules)
+no_feed-fact (tool_fact tool) = search (no_feeds, no_feed-tool, rules)
 no_feed-fact (library_fact library) = search (no_feeds, no_feed-line, rules)
 no_feed-fact (path_fact path) = search (no_feeds, rules)
 
@@ -36,5 +37,13 @@ row_pairs row = pairs_are_one_line (row_fields row)
 pub fact_line : (fact : FactView) → IsOneLine (fact_text fact ++ codes "\n")
 fact_line fact = line-end (fact_text fact) (no_feed-fact fact)
 
-pub section_line : (section : Section) → IsOneLine (section_summary_text section ++ codes "\n")
-section_line section = line-end (section_summary_text section) (search (no_feeds, no_feed-field, rules))
+no_feed-part : (part : Part) (row : RowView) → has_no_feed (part_line part (row_fields row)) ≡ true
+no_feed-part parts.Segments row = search (no_feeds, no_feed-line, rules)
+no_feed-part parts.Sections row = search (no_feeds, no_feed-line, rules)
+no_feed-part parts.Entry row = search (no_feeds, no_feed-line, rules)
+no_feed-part parts.Uuid row = no_feed-line (row_fields row)
+no_feed-part parts.Rpaths row = no_feed-line (row_fields row)
+no_feed-part parts.Header row = no_feed-line (row_fields row)
+
+pub part_one_line : (part : Part) (row : RowView) → IsOneLine (part_line part (row_fields row) ++ codes "\n")
+part_one_line part row = line-end (part_line part (row_fields row)) (no_feed-part part row)

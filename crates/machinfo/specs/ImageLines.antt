@@ -11,6 +11,7 @@ use Rattle.mach_signature.specs.Directories.{Directory}
 use Rattle.mach_signature.specs.SignedFacts.{HasCodeDirectory}
 use Rattle.machinfo.specs.Counts.{AreCounts, counted_words}
 use Rattle.machinfo.specs.Lists.{HasRows, past_name}
+use Rattle.machinfo.specs.PartLines.{AreLinesOfParts}
 use Rattle.machinfo.specs.RowFields.{row_objects, list_texts}
 use Rattle.machinfo.specs.Rows.{RowView}
 use Rattle.machinfo.specs.Words.{spelling_of}
@@ -40,14 +41,20 @@ pub record AreImageListMembers (word : Word) (left : ℕ) (bytes : List ℕ) (te
   pub has_rows : HasRows word bytes 0 rows past
   pub members : AreMembersInBounds left (record { name = spelling_of word; rows = row_objects rows } ∷ []) past text whole rest
 
--- The text is the summary of the image at the start of the bytes. Its parts are: some text first; whether the image is signed,
--- and what its code directory says; whether it is encrypted and stripped, and how many symbols it has; and how many items each
--- list has, counted up to the limit. It is whole if the first text is whole, the signature can be read, no symbols are claimed
--- past the end of the bytes, and the counts are whole. It uses up nothing of the limit.
+-- The text is the summary of the image at the start of the bytes. Its parts are: some text first; the lines of the entry point, the
+-- segments and the sections; some more text; whether the image is signed, and what its code directory says; whether it is encrypted
+-- and stripped, and how many symbols it has; and how many items each list has, counted up to the limit. It is whole if these texts,
+-- lines and counts are whole, the signature can be read, and no symbols are claimed past the end of the bytes. It uses up nothing of
+-- the limit.
 pub record AreImageSummaryLines (limit left : ℕ) (bytes : List ℕ) (text : List ℕ) (whole : Bool) (rest : ℕ) : Type 0 where
   pub opens : Opens bytes 0
   pub front : List ℕ
   pub front_whole : Bool
+  pub parts : List ℕ
+  pub parts_whole : Bool
+  pub are_parts : AreLinesOfParts limit bytes parts parts_whole
+  pub used : List ℕ
+  pub used_whole : Bool
   pub there : Result (Option Directory) Fault
   pub has_directory : HasCodeDirectory bytes 0 there
   pub signed : List ℕ
@@ -57,8 +64,9 @@ pub record AreImageSummaryLines (limit left : ℕ) (bytes : List ℕ) (text : Li
   pub counts : List ℕ
   pub counts_whole : Bool
   pub are_counts : AreCounts Lines limit bytes counted_words counts counts_whole
-  pub is_text : text ≡ front ++ (signed ++ (state_lines (state_of_commands facts.commands facts.symbols) ++ counts))
-  pub is_whole : whole ≡ (((front_whole && is_readable there) && ((state_of_commands facts.commands facts.symbols).past == 0)) && counts_whole)
+  pub is_text : text ≡ front ++ (parts ++ (used ++ (signed ++ (state_lines (state_of_commands facts.commands facts.symbols) ++ counts))))
+  pub is_whole : whole ≡ (((((front_whole && parts_whole) && used_whole) && is_readable there)
+      && ((state_of_commands facts.commands facts.symbols).past == 0)) && counts_whole)
   pub is_rest : rest ≡ left
 
 -- what follows the counts of an image

@@ -22,3 +22,4 @@ pub mod Summary
 pub mod Tools
 pub mod RowFields
 pub mod FactTexts
+pub mod PartLines

@@ -16,11 +16,6 @@ use Rattle.mach_cli.specs.Listings.{hex_text, reported_by}
 use Rattle.machinfo.specs.declared.segments.SectionList.{SectionList}
 use Rattle.machinfo.specs.declared.segments.SectionObjects.{SectionObjects}
 
--- a name, `-` if it is empty
-abbrev pub field_text : List ℕ → List ℕ
-field_text [] = codes "-"
-field_text (b ∷ bs) = escaped_bytes (b ∷ bs)
-
 -- the initial protection: reading, writing and execution (VM_PROT_)
 abbrev pub right_text : ℕ → (bit : ℕ) → List ℕ → List ℕ
 right_text rights bit letter = if bit_and rights bit == 0 then codes "-" else letter
@@ -28,23 +23,9 @@ right_text rights bit letter = if bit_and rights bit == 0 then codes "-" else le
 abbrev pub rights_text : ℕ → List ℕ
 rights_text rights = right_text rights 1 (codes "r") ++ right_text rights 2 (codes "w") ++ right_text rights 4 (codes "x")
 
--- the name, the address, the size in memory, and the initial protection
-abbrev pub segment_summary_line : SegmentView → List ℕ
-segment_summary_line s =
-    codes "segment: " ++ field_text (run_at s.command.segname 0) ++ codes " " ++ hex_text s.command.vmaddr ++ codes " " ++ hex_text s.command.vmsize
-    ++ codes " " ++ rights_text s.command.initprot ++ codes "\n"
-
--- the name, the address and the size
-abbrev pub section_summary_text : Section → List ℕ
-section_summary_text s = codes "section: " ++ field_text (run_at s.sectname 0) ++ codes " " ++ hex_text s.addr ++ codes " " ++ hex_text s.size
-
 -- sections without their data
 abbrev pub without_data : List (Result (Section × List ℕ) Fault) → List (Result Section Fault)
 without_data found = map (λ item. item >>= (λ s. Ok s.0)) found
-
--- the texts of sections; a fault stays in its place
-abbrev pub section_texts : List (Result (Section × List ℕ) Fault) → List (Result (List ℕ) Fault)
-section_texts found = map (reported_by section_summary_text) (without_data found)
 
 -- how many sections a segment claims past the end of the bytes
 abbrev pub sections_past_the_end : SegmentView → ℕ
@@ -66,9 +47,6 @@ section_object s =
 
 abbrev pub sections_named : SectionList → List (Result Section Fault)
 sections_named it = without_data (sections_left it.sections)
-
-abbrev pub section_rows_left : SectionList → List (Result (List ℕ) Fault)
-section_rows_left it = section_texts (sections_left it.sections)
 
 abbrev pub section_objects_left : SectionObjects → List (Result (List ℕ) Fault)
 section_objects_left it = map (reported_by section_object) (sections_named it.0)

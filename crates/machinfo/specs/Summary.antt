@@ -32,10 +32,6 @@ abbrev pub own_name_line : Option (List ℕ) → List ℕ
 own_name_line None = []
 own_name_line (Some name) = codes "name: " ++ (escaped_text name ++ codes "\n")
 
--- the entry point, if it is known
-abbrev pub entry_point_line : ℕ → List ℕ
-entry_point_line entry = if entry == 0 then [] else codes "entry: " ++ (hex_text entry ++ codes "\n")
-
 -- the name of a bit, or its number if it has none
 abbrev pub flag_text : ℕ → Option (List ℕ) → List ℕ
 flag_text flag None = hex_text flag

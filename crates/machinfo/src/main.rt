@@ -23,6 +23,7 @@ mod counts;
 mod fact;
 mod json;
 mod members;
+mod part_lines;
 mod segments;
 mod signed;
 mod state;

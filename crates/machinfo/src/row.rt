@@ -1,14 +1,14 @@
 //! A row of a list.
 
 ghost use Rattle.std.specs.Prelude.{◌++◌, codes};
-ghost use Rattle.mach_parts.specs.declared.segment.section.Section.{Section};
 ghost use Rattle.mach_cli.specs.Escapes.{IsOneLine};
 ghost use Rattle.mach_cli.specs.Fields.{fields_line, fields_pairs};
 ghost use Rattle.machinfo.specs.FactRows.{FactView};
 ghost use Rattle.machinfo.specs.FactTexts.{fact_text};
 ghost use Rattle.machinfo.specs.RowFields.{row_fields};
 ghost use Rattle.machinfo.specs.Rows.{RowView};
-ghost use Rattle.machinfo.specs.Segments.{section_summary_text};
+ghost use Rattle.machinfo.specs.PartLines.{part_line};
+ghost use Rattle.machinfo.specs.declared.word.Part.{Part};
 
 use crate::commands::NumberedCommand;
 use crate::notes::NumberedNote;
@@ -38,10 +38,10 @@ pub enum Row<'a, 'b> {
     Verdict(Finding),
 }
 
-/// Each row of a list, each row of the summary and each section is one line, whatever the names in the file hold.
+/// Each row of a list, each row of the summary is one line, whatever the names in the file hold.
 pub fn rows_are_lines()
     ensures row { (row : RowView) → IsOneLine (fields_line (row_fields row) ++ codes "\n") }
     ensures pairs { (row : RowView) → IsOneLine (fields_pairs (row_fields row) ++ codes "\n") }
     ensures facts { (fact : FactView) → IsOneLine (fact_text fact ++ codes "\n") }
-    ensures section { (section : Section) → IsOneLine (section_summary_text section ++ codes "\n") }
+    ensures part { (part : Part) (row : RowView) → IsOneLine (part_line part (row_fields row) ++ codes "\n") }
 {}

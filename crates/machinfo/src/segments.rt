@@ -1,27 +1,21 @@
 //! The segments of an image and their sections.
 
-ghost use Rattle.std.specs.Prelude.{◌≡◌, ◌≤◌, ◌==◌, ◌&&◌, Some, codes, length, map, take, nat_lt, IfOk, OnOk};
+ghost use Rattle.std.specs.Prelude.{◌≡◌, Some, codes, OnOk};
 ghost use Rattle.std.specs.Io.KnownBytes.{Appends};
 ghost use Rattle.std.specs.Iterator.{YieldsFirstBy};
 ghost use Rattle.mach_base.specs.Items.{items_in_bounds, read_as};
-ghost use Rattle.std.specs.List.{position_or_len};
 ghost use Rattle.std.specs.Result.{result_ok};
-ghost use Rattle.mach_base.specs.Text.{is_zero, run_at, text_at};
+ghost use Rattle.mach_base.specs.Text.{text_at};
 ghost use Rattle.mach_parts.specs.Segment.{sections_of, segment_view};
 ghost use Rattle.mach_dyld.specs.Exports.{text_in};
 ghost use Rattle.mach_parts.specs.SectionItems.{sections_left};
-ghost use Rattle.machinfo.specs.Segments.{field_text, name_or_null, rights_text, section_object};
-ghost use Rattle.machinfo.specs.Segments.{section_objects_left, section_rows_left, section_summary_text};
+ghost use Rattle.machinfo.specs.Segments.{name_or_null, rights_text, section_object, section_objects_left};
 ghost use Rattle.machinfo.specs.Summary.{WritesSome};
-ghost use Rattle.machinfo.specs.Segments.{sections_named, sections_past_the_end, segment_summary_line};
+ghost use Rattle.machinfo.specs.Segments.{sections_named, sections_past_the_end};
 
 use goblin_mach::Result;
 use goblin_mach::segment::{Section, SectionIterator, Segment};
-use mach_cli::{
-    EscapedBytes, JsonString, ListProgress, Listing, comma_before, print_array, print_cut,
-    print_listing, then,
-};
-use memchr::memchr;
+use mach_cli::{JsonString, ListProgress, Listing, comma_before, print_array, then};
 use std::fmt::{Display, Formatter};
 use std::io::Write;
 use std::{fmt, io};
@@ -46,38 +40,7 @@ pub fn rights_name(protection: u32) -> &'static str
     }
 }
 
-// Returns how many bytes are before the first zero.
-fn name_len(field: &[u8]) -> usize
-    ensures value { result ≡ position_or_len is_zero field.now }
-    ensures within { result ≤ length field.now }
-{
-    memchr(0, field).unwrap_or(field.len())
-}
-
-// Returns the name in a field: the bytes before the first zero.
-fn name_in(field: &[u8]) -> &[u8]
-    ensures { result.now ≡ run_at field.now 0 }
-{
-    &field[..name_len(field)]
-}
-
-// A name, `-` if it is empty.
-#[derive(Clone, Copy)]
-struct NameText<'a>(&'a [u8]);
-
-impl Display for NameText<'_> {
-    ghost output = { λ t. Some (field_text t.0.now) };
-
-    fn fmt<W: fmt::Write>(&self, f: &mut Formatter<W>) -> fmt::Result {
-        if self.0.is_empty() {
-            return f.write_str("-");
-        }
-        let name = EscapedBytes(self.0);
-        write!(f, "{name}")
-    }
-}
-
-/// The sections that are left of a segment, those whose records begin within the bytes, and how many more it claims.
+// The sections that are left of a segment, those whose records begin within the bytes, and how many more it claims.
 #[derive(Drop)]
 pub struct SectionList<'a> {
     /// The sections that begin within the bytes.
@@ -107,77 +70,6 @@ impl<'a> SectionList<'a> {
             Err(error) => Some(Err(error)),
         }
     }
-}
-
-impl Listing for SectionList<'_> {
-    type Row = Section;
-
-    ghost text = { section_summary_text };
-
-    ghost left = { section_rows_left };
-
-    ghost past = { λ list. list.past };
-
-    ghost past_name = { λ _. codes "sections" };
-
-    fn next_row(&mut self) -> Option<Result<Section>> {
-        match self.take_next()? {
-            Ok(section) => Some(Ok(section)),
-            Err(error) => Some(Err(error)),
-        }
-    }
-
-    fn past(&self) -> usize {
-        self.past
-    }
-
-    fn past_name(&self) -> &'static str {
-        "sections"
-    }
-
-    fn write_row<O: Write>(row: &Section, out: &mut O) -> io::Result<()>
-        ensures { OnOk result (Appends (O.contents out.old) (O.contents out.new) (section_summary_text row.now)) }
-    {
-        let name = NameText(name_in(&row.sectname));
-        let (address, size) = (row.addr, row.size);
-        write!(out, "section: {name} 0x{address:x} 0x{size:x}")
-    }
-}
-
-/// Prints the line of each segment, and under it the lines of its sections: at most `limit` segments, and at most `limit`
-/// sections in all.
-///
-/// Returns whether there are no more, all can be read, and no section begins past the end of the bytes.
-pub fn print_segments<O: Write>(
-    segments: &[Segment<'_>],
-    limit: usize,
-    out: &mut O,
-) -> io::Result<bool>
-    ensures { OnOk result (WritesSome (O.contents out.old) (O.contents out.new)) }
-{
-    let first = &segments[..segments.len().min(limit)];
-    let mut left = limit;
-    let mut whole = true;
-    'segments: for segment in first {
-        print_segment(segment, out)?;
-        let mut sections = SectionList::of(segment);
-        let outcome = print_listing(&mut sections, "section: refused", limit, left, out)?;
-        whole &= outcome.whole;
-        left = outcome.left;
-    }
-    let more = limit < segments.len();
-    print_cut(limit, more, out)?;
-    Ok(whole & !more)
-}
-
-// Prints the line of a segment.
-fn print_segment<O: Write>(segment: &Segment<'_>, out: &mut O) -> io::Result<()>
-    ensures { OnOk result (Appends (O.contents out.old) (O.contents out.new) (segment_summary_line (segment_view segment.now))) }
-{
-    let name = NameText(name_in(&segment.segname));
-    let (address, size) = (segment.vmaddr, segment.vmsize);
-    let rights = rights_name(segment.initprot);
-    writeln!(out, "segment: {name} 0x{address:x} 0x{size:x} {rights}")
 }
 
 // A name, or `null` if it is no text.
@@ -250,7 +142,7 @@ impl Listing for SectionObjects<'_> {
     }
 }
 
-/// Writes segments as a member that others follow: as many as `print_segments` prints, each with its sections.
+/// Writes segments as a member that others follow: at most `limit`, each with its sections, of which it writes at most `limit` in all.
 pub fn write_segments<O: Write>(
     segments: &[Segment<'_>],
     limit: usize,

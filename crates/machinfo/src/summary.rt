@@ -4,14 +4,13 @@ ghost use Rattle.std.specs.Prelude.{◌≡◌, IfOk, OnOk};
 ghost use Rattle.std.specs.Io.KnownBytes.{Appends};
 ghost use Rattle.mach_dyld.specs.Exports.{text_in};
 ghost use Rattle.machinfo.specs.FactRows.{fact_rows_left};
-ghost use Rattle.machinfo.specs.Summary.{cpu_line, entry_point_line, flag_word, flags_line, kind_lines, own_name_line};
+ghost use Rattle.machinfo.specs.Summary.{cpu_line, flag_word, flags_line, kind_lines, own_name_line};
 ghost use Rattle.mach_parts.specs.HeaderNames.{flag_name};
 ghost use Rattle.machinfo.specs.HeaderWords.{flag_short_name};
 ghost use Rattle.machinfo.specs.Summary.{WritesSummary, WritesSome};
 
 use crate::command_facts::{CommandFacts, Question};
 use crate::fact::{FactLines, FactList};
-use crate::segments::print_segments;
 use goblin_mach::MachO;
 use goblin_mach::header::{Header, filetype_to_str, flag_to_str};
 use mach_cli::{Escaped, cpu_name, print_listing};
@@ -19,8 +18,7 @@ use std::alloc::Allocator;
 use std::io;
 use std::io::Write;
 
-/// Prints the lines of an image before those of its signature, each list up to the limit. Returns whether all was printed and can
-/// be read.
+/// Prints the first lines of an image, each list up to the limit. Returns whether all was printed and can be read.
 pub fn print_front<A: Allocator, O: Write>(
     image: &MachO<'_, A>,
     limit: usize,
@@ -31,11 +29,8 @@ pub fn print_front<A: Allocator, O: Write>(
     print_kind(&image.header, out)?;
     print_image_name(image.name, out)?;
     let facts = print_facts(image, limit, out)?;
-    print_entry(image.entry, out)?;
     print_flags(image.header.flags, out)?;
-    let segments = print_segments(image.segments.as_slice(), limit, out)?;
-    let used = print_used(image, limit, out)?;
-    Ok(facts & segments & used)
+    Ok(facts)
 }
 
 // Prints the UUIDs, the platforms and the tools of an image. Returns whether all were printed and can be read.
@@ -55,8 +50,8 @@ fn print_facts<A: Allocator, O: Write>(
     Ok(uuids & platforms & tools)
 }
 
-// Prints the libraries of an image and its run paths. Returns whether all were printed.
-fn print_used<A: Allocator, O: Write>(
+/// Prints the libraries of an image and its run paths. Returns whether all were printed.
+pub fn print_used<A: Allocator, O: Write>(
     image: &MachO<'_, A>,
     limit: usize,
     out: &mut O,
@@ -117,16 +112,6 @@ fn print_image_name<O: Write>(name: Option<&str>, out: &mut O) -> io::Result<()>
         }
         None => Ok(()),
     }
-}
-
-// Prints the entry point, if it is known.
-fn print_entry<O: Write>(entry: u64, out: &mut O) -> io::Result<()>
-    ensures { OnOk result (Appends (O.contents out.old) (O.contents out.new) (entry_point_line entry)) }
-{
-    if entry == 0 {
-        return Ok(());
-    }
-    writeln!(out, "entry: 0x{entry:x}")
 }
 
 // Prints the names of the header's flags.

@@ -8,9 +8,10 @@ ghost use Rattle.machinfo.specs.RowFields.{has_names};
 
 use crate::counts::{COUNTED, Form, print_counts};
 use crate::list::ImageList;
+use crate::part_lines::print_parts;
 use crate::signed::print_signed;
 use crate::state::{print_state, state_of};
-use crate::summary::print_front;
+use crate::summary::{print_front, print_used};
 use crate::word::{Part, Word};
 use goblin_mach::MachO;
 use mach_cli::{ImageView, InForm, Line, Outcome, Pairs, ShowFailure, print_listing};
@@ -100,12 +101,14 @@ fn print_summary<A: Allocator, O: Write>(
         × AreImageSummaryLines limit left bytes text outcome.whole outcome.left × Appends (O.contents out.old) (O.contents out.new) text) }
 {
     let front = print_front(image, limit, out)?;
+    let parts = print_parts(image, limit, out)?;
+    let used = print_used(image, limit, out)?;
     let signed = print_signed(image, out)?;
     let state = state_of(image);
     print_state(state, out)?;
     let counts = print_counts(Form::Lines, &COUNTED, image, limit, out)?;
     Ok(Outcome {
-        whole: front & signed & (state.past == 0) & counts,
+        whole: front & parts & used & signed & (state.past == 0) & counts,
         left,
     })
 }

@@ -17,15 +17,22 @@ returns g c = λ bytes opened.
     let m = c.args.image.now in
     let there = image_directory (bytes_view m) (commands_view m) in
     let front = c.in_ok-front.ensures in
+    let parts = c.in_ok-parts.ensures bytes opened in
+    let used = c.in_ok-used.ensures in
     let signed = c.in_ok-signed.ensures in
     let state : c.state_of-state.result ≡ state_of_commands (commands_view m) (symbol_table_view m) = c.state_of-state.ensures in
     let counted = c.in_ok-counts.ensures bytes opened in
-    let whole = λ (s : Bool) (n : State). ((c.in_ok-front.front && s) && (n.past == 0)) && c.in_ok-counts.counts in (
+    let whole = λ (s : Bool) (n : State). ((((c.in_ok-front.front && c.in_ok-parts.parts) && c.in_ok-used.used) && s) && (n.past == 0)) && c.in_ok-counts.counts in (
       _,
       record {
         opens = (opened.ctx, commands_view m, opened.opens);
         front = front.text;
         front_whole = c.in_ok-front.front;
+        parts = parts.0;
+        parts_whole = c.in_ok-parts.parts;
+        are_parts = parts.1;
+        used = used.text;
+        used_whole = c.in_ok-used.used;
         there = there;
         has_directory = ((directory_is m).strict bytes 0 opened there).1 refl;
         signed = signed.1.text;
@@ -40,6 +47,8 @@ returns g c = λ bytes opened.
         is_rest = refl;
       },
       Appends-both _ _ _ front.text _ front.written
+          (Appends-both _ _ _ parts.0 _ parts.2
+          (Appends-both _ _ _ used.text _ used.written
           (Appends-both _ _ _ signed.1.text _ signed.1.written
-          (Appends-both _ _ _ _ counted.0 (rw state at c.in_ok-print_state.ensures) counted.2)),
+          (Appends-both _ _ _ _ counted.0 (rw state at c.in_ok-print_state.ensures) counted.2)))),
     )

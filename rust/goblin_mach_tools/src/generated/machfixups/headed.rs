@@ -22,18 +22,13 @@ pub struct HeadedRow<R> {
     pub row: R,
 }
 
-// Returns the heading, or nothing if it is written.
-fn line_before(is_written: bool, heading: &'static str) -> &'static str {
-    if is_written { "" } else { heading }
-}
-
 impl<L: Listing> Listing for Headed<L> {
     type Row = HeadedRow<L::Row>;
 
     fn next_row(&mut self) -> Option<goblin_mach::generated::mach::Result<HeadedRow<L::Row>>> {
         match self.list.next_row() {
             Some(Ok(row)) => {
-                let heading = line_before(self.is_written, self.heading);
+                let heading = if self.is_written { "" } else { self.heading };
                 self.is_written = true;
                 Some(Ok(HeadedRow { heading, row }))
             }

@@ -18,6 +18,7 @@ mod counts;
 mod fact;
 mod json;
 mod members;
+mod part_lines;
 mod segments;
 mod signed;
 mod state;

@@ -3,12 +3,10 @@
 #![forbid(unsafe_code)]
 
 use crate::generated::mach_cli::{
-    EscapedBytes, JsonString, ListProgress, Listing, comma_before, print_array, print_cut,
-    print_listing, then,
+    JsonString, ListProgress, Listing, comma_before, print_array, then,
 };
 use crate::shim::io;
 use crate::shim::io::Write;
-use crate::shim::memchr::memchr;
 use core::fmt;
 use core::fmt::{Display, Formatter};
 use goblin_mach::generated::mach::Result;
@@ -36,31 +34,7 @@ pub fn rights_name(protection: u32) -> &'static str {
     }
 }
 
-// Returns how many bytes are before the first zero.
-fn name_len(field: &[u8]) -> usize {
-    memchr(0, field).unwrap_or(field.len())
-}
-
-// Returns the name in a field: the bytes before the first zero.
-fn name_in(field: &[u8]) -> &[u8] {
-    &field[..name_len(field)]
-}
-
-// A name, `-` if it is empty.
-#[derive(Clone, Copy)]
-struct NameText<'a>(&'a [u8]);
-
-impl Display for NameText<'_> {
-    fn fmt(&self, f: &mut Formatter<'_>) -> fmt::Result {
-        if self.0.is_empty() {
-            return f.write_str("-");
-        }
-        let name = EscapedBytes(self.0);
-        write!(f, "{name}")
-    }
-}
-
-/// The sections that are left of a segment, those whose records begin within the bytes, and how many more it claims.
+// The sections that are left of a segment, those whose records begin within the bytes, and how many more it claims.
 pub struct SectionList<'a> {
     /// The sections that begin within the bytes.
     pub sections: SectionIterator<'a>,
@@ -89,67 +63,6 @@ impl<'a> SectionList<'a> {
             Err(error) => Some(Err(error)),
         }
     }
-}
-
-impl Listing for SectionList<'_> {
-    type Row = Section;
-
-    fn next_row(&mut self) -> Option<Result<Section>> {
-        match self.take_next()? {
-            Ok(section) => Some(Ok(section)),
-            Err(error) => Some(Err(error)),
-        }
-    }
-
-    fn past(&self) -> usize {
-        self.past
-    }
-
-    fn past_name(&self) -> &'static str {
-        "sections"
-    }
-
-    fn write_row<O: Write>(row: &Section, out: &mut O) -> io::Result<()> {
-        let name = NameText(name_in(&row.sectname));
-        let (address, size) = (row.addr, row.size);
-        write!(out, "section: {name} 0x{address:x} 0x{size:x}")
-    }
-}
-
-/// Prints the line of each segment, and under it the lines of its sections: at most `limit` segments, and at most `limit`
-/// sections in all.
-///
-/// Returns whether there are no more, all can be read, and no section begins past the end of the bytes.
-///
-/// # Proved
-///
-/// - if `Ok`: `WritesSome (O.contents out.old) (O.contents out.new)`
-pub fn print_segments<O: Write>(
-    segments: &[Segment<'_>],
-    limit: usize,
-    out: &mut O,
-) -> io::Result<bool> {
-    let first = &segments[..segments.len().min(limit)];
-    let mut left = limit;
-    let mut whole = true;
-    for segment in first {
-        print_segment(segment, out)?;
-        let mut sections = SectionList::of(segment);
-        let outcome = print_listing(&mut sections, "section: refused", limit, left, out)?;
-        whole &= outcome.whole;
-        left = outcome.left;
-    }
-    let more = limit < segments.len();
-    print_cut(limit, more, out)?;
-    Ok(whole & !more)
-}
-
-// Prints the line of a segment.
-fn print_segment<O: Write>(segment: &Segment<'_>, out: &mut O) -> io::Result<()> {
-    let name = NameText(name_in(&segment.segname));
-    let (address, size) = (segment.vmaddr, segment.vmsize);
-    let rights = rights_name(segment.initprot);
-    writeln!(out, "segment: {name} 0x{address:x} 0x{size:x} {rights}")
 }
 
 // A name, or `null` if it is no text.
@@ -207,7 +120,7 @@ impl Listing for SectionObjects<'_> {
     }
 }
 
-/// Writes segments as a member that others follow: as many as `print_segments` prints, each with its sections.
+/// Writes segments as a member that others follow: at most `limit`, each with its sections, of which it writes at most `limit` in all.
 ///
 /// # Proved
 ///

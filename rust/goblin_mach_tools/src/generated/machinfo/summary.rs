@@ -5,14 +5,12 @@
 use crate::generated::mach_cli::{Escaped, cpu_name, print_listing};
 use crate::generated::machinfo::command_facts::{CommandFacts, Question};
 use crate::generated::machinfo::fact::{FactLines, FactList};
-use crate::generated::machinfo::segments::print_segments;
 use crate::shim::io;
 use crate::shim::io::Write;
 use goblin_mach::generated::mach::MachO;
 use goblin_mach::generated::mach::header::{Header, filetype_to_str, flag_to_str};
 
-/// Prints the lines of an image before those of its signature, each list up to the limit. Returns whether all was printed and can
-/// be read.
+/// Prints the first lines of an image, each list up to the limit. Returns whether all was printed and can be read.
 ///
 /// # Proved
 ///
@@ -21,11 +19,8 @@ pub fn print_front<O: Write>(image: &MachO<'_>, limit: usize, out: &mut O) -> io
     print_kind(&image.header, out)?;
     print_image_name(image.name, out)?;
     let facts = print_facts(image, limit, out)?;
-    print_entry(image.entry, out)?;
     print_flags(image.header.flags, out)?;
-    let segments = print_segments(image.segments.as_slice(), limit, out)?;
-    let used = print_used(image, limit, out)?;
-    Ok(facts & segments & used)
+    Ok(facts)
 }
 
 // Prints the UUIDs, the platforms and the tools of an image. Returns whether all were printed and can be read.
@@ -39,8 +34,12 @@ fn print_facts<O: Write>(image: &MachO<'_>, limit: usize, out: &mut O) -> io::Re
     Ok(uuids & platforms & tools)
 }
 
-// Prints the libraries of an image and its run paths. Returns whether all were printed.
-fn print_used<O: Write>(image: &MachO<'_>, limit: usize, out: &mut O) -> io::Result<bool> {
+/// Prints the libraries of an image and its run paths. Returns whether all were printed.
+///
+/// # Proved
+///
+/// - if `Ok`: `WritesSome (O.contents out.old) (O.contents out.new)`
+pub fn print_used<O: Write>(image: &MachO<'_>, limit: usize, out: &mut O) -> io::Result<bool> {
     let list = FactList::Libraries(image.libraries());
     let libraries = print_list(list, "library", limit, out)?;
     let list = FactList::Paths(image.rpaths.iter());
@@ -87,14 +86,6 @@ fn print_image_name<O: Write>(name: Option<&str>, out: &mut O) -> io::Result<()>
         }
         None => Ok(()),
     }
-}
-
-// Prints the entry point, if it is known.
-fn print_entry<O: Write>(entry: u64, out: &mut O) -> io::Result<()> {
-    if entry == 0 {
-        return Ok(());
-    }
-    writeln!(out, "entry: 0x{entry:x}")
 }
 
 // Prints the names of the header's flags.

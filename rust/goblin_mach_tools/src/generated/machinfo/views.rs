@@ -7,9 +7,10 @@ use crate::generated::mach_cli::{
 };
 use crate::generated::machinfo::counts::{COUNTED, Form, print_counts};
 use crate::generated::machinfo::list::ImageList;
+use crate::generated::machinfo::part_lines::print_parts;
 use crate::generated::machinfo::signed::print_signed;
 use crate::generated::machinfo::state::{print_state, state_of};
-use crate::generated::machinfo::summary::print_front;
+use crate::generated::machinfo::summary::{print_front, print_used};
 use crate::generated::machinfo::word::{Part, Word};
 use crate::shim::io;
 use crate::shim::io::Write;
@@ -86,12 +87,14 @@ fn print_summary<O: Write>(
     out: &mut O,
 ) -> io::Result<Outcome> {
     let front = print_front(image, limit, out)?;
+    let parts = print_parts(image, limit, out)?;
+    let used = print_used(image, limit, out)?;
     let signed = print_signed(image, out)?;
     let state = state_of(image);
     print_state(state, out)?;
     let counts = print_counts(Form::Lines, &COUNTED, image, limit, out)?;
     Ok(Outcome {
-        whole: front & signed & (state.past == 0) & counts,
+        whole: front & parts & used & signed & (state.past == 0) & counts,
         left,
     })
 }

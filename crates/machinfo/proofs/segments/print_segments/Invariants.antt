@@ -1,5 +1,0 @@
-use Rattle.machinfo.specs.Summary.{WritesSome}
-use Rattle.machinfo.proofs.segments.print_segments.Given as goal
-
-abbrev pub invariant-segments : goal.invariant-segments
-invariant-segments g l = WritesSome (g.O.Write.contents l.fn.out) (g.O.Write.contents l.out)
