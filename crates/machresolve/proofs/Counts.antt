@@ -5,6 +5,7 @@ use Rattle.std.proofs.lemmas.List.{length-map, length-take}
 use Rattle.std.proofs.lemmas.List.Sums.{sum_by-cons}
 use Rattle.std.proofs.lemmas.Slice.Zip.{AllZip-long}
 use Rattle.mach_parts.specs.Bindings.{Binding}
+use Rattle.mach_cli.specs.declared.cpu.Cpu.{Cpu}
 use Rattle.machresolve.specs.Answers.{IsAnswer}
 use Rattle.machresolve.specs.Given.{GivenFile}
 use Rattle.machresolve.specs.Report.{Outcome, answer_count, IsOutcome, resolved, fault, IsEntryOutcome, an_archive, an_image, entry_of_program}
@@ -37,15 +38,15 @@ entries_few limit p ls (part ∷ entries) (o ∷ os) all =
     )
 
 -- of a report at most as many as the limit
-pub report_few : (limit : ℕ) (p : GivenFile) (ls : List GivenFile) (wanted : Option ℕ) (r : Report) → IsProgramReport limit p ls wanted r → answers_in r ≤ limit
-report_few limit p ls wanted r (image cputype o cpu is) = outcome_few limit p ls o is
-report_few limit p ls wanted r (image_of_cpu cputype o cpu is) = outcome_few limit p ls o is
-report_few limit p ls wanted r (other_image cputype other is differs) = omega arith
+pub report_few : (limit : ℕ) (p : GivenFile) (ls : List GivenFile) (wanted : Option Cpu) (r : Report) → IsProgramReport limit p ls wanted r → answers_in r ≤ limit
+report_few limit p ls wanted r (image cputype cpusubtype o has is) = outcome_few limit p ls o is
+report_few limit p ls wanted r (image_of_cpu cpu cputype cpusubtype o has for is) = outcome_few limit p ls o is
+report_few limit p ls wanted r (other_image cpu cputype cpusubtype has other) = omega arith
 report_few limit p ls wanted r (fat table parts os has is all) = entries_few limit p ls parts os all
-report_few limit p ls wanted r (entry cputype part o finds is) = entry_few limit (entry_of_program p part) ls o is
-report_few limit p ls wanted r (no_entry cputype finds) = omega arith
+report_few limit p ls wanted r (entry cpu part o finds is) = entry_few limit (entry_of_program p part) ls o is
+report_few limit p ls wanted r (no_entry cpu finds) = omega arith
 report_few limit p ls wanted r (unopened e reported) = omega arith
-report_few limit p ls wanted r (unfound cputype e reported) = omega arith
+report_few limit p ls wanted r (unfound cpu e reported) = omega arith
 
 outcomes_push : (limit : ℕ) (p : GivenFile) (ls : List GivenFile) (entries : List (List ℕ)) (os : List Outcome) (part : List ℕ) (o : Outcome)
     → AreEntryOutcomes limit p ls entries os → IsEntryOutcome (limit - sum_by answer_count os) (entry_of_program p part) ls o

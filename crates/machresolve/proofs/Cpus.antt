@@ -11,12 +11,14 @@ use Rattle.mach_base.specs.declared.error.Error.TheVariants.{BadMagic}
 use Rattle.mach_parts.specs.declared.fat.FatArch.{FatArch}
 use Rattle.goblin_mach.specs.Inputs.{InputFault, IsInput, begins_any_archive}
 use Rattle.goblin_mach.specs.declared.input.Input.TheVariants.{Fat, Fat64}
-use Rattle.goblin_mach.specs.FatFile.{arch_table_in, archs_in, file_view, first_arch_of_cpu}
+use Rattle.goblin_mach.specs.FatFile.{arch_table_in, archs_in, file_view}
 use Rattle.goblin_mach.specs.OpenImage.{IsImage, commands_view}
 use Rattle.goblin_mach.specs.declared.fat_file.table.FatTable.{FatTable}
 use Rattle.goblin_mach.specs.declared.macho.MachO.{MachO}
-use Rattle.machresolve.specs.Cpu.{FileFault, FindsEntry, ForFault, HasFor, HasTable, IsOfCpu, an_archive, entry_bytes, image, of_32_bits, of_64_bits}
-use Rattle.machresolve.specs.Cpu.{of_file, of_input, of_record, of_table, other_image, fat_table_view}
+use Rattle.mach_cli.specs.declared.cpu.Cpu.{Cpu}
+use Rattle.mach_cli.specs.declared.cpu.Cpu.TheVariants.{Number}
+use Rattle.machresolve.specs.Cpu.{FileFault, FindsEntry, ForFault, HasFor, HasNumbers, HasTable, IsOfCpu, an_archive, entry_bytes, image, of_32_bits}
+use Rattle.machresolve.specs.Cpu.{first_arch_for, of_64_bits, of_file, of_input, of_record, of_table, other_image, fat_table_view}
 use Rattle.machresolve.specs.Files.{File}
 use Rattle.machresolve.specs.Given.{GivenFile, IsFile, IsLibrary, NumberedFault, OpenFault, LibraryFault, unfound, of_image}
 
@@ -27,52 +29,58 @@ of_cpu bytes m is = record {
   cpu = record { ctx = is.ctx; cs = commands_view m; opens = is.opens.lossy; holds = (m.header, is.fields.header, refl) };
 }
 
+pub of_numbers : {A : Type 0} (bytes : List ℕ) (m : MachO A) → IsImage bytes 0 m → HasNumbers bytes m.header.cputype m.header.cpusubtype
+of_numbers bytes m is = record {
+  opens = (is.ctx, commands_view m, is.opens);
+  numbers = record { ctx = is.ctx; cs = commands_view m; opens = is.opens.lossy; holds = (m.header, is.fields.header, refl, refl) };
+}
+
 -- a table's contents, by what is read of its records
 pub table_entries : {R A : Type 0} (form : ArchForm R) (bytes : List ℕ) (m : FatTable R A) (there : Result (List R) Fault)
     → arch_table_in form (file_view m) ≡ there
     → (fat_table_view form bytes (file_view m)).entries ≡ (there >>= (λ arches. Ok (map (entry_bytes form bytes) arches)))
 table_entries {R} form bytes m there is = ap (λ (r : Result (List R) Fault). r >>= (λ arches. Ok (map (entry_bytes form bytes) arches))) is
 
-pub table_first : {R A : Type 0} (form : ArchForm R) (bytes : List ℕ) (m : FatTable R A) (cputype : ℕ) (there : Result (Option R) Fault)
-    → first_arch_of_cpu form cputype (archs_in form (file_view m)) ≡ there
-    → (fat_table_view form bytes (file_view m)).first_for cputype ≡ (there >>= (λ found. Ok (option_map (entry_bytes form bytes) found)))
-table_first {R} form bytes m cputype there is = ap (λ (r : Result (Option R) Fault). r >>= (λ found. Ok (option_map (entry_bytes form bytes) found))) is
+pub table_first : {R A : Type 0} (form : ArchForm R) (bytes : List ℕ) (m : FatTable R A) (cpu : Cpu) (there : Result (Option R) Fault)
+    → first_arch_for form cpu (archs_in form (file_view m)) ≡ there
+    → (fat_table_view form bytes (file_view m)).first_for cpu ≡ (there >>= (λ found. Ok (option_map (entry_bytes form bytes) found)))
+table_first {R} form bytes m cpu there is = ap (λ (r : Result (Option R) Fault). r >>= (λ found. Ok (option_map (entry_bytes form bytes) found))) is
 
 -- an entry was found in a table, or none
-pub finds : {R A : Type 0} (form : ArchForm R) (bytes : List ℕ) (m : FatTable R A) (cputype : ℕ) (found : Option R)
-    → HasTable bytes (fat_table_view form bytes (file_view m)) → first_arch_of_cpu form cputype (archs_in form (file_view m)) ≡ Ok found
-    → FindsEntry bytes cputype (option_map (entry_bytes form bytes) found)
-finds form bytes m cputype found has is =
-    record { table = fat_table_view form bytes (file_view m); has = has; is_first = table_first form bytes m cputype (Ok found) is }
+pub finds : {R A : Type 0} (form : ArchForm R) (bytes : List ℕ) (m : FatTable R A) (cpu : Cpu) (found : Option R)
+    → HasTable bytes (fat_table_view form bytes (file_view m)) → first_arch_for form cpu (archs_in form (file_view m)) ≡ Ok found
+    → FindsEntry bytes cpu (option_map (entry_bytes form bytes) found)
+finds form bytes m cpu found has is =
+    record { table = fat_table_view form bytes (file_view m); has = has; is_first = table_first form bytes m cpu (Ok found) is }
 
-has_entry : (bytes slice entry : List ℕ) (cputype : ℕ) → FindsEntry bytes cputype (Some entry) → slice ≡ entry → HasFor bytes cputype (Some slice)
+has_entry : (bytes slice entry : List ℕ) (cputype : ℕ) → FindsEntry bytes (Number cputype) (Some entry) → slice ≡ entry → HasFor bytes cputype (Some slice)
 has_entry bytes slice entry cputype found is = subst (λ (b : List ℕ). HasFor bytes cputype (Some b)) (sym is) (of_table found)
 
 -- the first entry for a cpu, opened
-pub entry_library : (cputype number : ℕ) (g : GivenFile) (slice entry : List ℕ) (f : File) → FindsEntry g.bytes cputype (Some entry)
+pub entry_library : (cputype number : ℕ) (g : GivenFile) (slice entry : List ℕ) (f : File) → FindsEntry g.bytes (Number cputype) (Some entry)
     → slice ≡ entry → IsFile number (record { path = g.path; bytes = slice }) f → IsLibrary cputype number g f
 entry_library cputype number g slice entry f found is opened =
     record { bytes = slice; has = has_entry g.bytes slice entry cputype found is; is_file = opened }
 
 -- a fault of the first entry for a cpu is one of the library
-pub entry_fault : (cputype number : ℕ) (g : GivenFile) (slice entry : List ℕ) → FindsEntry g.bytes cputype (Some entry)
+pub entry_fault : (cputype number : ℕ) (g : GivenFile) (slice entry : List ℕ) → FindsEntry g.bytes (Number cputype) (Some entry)
     → slice ≡ entry → (n : ℕ) (f : Fault) → OpenFault number (record { path = g.path; bytes = slice }) n f
     → NumberedFault number (LibraryFault cputype g) n f
 entry_fault cputype number g slice entry found is n f occurs = (occurs.0, of_image slice (has_entry g.bytes slice entry cputype found is) occurs.1)
 
 -- a fault that refuses a search in a table holds
-pub search_fault : {R A : Type 0} (form : ArchForm R) (bytes : List ℕ) (m : FatTable R A) (cputype : ℕ) (e : Error)
-    → HasTable bytes (fat_table_view form bytes (file_view m)) → first_arch_of_cpu form cputype (archs_in form (file_view m)) ≡ Err (fault_of e)
-    → ErrorMeets (ForFault bytes cputype) e
-search_fault form bytes m cputype e has is =
-    ErrorMeets-reported (ForFault bytes cputype) e
-    (of_record (fat_table_view form bytes (file_view m)) has (table_first form bytes m cputype (Err (fault_of e)) is))
+pub search_fault : {R A : Type 0} (form : ArchForm R) (bytes : List ℕ) (m : FatTable R A) (cpu : Cpu) (e : Error)
+    → HasTable bytes (fat_table_view form bytes (file_view m)) → first_arch_for form cpu (archs_in form (file_view m)) ≡ Err (fault_of e)
+    → ErrorMeets (ForFault bytes cpu) e
+search_fault form bytes m cpu e has is =
+    ErrorMeets-reported (ForFault bytes cpu) e
+    (of_record (fat_table_view form bytes (file_view m)) has (table_first form bytes m cpu (Err (fault_of e)) is))
 
 -- a fault of a file is one of the library
-pub library_fault : (cputype number : ℕ) (g : GivenFile) (e : Error) → ErrorMeets (ForFault g.bytes cputype) e
+pub library_fault : (cputype number : ℕ) (g : GivenFile) (e : Error) → ErrorMeets (ForFault g.bytes (Number cputype)) e
     → ErrorMeets (NumberedFault number (LibraryFault cputype g) number) e
 library_fault cputype number g e occurs =
-    ErrorMeets-in (ForFault g.bytes cputype) (NumberedFault number (LibraryFault cputype g) number) e (λ f s. (refl, unfound s)) occurs
+    ErrorMeets-in (ForFault g.bytes (Number cputype)) (NumberedFault number (LibraryFault cputype g) number) e (λ f s. (refl, unfound s)) occurs
 
 -- a file that opened as a fat file has its table
 pub narrow_table : {A : Type 0} (bytes : List ℕ) (m : FatTable FatArch A) → IsInput bytes (Fat m)
@@ -90,8 +98,8 @@ input_fault bytes e occurs = ErrorMeets-in (InputFault bytes) (FileFault bytes) 
 pub archive_fault : (bytes : List ℕ) (e : Error) → begins_any_archive bytes ≡ true → e ≡ BadMagic 0x213c_6172 → ErrorMeets (FileFault bytes) e
 archive_fault bytes e begins is = subst (ErrorMeets (FileFault bytes)) (sym is) (an_archive begins)
 
-pub file_fault : (cputype : ℕ) (bytes : List ℕ) (e : Error) → ErrorMeets (FileFault bytes) e → ErrorMeets (ForFault bytes cputype) e
-file_fault cputype bytes e occurs = ErrorMeets-in (FileFault bytes) (ForFault bytes cputype) e (λ f s. of_file s) occurs
+pub file_fault : (cpu : Cpu) (bytes : List ℕ) (e : Error) → ErrorMeets (FileFault bytes) e → ErrorMeets (ForFault bytes cpu) e
+file_fault cpu bytes e occurs = ErrorMeets-in (FileFault bytes) (ForFault bytes cpu) e (λ f s. of_file s) occurs
 
 -- an image for the cpu
 pub image_library : {A : Type 0} (cputype number : ℕ) (g : GivenFile) (m : MachO A) (f : File) → IsImage g.bytes 0 m → m.header.cputype ≡ cputype

@@ -1,5 +1,5 @@
 -- The reports of programs, and of refused files.
-use Rattle.std.proofs.Common.{◌≡◌, ℕ, false, List, Option, Some, None, Result, Ok, Err, refl, sym, ap, subst}
+use Rattle.std.proofs.Common.{◌≡◌, ◌∙◌, ℕ, Bool, true, false, List, Option, Some, None, Result, Ok, Err, refl, sym, ap, subst}
 use Rattle.std.specs.Prelude.{IfOk}
 use Rattle.mach_base.proofs.Faults.{ErrorMeets-in}
 use Rattle.mach_base.specs.Answer.{ErrorMeets}
@@ -8,12 +8,14 @@ use Rattle.mach_base.specs.declared.error.Error.{Error}
 use Rattle.mach_parts.specs.Magic.{begins_archive}
 use Rattle.goblin_mach.proofs.Views.{reports}
 use Rattle.goblin_mach.specs.View.{IsReported, ReportsFault}
+use Rattle.mach_cli.specs.Cpus.{is_of_cpu}
+use Rattle.mach_cli.specs.declared.cpu.Cpu.{Cpu}
 use Rattle.machresolve.specs.Cpu as cpu
-use Rattle.machresolve.specs.Cpu.{FileFault, ForFault, IsOfCpu}
+use Rattle.machresolve.specs.Cpu.{FileFault, ForFault, HasNumbers}
 use Rattle.machresolve.specs.Failures.{IsFailure}
 use Rattle.machresolve.specs.Given.{GivenFile}
 use Rattle.machresolve.specs.Report as report
-use Rattle.machresolve.specs.Report.{IsOutcome, fault, IsEntryOutcome, an_image, IsOneOf, image, image_of_cpu, IsProgramReport, unopened, unfound}
+use Rattle.machresolve.specs.Report.{IsOutcome, fault, IsEntryOutcome, an_image, IsOneOf, image, image_of_cpu, IsProgramReport, other_image, unopened, unfound}
 use Rattle.machresolve.specs.Report.{ProgramFault, ReportsError, of_file}
 use Rattle.machresolve.specs.Resolved.{ResolveFault}
 use Rattle.machresolve.specs.ResolveViews.{outcome_view, IsOutcomeOfFailure}
@@ -39,13 +41,13 @@ pub table_refused : (n : ℕ) (p : GivenFile) (ls : List GivenFile) (e : Error) 
 table_refused n p ls e r reported occurs =
     subst (IsProgramReport n p ls None) (sym reported.0) (unopened e (reports_fault (ProgramFault p.bytes) e reported.1 occurs))
 
-pub search_refused : (n : ℕ) (p : GivenFile) (ls : List GivenFile) (c : ℕ) (e : Error) (r : report.Report) → ReportsError e r
+pub search_refused : (n : ℕ) (p : GivenFile) (ls : List GivenFile) (c : Cpu) (e : Error) (r : report.Report) → ReportsError e r
     → ErrorMeets (ForFault p.bytes c) e → IsProgramReport n p ls (Some c) r
 search_refused n p ls c e r reported occurs =
     subst (IsProgramReport n p ls (Some c)) (sym reported.0) (unfound c e (reports_fault (ForFault p.bytes c) e reported.1 occurs))
 
 -- a program that doesn't open, whichever cpu is selected
-pub file_refused : (n : ℕ) (p : GivenFile) (ls : List GivenFile) (wanted : Option ℕ) (e : Error) (r : report.Report) → ReportsError e r
+pub file_refused : (n : ℕ) (p : GivenFile) (ls : List GivenFile) (wanted : Option Cpu) (e : Error) (r : report.Report) → ReportsError e r
     → ErrorMeets (FileFault p.bytes) e → IsProgramReport n p ls wanted r
 file_refused n p ls None e r reported occurs =
     table_refused n p ls e r reported (ErrorMeets-in (FileFault p.bytes) (ProgramFault p.bytes) e (λ f s. of_file s) occurs)
@@ -59,14 +61,30 @@ entry_image n path slice bytes ls o same off is =
     subst (λ (b : List ℕ). IsEntryOutcome n (record { path = path; bytes = b }) ls o) same (an_image o off is)
 
 -- one image, for all that a file has, or for its cpu
-pub one_of_all : (n : ℕ) (p : GivenFile) (ls : List GivenFile) (c : ℕ) (r : report.Report) → IsOfCpu p.bytes c → IsOneOf (IsOutcome n p ls) r
-    → IsProgramReport n p ls None r
-one_of_all n p ls c (report.one o) cpu is = image c o cpu is
-one_of_all n p ls c (report.entries os) cpu is = absurd is
-one_of_all n p ls c (report.nothing other) cpu is = absurd is
+pub one_of_all : (n : ℕ) (p : GivenFile) (ls : List GivenFile) (cputype cpusubtype : ℕ) (r : report.Report) → HasNumbers p.bytes cputype cpusubtype
+    → IsOneOf (IsOutcome n p ls) r → IsProgramReport n p ls None r
+one_of_all n p ls cputype cpusubtype (report.one o) has is = image cputype cpusubtype o has is
+one_of_all n p ls cputype cpusubtype (report.entries os) has is = absurd is
+one_of_all n p ls cputype cpusubtype (report.nothing other) has is = absurd is
 
-pub one_of_cpu : (n : ℕ) (p : GivenFile) (ls : List GivenFile) (c : ℕ) (r : report.Report) → IsOfCpu p.bytes c → IsOneOf (IsOutcome n p ls) r
-    → IsProgramReport n p ls (Some c) r
-one_of_cpu n p ls c (report.one o) cpu is = image_of_cpu c o cpu is
-one_of_cpu n p ls c (report.entries os) cpu is = absurd is
-one_of_cpu n p ls c (report.nothing other) cpu is = absurd is
+pub one_of_cpu : (n : ℕ) (p : GivenFile) (ls : List GivenFile) (c : Cpu) (cputype cpusubtype : ℕ) (r : report.Report)
+    → HasNumbers p.bytes cputype cpusubtype → is_of_cpu c cputype cpusubtype ≡ true → IsOneOf (IsOutcome n p ls) r → IsProgramReport n p ls (Some c) r
+one_of_cpu n p ls c cputype cpusubtype (report.one o) has for is = image_of_cpu c cputype cpusubtype o has for is
+one_of_cpu n p ls c cputype cpusubtype (report.entries os) has for is = absurd is
+one_of_cpu n p ls c cputype cpusubtype (report.nothing other) has for is = absurd is
+
+-- the same for a selected cpu, whether the image is for it or not; `picked` is that cpu
+pub image_of_selected : (n : ℕ) (p : GivenFile) (ls : List GivenFile) (wanted : Option Cpu) (picked c : Cpu) (cputype cpusubtype : ℕ) (taken : Bool)
+    (r : report.Report) → wanted ≡ Some c → picked ≡ c → HasNumbers p.bytes cputype cpusubtype → taken ≡ is_of_cpu picked cputype cpusubtype
+    → taken ≡ true → IsOneOf (IsOutcome n p ls) r → IsProgramReport n p ls wanted r
+image_of_selected n p ls wanted picked c cputype cpusubtype taken r is same has by on one =
+    subst (λ (w : Option Cpu). IsProgramReport n p ls w r) (sym is)
+    (one_of_cpu n p ls c cputype cpusubtype r has (ap (λ (x : Cpu). is_of_cpu x cputype cpusubtype) (sym same) ∙ (sym by ∙ on)) one)
+
+pub image_of_another : (n : ℕ) (p : GivenFile) (ls : List GivenFile) (wanted : Option Cpu) (picked c : Cpu) (cputype cpusubtype : ℕ) (taken : Bool)
+    → wanted ≡ Some c → picked ≡ c → HasNumbers p.bytes cputype cpusubtype → taken ≡ is_of_cpu picked cputype cpusubtype → taken ≡ false
+    → IsProgramReport n p ls wanted (report.nothing picked)
+image_of_another n p ls wanted picked c cputype cpusubtype taken is same has by off =
+    subst (λ (w : Option Cpu). IsProgramReport n p ls w (report.nothing picked)) (sym is)
+    (subst (λ (x : Cpu). IsProgramReport n p ls (Some c) (report.nothing x)) (sym same)
+    (other_image c cputype cpusubtype has (ap (λ (x : Cpu). is_of_cpu x cputype cpusubtype) (sym same) ∙ (sym by ∙ off))))

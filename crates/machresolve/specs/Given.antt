@@ -8,10 +8,9 @@ use Rattle.goblin_mach.specs.Facts.{OfImage}
 use Rattle.goblin_mach.specs.Image.{Opens, ImageFault}
 use Rattle.goblin_mach.specs.Libraries.{LibraryView, libraries_in}
 use Rattle.goblin_mach.specs.Subjects.{own_name_in, trie_in, libs_in}
-use Rattle.goblin_mach.specs.declared.libraries.LibraryKind.{LibraryKind}
-use Rattle.goblin_mach.specs.declared.libraries.LibraryKind.TheVariants.{Required, Weak, Reexport, Upward, Lazy}
 use Rattle.machresolve.specs.Files.{File}
 use Rattle.machresolve.specs.Note.{Note, given_before, nothing_for}
+use Rattle.mach_cli.specs.declared.cpu.Cpu.TheVariants as cpus
 use Rattle.machresolve.specs.Cpu.{IsOfCpu, HasFor, ForFault}
 
 -- a file as it was given: its path, and its bytes
@@ -94,7 +93,7 @@ OpenFault number g = NumberedFault number (ImageFault g.bytes 0)
 
 -- a fault of opening a library for a cpu: of finding its bytes for the cpu, or of the image in them
 pub data LibraryFault (cputype : ℕ) (g : GivenFile) : Fault → Type 0 where
-  unfound : {f : Fault} → ForFault g.bytes cputype f → LibraryFault cputype g f
+  unfound : {f : Fault} → ForFault g.bytes (cpus.Number cputype) f → LibraryFault cputype g f
   of_image : {f : Fault} (bytes : List ℕ) → HasFor g.bytes cputype (Some bytes) → ImageFault bytes 0 f → LibraryFault cputype g f
 
 -- a fault of opening the file with this number: the program, or a library for a cpu

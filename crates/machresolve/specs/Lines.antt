@@ -3,7 +3,10 @@ use Rattle.std.specs.Prelude.{◌+◌, ℕ, Bool, true, false, List, [], ◌∷�
 use Rattle.std.specs.Fmt.{digits, decimal}
 use Rattle.mach_base.specs.declared.error.Error.{Error}
 use Rattle.mach_parts.specs.Bindings.{Provider, of_library, itself, main_executable, flat, weak_lookup}
+use Rattle.mach_cli.specs.Cpus.{cpu_words}
 use Rattle.mach_cli.specs.Escapes.{escaped_text}
+use Rattle.mach_cli.specs.declared.cpu.Cpu.{Cpu}
+use Rattle.mach_cli.specs.declared.cpu.Cpu.TheVariants.{Number}
 use Rattle.machresolve.specs.Follow.{SymbolPlace, found, leads_back, no_library, missing, not_given, not_found, no_main}
 use Rattle.machresolve.specs.Answers.{Answer}
 use Rattle.machresolve.specs.Given.{GivenFile}
@@ -83,17 +86,17 @@ file_at call number = get_or (call.program ∷ call.libraries) number call.progr
 abbrev pub refusal_text : GivenFile → Error → List ℕ
 refusal_text file e = escaped_text file.path ++ (codes ": " ++ reported_words file.bytes e)
 
-abbrev pub nothing_words : ℕ → List ℕ
-nothing_words cputype = codes "nothing for cputype 0x" ++ digits 16 false cputype
+abbrev pub nothing_words : Cpu → List ℕ
+nothing_words cpu = codes "nothing for " ++ cpu_words cpu
 
 -- the message about a file that has nothing for a cpu
-abbrev pub nothing_text : GivenFile → ℕ → List ℕ
-nothing_text file cputype = escaped_text file.path ++ (codes ": " ++ nothing_words cputype)
+abbrev pub nothing_text : GivenFile → Cpu → List ℕ
+nothing_text file cpu = escaped_text file.path ++ (codes ": " ++ nothing_words cpu)
 
 abbrev pub note_text : ResolveCall → Note → List ℕ
 note_text call (given_before library name) =
     escaped_text (file_at call library).path ++ (codes ": " ++ (escaped_text name ++ codes " was given before"))
-note_text call (nothing_for library cputype) = nothing_text (file_at call library) cputype
+note_text call (nothing_for library cputype) = nothing_text (file_at call library) (Number cputype)
 
 -- a line of a message
 abbrev pub message_line : List ℕ → List ℕ
@@ -128,7 +131,7 @@ one_text call (refused file e) = []
 abbrev pub printed : ResolveCall → Report → List ℕ
 printed call (one o) = one_text call o
 printed call (entries outcomes) = entries_text call 0 outcomes
-printed call (nothing cputype) = []
+printed call (nothing cpu) = []
 
 abbrev pub notes_of : Outcome → List Note
 notes_of (answered answers notes more) = notes
@@ -143,7 +146,7 @@ all_notes notes (o ∷ others) = all_notes (all_noted notes (notes_of o)) others
 abbrev pub notes_in : Report → List Note
 notes_in (one o) = all_noted [] (notes_of o)
 notes_in (entries outcomes) = all_notes [] outcomes
-notes_in (nothing cputype) = []
+notes_in (nothing cpu) = []
 
 -- the message if one program is refused
 abbrev pub refusal_message : ResolveCall → Outcome → List ℕ
@@ -155,7 +158,7 @@ refusal_message call (refused file e) = message_line (refusal_text (file_at call
 abbrev pub first_message : ResolveCall → Report → List ℕ
 first_message call (one o) = refusal_message call o
 first_message call (entries outcomes) = []
-first_message call (nothing cputype) = message_line (nothing_text call.program cputype)
+first_message call (nothing cpu) = message_line (nothing_text call.program cpu)
 
 -- the messages of a report
 abbrev pub messages_of_report : ResolveCall → Report → List ℕ

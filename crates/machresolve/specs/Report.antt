@@ -1,12 +1,14 @@
 -- The report of a program: of one image, or of each entry of a fat file.
-use Rattle.std.specs.Prelude.{◌≡◌, ◌≢◌, ◌-◌, ◌&&◌, ℕ, not, length, sum_by, Bool, true, false, List, [], ◌∷◌, Option, Some, None, Ok, Err}
+use Rattle.std.specs.Prelude.{◌≡◌, ◌-◌, ◌&&◌, ℕ, not, length, sum_by, Bool, true, false, List, [], ◌∷◌, Option, Some, None, Ok, Err}
 use Rattle.std.specs.List.{list_all}
 use Rattle.mach_base.specs.Fault.{Fault}
 use Rattle.mach_base.specs.declared.error.Error.{Error}
 use Rattle.mach_parts.specs.Magic.{begins_archive}
 use Rattle.goblin_mach.specs.View.{IsReported, ReportsFault}
 use Rattle.machresolve.specs.Answers.{Answer, is_settled}
-use Rattle.machresolve.specs.Cpu.{FatTableView, FileFault, FindsEntry, ForFault, HasTable, IsOfCpu}
+use Rattle.mach_cli.specs.Cpus.{is_of_cpu}
+use Rattle.mach_cli.specs.declared.cpu.Cpu.{Cpu}
+use Rattle.machresolve.specs.Cpu.{FatTableView, FileFault, FindsEntry, ForFault, HasNumbers, HasTable}
 use Rattle.machresolve.specs.Given.{GivenFile}
 use Rattle.machresolve.specs.Note.{Note}
 use Rattle.machresolve.specs.Resolved.{IsResolved, ResolveFault}
@@ -56,19 +58,19 @@ pub data ProgramFault (bytes : List ℕ) : Fault → Type 0 where
 pub data Report : Type 0 where
   one : Outcome → Report
   entries : List Outcome → Report
-  nothing : (cputype : ℕ) → Report
+  nothing : (cpu : Cpu) → Report
 
 -- how many bindings of all images are answered
 abbrev pub answers_in : Report → ℕ
 answers_in (one o) = answer_count o
 answers_in (entries outcomes) = sum_by answer_count outcomes
-answers_in (nothing cputype) = 0
+answers_in (nothing cpu) = 0
 
 -- it is one outcome, of which this holds
 abbrev pub IsOneOf : (Outcome → Type 0) → Report → Type 0
 IsOneOf Holds (one o) = Holds o
 IsOneOf Holds (entries outcomes) = ⊥
-IsOneOf Holds (nothing cputype) = ⊥
+IsOneOf Holds (nothing cpu) = ⊥
 
 -- the program, which is file 0, is reported as refused for this error, which is no refused allocation
 abbrev pub ReportsError : Error → Report → Type 0
@@ -76,20 +78,21 @@ ReportsError e r = (r ≡ one (refused 0 e)) × IsReported e
 
 -- The report of a program: all of it, or what it has for a selected cpu. Of the bindings of its images, in order, the first
 -- `limit` are answered.
-pub data IsProgramReport (limit : ℕ) (program : GivenFile) (libraries : List GivenFile) : Option ℕ → Report → Type 0 where
-  image : (cputype : ℕ) (o : Outcome) → IsOfCpu program.bytes cputype → IsOutcome limit program libraries o
+pub data IsProgramReport (limit : ℕ) (program : GivenFile) (libraries : List GivenFile) : Option Cpu → Report → Type 0 where
+  image : (cputype cpusubtype : ℕ) (o : Outcome) → HasNumbers program.bytes cputype cpusubtype → IsOutcome limit program libraries o
       → IsProgramReport limit program libraries None (one o)
-  image_of_cpu : (cputype : ℕ) (o : Outcome) → IsOfCpu program.bytes cputype → IsOutcome limit program libraries o
-      → IsProgramReport limit program libraries (Some cputype) (one o)
-  other_image : (cputype other : ℕ) → IsOfCpu program.bytes other → other ≢ cputype → IsProgramReport limit program libraries (Some cputype) (nothing cputype)
+  image_of_cpu : (cpu : Cpu) (cputype cpusubtype : ℕ) (o : Outcome) → HasNumbers program.bytes cputype cpusubtype
+      → is_of_cpu cpu cputype cpusubtype ≡ true → IsOutcome limit program libraries o → IsProgramReport limit program libraries (Some cpu) (one o)
+  other_image : (cpu : Cpu) (cputype cpusubtype : ℕ) → HasNumbers program.bytes cputype cpusubtype → is_of_cpu cpu cputype cpusubtype ≡ false
+      → IsProgramReport limit program libraries (Some cpu) (nothing cpu)
   fat : (table : FatTableView) (parts : List (List ℕ)) (outcomes : List Outcome) → HasTable program.bytes table → table.entries ≡ Ok parts
       → AreEntryOutcomes limit program libraries parts outcomes → IsProgramReport limit program libraries None (entries outcomes)
-  entry : (cputype : ℕ) (part : List ℕ) (o : Outcome) → FindsEntry program.bytes cputype (Some part)
-      → IsEntryOutcome limit (entry_of_program program part) libraries o → IsProgramReport limit program libraries (Some cputype) (one o)
-  no_entry : (cputype : ℕ) → FindsEntry program.bytes cputype None → IsProgramReport limit program libraries (Some cputype) (nothing cputype)
+  entry : (cpu : Cpu) (part : List ℕ) (o : Outcome) → FindsEntry program.bytes cpu (Some part)
+      → IsEntryOutcome limit (entry_of_program program part) libraries o → IsProgramReport limit program libraries (Some cpu) (one o)
+  no_entry : (cpu : Cpu) → FindsEntry program.bytes cpu None → IsProgramReport limit program libraries (Some cpu) (nothing cpu)
   unopened : (e : Error) → ReportsFault (ProgramFault program.bytes) e → IsProgramReport limit program libraries None (one (refused 0 e))
-  unfound : (cputype : ℕ) (e : Error) → ReportsFault (ForFault program.bytes cputype) e
-      → IsProgramReport limit program libraries (Some cputype) (one (refused 0 e))
+  unfound : (cpu : Cpu) (e : Error) → ReportsFault (ForFault program.bytes cpu) e
+      → IsProgramReport limit program libraries (Some cpu) (one (refused 0 e))
 
 -- whether all is answered and settled, and nothing was refused
 abbrev pub is_whole : Outcome → Bool
@@ -100,4 +103,4 @@ is_whole (refused file e) = false
 abbrev pub all_whole : Report → Bool
 all_whole (one o) = is_whole o
 all_whole (entries outcomes) = list_all is_whole outcomes
-all_whole (nothing cputype) = false
+all_whole (nothing cpu) = false

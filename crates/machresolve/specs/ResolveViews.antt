@@ -118,7 +118,7 @@ outcome_view (Refused file e) = report.refused file e
 abbrev pub report_view : {A : Type 0} → Report A → report.Report
 report_view (One outcome) = report.one (outcome_view outcome)
 report_view (Entries outcomes) = report.entries (map outcome_view outcomes.items)
-report_view (Nothing cputype) = report.nothing cputype
+report_view (Nothing cpu) = report.nothing cpu
 
 -- the outcome for a failure: a refused file; any other failure stays one
 abbrev pub IsOutcomeOfFailure : {A : Type 0} → ResolveFailure → Result (Outcome A) ResolveFailure → Type 0

@@ -1,6 +1,7 @@
 -- What a run of the program writes, and its exit status.
 use Rattle.std.specs.Prelude.{◌≡◌, ◌≤◌, ℕ, Bool, List, [], codes, Option, if◌then◌else◌}
 use Rattle.std.specs.Io.KnownBytes.{Appends}
+use Rattle.mach_cli.specs.declared.cpu.Cpu.{Cpu}
 use Rattle.machresolve.specs.Given.{GivenFile}
 use Rattle.machresolve.specs.Lines.{printed, message_line, messages_of_report}
 use Rattle.machresolve.specs.Report.{Report, IsProgramReport, answers_in, all_whole}
@@ -10,7 +11,7 @@ abbrev pub run_status : Bool → ℕ
 run_status whole = if whole then 0 else 1
 
 -- the report of a program was written on the two outputs, and this is the status; at most `limit` bindings are answered
-pub record Runs (wanted : Option ℕ) (limit : ℕ) (program : GivenFile) (libraries : List GivenFile) (status : ℕ)
+pub record Runs (wanted : Option Cpu) (limit : ℕ) (program : GivenFile) (libraries : List GivenFile) (status : ℕ)
     (out_old out_new err_old err_new : Option (List ℕ)) : Type 0 where
   pub report : Report
   pub is_report : IsProgramReport limit program libraries wanted report
@@ -20,7 +21,7 @@ pub record Runs (wanted : Option ℕ) (limit : ℕ) (program : GivenFile) (libra
   pub reported : Appends err_old err_new (messages_of_report (record { limit = limit; program = program; libraries = libraries }) report)
 
 -- What a run writes, and its status: the report of a program, or only that an allocation was refused.
-pub data IsRun (wanted : Option ℕ) (limit : ℕ) (program : GivenFile) (libraries : List GivenFile) (status : ℕ)
+pub data IsRun (wanted : Option Cpu) (limit : ℕ) (program : GivenFile) (libraries : List GivenFile) (status : ℕ)
     (out_old out_new err_old err_new : Option (List ℕ)) : Type 0 where
   resolved : Runs wanted limit program libraries status out_old out_new err_old err_new
       → IsRun wanted limit program libraries status out_old out_new err_old err_new

@@ -1,6 +1,6 @@
 //! What the tries of the files have for a name.
 
-ghost use Rattle.std.specs.Prelude.{◌≡◌, ◌<◌, ℕ, Bool, length, map, option_map, slice_get, IfOk, IfErr, IfSome, IfNone, OnOk, OnErr, Some, None};
+ghost use Rattle.std.specs.Prelude.{◌≡◌, ◌<◌, length, slice_get, IfOk, IfErr, IfSome, IfNone, Some, None};
 ghost use Rattle.mach_dyld.specs.Exports.{info_of};
 ghost use Rattle.machresolve.specs.Files.{place_of_file, Says, Lacks, TrieFaultAt};
 ghost use Rattle.machresolve.specs.Follow.{HasFirst, NoneHas};

@@ -16,9 +16,11 @@ ghost use Rattle.machresolve.specs.Opened.{given_view};
 use crate::failure::ResolveFailure;
 use crate::file::{File, Files};
 use crate::note::Note;
+use crate::table::find_entry;
 use goblin_mach::header::MH_EXECUTE;
 use goblin_mach::{ArchRecord, Error, FatTable, Input, MachO, laws};
 use indexmap::IndexSet;
+use mach_cli::Cpu;
 use std::alloc::{AllocError, Allocator};
 
 /// A file as it was given.
@@ -116,7 +118,7 @@ fn open_entry<'a, R: ArchRecord, A: Allocator + Copy>(
         → IfErr result (IsFailure (NumberedFault number (LibraryFault cputype (given_view given.entry)))) }
 {
     let Given { path, bytes } = given;
-    match container.find_cputype(cputype) {
+    match find_entry(container, Cpu::Number(cputype)) {
         Ok(Some(arch)) => {
             let bytes = arch.entry_slice(bytes);
             match open(alloc, number, Given { path, bytes }) {

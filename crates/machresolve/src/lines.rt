@@ -12,7 +12,7 @@ use crate::follow::NamePlace;
 use crate::inputs::Given;
 use crate::note::Note;
 use goblin_mach::Provider;
-use mach_cli::Escaped;
+use mach_cli::{Cpu, Escaped};
 use std::fmt;
 use std::fmt::{Display, Formatter, Write};
 
@@ -113,14 +113,14 @@ impl<'a> Display for Answer<'a> {
 
 // The words for a file that has nothing for a cpu.
 #[derive(Clone, Copy)]
-struct NothingWords(u32);
+struct NothingWords(Cpu);
 
 impl Display for NothingWords {
     ghost output = { λ t. Some (nothing_words t.0) };
 
     fn fmt<W: Write>(&self, f: &mut Formatter<W>) -> fmt::Result {
-        let cputype = self.0;
-        write!(f, "nothing for cputype 0x{cputype:x}")
+        let cpu = self.0;
+        write!(f, "nothing for {cpu}")
     }
 }
 
@@ -128,15 +128,15 @@ impl Display for NothingWords {
 #[derive(Clone, Copy)]
 pub struct NothingText<'a> {
     pub file: Given<'a>,
-    pub cputype: u32,
+    pub cpu: Cpu,
 }
 
 impl Display for NothingText<'_> {
-    ghost output = { λ t. Some (nothing_text (given_view t.file) t.cputype) };
+    ghost output = { λ t. Some (nothing_text (given_view t.file) t.cpu) };
 
     fn fmt<W: Write>(&self, f: &mut Formatter<W>) -> fmt::Result {
         let path = Escaped(self.file.path);
-        let words = NothingWords(self.cputype);
+        let words = NothingWords(self.cpu);
         write!(f, "{path}: {words}")
     }
 }
@@ -161,7 +161,7 @@ impl Display for NoteText<'_, '_> {
             Note::NothingFor { library, cputype } => {
                 let nothing = NothingText {
                     file: self.call.file_at(library),
-                    cputype,
+                    cpu: Cpu::Number(cputype),
                 };
                 write!(f, "{nothing}")
             }

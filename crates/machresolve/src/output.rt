@@ -21,8 +21,8 @@ use crate::refusal::RefusalText;
 use crate::report::{Outcome, Report, report_on};
 use crate::resolve::Resolved;
 use indexmap::IndexSet;
-use mach_cli::most_items;
 use mach_cli::output::failed;
+use mach_cli::{Cpu, most_items};
 use std::alloc::{AllocFailed, Allocator};
 use std::io;
 use std::io::{BufWriter, Write};
@@ -38,7 +38,7 @@ pub const NAME: &str = "machresolve";
 /// image are written whole or not at all. Notes, and the reason if nothing is printed, go to `err`.
 pub fn run<'a, A: Allocator + Copy, W: Write + Drop, B: Allocator, E: Write>(
     alloc: A,
-    wanted: Option<u32>,
+    wanted: Option<Cpu>,
     limit: usize,
     program: Given<'a>,
     libraries: &[Given<'a>],
@@ -67,7 +67,7 @@ fn status(whole: bool) -> u8
 // Writes the report of a program, or that an allocation was refused. Returns whether all is settled and nothing was refused.
 fn print_result<'a, A: Allocator + Copy, W: Write + Drop, B: Allocator, E: Write>(
     alloc: A,
-    wanted: Option<u32>,
+    wanted: Option<Cpu>,
     limit: usize,
     program: Given<'a>,
     libraries: &[Given<'a>],
@@ -288,10 +288,10 @@ fn say_first<A: Allocator, E: Write>(
     match report {
         Report::One(outcome) => say_refusal(call, outcome, err),
         Report::Entries(_) => Ok(()),
-        Report::Nothing(cputype) => {
+        Report::Nothing(cpu) => {
             let nothing = NothingText {
                 file: call.program,
-                cputype: *cputype,
+                cpu: *cpu,
             };
             writeln!(err, "machresolve: {nothing}")
         }

@@ -3,7 +3,7 @@
 ghost use Rattle.std.specs.Prelude.{◌≡◌, ◌≤◌, map, Some, None, IfOk, IfErr};
 ghost use Rattle.std.specs.List.{list_all};
 ghost use Rattle.goblin_mach.specs.FatFile.{file_view};
-ghost use Rattle.machresolve.specs.Cpu.{HasTable, IsOfCpu, entry_bytes, fat_table_view};
+ghost use Rattle.machresolve.specs.Cpu.{HasNumbers, HasTable, entry_bytes, fat_table_view};
 ghost use Rattle.machresolve.specs.Opened.{given_view};
 ghost use Rattle.machresolve.specs.Report.{entry_of_program, IsOneOf, IsOutcome, IsEntryOutcome, AreEntryOutcomes, IsProgramReport, ReportsError, answer_count};
 ghost use Rattle.machresolve.specs.Report.{answers_in, is_whole, all_whole};
@@ -14,8 +14,9 @@ use crate::answers::all_settled;
 use crate::failure::ResolveFailure;
 use crate::inputs::{Given, archive_error};
 use crate::resolve::{Resolved, resolve};
+use crate::table::find_entry;
 use goblin_mach::{ArchRecord, Error, FatTable, Input};
-use mach_cli::begins_whole_archive;
+use mach_cli::{Cpu, begins_whole_archive};
 use std::alloc::Allocator;
 
 /// The outcome for one program.
@@ -37,7 +38,7 @@ pub enum Report<'a, A: Allocator> {
     /// The outcomes for the entries of a fat file, in order.
     Entries(Vec<Outcome<'a, A>, A>),
     /// It has nothing for this cpu.
-    Nothing(u32),
+    Nothing(Cpu),
 }
 
 impl<'a, A: Allocator> Outcome<'a, A> {
@@ -197,22 +198,22 @@ fn report_all<'a, R: ArchRecord, A: Allocator + Copy>(
 // Returns the report of a fat program, with its first entry for a cpu.
 fn report_entry<'a, R: ArchRecord, A: Allocator + Copy>(
     alloc: A,
-    cputype: u32,
+    cpu: Cpu,
     limit: usize,
     program: Given<'a>,
     container: &FatTable<'a, R, A>,
     libraries: &[Given<'a>],
 ) -> Result<Report<'a, A>, ResolveFailure>
     ensures reported { HasTable program.entry.bytes.now (fat_table_view R.arch_form program.entry.bytes.now (file_view container.now))
-        → IfOk result (λ r. IsProgramReport limit (given_view program.entry) (map given_view libraries.now) (Some cputype) (report_view r)) }
+        → IfOk result (λ r. IsProgramReport limit (given_view program.entry) (map given_view libraries.now) (Some cpu) (report_view r)) }
     ensures memory { IfErr result (λ failure. failure ≡ failures.Memory) }
 {
-    match container.find_cputype(cputype) {
+    match find_entry(container, cpu) {
         Ok(Some(arch)) => match entry_outcome(alloc, limit, program, &arch, libraries) {
             Ok(outcome) => Ok(Report::One(outcome)),
             Err(failure) => Err(failure),
         },
-        Ok(None) => Ok(Report::Nothing(cputype)),
+        Ok(None) => Ok(Report::Nothing(cpu)),
         Err(error) => report_refused(error),
     }
 }
@@ -236,18 +237,19 @@ fn report_one<'a, A: Allocator + Copy>(
 // Returns the report of a program that is one image, for a cpu.
 fn report_image<'a, A: Allocator + Copy>(
     alloc: A,
-    wanted: Option<u32>,
+    wanted: Option<Cpu>,
     cputype: u32,
+    cpusubtype: u32,
     limit: usize,
     program: Given<'a>,
     libraries: &[Given<'a>],
 ) -> Result<Report<'a, A>, ResolveFailure>
-    ensures reported { IsOfCpu program.entry.bytes.now cputype
+    ensures reported { HasNumbers program.entry.bytes.now cputype cpusubtype
         → IfOk result (λ r. IsProgramReport limit (given_view program.entry) (map given_view libraries.now) wanted (report_view r)) }
     ensures memory { IfErr result (λ failure. failure ≡ failures.Memory) }
 {
     match wanted {
-        Some(other) if other != cputype => Ok(Report::Nothing(other)),
+        Some(cpu) if !cpu.takes(cputype, cpusubtype) => Ok(Report::Nothing(cpu)),
         Some(_) => report_one(alloc, limit, program, libraries),
         None => report_one(alloc, limit, program, libraries),
     }
@@ -256,7 +258,7 @@ fn report_image<'a, A: Allocator + Copy>(
 // Returns the report of a fat program: with all its entries, or with the first for the selected cpu.
 fn report_fat<'a, R: ArchRecord, A: Allocator + Copy>(
     alloc: A,
-    wanted: Option<u32>,
+    wanted: Option<Cpu>,
     limit: usize,
     program: Given<'a>,
     container: &FatTable<'a, R, A>,
@@ -267,7 +269,7 @@ fn report_fat<'a, R: ArchRecord, A: Allocator + Copy>(
     ensures memory { IfErr result (λ failure. failure ≡ failures.Memory) }
 {
     match wanted {
-        Some(cputype) => report_entry(alloc, cputype, limit, program, container, libraries),
+        Some(cpu) => report_entry(alloc, cpu, limit, program, container, libraries),
         None => report_all(alloc, limit, program, container, libraries),
     }
 }
@@ -276,7 +278,7 @@ fn report_fat<'a, R: ArchRecord, A: Allocator + Copy>(
 /// first `limit` are answered. It fails only if an allocation is refused.
 pub fn report_on<'a, A: Allocator + Copy>(
     alloc: A,
-    wanted: Option<u32>,
+    wanted: Option<Cpu>,
     limit: usize,
     program: Given<'a>,
     libraries: &[Given<'a>],
@@ -287,8 +289,8 @@ pub fn report_on<'a, A: Allocator + Copy>(
 {
     match Input::parse(alloc, program.bytes) {
         Ok(Input::Image(image)) => {
-            let cputype = image.header.cputype;
-            report_image(alloc, wanted, cputype, limit, program, libraries)
+            let (cputype, cpusubtype) = (image.header.cputype, image.header.cpusubtype);
+            report_image(alloc, wanted, cputype, cpusubtype, limit, program, libraries)
         }
         Ok(Input::Fat(container)) => {
             report_fat(alloc, wanted, limit, program, &container, libraries)

@@ -1,6 +1,6 @@
 //! Resolves a program: finds the answers for its bindings.
 
-ghost use Rattle.std.specs.Prelude.{◌≡◌, ◌∷◌, List, map, IfOk, IfErr};
+ghost use Rattle.std.specs.Prelude.{◌≡◌, List, map, IfOk, IfErr};
 ghost use Rattle.mach_parts.specs.Bindings.{Binding};
 ghost use Rattle.machresolve.specs.Following.{Met, IsAfterAll};
 ghost use Rattle.machresolve.specs.Answers as answered;

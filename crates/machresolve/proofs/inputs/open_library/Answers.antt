@@ -1,4 +1,5 @@
 use Rattle.std.proofs.Common.{sym, subst}
+use Rattle.mach_cli.specs.declared.cpu.Cpu.TheVariants.{Number}
 use Rattle.machresolve.specs.Failures.{IsFailure}
 use Rattle.machresolve.specs.Given.{NumberedFault, LibraryFault}
 use Rattle.machresolve.specs.Opened.{given_view}
@@ -60,7 +61,7 @@ returns-in-Ok-Archive-clause-refused g c =
     let begins = (rw (arm.is, arm.field-0-is) at c.parse.ensures.opened).0 in
     subst (IsFailure FaultAt) (sym c.refused.ensures)
     (reported FaultAt c.args.number e (library_fault c.args.cputype c.args.number given e
-    (file_fault c.args.cputype given.bytes e (archive_fault given.bytes e begins c.archive_error.ensures))))
+    (file_fault (Number c.args.cputype) given.bytes e (archive_fault given.bytes e begins c.archive_error.ensures))))
 
 pub returns-clause-refused : goal.returns-clause-refused
 returns-clause-refused g c =
@@ -69,4 +70,4 @@ returns-clause-refused g c =
     let e = c.in-Err.error in
     subst (IsFailure FaultAt) (sym c.refused-in-Err.ensures)
     (reported FaultAt c.args.number e (library_fault c.args.cputype c.args.number given e
-    (file_fault c.args.cputype given.bytes e (input_fault given.bytes e c.in-Err.ensures.refused))))
+    (file_fault (Number c.args.cputype) given.bytes e (input_fault given.bytes e c.in-Err.ensures.refused))))

@@ -2,7 +2,7 @@ use Rattle.std.proofs.Common.{◌≡◌, ◌∙◌, ◌<◌, ◌++◌, true, fal
 use Rattle.std.specs.Prelude.{option_map}
 use Rattle.std.proofs.lemmas.List.{map_push, length-map, get_or_default}
 use Rattle.machresolve.specs.Following as following
-use Rattle.machresolve.specs.Following.{edges_of, with_gap, with_place}
+use Rattle.machresolve.specs.Following.{edges_of}
 use Rattle.machresolve.specs.ResolveViews.{input_view, input_views, edge_view}
 use Rattle.machresolve.proofs.Found.{file_at}
 use Rattle.machresolve.proofs.Walks.{Holds, popped, emptied, ended, passed_gap, passed_again, passed_first}

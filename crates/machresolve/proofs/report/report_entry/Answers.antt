@@ -10,24 +10,24 @@ use Rattle.machresolve.proofs.report.report_entry.Goals as goal
 pub returns-in-Ok-clause-reported : goal.returns-in-Ok-clause-reported
 returns-in-Ok-clause-reported g c = λ has.
     let arm = c.in-Ok-Some in
-    entry c.args.cputype _ (outcome_view c.in-Ok.outcome)
-    (finds g.R.ArchRecord.arch_form (given_view c.args.program).bytes c.args.container.now c.args.cputype _ has
-    (rw (arm.is, arm.field-0-is) at c.find_cputype.ensures))
+    entry c.args.cpu _ (outcome_view c.in-Ok.outcome)
+    (finds g.R.ArchRecord.arch_form (given_view c.args.program).bytes c.args.container.now c.args.cpu _ has
+    (rw (arm.is, arm.field-0-is) at c.find_entry.ensures))
     c.in-Ok.ensures.reported
 
 pub returns-in-Ok-None-clause-reported : goal.returns-in-Ok-None-clause-reported
 returns-in-Ok-None-clause-reported g c = λ has.
     let arm = c.in-Ok-None in
-    no_entry c.args.cputype
-    (finds g.R.ArchRecord.arch_form (given_view c.args.program).bytes c.args.container.now c.args.cputype _ has
-    (rw (arm.is, arm.field-0-is) at c.find_cputype.ensures))
+    no_entry c.args.cpu
+    (finds g.R.ArchRecord.arch_form (given_view c.args.program).bytes c.args.container.now c.args.cpu _ has
+    (rw (arm.is, arm.field-0-is) at c.find_entry.ensures))
 
 pub returns-in-Err-clause-reported : goal.returns-in-Err-clause-reported
 returns-in-Err-clause-reported g c = λ has.
     let p = given_view c.args.program in
-    let cputype = c.args.cputype in
+    let cpu = c.args.cpu in
     let e = c.in-Err.error in
     IfOk-weaker c.report_refused.result _ _
-    (λ r reported. search_refused c.args.limit p (map given_view c.args.libraries.now) cputype e (report_view r) reported
-    (search_fault g.R.ArchRecord.arch_form p.bytes c.args.container.now cputype e has c.in-Err.ensures))
+    (λ r reported. search_refused c.args.limit p (map given_view c.args.libraries.now) cpu e (report_view r) reported
+    (search_fault g.R.ArchRecord.arch_form p.bytes c.args.container.now cpu e has c.in-Err.ensures))
     c.report_refused.ensures.reported

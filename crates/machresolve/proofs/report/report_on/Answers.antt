@@ -3,7 +3,7 @@ use Rattle.std.proofs.lemmas.Result.{IfOk-weaker}
 use Rattle.machresolve.specs.Opened.{given_view}
 use Rattle.machresolve.specs.ResolveViews.{report_view}
 use Rattle.machresolve.proofs.Counts.{report_few}
-use Rattle.machresolve.proofs.Cpus.{archive_fault, input_fault, narrow_table, of_cpu, wide_table}
+use Rattle.machresolve.proofs.Cpus.{archive_fault, input_fault, narrow_table, of_numbers, wide_table}
 use Rattle.machresolve.proofs.Reports.{file_refused}
 use Rattle.machresolve.proofs.report.report_on.Goals as goal
 
@@ -13,7 +13,7 @@ returns-in-Ok-Image-clause-few g c =
     let p = given_view c.args.program in
     IfOk-weaker c.report_image.result _ _
     (λ r reported. report_few c.args.limit p (map given_view c.args.libraries.now) c.args.wanted (report_view r) reported)
-    (c.report_image.ensures.reported (of_cpu p.bytes arm.image ((rw (arm.is, arm.field-0-is) at c.parse.ensures.opened).1)))
+    (c.report_image.ensures.reported (of_numbers p.bytes arm.image ((rw (arm.is, arm.field-0-is) at c.parse.ensures.opened).1)))
 
 pub returns-in-Ok-Fat-clause-reported : goal.returns-in-Ok-Fat-clause-reported
 returns-in-Ok-Fat-clause-reported g c =
