@@ -38,7 +38,8 @@ entries_few limit p ls (part ∷ entries) (o ∷ os) all =
     )
 
 -- of a report at most as many as the limit
-pub report_few : (limit : ℕ) (p : GivenFile) (ls : List GivenFile) (wanted : Option Cpu) (r : Report) → IsProgramReport limit p ls wanted r → answers_in r ≤ limit
+pub report_few : (limit : ℕ) (p : GivenFile) (ls : List GivenFile) (wanted : Option Cpu) (r : Report)
+    → IsProgramReport limit p ls wanted r → answers_in r ≤ limit
 report_few limit p ls wanted r (image cputype cpusubtype o has is) = outcome_few limit p ls o is
 report_few limit p ls wanted r (image_of_cpu cpu cputype cpusubtype o has for is) = outcome_few limit p ls o is
 report_few limit p ls wanted r (other_image cpu cputype cpusubtype has other) = omega arith

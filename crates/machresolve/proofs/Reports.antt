@@ -1,5 +1,5 @@
 -- The reports of programs, and of refused files.
-use Rattle.std.proofs.Common.{◌≡◌, ◌∙◌, ℕ, Bool, true, false, List, Option, Some, None, Result, Ok, Err, refl, sym, ap, subst}
+use Rattle.std.proofs.Common.{◌≡◌, ◌∙◌, ℕ, Bool, true, false, List, Option, Some, None, Result, Ok, Err, sym, ap, subst}
 use Rattle.std.specs.Prelude.{IfOk}
 use Rattle.mach_base.proofs.Faults.{ErrorMeets-in}
 use Rattle.mach_base.specs.Answer.{ErrorMeets}

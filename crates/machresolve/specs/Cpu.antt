@@ -17,10 +17,10 @@ use Rattle.mach_cli.specs.declared.cpu.Cpu.{Cpu}
 use Rattle.mach_cli.specs.declared.cpu.Cpu.TheVariants as cpus
 
 -- the selected cpu, if not all are selected
-abbrev pub selected_of : Cpu → Option Cpu
-selected_of cpus.Any = None
-selected_of (cpus.Number number) = Some (cpus.Number number)
-selected_of (cpus.Arch arch) = Some (cpus.Arch arch)
+abbrev pub selected_cpu : Cpu → Option Cpu
+selected_cpu cpus.Any = None
+selected_cpu (cpus.Number number) = Some (cpus.Number number)
+selected_cpu (cpus.Arch arch) = Some (cpus.Arch arch)
 
 -- the bytes are an image for this cpu, which opens
 pub record IsOfCpu (bytes : List ℕ) (cputype : ℕ) : Type 0 where

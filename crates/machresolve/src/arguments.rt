@@ -1,7 +1,7 @@
 //! What a call selects.
 
 ghost use Rattle.std.specs.Prelude.{◌≡◌};
-ghost use Rattle.machresolve.specs.Cpu.{selected_of};
+ghost use Rattle.machresolve.specs.Cpu.{selected_cpu};
 
 use mach_cli::Cpu;
 
@@ -9,8 +9,8 @@ use mach_cli::Cpu;
 pub const DEFAULT_LIMIT: usize = 10_000_000;
 
 /// Returns the selected cpu, if not all are selected.
-pub fn selected_of(cpu: Cpu) -> Option<Cpu>
-    ensures { result ≡ selected_of cpu }
+pub fn selected_cpu(cpu: Cpu) -> Option<Cpu>
+    ensures { result ≡ selected_cpu cpu }
 {
     match cpu {
         Cpu::Any => None,

@@ -29,7 +29,7 @@ mod output;
 mod refusal;
 mod report;
 
-use crate::arguments::{DEFAULT_LIMIT, selected_of};
+use crate::arguments::{DEFAULT_LIMIT, selected_cpu};
 use crate::inputs::Given;
 use crate::output::{NAME, run};
 use mach_cli::{Cpu, ForTerminal, Misuse, Options, Program, Progress, SharedOnly};
@@ -62,7 +62,7 @@ fn main(rt: HostRuntime) -> ExitCode {
 fn start(rt: &HostRuntime) -> Result<u8, u8> {
     let words = PROGRAM.words(rt)?;
     let call = PROGRAM.call(rt, SharedOnly, &words)?;
-    let (wanted, limit) = (selected_of(call.cpu), call.limit.unwrap_or(DEFAULT_LIMIT));
+    let (wanted, limit) = (selected_cpu(call.cpu), call.limit.unwrap_or(DEFAULT_LIMIT));
     match call.words.as_slice() {
         [] => Err(PROGRAM.bad_usage(rt, Misuse::Missing("PROGRAM"))),
         [program, libraries @ ..] => resolve_files(rt, wanted, limit, program, libraries),

@@ -290,7 +290,9 @@ pub fn report_on<'a, A: Allocator + Copy>(
     match Input::parse(alloc, program.bytes) {
         Ok(Input::Image(image)) => {
             let (cputype, cpusubtype) = (image.header.cputype, image.header.cpusubtype);
-            report_image(alloc, wanted, cputype, cpusubtype, limit, program, libraries)
+            report_image(
+                alloc, wanted, cputype, cpusubtype, limit, program, libraries,
+            )
         }
         Ok(Input::Fat(container)) => {
             report_fat(alloc, wanted, limit, program, &container, libraries)
