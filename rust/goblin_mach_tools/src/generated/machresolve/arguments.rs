@@ -7,15 +7,14 @@ use crate::generated::mach_cli::Cpu;
 /// How many bindings are answered if no other limit is given.
 pub const DEFAULT_LIMIT: usize = 10_000_000;
 
-/// Returns the number of the selected cpu, if not all are selected.
+/// Returns the selected cpu, if not all are selected.
 ///
 /// # Proved
 ///
-/// - `result ≡ cputype_of cpu`
-pub fn cputype_of(cpu: Cpu) -> Option<u32> {
+/// - `result ≡ selected_cpu cpu`
+pub fn selected_cpu(cpu: Cpu) -> Option<Cpu> {
     match cpu {
         Cpu::Any => None,
-        Cpu::Number(number) => Some(number),
-        Cpu::Arch(arch) => Some(arch.cputype),
+        Cpu::Number(_) | Cpu::Arch(_) => Some(cpu),
     }
 }

@@ -5,9 +5,11 @@
 use crate::shim::TryGrow;
 use alloc::vec::Vec;
 
+use crate::generated::mach_cli::Cpu;
 use crate::generated::machresolve::failure::ResolveFailure;
 use crate::generated::machresolve::file::{File, Files};
 use crate::generated::machresolve::note::Note;
+use crate::generated::machresolve::table::find_entry;
 use crate::shim::AllocError;
 use crate::shim::indexmap::IndexSet;
 use goblin_mach::generated::mach::header::MH_EXECUTE;
@@ -81,7 +83,7 @@ fn open_entry<'a, R: ArchRecord>(
     container: &FatTable<'a, R>,
 ) -> Result<Option<File<'a>>, ResolveFailure> {
     let Given { path, bytes } = given;
-    match container.find_cputype(cputype) {
+    match find_entry(container, Cpu::Number(cputype)) {
         Ok(Some(arch)) => {
             let bytes = arch.entry_slice(bytes);
             match open(number, Given { path, bytes }) {

@@ -2,7 +2,7 @@
 //! Answers and notes as they are printed.
 #![forbid(unsafe_code)]
 
-use crate::generated::mach_cli::Escaped;
+use crate::generated::mach_cli::{Cpu, Escaped};
 use crate::generated::machresolve::answers::Answer;
 use crate::generated::machresolve::call::Call;
 use crate::generated::machresolve::follow::NamePlace;
@@ -101,12 +101,12 @@ impl<'a> Display for Answer<'a> {
 
 // The words for a file that has nothing for a cpu.
 #[derive(Clone, Copy)]
-struct NothingWords(u32);
+struct NothingWords(Cpu);
 
 impl Display for NothingWords {
     fn fmt(&self, f: &mut Formatter<'_>) -> fmt::Result {
-        let cputype = self.0;
-        write!(f, "nothing for cputype 0x{cputype:x}")
+        let cpu = self.0;
+        write!(f, "nothing for {cpu}")
     }
 }
 
@@ -114,13 +114,13 @@ impl Display for NothingWords {
 #[derive(Clone, Copy)]
 pub struct NothingText<'a> {
     pub file: Given<'a>,
-    pub cputype: u32,
+    pub cpu: Cpu,
 }
 
 impl Display for NothingText<'_> {
     fn fmt(&self, f: &mut Formatter<'_>) -> fmt::Result {
         let path = Escaped(self.file.path);
-        let words = NothingWords(self.cputype);
+        let words = NothingWords(self.cpu);
         write!(f, "{path}: {words}")
     }
 }
@@ -143,7 +143,7 @@ impl Display for NoteText<'_, '_> {
             Note::NothingFor { library, cputype } => {
                 let nothing = NothingText {
                     file: self.call.file_at(library),
-                    cputype,
+                    cpu: Cpu::Number(cputype),
                 };
                 write!(f, "{nothing}")
             }

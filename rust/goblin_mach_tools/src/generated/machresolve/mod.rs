@@ -21,6 +21,7 @@ mod inputs;
 mod reexports;
 mod resolve;
 mod special;
+mod table;
 
 // What is printed of the answers.
 mod arguments;
@@ -32,8 +33,10 @@ mod output;
 mod refusal;
 mod report;
 
-use crate::generated::mach_cli::{ForTerminal, Misuse, Options, Program, Progress, SharedOnly};
-use crate::generated::machresolve::arguments::{DEFAULT_LIMIT, cputype_of};
+use crate::generated::mach_cli::{
+    Cpu, ForTerminal, Misuse, Options, Program, Progress, SharedOnly,
+};
+use crate::generated::machresolve::arguments::{DEFAULT_LIMIT, selected_cpu};
 use crate::generated::machresolve::inputs::Given;
 use crate::generated::machresolve::output::{NAME, run};
 use crate::shim::io;
@@ -42,16 +45,17 @@ use std::process::ExitCode;
 
 const PROGRAM: Program = Program {
     name: NAME,
-    usage: "usage: machresolve [--cputype 0xN] [--limit N] PROGRAM LIBRARY..
+    usage: "usage: machresolve [--arch NAME | --cputype 0xN] [--limit N] PROGRAM LIBRARY..
        machresolve -h | --help | --version
 ",
     version: "machresolve 0.2.0\n",
     options: Options {
         has_limit: true,
+        has_arch: true,
         has_cputype: true,
         ..Options::NONE
     },
-    known: &["--cputype", "--help", "--limit", "--version"],
+    known: &["--arch", "--cputype", "--help", "--limit", "--version"],
 };
 
 pub fn main(rt: HostRuntime) -> ExitCode {
@@ -64,7 +68,7 @@ pub fn main(rt: HostRuntime) -> ExitCode {
 fn start(rt: &HostRuntime) -> Result<u8, u8> {
     let words = PROGRAM.words(rt)?;
     let call = PROGRAM.call(rt, SharedOnly, &words)?;
-    let (wanted, limit) = (cputype_of(call.cpu), call.limit.unwrap_or(DEFAULT_LIMIT));
+    let (wanted, limit) = (selected_cpu(call.cpu), call.limit.unwrap_or(DEFAULT_LIMIT));
     match call.words.as_slice() {
         [] => Err(PROGRAM.bad_usage(rt, Misuse::Missing("PROGRAM"))),
         [program, libraries @ ..] => resolve_files(rt, wanted, limit, program, libraries),
@@ -80,7 +84,7 @@ fn read(rt: &HostRuntime, progress: &mut Progress, file: &str) -> Result<Vec<u8>
 // Resolves a program with its libraries.
 fn resolve_files(
     rt: &HostRuntime,
-    wanted: Option<u32>,
+    wanted: Option<Cpu>,
     limit: usize,
     program: &str,
     libraries: &[&str],

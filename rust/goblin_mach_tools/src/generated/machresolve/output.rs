@@ -2,8 +2,8 @@
 //! What the program prints, and its exit status.
 #![forbid(unsafe_code)]
 
-use crate::generated::mach_cli::most_items;
 use crate::generated::mach_cli::output::failed;
+use crate::generated::mach_cli::{Cpu, most_items};
 use crate::generated::machresolve::answers::Answer;
 use crate::generated::machresolve::call::Call;
 use crate::generated::machresolve::inputs::Given;
@@ -32,7 +32,7 @@ pub const NAME: &str = "machresolve";
 /// - *runs*: if `result ≤ 1`, `IsRun wanted (most_items limit program.entry.bytes) (given_view program.entry) (map given_view libraries) result (writer_contents W.contents out.old) (writer_contents W.contents out.new) (E.contents err.old) (E.contents err.new)`
 /// - *flushed*: if `result ≤ 1`, `writer_buffer out.new ≡ []`
 pub fn run<'a, W: Write, E: Write>(
-    wanted: Option<u32>,
+    wanted: Option<Cpu>,
     limit: usize,
     program: Given<'a>,
     libraries: &[Given<'a>],
@@ -53,7 +53,7 @@ fn status(whole: bool) -> u8 {
 
 // Writes the report of a program, or that an allocation was refused. Returns whether all is settled and nothing was refused.
 fn print_result<'a, W: Write, E: Write>(
-    wanted: Option<u32>,
+    wanted: Option<Cpu>,
     limit: usize,
     program: Given<'a>,
     libraries: &[Given<'a>],
@@ -218,10 +218,10 @@ fn say_first<E: Write>(call: &Call<'_, '_>, report: &Report<'_>, err: &mut E) ->
     match report {
         Report::One(outcome) => say_refusal(call, outcome, err),
         Report::Entries(_) => Ok(()),
-        Report::Nothing(cputype) => {
+        Report::Nothing(cpu) => {
             let nothing = NothingText {
                 file: call.program,
-                cputype: *cputype,
+                cpu: *cpu,
             };
             writeln!(err, "machresolve: {nothing}")
         }

@@ -5,11 +5,12 @@
 use crate::shim::TryGrow;
 use alloc::vec::Vec;
 
-use crate::generated::mach_cli::begins_whole_archive;
+use crate::generated::mach_cli::{Cpu, begins_whole_archive};
 use crate::generated::machresolve::answers::all_settled;
 use crate::generated::machresolve::failure::ResolveFailure;
 use crate::generated::machresolve::inputs::{Given, archive_error};
 use crate::generated::machresolve::resolve::{Resolved, resolve};
+use crate::generated::machresolve::table::find_entry;
 use goblin_mach::generated::mach::{ArchRecord, Error, FatTable, Input};
 
 /// The outcome for one program.
@@ -29,7 +30,7 @@ pub enum Report<'a> {
     /// The outcomes for the entries of a fat file, in order.
     Entries(Vec<Outcome<'a>>),
     /// It has nothing for this cpu.
-    Nothing(u32),
+    Nothing(Cpu),
 }
 
 impl<'a> Outcome<'a> {
@@ -159,18 +160,18 @@ fn report_all<'a, R: ArchRecord>(
 
 // Returns the report of a fat program, with its first entry for a cpu.
 fn report_entry<'a, R: ArchRecord>(
-    cputype: u32,
+    cpu: Cpu,
     limit: usize,
     program: Given<'a>,
     container: &FatTable<'a, R>,
     libraries: &[Given<'a>],
 ) -> Result<Report<'a>, ResolveFailure> {
-    match container.find_cputype(cputype) {
+    match find_entry(container, cpu) {
         Ok(Some(arch)) => match entry_outcome(limit, program, &arch, libraries) {
             Ok(outcome) => Ok(Report::One(outcome)),
             Err(failure) => Err(failure),
         },
-        Ok(None) => Ok(Report::Nothing(cputype)),
+        Ok(None) => Ok(Report::Nothing(cpu)),
         Err(error) => report_refused(error),
     }
 }
@@ -189,14 +190,15 @@ fn report_one<'a>(
 
 // Returns the report of a program that is one image, for a cpu.
 fn report_image<'a>(
-    wanted: Option<u32>,
+    wanted: Option<Cpu>,
     cputype: u32,
+    cpusubtype: u32,
     limit: usize,
     program: Given<'a>,
     libraries: &[Given<'a>],
 ) -> Result<Report<'a>, ResolveFailure> {
     match wanted {
-        Some(other) if other != cputype => Ok(Report::Nothing(other)),
+        Some(cpu) if !cpu.takes(cputype, cpusubtype) => Ok(Report::Nothing(cpu)),
         Some(_) => report_one(limit, program, libraries),
         None => report_one(limit, program, libraries),
     }
@@ -204,14 +206,14 @@ fn report_image<'a>(
 
 // Returns the report of a fat program: with all its entries, or with the first for the selected cpu.
 fn report_fat<'a, R: ArchRecord>(
-    wanted: Option<u32>,
+    wanted: Option<Cpu>,
     limit: usize,
     program: Given<'a>,
     container: &FatTable<'a, R>,
     libraries: &[Given<'a>],
 ) -> Result<Report<'a>, ResolveFailure> {
     match wanted {
-        Some(cputype) => report_entry(cputype, limit, program, container, libraries),
+        Some(cpu) => report_entry(cpu, limit, program, container, libraries),
         None => report_all(limit, program, container, libraries),
     }
 }
@@ -225,15 +227,15 @@ fn report_fat<'a, R: ArchRecord>(
 /// - *few*: if `Ok(r)`: `answers_in (report_view r) ≤ limit`
 /// - *memory*: if `Err(failure)`: `failure ≡ failures.Memory`
 pub fn report_on<'a>(
-    wanted: Option<u32>,
+    wanted: Option<Cpu>,
     limit: usize,
     program: Given<'a>,
     libraries: &[Given<'a>],
 ) -> Result<Report<'a>, ResolveFailure> {
     match Input::parse(program.bytes) {
         Ok(Input::Image(image)) => {
-            let cputype = image.header.cputype;
-            report_image(wanted, cputype, limit, program, libraries)
+            let (cputype, cpusubtype) = (image.header.cputype, image.header.cpusubtype);
+            report_image(wanted, cputype, cpusubtype, limit, program, libraries)
         }
         Ok(Input::Fat(container)) => report_fat(wanted, limit, program, &container, libraries),
         Ok(Input::Fat64(container)) => report_fat(wanted, limit, program, &container, libraries),
