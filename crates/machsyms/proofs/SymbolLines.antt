@@ -1,6 +1,6 @@
 -- The line of a symbol is one line.
 use Rattle.std.proofs.Common.{◌≡◌, ◌++◌, ◌∷◌, [], ℕ, zero, suc, ◌<◌, ◌≤◌, ◌-◌, Bor, Bool, cond, true}
-use Rattle.std.proofs.Common.{false, List, Option, Some, None, Result, Ok, Err, map, refl, rules, arith, subst, sym, ap}
+use Rattle.std.proofs.Common.{false, List, Option, Some, None, Result, Ok, Err, map, refl, rules, arith, subst, sym}
 use Rattle.std.proofs.lemmas.Bool.Decides.{nat_tests}
 use Rattle.std.proofs.lemmas.List.Elements.{All-cons, All-head, All-nil, All-tail}
 use Rattle.std.proofs.lemmas.List.Sums.{AllPass-from_list_all}
@@ -19,11 +19,11 @@ use Rattle.mach_parts.specs.declared.segment.section.Section.{Section}
 use Rattle.mach_parts.specs.declared.symbols.nlist.Nlist.{Nlist}
 use Rattle.goblin_mach.specs.ImageFacts.{Facts}
 use Rattle.machsyms.specs.Letters.{letter, letter_at, letter_of, named_sections, section_letter, symbol_letter, type_letter}
-use Rattle.machsyms.specs.Lines.{fields_text, file_text, form_text, kind_text, letter_text, line_text, padded_hex, right, stab_text, value_text, words_text}
+use Rattle.machsyms.specs.Lines.{fields_text, file_text, form_text, kind_text, letter_text, line_text, padded_hex, right, stab_text, value_text}
 use Rattle.machsyms.specs.Setting.{SymbolSetting, setting_of, symbol_described}
 use Rattle.machsyms.specs.Stabs.{name_among, stab_name, stab_names}
 use Rattle.machsyms.specs.SymbolWords.{alignment_text, provider_words, kind_words, mark_words}
-use Rattle.machsyms.specs.SymbolWords.{origin_words, reach_words, section_text, symbol_words, undefined_words}
+use Rattle.machsyms.specs.SymbolWords.{origin_words, reach_words, section_text, undefined_words}
 use Rattle.machsyms.specs.declared.selection.Request.{Request}
 use Rattle.machsyms.specs.declared.selection.Form.{Form}
 use Rattle.machsyms.specs.declared.selection.Form.TheVariants.{Letters, Names, Hexadecimal, Words}

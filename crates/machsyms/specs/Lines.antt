@@ -1,5 +1,5 @@
 -- The lines of symbols, as `nm` prints them.
-use Rattle.std.specs.Prelude.{◌==◌, ℕ, ◌-◌, ◌^◌, List, [], ◌++◌, codes, map, Bool, true, false, Option, Some, None, Result}
+use Rattle.std.specs.Prelude.{ℕ, ◌-◌, ◌^◌, List, [], ◌++◌, codes, map, Bool, true, false, Option, Some, None, Result}
 use Rattle.std.specs.Prelude.{if◌then◌else◌}
 use Rattle.std.specs.Char.{encode_utf8}
 use Rattle.std.specs.Fmt.{digits, padded, padded_integral, format_spec}

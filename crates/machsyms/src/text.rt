@@ -1,7 +1,7 @@
 //! A symbol as it is printed.
 
 ghost use Rattle.std.specs.Prelude.{◌≡◌, Some};
-ghost use Rattle.machsyms.specs.Lines.{file_text, form_text, letter_text, value_text, value_shown, kind_text, stab_text, padded_hex};
+ghost use Rattle.machsyms.specs.Lines.{file_text, form_text, letter_text, value_text, value_shown, kind_text, stab_text};
 ghost use Rattle.machsyms.specs.Setting.{setting_view};
 ghost use Rattle.machsyms.specs.ShownNames.{name_shown};
 

@@ -7,7 +7,7 @@ use Rattle.goblin_mach.specs.OpenImage.{commands_view}
 use Rattle.mach_cli.specs.Listings.{AreFirstLines}
 use Rattle.machsyms.specs.ImageLines.{AreImageSymbolLines}
 use Rattle.machsyms.specs.Letters.{letter_of}
-use Rattle.machsyms.specs.Lines.{selected_lines, past_the_end, symbols_over, unreadable_word}
+use Rattle.machsyms.specs.Lines.{selected_lines, past_the_end, symbols_over}
 use Rattle.machsyms.specs.Order.{gone_over}
 use Rattle.machsyms.specs.Setting.{SymbolSetting, setting_of, setting_view}
 use Rattle.machsyms.specs.declared.order.SortKey.{SortKey}
