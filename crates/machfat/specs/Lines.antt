@@ -77,7 +77,7 @@ words_or_kind None kind = kind
 abbrev pub place_fields : (entry : List ℕ) → EntryRecord → List FieldView
 place_fields entry r =
     wide_field 15 (line_field (text (words_or_kind (image_words entry) (entry_kind entry))) 4)
-    ∷ object_field (codes "filetype") (optional_text (image_words entry))
+    ∷ object_field (codes "image_kind") (optional_text (image_words entry))
     ∷ object_field (codes "kind") (text (entry_kind entry))
     ∷ line_field (text (codes "offset")) 5
     ∷ wide_field 10 (field_of (codes "offset") (hex r.offset) 5)

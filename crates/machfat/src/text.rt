@@ -144,7 +144,7 @@ fn place_fields(entry: &[u8], arch: EntryRecord) -> [Field<'static>; 7]
     let (words, kind) = (image_words(entry), entry_kind(entry));
     [
         Field::of_line(Value::Text(words.unwrap_or(kind)), 4).wide(15),
-        Field::of_object("filetype", Value::OptionalText(words)),
+        Field::of_object("image_kind", Value::OptionalText(words)),
         Field::of_object("kind", Value::Text(kind)),
         Field::of_line(Value::Text("offset"), 5),
         Field::new("offset", Value::Hex(arch.offset), 5).wide(10),
