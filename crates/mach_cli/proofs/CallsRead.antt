@@ -155,7 +155,8 @@ module _ {O : Type 0} (taken : O → List ℕ → O × Bool) (options : Options)
       rw kind
       (next_one (AddsWord options word old) next adds (λ x a. adds-one options word old x next a adds) (λ x new. Selects taken options None x words new))
 
-  pub own_step : (is_plain : Bool) (next : ParsedCall O) → kind_at is_plain options (word_text word) ≡ kinds.Own → TakesDashed taken options (word_text word) old next
+  pub own_step : (is_plain : Bool) (next : ParsedCall O) → kind_at is_plain options (word_text word) ≡ kinds.Own
+      → TakesDashed taken options (word_text word) old next
       → Same (GoesOn taken options None is_plain old (word ∷ words)) (GoesOn taken options None is_plain next words)
   own_step true next kind takes = absurd (other-own kind)
   own_step false next kind takes =

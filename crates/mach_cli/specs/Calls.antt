@@ -1,6 +1,6 @@
 -- What the arguments of a call request.
-use Rattle.std.specs.Prelude.{◌≡◌, ◌==◌, ◌||◌, ◌&&◌, ◌<◌, ◌≤◌, ◌^◌, ℕ, List, [], ◌∷◌, ◌++◌, codes, map, length, Bool, true, false, bytes_eq, take, drop, if◌then◌else◌}
-use Rattle.std.specs.Prelude.{⊤, Option, Some, None, get_or, string_bytes}
+use Rattle.std.specs.Prelude.{◌≡◌, ◌==◌, ◌||◌, ◌&&◌, ◌<◌, ◌≤◌, ◌^◌, ℕ, List, [], ◌∷◌, ◌++◌, codes, map, length, Bool, true, false, bytes_eq}
+use Rattle.std.specs.Prelude.{⊤, take, drop, if◌then◌else◌, Option, Some, None, get_or, string_bytes}
 use Rattle.std.specs.Borrow.{Bor}
 use Rattle.std.specs.Str.Parse.{IsNumeral, digits_value, without_leading_plus}
 use Rattle.mach_base.specs.Text.{texts}

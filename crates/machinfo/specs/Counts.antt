@@ -29,13 +29,13 @@ abbrev pub are_counted_whole : ListProgress → ℕ → Bool
 are_counted_whole reported past = (reported.whole && not reported.more) && (past == 0)
 
 -- the list has no rows, and none is claimed past the end of the bytes
-abbrev pub has_none : ℕ → ListProgress → ℕ → Bool
-has_none limit reported past = are_counted_whole reported past && (limit - reported.left == 0)
+abbrev pub has_no_rows : ℕ → ListProgress → ℕ → Bool
+has_no_rows limit reported past = are_counted_whole reported past && (limit - reported.left == 0)
 
 -- the line of a list that has or claims rows
 abbrev pub count_line : Word → ℕ → ListProgress → ℕ → List ℕ
 count_line word limit reported past =
-    if has_none limit reported past then [] else spelling_of word ++ codes ": " ++ count_text limit reported past ++ codes "\n"
+    if has_no_rows limit reported past then [] else spelling_of word ++ codes ": " ++ count_text limit reported past ++ codes "\n"
 
 -- the same as members of an object
 abbrev pub count_members : ℕ → ListProgress → ℕ → List ℕ

@@ -6,7 +6,7 @@ ghost use Rattle.goblin_mach.specs.OpenImage.{IsImage};
 ghost use Rattle.mach_cli.specs.Listings.{CountsRows};
 ghost use Rattle.machinfo.specs.RowFields.{row_texts};
 ghost use Rattle.machinfo.specs.Lists.{HasRows};
-ghost use Rattle.machinfo.specs.Counts.{are_counted_whole, count_members, count_text, count_reported, has_none, past_text, AreCounts};
+ghost use Rattle.machinfo.specs.Counts.{are_counted_whole, count_members, count_text, count_reported, has_no_rows, past_text, AreCounts};
 
 use crate::list::ImageList;
 use crate::word::Word;
@@ -144,8 +144,8 @@ fn print_count<A: Allocator, O: Write>(
 }
 
 // Whether a list has no rows, and none is claimed past the end of the bytes.
-fn has_none(limit: usize, reported: ListProgress, past: usize) -> bool
-    ensures { result ≡ has_none limit reported past }
+fn has_no_rows(limit: usize, reported: ListProgress, past: usize) -> bool
+    ensures { result ≡ has_no_rows limit reported past }
 {
     reported.whole && !reported.more && past == 0 && limit.saturating_sub(reported.left) == 0
 }
@@ -163,7 +163,7 @@ fn write_count<O: Write>(
 {
     let name = word.name();
     match form {
-        Form::Lines if has_none(limit, reported, past) => Ok(()),
+        Form::Lines if has_no_rows(limit, reported, past) => Ok(()),
         Form::Lines => {
             let count = CountText {
                 limit,

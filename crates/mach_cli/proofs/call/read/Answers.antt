@@ -90,7 +90,8 @@ words-preserved g c =
           )
       | in-Own+in_default-take_dashed p ↦
           rw (p.call-is, p.before-is, p.is_plain-is, c.in_default.is) (
-            same_over _ _ _ before (own_step g.O.OwnOptions.taken o w rest view l.is_plain _ (kind kinds.Own p.in-Own.is) p.in_default-take_dashed.ensures.taken),
+            same_over _ _ _ before
+                (own_step g.O.OwnOptions.taken o w rest view l.is_plain _ (kind kinds.Own p.in-Own.is) p.in_default-take_dashed.ensures.taken),
             λ _. refl,
           )
     ]

@@ -22,7 +22,8 @@ returns g c = λ bytes opened.
     let signed = c.in_ok-signed.ensures in
     let state : c.state_of-state.result ≡ state_of_commands (commands_view m) (symbol_table_view m) = c.state_of-state.ensures in
     let counted = c.in_ok-counts.ensures bytes opened in
-    let whole = λ (s : Bool) (n : State). ((((c.in_ok-front.front && c.in_ok-parts.parts) && c.in_ok-used.used) && s) && (n.past == 0)) && c.in_ok-counts.counts in (
+    let first = (c.in_ok-front.front && c.in_ok-parts.parts) && c.in_ok-used.used in
+    let whole = λ (s : Bool) (n : State). ((first && s) && (n.past == 0)) && c.in_ok-counts.counts in (
       _,
       record {
         opens = (opened.ctx, commands_view m, opened.opens);

@@ -129,7 +129,7 @@ fn print_count<O: Write>(
 }
 
 // Whether a list has no rows, and none is claimed past the end of the bytes.
-fn has_none(limit: usize, reported: ListProgress, past: usize) -> bool {
+fn has_no_rows(limit: usize, reported: ListProgress, past: usize) -> bool {
     reported.whole && !reported.more && past == 0 && limit.saturating_sub(reported.left) == 0
 }
 
@@ -144,7 +144,7 @@ fn write_count<O: Write>(
 ) -> io::Result<()> {
     let name = word.name();
     match form {
-        Form::Lines if has_none(limit, reported, past) => Ok(()),
+        Form::Lines if has_no_rows(limit, reported, past) => Ok(()),
         Form::Lines => {
             let count = CountText {
                 limit,
