@@ -13,7 +13,9 @@ use Rattle.mach_load.specs.Command.{Command}
 use Rattle.mach_load.specs.Commands.{Kind, uuid, build_version, version_min_macosx, version_min_iphoneos, version_min_tvos, version_min_watchos}
 use Rattle.mach_load.specs.Variants.{command_of}
 use Rattle.mach_load.specs.TablesLeft.{build_tools_left}
-use Rattle.goblin_mach.specs.Libraries.{LibraryView, libraries_left, library_view}
+use Rattle.mach_load.specs.BuildTools.{build_tools_in}
+use Rattle.goblin_mach.specs.ImageFacts.{Facts}
+use Rattle.goblin_mach.specs.Libraries.{LibraryView, libraries_in, libraries_left, library_view}
 use Rattle.machinfo.specs.declared.command_facts.PlatformFact.{PlatformFact}
 use Rattle.machinfo.specs.declared.command_facts.Question.{Question}
 use Rattle.machinfo.specs.declared.command_facts.Question.TheVariants.{Uuid, Platform}
@@ -65,6 +67,19 @@ fact_of Platform c = option_map platform_fact (platform_by c)
 -- the answers of some commands, in order
 abbrev pub facts_within : Question → List Command → List FactView
 facts_within question cs = filter_map (fact_of question) cs
+
+-- the answers of an image's commands, its tools, its libraries and its run paths, as rows
+abbrev pub command_facts : Question → Facts → List (Result FactView Fault)
+command_facts question f = map (λ fact. Ok fact) (facts_within question f.commands)
+
+abbrev pub tool_facts : Facts → List (Result FactView Fault)
+tool_facts f = map (λ item. item >>= (λ found. Ok (tool_fact found.1))) (build_tools_in f.ctx.le f.bytes f.commands)
+
+abbrev pub library_facts : Facts → List (Result FactView Fault)
+library_facts f = map (λ library. Ok (library_fact library)) (libraries_in f.ctx.le f.bytes f.commands)
+
+abbrev pub path_facts : Facts → List (Result FactView Fault)
+path_facts f = map (λ path. Ok (path_fact path)) f.run_paths
 
 -- ---- what the code's values stand for
 

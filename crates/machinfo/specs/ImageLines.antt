@@ -18,6 +18,7 @@ use Rattle.machinfo.specs.Words.{spelling_of}
 use Rattle.machinfo.specs.Signed.{AreSignatureLinesOf, is_readable}
 use Rattle.machinfo.specs.StateLines.{state_lines}
 use Rattle.machinfo.specs.States.{state_of_commands}
+use Rattle.machinfo.specs.Summary.{AreFrontLines, AreUsedLines}
 use Rattle.machinfo.specs.declared.word.Word.{Word}
 use Rattle.machinfo.specs.declared.counts.Form.TheVariants.{Lines, Members}
 
@@ -41,26 +42,28 @@ pub record AreImageListMembers (word : Word) (left : ℕ) (bytes : List ℕ) (te
   pub has_rows : HasRows word bytes 0 rows past
   pub members : AreMembersInBounds left (record { name = spelling_of word; rows = row_objects rows } ∷ []) past text whole rest
 
--- The text is the summary of the image at the start of the bytes. Its parts are: some text first; the lines of the entry point, the
--- segments and the sections; some more text; whether the image is signed, and what its code directory says; whether it is encrypted
--- and stripped, and how many symbols it has; and how many items each list has, counted up to the limit. It is whole if these texts,
--- lines and counts are whole, the signature can be read, and no symbols are claimed past the end of the bytes. It uses up nothing of
--- the limit.
+-- The text is the summary of the image at the start of the bytes. Its parts are: the first lines; the lines of the entry point, the
+-- segments and the sections; those of the libraries and the run paths; whether the image is signed, and what its code directory says;
+-- whether it is encrypted and stripped, and how many symbols it has; and how many items each list has, counted up to the limit. It is
+-- whole if these lines and counts are whole, the signature can be read, and no symbols are claimed past the end of the bytes. It uses
+-- up nothing of the limit.
 pub record AreImageSummaryLines (limit left : ℕ) (bytes : List ℕ) (text : List ℕ) (whole : Bool) (rest : ℕ) : Type 0 where
   pub opens : Opens bytes 0
+  pub facts : Facts
+  pub has_facts : HasFacts bytes 0 facts
   pub front : List ℕ
   pub front_whole : Bool
+  pub are_front : AreFrontLines limit facts front front_whole
   pub parts : List ℕ
   pub parts_whole : Bool
   pub are_parts : AreLinesOfParts limit bytes parts parts_whole
   pub used : List ℕ
   pub used_whole : Bool
+  pub are_used : AreUsedLines limit facts used used_whole
   pub there : Result (Option Directory) Fault
   pub has_directory : HasCodeDirectory bytes 0 there
   pub signed : List ℕ
   pub are_signed : AreSignatureLinesOf there signed
-  pub facts : Facts
-  pub has_facts : HasFacts bytes 0 facts
   pub counts : List ℕ
   pub counts_whole : Bool
   pub are_counts : AreCounts Lines limit bytes counted_words counts counts_whole

@@ -1,17 +1,19 @@
 -- The summary of an image before its counts, but for its signature and its state.
-use Rattle.std.specs.Prelude.{◌==◌, ◌^◌, ℕ, List, [], ◌++◌, codes, bit_and, Bool, Option, Some, None}
+use Rattle.std.specs.Prelude.{◌≡◌, ◌==◌, ◌&&◌, ◌^◌, ℕ, List, [], ◌++◌, codes, bit_and, Bool, Option, Some, None}
 use Rattle.std.specs.Prelude.{Result, if◌then◌else◌}
 use Rattle.std.specs.Io.KnownBytes.{Appends}
 use Rattle.std.specs.List.{flat_map, range_with_len}
 use Rattle.mach_base.specs.Fault.{Fault}
+use Rattle.goblin_mach.specs.ImageFacts.{Facts}
 use Rattle.mach_parts.specs.Cpu.{kind_of_cpu}
 use Rattle.mach_parts.specs.HeaderNames.{filetype_name, flag_name}
 use Rattle.mach_parts.specs.declared.header.Header.{Header}
 use Rattle.mach_cli.specs.Cpus.{arch_rows, cpu_named}
 use Rattle.mach_cli.specs.Escapes.{escaped_text}
 use Rattle.mach_cli.specs.Listings.{hex_text, AreFirstLines}
-use Rattle.machinfo.specs.FactRows.{FactView}
+use Rattle.machinfo.specs.FactRows.{FactView, command_facts, library_facts, path_facts, tool_facts}
 use Rattle.machinfo.specs.FactTexts.{fact_texts}
+use Rattle.machinfo.specs.declared.command_facts.Question.TheVariants.{Platform, Uuid}
 use Rattle.machinfo.specs.HeaderWords.{flag_short_name}
 
 -- ---- the header
@@ -46,13 +48,37 @@ flags_line flags = codes "flags:" ++ (flat_map (λ bit. flag_word (bit_and flags
 
 -- ---- lists
 
--- A line was written for each of these rows in order, up to the limit, and a line if there are more. It is whole if there are no
--- more, and all can be read.
-pub record WritesSummary (word : List ℕ) (limit : ℕ) (rows : List (Result FactView Fault)) (whole : Bool) (old new : Option (List ℕ)) : Type 0 where
-  pub text : List ℕ
+-- The text is a line for each of these rows in order, up to the limit, and a line if there are more. It is whole if there are no
+-- more, and all can be read; `refused` is before the reason why one can't be.
+pub record AreFactLines (refused : List ℕ) (limit : ℕ) (rows : List (Result FactView Fault)) (text : List ℕ) (whole : Bool) : Type 0 where
   pub rest : ℕ
-  pub lines : AreFirstLines word limit limit (fact_texts rows) [] 0 text whole rest
-  pub written : Appends old new text
+  pub lines : AreFirstLines refused limit limit (fact_texts rows) [] 0 text whole rest
+
+-- the first lines of the summary: the kind of the file and the cpu, the name as a library, the UUIDs, the platforms, the tools, and the
+-- flags of the header
+pub record AreFrontLines (limit : ℕ) (f : Facts) (text : List ℕ) (whole : Bool) : Type 0 where
+  pub uuids : List ℕ
+  pub uuids_whole : Bool
+  pub are_uuids : AreFactLines (codes "uuid") limit (command_facts Uuid f) uuids uuids_whole
+  pub platforms : List ℕ
+  pub platforms_whole : Bool
+  pub are_platforms : AreFactLines (codes "platform") limit (command_facts Platform f) platforms platforms_whole
+  pub tools : List ℕ
+  pub tools_whole : Bool
+  pub are_tools : AreFactLines (codes "tool: refused") limit (tool_facts f) tools tools_whole
+  pub is_text : text ≡ kind_lines f.header ++ (own_name_line f.name ++ (uuids ++ (platforms ++ (tools ++ flags_line f.header.flags))))
+  pub is_whole : whole ≡ ((uuids_whole && platforms_whole) && tools_whole)
+
+-- the lines of the libraries and of the run paths
+pub record AreUsedLines (limit : ℕ) (f : Facts) (text : List ℕ) (whole : Bool) : Type 0 where
+  pub libraries : List ℕ
+  pub libraries_whole : Bool
+  pub are_libraries : AreFactLines (codes "library") limit (library_facts f) libraries libraries_whole
+  pub paths : List ℕ
+  pub paths_whole : Bool
+  pub are_paths : AreFactLines (codes "run path") limit (path_facts f) paths paths_whole
+  pub is_text : text ≡ libraries ++ paths
+  pub is_whole : whole ≡ (libraries_whole && paths_whole)
 
 -- Some text was written.
 pub record WritesSome (old new : Option (List ℕ)) : Type 0 where

@@ -1,13 +1,14 @@
 //! The summary of an image before its counts, but for its signature and its state.
 
-ghost use Rattle.std.specs.Prelude.{◌≡◌, IfOk, OnOk};
+ghost use Rattle.std.specs.Prelude.{◌≡◌, ℕ, List, IfOk, OnOk};
 ghost use Rattle.std.specs.Io.KnownBytes.{Appends};
 ghost use Rattle.mach_dyld.specs.Exports.{text_in};
+ghost use Rattle.goblin_mach.specs.ImageFacts.{facts_view};
 ghost use Rattle.machinfo.specs.FactRows.{fact_rows_left};
 ghost use Rattle.machinfo.specs.Summary.{cpu_line, flag_word, flags_line, kind_lines, own_name_line};
 ghost use Rattle.mach_parts.specs.HeaderNames.{flag_name};
 ghost use Rattle.machinfo.specs.HeaderWords.{flag_short_name};
-ghost use Rattle.machinfo.specs.Summary.{WritesSummary, WritesSome};
+ghost use Rattle.machinfo.specs.Summary.{AreFactLines, AreFrontLines, AreUsedLines};
 
 use crate::command_facts::{CommandFacts, Question};
 use crate::fact::{FactLines, FactList};
@@ -18,35 +19,24 @@ use std::alloc::Allocator;
 use std::io;
 use std::io::Write;
 
-/// Prints the first lines of an image, each list up to the limit. Returns whether all was printed and can be read.
+/// Prints the first lines of an image, each list up to the limit. Returns whether all were printed and can be read.
 pub fn print_front<A: Allocator, O: Write>(
     image: &MachO<'_, A>,
     limit: usize,
     out: &mut O,
 ) -> io::Result<bool>
-    ensures { OnOk result (WritesSome (O.contents out.old) (O.contents out.new)) }
+    ensures { IfOk result (λ whole. (text : List ℕ) × AreFrontLines limit (facts_view image.now) text whole
+        × Appends (O.contents out.old) (O.contents out.new) text) }
 {
     print_kind(&image.header, out)?;
     print_image_name(image.name, out)?;
-    let facts = print_facts(image, limit, out)?;
-    print_flags(image.header.flags, out)?;
-    Ok(facts)
-}
-
-// Prints the UUIDs, the platforms and the tools of an image. Returns whether all were printed and can be read.
-fn print_facts<A: Allocator, O: Write>(
-    image: &MachO<'_, A>,
-    limit: usize,
-    out: &mut O,
-) -> io::Result<bool>
-    ensures { OnOk result (WritesSome (O.contents out.old) (O.contents out.new)) }
-{
     let list = FactList::Commands(CommandFacts::of(Question::Uuid, image));
     let uuids = print_list(list, "uuid", limit, out)?;
     let list = FactList::Commands(CommandFacts::of(Question::Platform, image));
     let platforms = print_list(list, "platform", limit, out)?;
     let list = FactList::Tools(image.build_tools());
     let tools = print_list(list, "tool: refused", limit, out)?;
+    print_flags(image.header.flags, out)?;
     Ok(uuids & platforms & tools)
 }
 
@@ -56,7 +46,8 @@ pub fn print_used<A: Allocator, O: Write>(
     limit: usize,
     out: &mut O,
 ) -> io::Result<bool>
-    ensures { OnOk result (WritesSome (O.contents out.old) (O.contents out.new)) }
+    ensures { IfOk result (λ whole. (text : List ℕ) × AreUsedLines limit (facts_view image.now) text whole
+        × Appends (O.contents out.old) (O.contents out.new) text) }
 {
     let list = FactList::Libraries(image.libraries());
     let libraries = print_list(list, "library", limit, out)?;
@@ -68,14 +59,15 @@ pub fn print_used<A: Allocator, O: Write>(
 // Prints a line for each row of a list, up to a limit. Returns whether it has no more, and all can be read.
 fn print_list<O: Write>(
     list: FactList<'_, '_>,
-    word: &str,
+    refused: &str,
     limit: usize,
     out: &mut O,
 ) -> io::Result<bool>
-    ensures { IfOk result (λ whole. WritesSummary word.now limit (fact_rows_left list.entry) whole (O.contents out.old) (O.contents out.new)) }
+    ensures { IfOk result (λ whole. (text : List ℕ) × AreFactLines refused.now limit (fact_rows_left list.entry) text whole
+        × Appends (O.contents out.old) (O.contents out.new) text) }
 {
     let mut lines = FactLines(list);
-    let outcome = print_listing(&mut lines, word, limit, limit, out)?;
+    let outcome = print_listing(&mut lines, refused, limit, limit, out)?;
     Ok(outcome.whole)
 }
 

@@ -27,19 +27,21 @@ returns g c = λ bytes opened.
       _,
       record {
         opens = (opened.ctx, commands_view m, opened.opens);
-        front = front.text;
+        facts = facts_view m;
+        has_facts = (facts_are bytes 0 m (strict-lossy bytes 0 m opened) (λ (f : Facts). facts_view m ≡ f)).1 refl;
+        front = front.0;
         front_whole = c.in_ok-front.front;
+        are_front = front.1;
         parts = parts.0;
         parts_whole = c.in_ok-parts.parts;
         are_parts = parts.1;
-        used = used.text;
+        used = used.0;
         used_whole = c.in_ok-used.used;
+        are_used = used.1;
         there = there;
         has_directory = ((directory_is m).strict bytes 0 opened there).1 refl;
         signed = signed.1.text;
         are_signed = signed.1.lines;
-        facts = facts_view m;
-        has_facts = (facts_are bytes 0 m (strict-lossy bytes 0 m opened) (λ (f : Facts). facts_view m ≡ f)).1 refl;
         counts = counted.0;
         counts_whole = c.in_ok-counts.counts;
         are_counts = counted.1;
@@ -47,9 +49,9 @@ returns g c = λ bytes opened.
         is_whole = ap (λ (s : Bool). whole s c.state_of-state.result) signed.0 ∙ ap (λ (n : State). whole (is_readable there) n) state;
         is_rest = refl;
       },
-      Appends-both _ _ _ front.text _ front.written
+      Appends-both _ _ _ front.0 _ front.2
           (Appends-both _ _ _ parts.0 _ parts.2
-          (Appends-both _ _ _ used.text _ used.written
+          (Appends-both _ _ _ used.0 _ used.2
           (Appends-both _ _ _ signed.1.text _ signed.1.written
           (Appends-both _ _ _ _ counted.0 (rw state at c.in_ok-print_state.ensures) counted.2)))),
     )

@@ -10,27 +10,21 @@ use crate::shim::io::Write;
 use goblin_mach::generated::mach::MachO;
 use goblin_mach::generated::mach::header::{Header, filetype_to_str, flag_to_str};
 
-/// Prints the first lines of an image, each list up to the limit. Returns whether all was printed and can be read.
+/// Prints the first lines of an image, each list up to the limit. Returns whether all were printed and can be read.
 ///
 /// # Proved
 ///
-/// - if `Ok`: `WritesSome (O.contents out.old) (O.contents out.new)`
+/// - if `Ok(whole)`: there is `text : List ℕ` with: `AreFrontLines limit (facts_view image) text whole × Appends (O.contents out.old) (O.contents out.new) text`
 pub fn print_front<O: Write>(image: &MachO<'_>, limit: usize, out: &mut O) -> io::Result<bool> {
     print_kind(&image.header, out)?;
     print_image_name(image.name, out)?;
-    let facts = print_facts(image, limit, out)?;
-    print_flags(image.header.flags, out)?;
-    Ok(facts)
-}
-
-// Prints the UUIDs, the platforms and the tools of an image. Returns whether all were printed and can be read.
-fn print_facts<O: Write>(image: &MachO<'_>, limit: usize, out: &mut O) -> io::Result<bool> {
     let list = FactList::Commands(CommandFacts::of(Question::Uuid, image));
     let uuids = print_list(list, "uuid", limit, out)?;
     let list = FactList::Commands(CommandFacts::of(Question::Platform, image));
     let platforms = print_list(list, "platform", limit, out)?;
     let list = FactList::Tools(image.build_tools());
     let tools = print_list(list, "tool: refused", limit, out)?;
+    print_flags(image.header.flags, out)?;
     Ok(uuids & platforms & tools)
 }
 
@@ -38,7 +32,7 @@ fn print_facts<O: Write>(image: &MachO<'_>, limit: usize, out: &mut O) -> io::Re
 ///
 /// # Proved
 ///
-/// - if `Ok`: `WritesSome (O.contents out.old) (O.contents out.new)`
+/// - if `Ok(whole)`: there is `text : List ℕ` with: `AreUsedLines limit (facts_view image) text whole × Appends (O.contents out.old) (O.contents out.new) text`
 pub fn print_used<O: Write>(image: &MachO<'_>, limit: usize, out: &mut O) -> io::Result<bool> {
     let list = FactList::Libraries(image.libraries());
     let libraries = print_list(list, "library", limit, out)?;
@@ -50,12 +44,12 @@ pub fn print_used<O: Write>(image: &MachO<'_>, limit: usize, out: &mut O) -> io:
 // Prints a line for each row of a list, up to a limit. Returns whether it has no more, and all can be read.
 fn print_list<O: Write>(
     list: FactList<'_, '_>,
-    word: &str,
+    refused: &str,
     limit: usize,
     out: &mut O,
 ) -> io::Result<bool> {
     let mut lines = FactLines(list);
-    let outcome = print_listing(&mut lines, word, limit, limit, out)?;
+    let outcome = print_listing(&mut lines, refused, limit, limit, out)?;
     Ok(outcome.whole)
 }
 
