@@ -1,9 +1,8 @@
 -- Each row is one line.
-use Rattle.std.proofs.Common.{◌≡◌, ◌-◌, ◌^◌, ◌++◌, [], ◌∷◌, ℕ, List, true, false, codes, refl, arith, rules}
-use Rattle.std.specs.Fmt.{digits}
+use Rattle.std.proofs.Common.{◌≡◌, ◌++◌, ℕ, true, codes, rules}
 use Rattle.mach_cli.specs.Escapes.{has_no_feed, IsOneLine}
 use Rattle.mach_cli.specs.Fields.{fields_line, fields_pairs}
-use Rattle.mach_cli.proofs.OneLine.{no_feeds, no_feed-flat_map, no_feed-padded, no_feed-printed, printed-digits, line-end}
+use Rattle.mach_cli.proofs.OneLine.{no_feeds, line-end}
 use Rattle.machinfo.specs.FactRows.{FactView, uuid_fact, platform_fact, tool_fact, library_fact, path_fact}
 use Rattle.machinfo.specs.FactTexts.{fact_text}
 use Rattle.machinfo.specs.Platforms.{platform_name}

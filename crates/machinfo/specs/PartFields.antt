@@ -1,5 +1,5 @@
 -- What the rows of parts of an image show, field by field: as lines, and as objects of JSON (`mach-o/loader.h`).
-use Rattle.std.specs.Prelude.{◌==◌, ◌&&◌, ◌∷◌, ◌++◌, ℕ, ◌-◌, ◌%◌, List, [], codes, length, map, bit_and, Bool, not, Option, Some, None, if◌then◌else◌}
+use Rattle.std.specs.Prelude.{◌==◌, ◌&&◌, ◌∷◌, ◌++◌, ℕ, ◌-◌, ◌/◌, ◌%◌, List, [], codes, length, map, bit_and, Bool, not, Option, Some, None, if◌then◌else◌}
 use Rattle.std.specs.Result.{result_ok}
 use Rattle.mach_base.specs.Named.{Named, name_or}
 use Rattle.mach_base.specs.Text.{text_at}
@@ -8,6 +8,7 @@ use Rattle.mach_parts.specs.HeaderNames.{filetype_name, flag_name, flag_names}
 use Rattle.mach_parts.specs.Segment.{SegmentView}
 use Rattle.mach_parts.specs.declared.header.Header.{Header}
 use Rattle.mach_parts.specs.declared.segment.numbered.NumberedSection.{NumberedSection}
+use Rattle.mach_records.specs.declared.segments.Section64.{Section64}
 use Rattle.mach_cli.specs.Fields.{FieldView, ValueView, alone_field, field_of, flag, hex, line_field, named, number, object_field, optional_text}
 use Rattle.mach_cli.specs.Fields.{text, uuid, wide_field}
 use Rattle.mach_cli.specs.Cpus.{arch_rows, cpu_named}
@@ -103,8 +104,8 @@ section_type_name kind = name_or [] section_types kind
 
 -- The number, the segment's name and its own, the address, the size, the place in the file, and the type (SECTION_TYPE). An
 -- object also has the alignment as a power of 2, the attributes (SECTION_ATTRIBUTES), the relocations and the reserved fields.
-abbrev pub section_part_fields : SectionRow → List FieldView
-section_part_fields row =
+abbrev pub section_members : SectionRow → List FieldView
+section_members row =
     let s = row.section.section in
     let segment = name_in_field s.segname in
     let name = name_in_field s.sectname in
@@ -128,6 +129,24 @@ section_part_fields row =
     ∷ object_field (codes "reserved2") (number s.reserved2)
     ∷ object_field (codes "reserved3") (number s.reserved3)
     ∷ []
+
+-- how many stubs a section of the type S_SYMBOL_STUBS has, by the size of one (reserved2)
+abbrev pub stubs_in : Section64 → ℕ
+stubs_in s = if s.flags % 0x100 == 8 && not (s.reserved2 == 0) then s.size / s.reserved2 else 0
+
+-- the number of a section's stubs, and if there are some, in a line also the size of one
+abbrev pub stub_fields : Section64 → List FieldView
+stub_fields s =
+    let column = column_if (not (stubs_in s == 0)) 8 in
+    object_field (codes "stubs") (number (stubs_in s))
+    ∷ line_field (number (stubs_in s)) column
+    ∷ line_field (text (codes "of")) column
+    ∷ line_field (number s.reserved2) column
+    ∷ line_field (text (codes "bytes")) column
+    ∷ []
+
+abbrev pub section_part_fields : SectionRow → List FieldView
+section_part_fields row = section_members row ++ stub_fields row.section.section
 
 -- ---- UUIDs, run paths and the entry point
 

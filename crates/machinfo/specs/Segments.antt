@@ -1,18 +1,17 @@
 -- The segments of an image and their sections, as they are printed.
-use Rattle.std.specs.Prelude.{◌==◌, ◌-◌, ℕ, List, [], ◌∷◌, ◌++◌, codes, length, map, bit_and, Option, Some, None}
+use Rattle.std.specs.Prelude.{◌==◌, ◌-◌, ℕ, List, ◌++◌, codes, length, map, bit_and, Option, Some, None}
 use Rattle.std.specs.Prelude.{Result, Ok, if◌then◌else◌}
 use Rattle.std.specs.Fmt.{decimal}
 use Rattle.std.specs.Result.{result_ok}
 use Rattle.mach_base.specs.Answer.{◌>>=◌}
 use Rattle.mach_base.specs.Fault.{Fault}
 use Rattle.mach_base.specs.Items.{items_in_bounds}
-use Rattle.mach_base.specs.Text.{run_at, text_at}
+use Rattle.mach_base.specs.Text.{text_at}
 use Rattle.mach_parts.specs.Segment.{SegmentView, sections_of}
 use Rattle.mach_parts.specs.SectionItems.{sections_left}
 use Rattle.mach_parts.specs.declared.segment.section.Section.{Section}
-use Rattle.mach_cli.specs.Escapes.{escaped_bytes}
 use Rattle.mach_cli.specs.JsonText.{json_string}
-use Rattle.mach_cli.specs.Listings.{hex_text, reported_by}
+use Rattle.mach_cli.specs.Listings.{reported_by}
 use Rattle.machinfo.specs.declared.segments.SectionList.{SectionList}
 use Rattle.machinfo.specs.declared.segments.SectionObjects.{SectionObjects}
 

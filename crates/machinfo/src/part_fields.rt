@@ -7,8 +7,8 @@ ghost use Rattle.mach_parts.specs.Segment.{segment_view};
 ghost use Rattle.mach_cli.specs.Fields.{field_view};
 ghost use Rattle.machinfo.specs.Parts.{part_row_view};
 ghost use Rattle.machinfo.specs.PartFields.{entry_part_fields, header_flag, header_flags, header_members, name_of_found};
-ghost use Rattle.machinfo.specs.PartFields.{part_fields, rpath_part_fields, section_part_fields, section_type_name, segment_of_found};
-ghost use Rattle.machinfo.specs.PartFields.{segment_part_fields, text_or_dash, uuid_part_fields};
+ghost use Rattle.machinfo.specs.PartFields.{part_fields, rpath_part_fields, section_members, section_type_name, segment_of_found};
+ghost use Rattle.machinfo.specs.PartFields.{segment_part_fields, stub_fields, stubs_in, text_or_dash, uuid_part_fields};
 
 use crate::command_fields::{named, rights, text_from};
 use crate::fields::{column_if, flag_field};
@@ -23,6 +23,7 @@ use goblin_mach::header::{
     MH_PREBINDABLE, MH_PREBOUND, MH_ROOT_SAFE, MH_SETUID_SAFE, MH_SPLIT_SEGS,
     MH_SUBSECTIONS_VIA_SYMBOLS, MH_TWOLEVEL, MH_WEAK_DEFINES, filetype_to_str,
 };
+use goblin_mach::load_command::Section64;
 use goblin_mach::segment::{NumberedSection, Segment};
 use mach_cli::{Field, FieldsForm, Value, cpu_name};
 use std::io;
@@ -34,7 +35,10 @@ pub fn write_part<F: FieldsForm, O: Write>(row: &PartRow<'_, '_>, out: &mut O) -
 {
     match row {
         PartRow::Segment(number, segment) => F::write(&segment_fields(*number, segment), out),
-        PartRow::Section(row) => F::write(&section_fields(row), out),
+        PartRow::Section(row) => {
+            let stubs = stub_fields(&row.section.section);
+            F::write_both(&section_fields(row), &stubs, out)
+        }
         PartRow::Uuid(row) => F::write(&uuid_fields(row), out),
         PartRow::Rpath(number, path) => F::write(&rpath_fields(*number, path), out),
         PartRow::Entry(row) => F::write(&entry_fields(row), out),
@@ -116,9 +120,9 @@ fn section_type(number: u32) -> &'static str
     }
 }
 
-// Returns the fields of a section.
+// Returns the fields of a section, but for its stubs.
 fn section_fields<'a>(row: &'a SectionRow) -> [Field<'a>; 18]
-    ensures { map field_view result ≡ section_part_fields row.now }
+    ensures { map field_view result ≡ section_members row.now }
 {
     let section = &row.section.section;
     let (segname, sectname) = (
@@ -146,6 +150,33 @@ fn section_fields<'a>(row: &'a SectionRow) -> [Field<'a>; 18]
         Field::of_object("reserved1", Value::Number(u64::from(section.reserved1))),
         Field::of_object("reserved2", Value::Number(u64::from(section.reserved2))),
         Field::of_object("reserved3", Value::Number(u64::from(section.reserved3))),
+    ]
+}
+
+// Returns how many stubs a section has.
+fn stubs_in(section: &Section64) -> u64
+    ensures { result ≡ stubs_in section.now }
+{
+    let size = u64::from(section.reserved2);
+    if section.flags % 0x100 == 8 && size != 0 {
+        section.size / size
+    } else {
+        0
+    }
+}
+
+// Returns the fields of a section's stubs: their number and their size.
+fn stub_fields(section: &Section64) -> [Field<'static>; 5]
+    ensures { map field_view result ≡ stub_fields section.now }
+{
+    let stubs = stubs_in(section);
+    let column = column_if(stubs != 0, 8);
+    [
+        Field::of_object("stubs", Value::Number(stubs)),
+        Field::of_line(Value::Number(stubs), column),
+        Field::of_line(Value::Text("of"), column),
+        Field::of_line(Value::Number(u64::from(section.reserved2)), column),
+        Field::of_line(Value::Text("bytes"), column),
     ]
 }
 

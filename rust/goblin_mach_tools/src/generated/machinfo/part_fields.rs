@@ -18,6 +18,7 @@ use goblin_mach::generated::mach::header::{
     MH_PREBINDABLE, MH_PREBOUND, MH_ROOT_SAFE, MH_SETUID_SAFE, MH_SPLIT_SEGS,
     MH_SUBSECTIONS_VIA_SYMBOLS, MH_TWOLEVEL, MH_WEAK_DEFINES, filetype_to_str,
 };
+use goblin_mach::generated::mach::load_command::Section64;
 use goblin_mach::generated::mach::segment::{NumberedSection, Segment};
 
 /// Writes the fields of a row in a form.
@@ -28,7 +29,10 @@ use goblin_mach::generated::mach::segment::{NumberedSection, Segment};
 pub fn write_part<F: FieldsForm, O: Write>(row: &PartRow<'_, '_>, out: &mut O) -> io::Result<()> {
     match row {
         PartRow::Segment(number, segment) => F::write(&segment_fields(*number, segment), out),
-        PartRow::Section(row) => F::write(&section_fields(row), out),
+        PartRow::Section(row) => {
+            let stubs = stub_fields(&row.section.section);
+            F::write_both(&section_fields(row), &stubs, out)
+        }
         PartRow::Uuid(row) => F::write(&uuid_fields(row), out),
         PartRow::Rpath(number, path) => F::write(&rpath_fields(*number, path), out),
         PartRow::Entry(row) => F::write(&entry_fields(row), out),
@@ -102,7 +106,7 @@ fn section_type(number: u32) -> &'static str {
     }
 }
 
-// Returns the fields of a section.
+// Returns the fields of a section, but for its stubs.
 fn section_fields<'a>(row: &'a SectionRow) -> [Field<'a>; 18] {
     let section = &row.section.section;
     let (segname, sectname) = (
@@ -130,6 +134,29 @@ fn section_fields<'a>(row: &'a SectionRow) -> [Field<'a>; 18] {
         Field::of_object("reserved1", Value::Number(u64::from(section.reserved1))),
         Field::of_object("reserved2", Value::Number(u64::from(section.reserved2))),
         Field::of_object("reserved3", Value::Number(u64::from(section.reserved3))),
+    ]
+}
+
+// Returns how many stubs a section has.
+fn stubs_in(section: &Section64) -> u64 {
+    let size = u64::from(section.reserved2);
+    if section.flags % 0x100 == 8 && size != 0 {
+        section.size / size
+    } else {
+        0
+    }
+}
+
+// Returns the fields of a section's stubs: their number and their size.
+fn stub_fields(section: &Section64) -> [Field<'static>; 5] {
+    let stubs = stubs_in(section);
+    let column = column_if(stubs != 0, 8);
+    [
+        Field::of_object("stubs", Value::Number(stubs)),
+        Field::of_line(Value::Number(stubs), column),
+        Field::of_line(Value::Text("of"), column),
+        Field::of_line(Value::Number(u64::from(section.reserved2)), column),
+        Field::of_line(Value::Text("bytes"), column),
     ]
 }
 
