@@ -23,7 +23,7 @@ LEFT_OUT = r"(SIZEOF|REBASE)_\w+"
 GROUPS = [
     ("the magic numbers: `magic` of a gm_image, and the first four bytes of a fat file", r"(MH|FAT)_(MAGIC|CIGAM)(_64)?"),
     ("cpus: `cputype`", r"CPU_(TYPE|ARCH)_\w+"),
-    ("`cpusubtype`: the bits of capabilities; the others are the kind of the cpu", r"CPU_SUBTYPE_(MASK|LIB64)"),
+    ("`cpusubtype`: the bits of capabilities; the others are the kind of the cpu", r"CPU_SUBTYPE_(MASK|LIB64|ANY)"),
     ("the kinds of GM_CPU_TYPE_X86 and GM_CPU_TYPE_X86_64", r"CPU_SUBTYPE_(I386|X86_64)_\w+"),
     ("the kinds of GM_CPU_TYPE_ARM", r"CPU_SUBTYPE_ARM_\w+"),
     ("the kinds of GM_CPU_TYPE_ARM64 and GM_CPU_TYPE_ARM64_32", r"CPU_SUBTYPE_ARM64\w+"),
@@ -74,6 +74,7 @@ mach/machine.h
 CPU_ARCH_ABI64_32 u32 0x02000000 the bit of a cpu of 64 bits whose addresses have 32
 CPU_TYPE_POWERPC64 u32 0x01000012
 CPU_SUBTYPE_LIB64 u32 0x80000000 a capability: an executable for libraries of 64 bits
+CPU_SUBTYPE_ANY u32 0xffffffff for gm_image_for: every kind
 CPU_SUBTYPE_I386_ALL u32 3
 CPU_SUBTYPE_X86_64_ALL u32 3
 CPU_SUBTYPE_X86_64_H u32 8 Haswell
@@ -353,7 +354,19 @@ def names(found):
         rows += [(name, name[len(left_out):]) for name in group if not rows or name in dict(more())]
         lines += ["", head + " {", f"    switch ({head[:-1].split(' ')[-1]}) {{", *(f"    case GM_{name}: return \"{text}\";" for name, text in rows)]
         lines += ["    default: return NULL;", "    }", "}"]
-    return "".join(line + "\n" for line in lines)
+    return "".join(line + "\n" for line in [*lines, *kind_names()])
+
+
+def kind_names():
+    """The plain names of what bytes are, by the numbers of goblin_mach_c; those of foreign kinds are the words of the programs."""
+    numbers = dict(re.findall(r"Foreign::(\w+) => (GM_KIND_\w+),", sources("goblin_mach_c")[pathlib.Path("crates/goblin_mach_c/src/kinds.rt")]))
+    words = re.findall(r'Foreign::(\w+) => write!\(f, "not Mach-O: ([^"]*)"\)', sources("goblin_mach")[pathlib.Path("crates/goblin_mach/src/first_bytes.rt")])
+    if {name for name, _ in words} != set(numbers):
+        refuse("a kind that isn't Mach-O has no number or no words")
+    rows = [(numbers[name], text) for name, text in words]
+    rows += [("GM_KIND_IMAGE", "an image"), ("GM_KIND_FAT", "a fat file"), ("GM_KIND_FAT_64", "a fat file of 64 bits")]
+    return ["", "const char *gm_kind_name(uint32_t kind) {", "    switch (kind) {", *(f'    case {name}: return "{text}";' for name, text in rows),
+            "    default: return NULL;", "    }", "}"]
 
 
 def with_part(text, part, lines):

@@ -4,7 +4,7 @@
 #include <stdio.h>
 #include <stdlib.h>
 
-static int show(const uint8_t *bytes, size_t len) {
+static int show(const uint8_t *bytes, uint64_t len) {
     gm_image image;
     gm_error error;
     if (gm_open(bytes, len, 0, GM_STRICT, NULL, &image, &error)) {
@@ -12,12 +12,12 @@ static int show(const uint8_t *bytes, size_t len) {
         return 1;
     }
     gm_library libraries[16];
-    for (size_t first = 0, n; (n = gm_libraries(bytes, len, &image, first, libraries, 16)); first += n)
-        for (size_t i = 0; i < n; i++)
-            printf("library %zu: %.*s\n", first + i + 1, (int)libraries[i].name_len, (const char *)bytes + libraries[i].name);
+    for (uint64_t first = 0, n; (n = gm_libraries(bytes, len, &image, first, libraries, 16)); first += n)
+        for (uint64_t i = 0; i < n; i++)
+            printf("library %" PRIu64 ": %.*s\n", first + i + 1, (int)libraries[i].name_len, (const char *)bytes + libraries[i].name);
     gm_symbol symbols[256];
-    for (size_t first = 0, n; (n = gm_symbols(bytes, len, &image, first, symbols, 256)); first += n)
-        for (size_t i = 0; i < n; i++)
+    for (uint64_t first = 0, n; (n = gm_symbols(bytes, len, &image, first, symbols, 256)); first += n)
+        for (uint64_t i = 0; i < n; i++)
             if (symbols[i].code == GM_OK)
                 printf("%016" PRIx64 " %.*s\n", symbols[i].value, (int)symbols[i].name_len, (const char *)bytes + symbols[i].name);
     return 0;
@@ -31,12 +31,9 @@ int main(int argc, char **argv) {
     rewind(file);
     if (!bytes || fread(bytes, 1, len, file) != len) return 2;
     gm_fat_entry entries[8];
-    size_t first = 0;
+    uint64_t first = 0;
     int bad = 0;
-    for (size_t n; (n = gm_fat_entries(bytes, len, first, entries, 8)); first += n)
-        for (size_t i = 0; i < n; i++) {
-            const gm_fat_entry *e = &entries[i];
-            bad |= e->code != GM_OK || e->offset > len || e->size > len - e->offset || show(bytes + e->offset, e->size);
-        }
+    for (uint64_t n; (n = gm_fat_entries(bytes, len, first, entries, 8)); first += n)
+        for (uint64_t i = 0; i < n; i++) bad |= entries[i].code != GM_OK || show(bytes + entries[i].offset, entries[i].size);
     return first ? bad : show(bytes, len);
 }

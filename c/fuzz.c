@@ -5,7 +5,7 @@
 #include "gm_test.c"
 #undef main
 
-static void check_input(const uint8_t *bytes, size_t len) {
+static void check_input(const uint8_t *bytes, uint64_t len) {
     given g = {.bytes = bytes, .len = len};
     same_in_batches(named("entries"), &g);
     same_in_batches(named("table"), &g);
@@ -15,7 +15,7 @@ static void check_input(const uint8_t *bytes, size_t len) {
         static const char *const names[] = {"weak_binds", "rebases", "function_starts", "data_in_code", "indirect_symbols", "slots", "linker_options",
                                             "build_tools", "notes", "layout", "ids", "signature", "signature_faults"};
         for (int i = 0; i < 8; i++) same_in_batches(&lists[i], &g);
-        for (size_t i = 0; i < sizeof names / sizeof *names; i++) same_in_batches(named(names[i]), &g);
+        for (uint64_t i = 0; i < sizeof names / sizeof *names; i++) same_in_batches(named(names[i]), &g);
         counts(&g);
         says(&g);
         check_exports(&g);
@@ -32,9 +32,9 @@ static void check_input(const uint8_t *bytes, size_t len) {
     }
 }
 
-int LLVMFuzzerTestOneInput(const uint8_t *bytes, size_t len);
+int LLVMFuzzerTestOneInput(const uint8_t *bytes, uint64_t len);
 
-int LLVMFuzzerTestOneInput(const uint8_t *bytes, size_t len) {
+int LLVMFuzzerTestOneInput(const uint8_t *bytes, uint64_t len) {
     if (!away && !(away = fopen("/dev/null", "w"))) DIE("/dev/null can't be opened");
     check_input(bytes, len);
     return 0;

@@ -11,40 +11,42 @@
 #include <stdlib.h>
 #include <string.h>
 
-typedef struct { const uint8_t *bytes; size_t len; gm_image image; gm_segment segment; gm_section section; } given;
+typedef struct { const uint8_t *bytes; uint64_t len; gm_image image; gm_segment segment; gm_section section; } given;
 
 #define DIE(...) (fprintf(stderr, __VA_ARGS__), fputc('\n', stderr), exit(1))
 
 /* ---- the lists: how many rows a call wrote, and the line of a row */
 
-static void text(FILE *to, const given *g, size_t at, size_t len) {
+static void text(FILE *to, const given *g, uint64_t at, uint64_t len) {
     if (at > g->len || len > g->len - at) DIE("a text stands outside of the bytes");
     fwrite(g->bytes + at, 1, len, to);
 }
 
 #define LIST(name, row, call, ...) \
-    static size_t rows_##name(const given *g, size_t first, void *out, size_t cap) { (void)g; row *rows = out; return call; } \
+    static uint64_t rows_##name(const given *g, uint64_t first, void *out, uint64_t cap) { (void)g; row *rows = out; return call; } \
     static void line_##name(FILE *to, const given *g, const void *at) { const row *r = at; (void)g; __VA_ARGS__; fputc('\n', to); }
 
 #define OF g->bytes, g->len, &g->image
 LIST(entries, gm_fat_entry, gm_fat_entries(g->bytes, g->len, first, rows, cap),
      fprintf(to, "%x %x %u %u %u %u", r->cputype, r->cpusubtype, r->offset, r->size, r->align, r->code))
-LIST(commands, gm_command, gm_commands(OF, first, rows, cap), fprintf(to, "0x%zx %x size: %zu", r->offset, r->cmd, r->size))
+LIST(commands, gm_command, gm_commands(OF, first, rows, cap), fprintf(to, "0x%" PRIx64 " %x size: %" PRIu64, r->offset, r->cmd, r->size))
 LIST(segments, gm_segment, gm_segments(OF, first, rows, cap),
-     fprintf(to, "%.16s %" PRIx64 " %" PRIx64 " %" PRIx64 " %" PRIx64 " %zu %zu %x %x %u %x", (const char *)r->name, r->vmaddr, r->vmsize, r->fileoff,
+     fprintf(to, "%.16s %" PRIx64 " %" PRIx64 " %" PRIx64 " %" PRIx64 " %" PRIu64 " %" PRIu64 " %x %x %u %x", (const char *)r->name, r->vmaddr, r->vmsize,
+         r->fileoff,
              r->filesize, r->command, r->data_len, r->maxprot, r->initprot, r->sections, r->flags))
 LIST(sections, gm_section, gm_sections(OF, g->segment.command, g->segment.sections, first, rows, cap),
-     fprintf(to, "%.16s %.16s %" PRIx64 " %" PRIx64 " %zu %u %u %u %u %x %u", (const char *)r->name, (const char *)r->segment, r->addr, r->size,
+     fprintf(to, "%.16s %.16s %" PRIx64 " %" PRIx64 " %" PRIu64 " %u %u %u %u %x %u", (const char *)r->name, (const char *)r->segment, r->addr, r->size,
              r->data_len, r->offset, r->align, r->reloff, r->nreloc, r->flags, r->code))
 LIST(relocations, gm_relocation, gm_relocations(OF, g->section.reloff, g->section.nreloc, first, rows, cap),
      fprintf(to, "%" PRId32 " %08x %u", r->address, r->info, r->code))
 LIST(symbols, gm_symbol, gm_symbols(OF, first, rows, cap),
-     fprintf(to, "%0*" PRIx64 " %x %zu %x %u ", g->image.is_64 ? 16 : 8, r->value, r->n_type, r->section, r->desc, r->code); text(to, g, r->name, r->name_len))
+     fprintf(to, "%0*" PRIx64 " %x %" PRIu64 " %x %u ", g->image.is_64 ? 16 : 8, r->value, r->n_type, r->section, r->desc, r->code); text(to, g, r->name,
+         r->name_len))
 LIST(libraries, gm_library, gm_libraries(OF, first, rows, cap),
      fprintf(to, "%u %u %x %x %u ", r->kind, r->timestamp, r->current_version, r->compatibility_version, r->attributes); text(to, g, r->name, r->name_len))
 /* memory that is refused at one request, and counted */
 
-typedef struct { size_t asked, refused, held; } counted;
+typedef struct { uint64_t asked, refused, held; } counted;
 static void *take(void *self, size_t size) {
     counted *c = self;
     if (++c->asked == c->refused) return NULL;
@@ -53,40 +55,40 @@ static void *take(void *self, size_t size) {
 }
 static void give(void *self, void *block) { ((counted *)self)->held--; free(block); }
 
-static uint64_t made_up(size_t len);
-static void make_up(void *at, size_t size, size_t len);
+static uint64_t made_up(uint64_t len);
+static void make_up(void *at, uint64_t size, uint64_t len);
 
 static int of_damage;
 
 /* what comes after a cursor: from the start at 0, else from where the last call ended; for damage a cursor of made-up numbers */
 #define BEHIND(name, row, place) \
-    static size_t name(const given *g, size_t first, row *rows, size_t cap) { \
+    static uint64_t name(const given *g, uint64_t first, row *rows, uint64_t cap) { \
         static place at; \
         if (!first) memset(&at, 0, sizeof at); \
         if (of_damage) make_up(&at, sizeof at, g->len); \
         place before = at; \
-        size_t count = SIZE_MAX; \
+        uint64_t count = UINT64_MAX; \
         gm_error e; \
         uint32_t code = gm_##name(OF, &at, rows, cap, &count, NULL, &e); \
-        if (code && (count != SIZE_MAX || memcmp(&before, &at, sizeof at))) DIE("a refusal changed the count or the cursor"); \
+        if (code && (count != UINT64_MAX || memcmp(&before, &at, sizeof at))) DIE("a refusal changed the count or the cursor"); \
         return code ? 0 : count; \
     } \
     static void name##_refused(const given *g) { \
         row rows[4], first[4]; \
         place at = {0}, begun = {0}; \
-        size_t many = 0, count = SIZE_MAX; \
+        uint64_t many = 0, count = UINT64_MAX; \
         gm_error e = {0}, f = {0}; \
         memset(first, 0xa5, sizeof first); \
         uint32_t code = gm_##name(OF, &begun, first, 4, &many, NULL, &e); \
         if (code != e.code) DIE("an error without its code"); \
-        for (size_t k = 1;; k++) { \
+        for (uint64_t k = 1;; k++) { \
             counted c = {0, k, 0}; \
             gm_memory m = {&c, take, give}; \
             place untouched = {0}; \
             memset(rows, 0xa5, sizeof rows); \
             uint32_t again = gm_##name(OF, &at, rows, 4, &count, &m, &f); \
             if (c.held) DIE("a block was kept"); \
-            if (again && (count != SIZE_MAX || memcmp(&at, &untouched, sizeof at) || *(uint8_t *)rows != 0xa5)) DIE("a refusal left something"); \
+            if (again && (count != UINT64_MAX || memcmp(&at, &untouched, sizeof at) || *(uint8_t *)rows != 0xa5)) DIE("a refusal left something"); \
             if (again != GM_NO_MEMORY) { \
                 if (again != code || (!code && (count != many || memcmp(rows, first, sizeof rows)))) DIE("memory changed an answer"); \
                 break; \
@@ -105,7 +107,7 @@ static void dylib(FILE *to, const given *g, uint64_t ordinal) {
 }
 BEHIND(imports, gm_import, gm_bind_cursor)
 LIST(imports, gm_import, imports(g, first, rows, cap),
-     fprintf(to, "%u %" PRIu64 " %" PRIx64 " %" PRId64 " %" PRIx64 " %zu %u %u 0x%" PRIx64 " ", r->code, r->library, r->offset, r->addend,
+     fprintf(to, "%u %" PRIu64 " %" PRIx64 " %" PRId64 " %" PRIx64 " %" PRIu64 " %u %u 0x%" PRIx64 " ", r->code, r->library, r->offset, r->addend,
              r->start_of_sequence_offset, r->size, r->is_weak, r->is_lazy, r->address);
      dylib(to, g, r->library); fputc(' ', to); text(to, g, r->name, r->name_len))
 BEHIND(bindings, gm_binding, gm_binding_cursor)
@@ -124,28 +126,38 @@ BEHIND(function_starts, gm_function_start, gm_start_cursor)
 LIST(function_starts, gm_function_start, function_starts(g, first, rows, cap), fprintf(to, "%" PRIx64 " %u", r->address, r->code))
 LIST(data_in_code, gm_data_in_code_entry, gm_data_in_code(OF, first, rows, cap), fprintf(to, "%x %u %u %u", r->offset, r->length, r->kind, r->code))
 LIST(indirect_symbols, gm_indirect_symbol, gm_indirect_symbols(OF, first, rows, cap), fprintf(to, "%u %u %u", r->kind, r->symbol, r->code))
-static size_t slots(const given *g, size_t first, gm_slot *rows, size_t cap) {
-    size_t count = SIZE_MAX;
+static uint64_t slots(const given *g, uint64_t first, gm_slot *rows, uint64_t cap) {
+    uint64_t count = UINT64_MAX;
     gm_error e;
     uint32_t code = gm_slots(OF, first, rows, cap, &count, NULL, &e);
-    if (code && (count != SIZE_MAX || code != e.code)) DIE("a refusal changed the count, or has another code");
+    if (code && (count != UINT64_MAX || code != e.code)) DIE("a refusal changed the count, or has another code");
     return code ? 0 : count;
 }
 LIST(slots, gm_slot, slots(g, first, rows, cap),
-     fprintf(to, "%" PRIx64 " %" PRIu64 " %zu %u %u %u %u %u %u ", r->address, r->len, r->segment, r->section, r->kind, r->index, r->owner, r->symbol, r->code);
+     fprintf(to, "%" PRIx64 " %" PRIu64 " %" PRIu64 " %u %u %u %u %u %u ", r->address, r->len, r->segment, r->section, r->kind, r->index, r->owner, r->symbol,
+         r->code);
      text(to, g, r->name, r->name_len))
 LIST(linker_options, gm_linker_option, gm_linker_options(OF, first, rows, cap),
-     fprintf(to, "%zx %u ", r->command, r->code); text(to, g, r->text, r->text_len))
-LIST(build_tools, gm_build_tool, gm_build_tools(OF, first, rows, cap), fprintf(to, "%zx %u %x %u", r->command, r->tool, r->version, r->code))
+     fprintf(to, "%" PRIx64 " %u ", r->command, r->code); text(to, g, r->text, r->text_len))
+LIST(build_tools, gm_build_tool, gm_build_tools(OF, first, rows, cap), fprintf(to, "%" PRIx64 " %u %x %u", r->command, r->tool, r->version, r->code))
+LIST(all_sections, gm_numbered_section, gm_all_sections(OF, first, rows, cap),
+     fprintf(to, "%" PRIx64 " %u %.16s %.16s %" PRIx64 " %" PRIx64 " %u", r->command, r->number, (const char *)r->section.name,
+             (const char *)r->section.segment, r->section.addr, r->section.size, r->section.code))
+LIST(build_versions, gm_build_version, gm_build_versions(OF, first, rows, cap),
+     fprintf(to, "%" PRIx64 " %u %x %x", r->command, r->platform, r->minos, r->sdk))
+LIST(dyld_environment, gm_command_text, gm_dyld_environment(OF, first, rows, cap),
+     fprintf(to, "%" PRIx64 " %u ", r->command, r->code); text(to, g, r->text, r->text_len))
+LIST(fileset_entries, gm_fileset_entry, gm_fileset_entries(OF, first, rows, cap),
+     fprintf(to, "%" PRIx64 " %" PRIx64 " %u ", r->address, r->offset, r->code); text(to, g, r->name, r->name_len))
 LIST(notes, gm_note, gm_notes(OF, first, rows, cap),
      if (r->size && (r->place > g->len || r->size > g->len - r->place)) DIE("a note stands outside of the bytes");
-     fprintf(to, "%zx %zu %u ", r->command, r->size, r->code); text(to, g, r->owner, r->owner_len))
+     fprintf(to, "%" PRIx64 " %" PRIu64 " %u ", r->command, r->size, r->code); text(to, g, r->owner, r->owner_len))
 LIST(run_paths, gm_run_path, gm_run_paths(OF, first, rows, cap), text(to, g, r->path, r->path_len))
 LIST(ids, gm_id, gm_ids(OF, first, rows, cap), text(to, g, r->name, r->name_len))
 
 /* ---- the signature: one row, and its faults, in the words of machsign except those of errors */
 
-static size_t signature(const given *g, size_t first, gm_signature *row, size_t cap) {
+static uint64_t signature(const given *g, uint64_t first, gm_signature *row, uint64_t cap) {
     gm_error e;
     gm_signature said, before;
     if (first || !cap) return 0;
@@ -157,19 +169,19 @@ static size_t signature(const given *g, size_t first, gm_signature *row, size_t 
     *row = said;
     return 1;
 }
-static size_t signature_faults(const given *g, size_t first, gm_signature_fault *rows, size_t cap) {
-    size_t count = SIZE_MAX;
+static uint64_t signature_faults(const given *g, uint64_t first, gm_signature_fault *rows, uint64_t cap) {
+    uint64_t count = UINT64_MAX;
     gm_error e;
     uint32_t code = gm_signature_faults(OF, first, rows, cap, &count, NULL, &e);
-    if (code && (count != SIZE_MAX || code != e.code)) DIE("a refusal changed the count, or has another code");
+    if (code && (count != UINT64_MAX || code != e.code)) DIE("a refusal changed the count, or has another code");
     return code ? 0 : count;
 }
 static void cdhash(FILE *to, const uint8_t *hash) {
-    for (size_t i = 0; i < 20; i++) fprintf(to, "%02x", hash[i]);
+    for (uint64_t i = 0; i < 20; i++) fprintf(to, "%02x", hash[i]);
 }
 LIST(signature, gm_signature, signature(g, first, rows, cap),
      if (r->entitlements > g->len || r->entitlements_len > g->len - r->entitlements) DIE("entitlements stand outside of the bytes");
-     fprintf(to, "%x %x %u %u %" PRIx64 " %" PRIu64 " %u %u %u %zu ", r->version, r->flags, r->hash_type, r->page_size, r->limit, r->pages,
+     fprintf(to, "%x %x %u %u %" PRIx64 " %" PRIu64 " %u %u %u %" PRIu64 " ", r->version, r->flags, r->hash_type, r->page_size, r->limit, r->pages,
              r->identifier_code, r->team_code, r->entitlements_code, r->entitlements_len);
      cdhash(to, r->cdhash); fputc(' ', to); text(to, g, r->identifier, r->identifier_len); fputc(' ', to); text(to, g, r->team, r->team_len))
 LIST(signature_faults, gm_signature_fault, signature_faults(g, first, rows, cap),
@@ -177,18 +189,18 @@ LIST(signature_faults, gm_signature_fault, signature_faults(g, first, rows, cap)
 
 /* ---- faults of layout, of an image and of a fat file's table: the lines of machaudit */
 
-typedef uint32_t told(const given *g, size_t first, gm_layout_fault *out, size_t cap, size_t *count, const gm_memory *memory, gm_error *e);
-static uint32_t told_of_image(const given *g, size_t first, gm_layout_fault *out, size_t cap, size_t *count, const gm_memory *memory, gm_error *e) {
+typedef uint32_t told(const given *g, uint64_t first, gm_layout_fault *out, uint64_t cap, uint64_t *count, const gm_memory *memory, gm_error *e);
+static uint32_t told_of_image(const given *g, uint64_t first, gm_layout_fault *out, uint64_t cap, uint64_t *count, const gm_memory *memory, gm_error *e) {
     return gm_layout_faults(OF, first, out, cap, count, memory, e);
 }
-static uint32_t told_of_table(const given *g, size_t first, gm_layout_fault *out, size_t cap, size_t *count, const gm_memory *memory, gm_error *e) {
+static uint32_t told_of_table(const given *g, uint64_t first, gm_layout_fault *out, uint64_t cap, uint64_t *count, const gm_memory *memory, gm_error *e) {
     return gm_container_faults(g->bytes, g->len, first, out, cap, count, memory, e);
 }
-static size_t faults(told *call, const given *g, size_t first, gm_layout_fault *rows, size_t cap) {
-    size_t count = SIZE_MAX;
+static uint64_t faults(told *call, const given *g, uint64_t first, gm_layout_fault *rows, uint64_t cap) {
+    uint64_t count = UINT64_MAX;
     gm_error e;
     uint32_t code = call(g, first, rows, cap, &count, NULL, &e);
-    if (code && (count != SIZE_MAX || code != e.code)) DIE("a refusal changed the count, or has another code");
+    if (code && (count != UINT64_MAX || code != e.code)) DIE("a refusal changed the count, or has another code");
     return code ? 0 : count;
 }
 static void owner(FILE *to, uint32_t part, uint64_t index, uint64_t command) {
@@ -210,8 +222,8 @@ LIST(table, gm_layout_fault, faults(told_of_table, g, first, rows, cap), fault(t
 
 typedef struct {
     const char *name;
-    size_t size;
-    size_t (*rows)(const given *, size_t, void *, size_t);
+    uint64_t size;
+    uint64_t (*rows)(const given *, uint64_t, void *, uint64_t);
     void (*line)(FILE *, const given *, const void *);
 } list;
 #define ONE(name, row) {#name, sizeof(row), rows_##name, line_##name}
@@ -222,19 +234,22 @@ static const list lists[] = {ONE(commands, gm_command), ONE(segments, gm_segment
                              ONE(function_starts, gm_function_start),
                              ONE(data_in_code, gm_data_in_code_entry), ONE(indirect_symbols, gm_indirect_symbol), ONE(slots, gm_slot),
                              ONE(linker_options, gm_linker_option), ONE(build_tools, gm_build_tool), ONE(notes, gm_note),
+                             ONE(all_sections, gm_numbered_section), ONE(build_versions, gm_build_version), ONE(dyld_environment, gm_command_text),
+                             ONE(fileset_entries, gm_fileset_entry),
                              ONE(signature, gm_signature), ONE(signature_faults, gm_signature_fault)};
 enum { LISTS = sizeof lists / sizeof *lists, LIMIT = 400 };
 
 static const list *named(const char *name) {
-    for (size_t i = 0; i < LISTS; i++)
+    for (uint64_t i = 0; i < LISTS; i++)
         if (!strcmp(name, lists[i].name)) return &lists[i];
     return NULL;
 }
 
 /* the lines of a list in batches of so many, at most LIMIT of them; each array has exactly the length that is passed */
-static char *lines(const list *l, const given *g, size_t batch) {
+static char *lines(const list *l, const given *g, uint64_t batch) {
     char *text_of = NULL;
-    size_t len = 0, n = 0, k, room;
+    size_t len = 0;
+    uint64_t n = 0, k, room;
     FILE *to = open_memstream(&text_of, &len);
     do {
         room = LIMIT - n < batch ? LIMIT - n : batch;
@@ -242,9 +257,9 @@ static char *lines(const list *l, const given *g, size_t batch) {
         memset(out, 0xa5, room * l->size);
         k = l->rows(g, n, room ? out : NULL, room);
         if (k > room) DIE("%s: more rows than fit", l->name);
-        for (size_t i = k * l->size; i < room * l->size; i++)
+        for (uint64_t i = k * l->size; i < room * l->size; i++)
             if (out[i] != 0xa5) DIE("%s: the rest of the array was written", l->name);
-        for (size_t i = 0; i < k; i++) l->line(to, g, out + i * l->size);
+        for (uint64_t i = 0; i < k; i++) l->line(to, g, out + i * l->size);
         free(out);
         n += k;
     } while (k == room && room);
@@ -254,7 +269,7 @@ static char *lines(const list *l, const given *g, size_t batch) {
 
 /* ---- memory of a call */
 
-static size_t mallocs;
+static uint64_t mallocs;
 void *__real_malloc(size_t size);
 void *__wrap_malloc(size_t size);
 void *__wrap_malloc(size_t size) { mallocs++; return __real_malloc(size); }
@@ -269,7 +284,7 @@ static uint32_t opens(given *g, uint32_t mode) {
     gm_image before = other;
     uint32_t code = gm_open(g->bytes, g->len, 0, mode, NULL, &g->image, &e);
     if (code != e.code || e.text[123] || !e.text[0] != !code) DIE("an error without its code and its words");
-    for (size_t k = 1;; k++) {
+    for (uint64_t k = 1;; k++) {
         counted c = {0, k, 0};
         gm_memory m = {&c, take, give};
         uint32_t again = gm_open(g->bytes, g->len, 0, mode, &m, &other, &f);
@@ -283,7 +298,7 @@ static uint32_t opens(given *g, uint32_t mode) {
     static _Alignas(16) uint8_t room[1 << 16];
     gm_arena arena = {room, sizeof room, 0, 0};
     gm_memory m = gm_arena_memory(&arena);
-    size_t before_call = mallocs;
+    uint64_t before_call = mallocs;
     uint32_t again = gm_open(g->bytes, g->len, 0, mode, &m, &other, &f);
     if (mallocs != before_call || arena.blocks) DIE("an arena did not serve");
     if (again != code) DIE("an arena changed an answer");
@@ -292,14 +307,14 @@ static uint32_t opens(given *g, uint32_t mode) {
 
 /* ---- tests */
 
-static size_t tested, alike, others, brought, trees;
+static uint64_t tested, alike, others, brought, trees;
 
 static void same_in_batches(const list *l, const given *g) {
-    static const size_t batches[] = {1, 2, 7};
+    static const uint64_t batches[] = {1, 2, 7};
     char *all = lines(l, g, LIMIT);
     for (int i = 0; i < 3; i++) {
         char *some = lines(l, g, batches[i]);
-        if (strcmp(all, some)) DIE("%s: batches of %zu differ", l->name, batches[i]);
+        if (strcmp(all, some)) DIE("%s: batches of %" PRIu64 " differ", l->name, batches[i]);
         free(some);
     }
     free(all);
@@ -310,12 +325,12 @@ static void same_in_batches(const list *l, const given *g) {
 static void check_parts(given *g) {
     gm_segment segments[16];
     gm_section sections[16];
-    size_t n = gm_segments(OF, 0, segments, 16);
-    for (size_t i = 0; i < n; i++) {
+    uint64_t n = gm_segments(OF, 0, segments, 16);
+    for (uint64_t i = 0; i < n; i++) {
         g->segment = segments[i];
         same_in_batches(&lists[9], g);
-        size_t m = gm_sections(OF, segments[i].command, segments[i].sections, 0, sections, 16);
-        for (size_t k = 0; k < m; k++) {
+        uint64_t m = gm_sections(OF, segments[i].command, segments[i].sections, 0, sections, 16);
+        for (uint64_t k = 0; k < m; k++) {
             g->section = sections[k];
             same_in_batches(&lists[10], g);
         }
@@ -323,7 +338,7 @@ static void check_parts(given *g) {
 }
 
 /* a name that is looked up, also with memory that is refused; machdump has the exports of file C */
-static void finds(const given *g, const char *name, size_t name_len) {
+static void finds(const given *g, const char *name, uint64_t name_len) {
     gm_export found, before;
     char library[8], target[8];
     gm_error e = {0}, f = {0};
@@ -331,7 +346,7 @@ static void finds(const given *g, const char *name, size_t name_len) {
     found = before;
     uint32_t code = gm_find_export(OF, name, name_len, &found, library, sizeof library, NULL, 0, NULL, &e);
     if (code != e.code || (code && memcmp(&found, &before, sizeof found))) DIE("a refusal changed the export");
-    for (size_t k = 1;; k++) {
+    for (uint64_t k = 1;; k++) {
         counted c = {0, k, 0};
         gm_memory m = {&c, take, give};
         gm_export again = before;
@@ -351,29 +366,29 @@ static void tells(told *call, const given *g) {
     enum { CAP = 8, USED = offsetof(gm_layout_fault, other_part) + 4 };
     static _Alignas(16) uint8_t room[1 << 20];
     gm_layout_fault all[CAP], again[CAP], before[CAP];
-    size_t count = SIZE_MAX, count_again;
+    uint64_t count = UINT64_MAX, count_again;
     gm_error e = {0}, f = {0};
     memset(before, 0x5a, sizeof before);
     memcpy(all, before, sizeof all);
     uint32_t code = call(g, 0, all, CAP, &count, NULL, &e);
     if (code) DIE("what opened has no layout: %s", e.text);
-    for (size_t k = 1;; k++) {
+    for (uint64_t k = 1;; k++) {
         counted c = {0, k, 0};
         gm_memory m = {&c, take, give};
-        count_again = SIZE_MAX;
+        count_again = UINT64_MAX;
         memcpy(again, before, sizeof again);
         uint32_t code_again = call(g, 0, again, CAP, &count_again, &m, &f);
         if (c.held) DIE("a block was kept");
-        if (code_again && (count_again != SIZE_MAX || memcmp(again, before, sizeof again))) DIE("a refusal changed the faults");
+        if (code_again && (count_again != UINT64_MAX || memcmp(again, before, sizeof again))) DIE("a refusal changed the faults");
         if (code_again == GM_NO_MEMORY) continue;
         if (code_again != code || count_again != count) DIE("memory changed the faults");
-        for (size_t i = 0; i < CAP; i++)
+        for (uint64_t i = 0; i < CAP; i++)
             if (memcmp(again + i, all + i, USED)) DIE("memory changed a fault");
         break;
     }
     gm_arena arena = {room, sizeof room, 0, 0};
     gm_memory m = gm_arena_memory(&arena);
-    size_t before_call = mallocs;
+    uint64_t before_call = mallocs;
     if (call(g, 0, again, CAP, &count_again, &m, &f) != code || count_again != count) DIE("an arena changed the faults");
     if (mallocs != before_call || arena.blocks) DIE("an arena did not serve");
     tested++;
@@ -385,19 +400,19 @@ static void says(const given *g) {
     gm_signature said, said_again;
     gm_error e = {0}, f = {0};
     uint32_t is = 7, is_again;
-    size_t count = 0;
+    uint64_t count = 0;
     memset(&said, 0x5a, sizeof said);
     memset(all, 0x5a, sizeof all);
     const uint32_t codes[] = {gm_code_signature(OF, &said, NULL, &e), gm_is_as_signed(OF, &is, NULL, &e), gm_signature_faults(OF, 0, all, 8, &count, NULL, &e)};
     if (codes[1] != codes[2] || (codes[1] && (is != 7 || count))) DIE("a refusal changed what is said of a signature");
     if (!codes[1] && (is > 1 || (is && count) || (!is && !count && said.is_signed))) DIE("as signed, and faults; or neither");
     if (!codes[0] && codes[1]) DIE("a directory of a signature that can't be read");
-    for (size_t k = 1, refused = 1; refused; k++) {
+    for (uint64_t k = 1, refused = 1; refused; k++) {
         refused = 0;
         for (int call = 0; call < 3; call++) {
             counted c = {0, k, 0};
             gm_memory m = {&c, take, give};
-            size_t count_again = 0;
+            uint64_t count_again = 0;
             is_again = 7;
             memset(&said_again, 0x5a, sizeof said_again);
             memset(again, 0x5a, sizeof again);
@@ -417,7 +432,7 @@ static void says(const given *g) {
 
 /* the layout of an image after other bytes is that of the image */
 static void lies_behind(const given *g) {
-    const size_t front = 16;
+    const uint64_t front = 16;
     uint8_t *bytes = malloc(front + g->len);
     memset(bytes, 0x5a, front);
     memcpy(bytes + front, g->bytes, g->len);
@@ -433,7 +448,7 @@ static void lies_behind(const given *g) {
 /* ---- exports */
 
 /* the buffers of a walk: each has exactly the length that is passed, so that a write past it is detected */
-static void *grown(void *held, size_t old, size_t size) {
+static void *grown(void *held, uint64_t old, uint64_t size) {
     uint8_t *more = malloc(size + !size);
     if (!more) DIE("no memory");
     memset(more, 0xa5, size);
@@ -441,7 +456,7 @@ static void *grown(void *held, size_t old, size_t size) {
     free(held);
     return more;
 }
-static gm_export_room room_of(size_t some, size_t cap) {
+static gm_export_room room_of(uint64_t some, uint64_t cap) {
     gm_export_room r = {NULL, some, NULL, some, NULL, cap, NULL, some > 64 ? 16 * some : some};
     r.name = grown(NULL, 0, some);
     r.stack = grown(NULL, 0, some * sizeof *r.stack);
@@ -459,16 +474,16 @@ static uint32_t export_batch(const given *g, gm_export_walk *walk, const gm_expo
     uint32_t code = gm_exports(OF, walk, r, b, m, &e);
     if (code != e.code || (b->end == GM_REFUSED) != !!code) DIE("an end that is not that of the code");
     if (b->count > r->cap || b->names_len > r->names_cap) DIE("more exports than fit");
-    for (size_t i = b->count * sizeof *r->out; i < r->cap * sizeof *r->out; i++)
+    for (uint64_t i = b->count * sizeof *r->out; i < r->cap * sizeof *r->out; i++)
         if (((uint8_t *)r->out)[i] != 0xa5) DIE("exports: the rest of the array was written");
-    for (size_t i = b->names_len; i < r->names_cap; i++)
+    for (uint64_t i = b->names_len; i < r->names_cap; i++)
         if ((uint8_t)r->names[i] != 0xa5) DIE("exports: the rest of the names was written");
     return code;
 }
 
 /* enlarges what is too short, never by a byte or a node more than needed, so that each call counts */
 static void give_more(gm_export_room *r, const gm_export_batch *b) {
-    size_t *cap = b->end == GM_NAME_SHORT ? &r->name_cap : b->end == GM_STACK_SHORT ? &r->stack_cap : &r->names_cap;
+    uint64_t *cap = b->end == GM_NAME_SHORT ? &r->name_cap : b->end == GM_STACK_SHORT ? &r->stack_cap : &r->names_cap;
     if (b->needed <= *cap) DIE("no more is needed than there is");
     if (b->end == GM_NAME_SHORT) r->name = grown(r->name, *cap, b->needed);
     else if (b->end == GM_STACK_SHORT) r->stack = grown(r->stack, *cap * sizeof *r->stack, b->needed * sizeof *r->stack);
@@ -494,20 +509,20 @@ static void same_as_found(const given *g, const gm_listed_export *x, const char 
 }
 
 /* the lines of the exports in batches of so many, and how the walk ends; the buffers start with so many bytes and nodes */
-static char *export_lines(const given *g, size_t cap, size_t some, bool of_library) {
+static char *export_lines(const given *g, uint64_t cap, uint64_t some, bool of_library) {
     char *text_of = NULL;
-    size_t len = 0;
+    uint64_t len = 0;
     FILE *to = open_memstream(&text_of, &len);
     gm_export_walk walk = {0};
     gm_export_room r = room_of(some, cap);
     gm_export_batch b;
     for (;;) {
         uint32_t code = export_batch(g, &walk, &r, &b, NULL);
-        for (size_t i = 0, at = 0; i < b.count; at += r.out[i++].name_len) {
+        for (uint64_t i = 0, at = 0; i < b.count; at += r.out[i++].name_len) {
             const gm_listed_export *x = r.out + i;
             if (x->name != at || x->name_len > b.names_len - at || x->what.kind < GM_ADDRESS || x->what.kind > GM_STUB) DIE("a row of no name");
             if (of_library) {
-                fprintf(to, "%zu ", x->what.kind == GM_REEXPORTED ? x->library : 0);
+                fprintf(to, "%" PRIu64 " ", x->what.kind == GM_REEXPORTED ? x->library : 0);
                 text(to, g, x->what.target_len ? x->target : 0, x->what.target_len);
                 fprintf(to, " %.*s\n", (int)x->name_len, r.names + x->name);
                 same_as_found(g, x, r.names);
@@ -537,7 +552,7 @@ static void exports_by_tree(const given *g, const char *lines) {
     if (code != e.code) DIE("a tree of another code");
     if (!code && strstr(lines, "refused: ")) DIE("a tree of which a walk is refused");
     if (gm_exports_are_a_tree(OF, NULL, NULL) != code) DIE("a tree without an error");
-    for (size_t k = 1;; k++) {
+    for (uint64_t k = 1;; k++) {
         counted c = {0, k, 0};
         gm_memory m = {&c, take, give};
         uint32_t scarce = gm_exports_are_a_tree(OF, &m, &e);
@@ -574,7 +589,7 @@ static void exports_by_memory(const given *g) {
     gm_error e;
     if (!gm_exports(OF, &zeros, &none, &b, NULL, &e) && (b.end != GM_NO_ROOM || b.needed != 1 || b.count)) DIE("rows without an array");
     export_batch(g, &walk, &r, &b, NULL);
-    for (size_t k = 1; !walk.code; k++) {
+    for (uint64_t k = 1; !walk.code; k++) {
         counted c = {0, k, 0};
         gm_memory m = {&c, take, give};
         gm_export_walk before = walk;
@@ -592,15 +607,15 @@ static void exports_by_memory(const given *g) {
 }
 
 /* a trie of so many levels, each an inner node with two branches: the first leads on, the second to an export */
-static void put_uleb3(uint8_t *at, size_t n) { at[0] = n | 0x80, at[1] = n >> 7 | 0x80, at[2] = n >> 14; }
-static void check_deep(size_t levels) {
+static void put_uleb3(uint8_t *at, uint64_t n) { at[0] = n | 0x80, at[1] = n >> 7 | 0x80, at[2] = n >> 14; }
+static void check_deep(uint64_t levels) {
     enum { AT = 48, NODE = 12, LEAF = 4 };
-    size_t size = levels * (NODE + LEAF) + LEAF;
+    uint64_t size = levels * (NODE + LEAF) + LEAF;
     given held = {.len = AT + size}, *g = &held;
     uint8_t *bytes = calloc(1, AT + size), *trie = bytes + AT;
     const uint32_t header[] = {0xfeedfacf, 0x01000007, 3, 6, 1, 16, 0, 0, 0x80000033, 16, AT, (uint32_t)size};
     memcpy(bytes, header, sizeof header);
-    for (size_t i = 0; i < levels; i++) {
+    for (uint64_t i = 0; i < levels; i++) {
         uint8_t *node = trie + i * (NODE + LEAF);
         node[1] = 2, node[2] = 'a', node[7] = 'b';
         put_uleb3(node + 4, (i + 1) * (NODE + LEAF));
@@ -614,31 +629,31 @@ static void check_deep(size_t levels) {
     gm_export_walk walk = {0};
     gm_export_room r = room_of(0, 100);
     gm_export_batch b;
-    size_t n = 0;
+    uint64_t n = 0;
     do {
         if (gm_exports(OF, &walk, &r, &b, NULL, &e)) DIE("a deep trie: %s", e.text);
-        for (size_t i = 0; i < b.count; i++, n++) {
+        for (uint64_t i = 0; i < b.count; i++, n++) {
             const gm_listed_export *x = r.out + i;
             bool last = n == 0; /* the deepest comes first, then the others from the bottom up */
             if (x->name_len != (last ? levels : levels - n + 1) || r.names[x->name + x->name_len - 1] != (last ? 'a' : 'b'))
-                DIE("export %zu of a deep trie", n);
+                DIE("export %" PRIu64 " of a deep trie", n);
         }
         b.needed *= 2;
         if (b.end != GM_MORE && b.end != GM_END) give_more(&r, &b);
     } while (b.end != GM_END);
-    if (n != levels + 1 || r.stack_cap < levels - 1) DIE("a deep trie of %zu exports and %zu nodes", n, r.stack_cap);
-    printf("%zu levels in %zu bytes\n", levels, size);
+    if (n != levels + 1 || r.stack_cap < levels - 1) DIE("a deep trie of %" PRIu64 " exports and %" PRIu64 " nodes", n, r.stack_cap);
+    printf("%" PRIu64 " levels in %" PRIu64 " bytes\n", levels, size);
     give_room(&r);
     free(bytes);
 }
 
 static void check_exports(const given *g) {
     char *all = export_lines(g, LIMIT, 4096, true);
-    static const size_t batches[] = {1, 2, 7};
+    static const uint64_t batches[] = {1, 2, 7};
     for (int i = 0; i < 3; i++)
-        for (size_t some = 0; some <= 64; some += 32) {
+        for (uint64_t some = 0; some <= 64; some += 32) {
             char *part = export_lines(g, batches[i], some, true);
-            if (strcmp(all, part)) DIE("exports: batches of %zu differ", batches[i]);
+            if (strcmp(all, part)) DIE("exports: batches of %" PRIu64 " differ", batches[i]);
             free(part);
         }
     exports_by_memory(g);
@@ -649,13 +664,14 @@ static void check_exports(const given *g) {
 
 /* the numbers of an image are those of its lists */
 static void counts(const given *g) {
-    const struct { const char *list; size_t count; } rows[] = {{"commands", g->image.commands}, {"segments", g->image.segments}, {"symbols", g->image.symbols},
+    const struct { const char *list; uint64_t count; } rows[] = {{"commands", g->image.commands}, {"segments", g->image.segments}, {"symbols",
+        g->image.symbols},
                                                                {"libraries", g->image.libraries}, {"run_paths", g->image.run_paths}};
-    for (size_t i = 0; i < sizeof rows / sizeof *rows; i++) {
+    for (uint64_t i = 0; i < sizeof rows / sizeof *rows; i++) {
         const list *l = named(rows[i].list);
         _Alignas(16) uint8_t one[128];
-        size_t n = rows[i].count;
-        if (l->rows(g, n, one, 1) || (n && l->rows(g, n - 1, one, 1) != 1)) DIE("%s: not %zu", rows[i].list, n);
+        uint64_t n = rows[i].count;
+        if (l->rows(g, n, one, 1) || (n && l->rows(g, n - 1, one, 1) != 1)) DIE("%s: not %" PRIu64, rows[i].list, n);
     }
 }
 
@@ -674,7 +690,7 @@ static bool stand(const given *g, uint64_t at, uint64_t size) { return at <= g->
 /* the last command of a number, or one of size 0 */
 static gm_command last_command(const given *g, uint32_t cmd) {
     gm_command c, last = {0};
-    for (size_t i = 0; gm_commands(OF, i, &c, 1); i++)
+    for (uint64_t i = 0; gm_commands(OF, i, &c, 1); i++)
         if (c.cmd == cmd) last = c;
     return last;
 }
@@ -682,7 +698,7 @@ static gm_command last_command(const given *g, uint32_t cmd) {
 /* the address of the first segment that is named __TEXT */
 static uint64_t base_by_segments(const given *g) {
     gm_segment s;
-    for (size_t i = 0; gm_segments(OF, i, &s, 1); i++)
+    for (uint64_t i = 0; gm_segments(OF, i, &s, 1); i++)
         if (!strncmp((const char *)s.name, "__TEXT", 16)) return s.vmaddr;
     return 0;
 }
@@ -693,7 +709,7 @@ static void starts_by_bytes(const given *g) {
     uint64_t address = base_by_segments(g);
     gm_start_cursor cursor = {0};
     gm_function_start r;
-    size_t count;
+    uint64_t count;
     for (;;) {
         if (gm_function_starts(OF, &cursor, &r, 1, &count, NULL, NULL)) DIE("functions of an image that opened");
         if (!count) break;
@@ -725,7 +741,7 @@ typedef struct {
 } opcodes;
 
 /* the opcodes whose offset and size are at a number of the command */
-static opcodes opcodes_of(const given *g, size_t number) {
+static opcodes opcodes_of(const given *g, uint64_t number) {
     gm_command c = last_command(g, GM_LC_DYLD_INFO), only = last_command(g, GM_LC_DYLD_INFO_ONLY);
     if (only.offset > c.offset) c = only;
     opcodes o = {0};
@@ -770,7 +786,7 @@ static uint64_t in_memory(const given *g, const gm_segment *s, uint64_t offset, 
 }
 
 static bool next_rebase(const given *g, gm_rebase_cursor *at, gm_rebase *r) {
-    size_t count;
+    uint64_t count;
     if (gm_rebases(OF, at, r, 1, &count, NULL, NULL)) DIE("rebases of an image that opened");
     return count == 1;
 }
@@ -832,7 +848,7 @@ static void rebases_by_bytes(const given *g) {
     gm_rebase_cursor at = {0};
     gm_fixup_cursor chains = {0};
     uint64_t p = g->image.is_64 ? 8 : 4, count, stride = 0;
-    size_t told = 0, n;
+    uint64_t told = 0, n;
     while (o.at < o.upto) {
         if (!rebase_opcode(g, &o, p, &count, &stride)) return ends_rebases(g, &at, UINT32_MAX);
         for (uint64_t k = 0; k < count; k++, o.offset += stride) {
@@ -852,7 +868,7 @@ static void rebases_by_bytes(const given *g) {
 }
 
 static bool next_weak(const given *g, gm_bind_cursor *at, gm_weak_bind *w) {
-    size_t count;
+    uint64_t count;
     if (gm_weak_binds(OF, at, w, 1, &count, NULL, NULL)) DIE("weak binds of an image that opened");
     return count == 1;
 }
@@ -932,7 +948,7 @@ static void weak_binds_by_bytes(const given *g) {
     opcodes o = opcodes_of(g, 24);
     gm_bind_cursor at = {0};
     uint64_t p = g->image.is_64 ? 8 : 4, count, stride = 0;
-    size_t told = 0;
+    uint64_t told = 0;
     while (o.at < o.upto) {
         if (told++ == LIMIT) return;
         if (!weak_opcode(g, &o, p, &count, &stride, &at)) return ends_weak(g, &at, true);
@@ -978,18 +994,18 @@ static void indirect_by_bytes(const given *g) {
 
 /* options, tools and notes, command by command: options and tools end with the first fault */
 static void lists_by_bytes(const given *g) {
-    size_t options = 0, tools = 0, notes = 0;
+    uint64_t options = 0, tools = 0, notes = 0;
     bool options_end = false, tools_end = false;
     gm_command c;
-    for (size_t i = 0; gm_commands(OF, i, &c, 1); i++) {
+    for (uint64_t i = 0; gm_commands(OF, i, &c, 1); i++) {
         const uint8_t *at = g->bytes + c.offset;
-        size_t end = c.offset + c.size < g->len ? c.offset + c.size : g->len;
+        uint64_t end = c.offset + c.size < g->len ? c.offset + c.size : g->len;
         if (c.cmd == GM_LC_LINKER_OPTION) {
-            size_t text = c.offset + 12;
+            uint64_t text = c.offset + 12;
             for (uint32_t k = 0; k < word_at(g, at + 8) && !options_end; k++) {
                 gm_linker_option r;
                 if (gm_linker_options(OF, options++, &r, 1) != 1) DIE("too few options");
-                size_t size = text < end ? strnlen((const char *)g->bytes + text, end - text) : 0;
+                uint64_t size = text < end ? strnlen((const char *)g->bytes + text, end - text) : 0;
                 options_end = r.code != GM_OK;
                 if (!options_end && (text + size >= end || r.command != c.offset || r.text != text || r.text_len != size)) DIE("another option");
                 if (options_end && (r.command || r.text || r.text_len)) DIE("an option that can't be read, and is told");
@@ -1039,12 +1055,12 @@ static bool slot_by_bytes(const given *g, const gm_slot *r, uint64_t address, ui
 
 static void slots_by_bytes(const given *g) {
     static gm_slot rows[LIMIT];
-    size_t many = slots(g, 0, rows, LIMIT), n = 0, width = g->image.is_64 ? 80 : 68;
+    uint64_t many = slots(g, 0, rows, LIMIT), n = 0, width = g->image.is_64 ? 80 : 68;
     bool has_table = last_command(g, GM_LC_DYSYMTAB).size;
     gm_segment segment;
     gm_section s;
-    for (size_t i = 0; has_table && gm_segments(OF, i, &segment, 1); i++)
-        for (size_t k = 0; n < many && gm_sections(OF, segment.command, segment.sections, k, &s, 1); k++) {
+    for (uint64_t i = 0; has_table && gm_segments(OF, i, &segment, 1); i++)
+        for (uint64_t k = 0; n < many && gm_sections(OF, segment.command, segment.sections, k, &s, 1); k++) {
             const uint8_t *record = g->bytes + segment.command + (g->image.is_64 ? 72 : 56) + k * width;
             if (!stand(g, (uint64_t)(record - g->bytes), width)) { if (!rows[n++].code) DIE("a slot of no section"); continue; }
             uint32_t type = word_at(g, record + (g->image.is_64 ? 64 : 56)) & 0xff;
@@ -1064,7 +1080,7 @@ static void slots_by_bytes(const given *g) {
             }
             if (s.code != GM_OK) return; /* (the library's own tests cover the rows of those that lie partly in the file) */
         }
-    if (n != many) DIE("%zu slots, and not %zu", many, n);
+    if (n != many) DIE("%" PRIu64 " slots, and not %" PRIu64, many, n);
     for (n = 0; n < many; n++) {
         gm_slot again;
         gm_found_section in;
@@ -1085,23 +1101,23 @@ static void finds_by_bytes(const given *g) {
     gm_found_section found;
     gm_provider p;
     gm_error e;
-    size_t number = 1;
-    for (size_t i = 0; gm_segments(OF, i, &segment, 1); i++)
-        for (size_t k = 0; k < LIMIT && gm_sections(OF, segment.command, segment.sections, k, &s, 1); k++, number++) {
+    uint64_t number = 1;
+    for (uint64_t i = 0; gm_segments(OF, i, &segment, 1); i++)
+        for (uint64_t k = 0; k < LIMIT && gm_sections(OF, segment.command, segment.sections, k, &s, 1); k++, number++) {
             uint32_t code = gm_section_of(OF, number, &found, NULL, &e);
-            if (code ? code != e.code : !found.is_found || found.segment != i || found.number != k) DIE("section %zu", number);
+            if (code ? code != e.code : !found.is_found || found.segment != i || found.number != k) DIE("section %" PRIu64, number);
             if (code || s.code) continue;
             if (memcmp(found.name, s.name, 16) || memcmp(found.segment_name, s.segment, 16) || found.addr != s.addr || found.size != s.size
                 || found.offset != s.offset || found.align != s.align || found.reloff != s.reloff || found.nreloc != s.nreloc || found.flags != s.flags)
-                DIE("section %zu has other numbers", number);
+                DIE("section %" PRIu64 " has other numbers", number);
             if (!s.size || s.addr + s.size < s.addr) continue;
             if (gm_section_at(OF, s.addr, &found, NULL, &e) || !found.is_found || found.addr > s.addr || s.addr - found.addr >= found.size)
-                DIE("section %zu isn't found by its address", number);
+                DIE("section %" PRIu64 " isn't found by its address", number);
         }
     gm_found_section none;
     if (gm_section_of(OF, 0, &none, NULL, &e) || none.is_found) DIE("section 0");
-    if (gm_section_of(OF, SIZE_MAX, &none, NULL, &e) || none.is_found) DIE("a section past the last");
-    for (size_t i = 0; i < LIMIT && gm_symbols(OF, i, &symbol, 1); i++) {
+    if (gm_section_of(OF, UINT64_MAX, &none, NULL, &e) || none.is_found) DIE("a section past the last");
+    for (uint64_t i = 0; i < LIMIT && gm_symbols(OF, i, &symbol, 1); i++) {
         gm_symbol_provider(&g->image, &symbol, &p);
         uint32_t type = symbol.n_type & GM_N_TYPE, ordinal = symbol.desc >> 8;
         bool told = g->image.flags & GM_MH_TWOLEVEL && !(symbol.n_type & GM_N_STAB) && ((type == GM_N_UNDF && !symbol.value) || type == GM_N_PBUD);
@@ -1109,14 +1125,15 @@ static void finds_by_bytes(const given *g) {
             : ordinal == GM_EXECUTABLE_ORDINAL ? GM_OF_PROGRAM : GM_OF_LIBRARY;
         bool past = by == GM_OF_LIBRARY && ordinal > g->image.libraries;
         gm_provider wanted = {told && by == GM_OF_LIBRARY && !past ? ordinal : 0, told ? by : 0, told, told && past ? GM_MALFORMED : GM_OK, 0};
-        if (memcmp(&p, &wanted, sizeof p)) DIE("symbol %zu is given by another", i);
+        if (memcmp(&p, &wanted, sizeof p)) DIE("symbol %" PRIu64 " is given by another", i);
     }
 }
 
 static void check_tables(const given *g) {
-    static const char *const names[] = {"weak_binds", "rebases", "function_starts", "data_in_code", "indirect_symbols", "slots", "linker_options", "build_tools",
-                                        "notes"};
-    for (size_t i = 0; i < sizeof names / sizeof *names; i++) same_in_batches(named(names[i]), g);
+    static const char *const names[] = {"weak_binds", "rebases", "function_starts", "data_in_code", "indirect_symbols", "slots", "linker_options",
+        "build_tools",
+                                        "notes", "all_sections", "build_versions", "dyld_environment", "fileset_entries"};
+    for (uint64_t i = 0; i < sizeof names / sizeof *names; i++) same_in_batches(named(names[i]), g);
     weak_binds_refused(g);
     rebases_refused(g);
     function_starts_refused(g);
@@ -1130,7 +1147,7 @@ static void check_tables(const given *g) {
     finds_by_bytes(g);
 }
 
-static void check(const uint8_t *bytes, size_t len) {
+static void check(const uint8_t *bytes, uint64_t len) {
     given g = {.bytes = bytes, .len = len};
     same_in_batches(named("entries"), &g);
     same_in_batches(named("table"), &g);
@@ -1138,10 +1155,10 @@ static void check(const uint8_t *bytes, size_t len) {
     for (uint32_t mode = GM_STRICT; mode <= GM_LOSSY; mode++) {
         if (opens(&g, mode)) continue;
         char *all = lines(&lists[0], &g, LIMIT);
-        size_t count = 0;
+        uint64_t count = 0;
         for (char *c = all; *c; c++) count += *c == '\n';
         free(all);
-        if (count != g.image.commands) DIE("%zu commands of %zu", count, g.image.commands);
+        if (count != g.image.commands) DIE("%" PRIu64 " commands of %" PRIu64, count, g.image.commands);
         counts(&g);
         for (int i = 0; i < 8; i++) same_in_batches(&lists[i], &g);
         check_parts(&g);
@@ -1169,7 +1186,7 @@ static void check(const uint8_t *bytes, size_t len) {
 #error "a constant that the preprocessor reads otherwise"
 #endif
 
-static size_t named_numbers;
+static uint64_t named_numbers;
 static void has_name(const char *name, const char *of, uint32_t number) {
     if (!name) DIE("%s 0x%x has no name", of, number);
     named_numbers++;
@@ -1201,16 +1218,17 @@ static uint32_t used_by(const given *g, const gm_command *c) {
 }
 
 static void constants_of_commands(const given *g) {
-    size_t segments = 0, libraries = 0, run_paths = 0;
+    uint64_t segments = 0, libraries = 0, run_paths = 0;
     gm_command c;
     gm_library l;
-    for (size_t i = 0; gm_commands(OF, i, &c, 1); i++) {
+    for (uint64_t i = 0; gm_commands(OF, i, &c, 1); i++) {
         has_name(gm_command_name(c.cmd), "command", c.cmd);
         segments += c.cmd == (g->image.is_64 ? GM_LC_SEGMENT_64 : GM_LC_SEGMENT);
         run_paths += c.cmd == GM_LC_RPATH;
         int kind = kind_of(c.cmd);
-        if (kind >= 0 && (gm_libraries(OF, libraries++, &l, 1) != 1 || l.kind != (uint32_t)kind)) DIE("command %zu isn't of library %zu", i, libraries);
-        if (kind >= 0 && l.attributes != used_by(g, &c)) DIE("library %zu is used in another way", libraries);
+        if (kind >= 0 && (gm_libraries(OF, libraries++, &l, 1) != 1 || l.kind != (uint32_t)kind)) DIE("command %" PRIu64 " isn't of library %" PRIu64, i,
+            libraries);
+        if (kind >= 0 && l.attributes != used_by(g, &c)) DIE("library %" PRIu64 " is used in another way", libraries);
     }
     if (segments != g->image.segments || libraries != g->image.libraries || run_paths != g->image.run_paths) DIE("commands of other numbers than the lists");
 }
@@ -1220,14 +1238,14 @@ static void constants_of_segments(const given *g) {
     gm_segment segment;
     gm_section section;
     gm_relocation relocation;
-    for (size_t i = 0; gm_segments(OF, i, &segment, 1); i++) {
-        if ((segment.maxprot | segment.initprot) & ~rights || segment.flags > (GM_SG_READ_ONLY << 1) - 1) DIE("segment %zu has bits of no name", i);
-        for (size_t k = 0; gm_sections(OF, segment.command, segment.sections, k, &section, 1); k++) {
+    for (uint64_t i = 0; gm_segments(OF, i, &segment, 1); i++) {
+        if ((segment.maxprot | segment.initprot) & ~rights || segment.flags > (GM_SG_READ_ONLY << 1) - 1) DIE("segment %" PRIu64 " has bits of no name", i);
+        for (uint64_t k = 0; gm_sections(OF, segment.command, segment.sections, k, &section, 1); k++) {
             uint32_t type = section.flags & GM_SECTION_TYPE;
-            if (type > GM_S_INIT_FUNC_OFFSETS) DIE("section %zu has a type of no name", k);
+            if (type > GM_S_INIT_FUNC_OFFSETS) DIE("section %" PRIu64 " has a type of no name", k);
             bool is_zeros = type == GM_S_ZEROFILL || type == GM_S_GB_ZEROFILL || type == GM_S_THREAD_LOCAL_ZEROFILL;
-            if (is_zeros && section.data_len) DIE("zeros of section %zu in the file", k);
-            for (size_t n = 0; gm_relocations(OF, section.reloff, section.nreloc, n, &relocation, 1); n++)
+            if (is_zeros && section.data_len) DIE("zeros of section %" PRIu64 " in the file", k);
+            for (uint64_t n = 0; gm_relocations(OF, section.reloff, section.nreloc, n, &relocation, 1); n++)
                 has_name(gm_relocation_name(g->image.cputype, relocation.info >> 28), "relocation", relocation.info);
         }
     }
@@ -1235,10 +1253,10 @@ static void constants_of_segments(const given *g) {
 
 static void constants_of_symbols(const given *g) {
     gm_symbol s;
-    for (size_t i = 0; gm_symbols(OF, i, &s, 1); i++) {
+    for (uint64_t i = 0; gm_symbols(OF, i, &s, 1); i++) {
         if (s.n_type & GM_N_STAB) continue; /* (not all numbers of a debugger's entries have names) */
         has_name(gm_symbol_type_name(s.n_type), "symbol type", s.n_type);
-        if ((s.n_type & GM_N_TYPE) == GM_N_SECT && s.section == GM_NO_SECT) DIE("symbol %zu of no section", i);
+        if ((s.n_type & GM_N_TYPE) == GM_N_SECT && s.section == GM_NO_SECT) DIE("symbol %" PRIu64 " of no section", i);
     }
 }
 
@@ -1247,17 +1265,17 @@ static void constants_of_exports(const given *g) {
     gm_export_room r = room_of(4096, LIMIT);
     gm_export_batch b;
     if (!export_batch(g, &walk, &r, &b, NULL) && b.end != GM_END) DIE("exports that don't fit");
-    for (size_t i = 0; i < b.count; i++, named_numbers++) {
+    for (uint64_t i = 0; i < b.count; i++, named_numbers++) {
         const gm_export *x = &r.out[i].what;
         uint32_t kind = GM_ADDRESS;
         if (x->flags & GM_EXPORT_SYMBOL_FLAGS_REEXPORT) kind = GM_REEXPORTED;
         else if (x->flags & GM_EXPORT_SYMBOL_FLAGS_STUB_AND_RESOLVER) kind = GM_STUB;
-        if (x->kind != kind) DIE("export %zu is of kind %u by its flags", i, kind);
+        if (x->kind != kind) DIE("export %" PRIu64 " is of kind %u by its flags", i, kind);
     }
     give_room(&r);
 }
 
-static void check_constants(const uint8_t *bytes, size_t len) {
+static void check_constants(const uint8_t *bytes, uint64_t len) {
     given held = {.bytes = bytes, .len = len}, *g = &held;
     gm_error e;
     if (gm_open(bytes, len, 0, GM_STRICT, NULL, &g->image, &e)) DIE("%s", e.text);
@@ -1275,7 +1293,7 @@ static void check_constants(const uint8_t *bytes, size_t len) {
 /* a line for each entry for a debugger: its type, and the type's name without N_, or the type again */
 static void print_debugger_entries(const given *g) {
     gm_symbol s;
-    for (size_t i = 0; gm_symbols(OF, i, &s, 1); i++) {
+    for (uint64_t i = 0; gm_symbols(OF, i, &s, 1); i++) {
         if (!(s.n_type & GM_N_STAB)) continue;
         const char *name = gm_symbol_type_name(s.n_type);
         if (name) printf("%02x %s\n", s.n_type, name + strlen("N_"));
@@ -1287,7 +1305,9 @@ static void print_debugger_entries(const given *g) {
 static void check_names(void) {
     const struct { const char *found, *wanted; } rows[] = {
         {gm_code_name(GM_OK), "ok"}, {gm_code_name(GM_NO_ROWS), "no rows"}, {gm_code_name(GM_NO_SPACE), "no space"},
-        {gm_code_name(GM_NO_SPACE + 1), NULL}, {gm_code_name(UINT32_MAX), NULL},
+        {gm_code_name(GM_NO_IMAGE), "no image for the cpu"}, {gm_code_name(GM_NO_IMAGE + 1), NULL},
+        {gm_kind_name(gm_kind(NULL, 0)), "an empty file"}, {gm_kind_name(GM_KIND_FAT_64), "a fat file of 64 bits"}, {gm_kind_name(GM_KIND_UNKNOWN), NULL},
+        {gm_kind_name(GM_KIND_BITCODE + 1), NULL}, {gm_code_name(UINT32_MAX), NULL},
         {gm_cpu_name(GM_CPU_TYPE_ARM64, GM_CPU_SUBTYPE_ARM64E | UINT32_C(0x80000000)), "arm64e"}, {gm_cpu_name(GM_CPU_TYPE_ARM64, 1), NULL},
         {gm_cpu_name(GM_CPU_TYPE_X86_64, GM_CPU_SUBTYPE_X86_64_H), "x86_64h"}, {gm_cpu_name(GM_CPU_TYPE_ARM, GM_CPU_SUBTYPE_ARM_V7S), "armv7s"},
         {gm_cpu_name(GM_CPU_TYPE_POWERPC64, 0), "ppc64"}, {gm_cpu_name(GM_CPU_ARCH_ABI64, 0), NULL}, {gm_cpu_name(0, 0), NULL},
@@ -1300,9 +1320,9 @@ static void check_names(void) {
         {gm_relocation_name(GM_CPU_TYPE_X86, GM_GENERIC_RELOC_VANILLA), "GENERIC_RELOC_VANILLA"},
         {gm_relocation_name(GM_CPU_TYPE_X86_64, 10), NULL}, {gm_relocation_name(GM_CPU_TYPE_POWERPC, 0), NULL},
         {gm_platform_name(GM_PLATFORM_MACOS), "MACOS"}, {gm_platform_name(0), NULL}, {gm_platform_name(GM_PLATFORM_VISIONOSSIMULATOR + 1), NULL}};
-    for (size_t n = 0; n < sizeof rows / sizeof *rows; n++) {
+    for (uint64_t n = 0; n < sizeof rows / sizeof *rows; n++) {
         const char *found = rows[n].found ? rows[n].found : "(none)", *wanted = rows[n].wanted ? rows[n].wanted : "(none)";
-        if (strcmp(found, wanted)) DIE("name %zu is '%s', and not '%s'", n, found, wanted);
+        if (strcmp(found, wanted)) DIE("name %" PRIu64 " is '%s', and not '%s'", n, found, wanted);
     }
     char text[32];
     snprintf(text, sizeof text, "%d.%d.%d", GM_VERSION_MAJOR, GM_VERSION_MINOR, GM_VERSION_PATCH);
@@ -1314,7 +1334,7 @@ static uint64_t seed = 88172645463325252u;
 static uint64_t chance(void) { seed ^= seed << 13; seed ^= seed >> 7; seed ^= seed << 17; return seed; }
 
 /* numbers of all kinds: small ones, ones near the length, ones near the last of 32 and 64 bits */
-static uint64_t made_up(size_t len) {
+static uint64_t made_up(uint64_t len) {
     switch (chance() % 6) {
     case 0: return chance() % 4;
     case 1: return chance() % 256;
@@ -1326,8 +1346,8 @@ static uint64_t made_up(size_t len) {
 }
 
 /* made-up numbers in some places of a struct */
-static void make_up(void *at, size_t size, size_t len) {
-    for (size_t k = 0; k + 4 <= size; k += 4) {
+static void make_up(void *at, uint64_t size, uint64_t len) {
+    for (uint64_t k = 0; k + 4 <= size; k += 4) {
         uint64_t number = made_up(len);
         if (chance() % 3 == 0) memcpy((uint8_t *)at + k, &number, k % 8 || k + 8 > size ? 4 : 8);
     }
@@ -1340,9 +1360,9 @@ static void damage_walk(const given *g) {
     gm_export_batch b;
     if (chance() % 2) export_batch(g, &walk, &r, &b, NULL);
     uint64_t *numbers = (uint64_t *)&walk, *nodes = (uint64_t *)r.stack;
-    for (size_t i = 0; i < 7; i++)
+    for (uint64_t i = 0; i < 7; i++)
         if (chance() % 3 == 0) numbers[i] = made_up(g->len);
-    for (size_t i = 0; i < r.stack_cap * 3; i++)
+    for (uint64_t i = 0; i < r.stack_cap * 3; i++)
         if (chance() % 4 == 0) nodes[i] = made_up(g->len);
     walk.is_begun = chance() % 8 != 0;
     if (walk.visits_left > 1000) walk.visits_left = chance() % 1000;
@@ -1352,7 +1372,7 @@ static void damage_walk(const given *g) {
 
 static FILE *away;
 
-static void damage(const uint8_t *bytes, size_t len) {
+static void damage(const uint8_t *bytes, uint64_t len) {
     given g = {.bytes = bytes, .len = len};
     gm_error e;
     if (chance() % 2) gm_open(bytes, len, 0, GM_LOSSY, NULL, &g.image, &e);
@@ -1372,12 +1392,29 @@ static void damage(const uint8_t *bytes, size_t len) {
     gm_section_at(bytes, len, &g.image, made_up(len), &section, NULL, &e);
     gm_section_of(bytes, len, &g.image, made_up(len), &section, NULL, &e);
     gm_symbol_provider(&g.image, &symbol, &provider);
-    for (size_t i = 0; i < LISTS; i++) {
-        size_t first = chance() % 2 ? 0 : made_up(len), cap = chance() % 5;
+    gm_found_symbol one;
+    gm_found_function function;
+    gm_image_uuid uuid;
+    gm_encrypted_part part;
+    gm_command_text path;
+    uint64_t number;
+    gm_symbol_at(bytes, len, &g.image, made_up(len), &one, NULL, &e);
+    gm_symbol_named(bytes, len, &g.image, "_a", chance() % 3, &one, NULL, &e);
+    gm_section_named(bytes, len, &g.image, "__TEXT", chance() % 7, "__text", chance() % 7, &section, NULL, &e);
+    gm_function_at(bytes, len, &g.image, made_up(len), &function, NULL, &e);
+    gm_segment_named(bytes, len, &g.image, "__TEXT", chance() % 7, &g.segment);
+    gm_address_of_offset(bytes, len, &g.image, made_up(len), &number);
+    gm_offset_of_address(bytes, len, &g.image, made_up(len), &number);
+    gm_uuid(bytes, len, &g.image, &uuid);
+    gm_source_version(bytes, len, &g.image, &number);
+    gm_encryption(bytes, len, &g.image, &part);
+    gm_dylinker(bytes, len, &g.image, &path);
+    for (uint64_t i = 0; i < LISTS; i++) {
+        uint64_t first = chance() % 2 ? 0 : made_up(len), cap = chance() % 5;
         uint8_t *out = malloc(cap * lists[i].size + !cap);
-        size_t k = lists[i].rows(&g, first, out, cap);
+        uint64_t k = lists[i].rows(&g, first, out, cap);
         if (k > cap) DIE("%s: more rows than fit", lists[i].name);
-        for (size_t n = 0; n < k; n++) lists[i].line(away, &g, out + n * lists[i].size);
+        for (uint64_t n = 0; n < k; n++) lists[i].line(away, &g, out + n * lists[i].size);
         free(out);
     }
 }
@@ -1387,7 +1424,7 @@ static void print_exports(const given *g, const char *names) {
     for (const char *at = names; *at; at += strcspn(at, ",") + 1) {
         gm_export found;
         gm_error e;
-        size_t n = strcspn(at, ",");
+        uint64_t n = strcspn(at, ",");
         if (gm_find_export(OF, at, n, &found, NULL, 0, NULL, 0, NULL, &e)) printf("refused: %s\n", e.text);
         else if (found.kind == GM_ADDRESS) printf("0x%" PRIx64 " %.*s\n", found.address, (int)n, at);
         if (!at[n]) break;
@@ -1400,7 +1437,7 @@ static void print_list(const list *l, const given *g) {
     free(all);
 }
 
-static void print(const char *what, const uint8_t *bytes, size_t len) {
+static void print(const char *what, const uint8_t *bytes, uint64_t len) {
     given g = {.bytes = bytes, .len = len};
     gm_error e;
     if (!strcmp(what, "constants")) { check_constants(bytes, len); return; }
@@ -1417,11 +1454,11 @@ static void print(const char *what, const uint8_t *bytes, size_t len) {
 }
 
 /* exactly the bytes of a file, so that a read past them is detected */
-static uint8_t *read_file(const char *name, size_t *len) {
+static uint8_t *read_file(const char *name, uint64_t *len) {
     FILE *f = fopen(name, "rb");
     if (!f) DIE("%s can't be opened", name);
     fseek(f, 0, SEEK_END);
-    *len = (size_t)ftell(f);
+    *len = (uint64_t)ftell(f);
     rewind(f);
     uint8_t *bytes = malloc(*len + !*len);
     if (fread(bytes, 1, *len, f) != *len) DIE("%s can't be read", name);
@@ -1446,7 +1483,7 @@ static void check_words(void) {
         {{0xcf, 0xfa, 0xed, 0xfe}, GM_MALFORMED, "malformed: a header is 32 bytes"},
         {{0, 0, 0xca, 0xfe}, GM_BAD_MAGIC, "bad magic 0xcafe"},
     };
-    for (size_t n = 0; n < sizeof rows / sizeof *rows; n++) {
+    for (uint64_t n = 0; n < sizeof rows / sizeof *rows; n++) {
         gm_image image;
         gm_error e;
         memset(&e, 1, sizeof e);
@@ -1457,24 +1494,24 @@ static void check_words(void) {
 
 /* a fat file whose header says so many records, with so many bytes of them: how many entries are reported, and whether the last is cut */
 static void check_cut(void) {
-    static const struct { uint32_t says; size_t there, told; bool cut; } rows[] = {
+    static const struct { uint32_t says; uint64_t there, told; bool cut; } rows[] = {
         {0, 0, 0, false}, {0, 60, 0, false}, {1, 20, 1, false}, {1, 19, 1, true}, {2, 40, 2, false}, {2, 60, 2, false}, {2, 39, 2, true}, {2, 21, 2, true},
         {2, 20, 2, true}, {2, 19, 1, true}, {2, 0, 1, true}, {UINT32_MAX, 56, 3, true}, {UINT32_MAX, 60, 4, true}, {UINT32_MAX, 0, 1, true}};
-    for (size_t n = 0; n < sizeof rows / sizeof *rows; n++) {
+    for (uint64_t n = 0; n < sizeof rows / sizeof *rows; n++) {
         uint8_t *bytes = calloc(1, 8 + rows[n].there);
         uint32_t says = rows[n].says;
         memcpy(bytes, (uint8_t[]){0xca, 0xfe, 0xba, 0xbe, says >> 24, says >> 16, says >> 8, says}, 8);
         gm_fat_entry e[8];
-        size_t told = gm_fat_entries(bytes, 8 + rows[n].there, 0, e, 8);
-        if (told != rows[n].told || gm_fat_entries(bytes, 8 + rows[n].there, told, e + 7, 1)) DIE("%zu entries of row %zu", told, n);
-        for (size_t i = 0; i < told; i++)
-            if ((e[i].code != GM_OK) != (rows[n].cut && i + 1 == told)) DIE("entry %zu of row %zu: code %u", i, n, e[i].code);
+        uint64_t told = gm_fat_entries(bytes, 8 + rows[n].there, 0, e, 8);
+        if (told != rows[n].told || gm_fat_entries(bytes, 8 + rows[n].there, told, e + 7, 1)) DIE("%" PRIu64 " entries of row %" PRIu64, told, n);
+        for (uint64_t i = 0; i < told; i++)
+            if ((e[i].code != GM_OK) != (rows[n].cut && i + 1 == told)) DIE("entry %" PRIu64 " of row %" PRIu64 ": code %u", i, n, e[i].code);
         free(bytes);
     }
 }
 
 /* an image with one symbol table of these records and names */
-static uint8_t *image_of_symbols(const uint8_t *rest, size_t len, uint32_t nsyms, size_t *whole) {
+static uint8_t *image_of_symbols(const uint8_t *rest, uint64_t len, uint32_t nsyms, uint64_t *whole) {
     enum { AT = 56 };
     const uint32_t front[] = {0xfeedfacf, 0x01000007, 3, 6, 1, 24, 0, 0, 2, 24, AT, nsyms, AT + 16 * nsyms, (uint32_t)len - 16 * nsyms};
     uint8_t *bytes = malloc(AT + len);
@@ -1486,12 +1523,12 @@ static uint8_t *image_of_symbols(const uint8_t *rest, size_t len, uint32_t nsyms
 
 /* the answer for a symbol whose name isn't text, or is past the end */
 static void check_symbols(void) {
-    static const struct { uint8_t strx, code; size_t at, len; } rows[] = {
+    static const struct { uint8_t strx, code; uint64_t at, len; } rows[] = {
         {1, GM_OK, 1, 2}, {4, GM_SHORT, 4, 3}, {6, GM_SHORT, 6, 1}, {8, GM_OK, 8, 1}, {9, GM_SHORT, 0, 0}};
     enum { SYMBOLS = sizeof rows / sizeof *rows, NAMES = 56 + 16 * SYMBOLS };
     static const uint8_t names[] = {0, '_', 'a', 0, 'b', 'c', 0xff, 0, 'd'};
     uint8_t rest[16 * SYMBOLS + sizeof names] = {0};
-    for (size_t k = 0; k < SYMBOLS; k++) memcpy(rest + 16 * k, (uint8_t[]){rows[k].strx, 0, 0, 0, 0xf, 7, 0x34, 0x12, k, 0, 0, 0, 0, 0, 0, 0x80}, 16);
+    for (uint64_t k = 0; k < SYMBOLS; k++) memcpy(rest + 16 * k, (uint8_t[]){rows[k].strx, 0, 0, 0, 0xf, 7, 0x34, 0x12, k, 0, 0, 0, 0, 0, 0, 0x80}, 16);
     memcpy(rest + sizeof rest - sizeof names, names, sizeof names);
     given g = {0};
     uint8_t *bytes = image_of_symbols(rest, sizeof rest, SYMBOLS, &g.len);
@@ -1499,17 +1536,18 @@ static void check_symbols(void) {
     if (gm_open(g.bytes, g.len, 0, GM_STRICT, NULL, &g.image, NULL)) DIE("symbols that don't open");
     gm_symbol s[SYMBOLS];
     if (gm_symbols(g.bytes, g.len, &g.image, 0, s, SYMBOLS) != SYMBOLS) DIE("symbols are missing");
-    for (size_t k = 0; k < SYMBOLS; k++) {
-        if (s[k].value != (UINT64_C(0x80) << 56 | k) || s[k].section != 7 || s[k].n_type != 0xf || s[k].desc != 0x1234) DIE("symbol %zu lost its record", k);
-        size_t at = rows[k].at ? NAMES + rows[k].at : 0;
+    for (uint64_t k = 0; k < SYMBOLS; k++) {
+        if (s[k].value != (UINT64_C(0x80) << 56 | k) || s[k].section != 7 || s[k].n_type != 0xf
+            || s[k].desc != 0x1234) DIE("symbol %" PRIu64 " lost its record", k);
+        uint64_t at = rows[k].at ? NAMES + rows[k].at : 0;
         if (s[k].code != rows[k].code || s[k].name != at || s[k].name_len != rows[k].len)
-            DIE("symbol %zu: code %u, name %zu %zu", k, s[k].code, s[k].name, s[k].name_len);
+            DIE("symbol %" PRIu64 ": code %u, name %" PRIu64 " %" PRIu64, k, s[k].code, s[k].name, s[k].name_len);
     }
     free(bytes);
 }
 
 /* memory whose functions call the library themselves, out of malloc, of themselves, or of an arena */
-typedef struct { const uint8_t *bytes; size_t len, depth, calls; } calling;
+typedef struct { const uint8_t *bytes; uint64_t len, depth, calls; } calling;
 static void call_within(calling *c);
 static void *take_calling(void *self, size_t size) { call_within(self); return malloc(size); }
 static void give_calling(void *self, void *block) { call_within(self); free(block); }
@@ -1520,7 +1558,7 @@ static void call_within(calling *c) {
     const gm_memory *const with[] = {NULL, &of_arena, c->depth < 2 ? &itself : NULL};
     gm_image image;
     c->depth++;
-    for (size_t i = 0; i < 3; i++)
+    for (uint64_t i = 0; i < 3; i++)
         if (gm_open(c->bytes, c->len, 0, GM_STRICT, with[i], &image, NULL)) DIE("a call within a call was refused");
     c->depth--;
     c->calls += 3;
@@ -1530,7 +1568,7 @@ static void check_within(const given *g) {
     calling c = {g->bytes, g->len, 0, 0};
     gm_memory m = {&c, take_calling, give_calling};
     gm_image image;
-    size_t before_call = mallocs;
+    uint64_t before_call = mallocs;
     if (gm_open(g->bytes, g->len, 0, GM_STRICT, &m, &image, NULL) || memcmp(&image, &g->image, IMAGE)) DIE("calls within a call changed it");
     if (!c.calls || mallocs == before_call) DIE("nothing was called within a call");
 }
@@ -1544,14 +1582,15 @@ static void check_edges(void) {
     for (uint32_t mode = 0; mode < 4; mode++)
         if (gm_open(g.bytes, g.len, 0, mode == 3 ? UINT32_MAX : mode, NULL, &g.image, &e) != (mode <= GM_LOSSY ? GM_OK : GM_MALFORMED)) DIE("mode %u", mode);
     if (gm_open(g.bytes, 31, 0, GM_STRICT, NULL, &g.image, NULL) != GM_MALFORMED) DIE("a refusal that nobody reads");
-    if (gm_in_bounds(9, 1, 4, UINT32_MAX) != 2 || gm_in_bounds(10, 1, 4, 2) != 2 || gm_in_bounds(8, 8, 4, 1) || gm_in_bounds(8, 0, 0, 1)) DIE("records that begin there");
+    if (gm_in_bounds(9, 1, 4, UINT32_MAX) != 2 || gm_in_bounds(10, 1, 4, 2) != 2 || gm_in_bounds(8, 8, 4, 1) || gm_in_bounds(8, 0, 0,
+        1)) DIE("records that begin there");
     gm_fixup_cursor f = {0};
     gm_bind_cursor i = {0};
     gm_binding_cursor b = {0};
     gm_bind_cursor w = {0};
     gm_rebase_cursor r = {0};
     gm_start_cursor s = {0};
-    size_t count = 5;
+    uint64_t count = 5;
     const uint32_t codes[] = {gm_fixups(g.bytes, g.len, &g.image, &f, NULL, 0, &count, NULL, &e),
                               gm_imports(g.bytes, g.len, &g.image, &i, NULL, 0, &count, NULL, &e),
                               gm_bindings(g.bytes, g.len, &g.image, &b, NULL, 0, &count, NULL, NULL),
@@ -1562,8 +1601,8 @@ static void check_edges(void) {
                               gm_layout_faults(g.bytes, g.len, &g.image, 0, NULL, 0, &count, NULL, &e),
                               gm_signature_faults(g.bytes, g.len, &g.image, 0, NULL, 0, &count, NULL, &e),
                               gm_container_faults(g.bytes, g.len, 0, NULL, 0, &count, NULL, NULL)};
-    for (size_t n = 0; n < sizeof codes / sizeof *codes; n++)
-        if (codes[n] != GM_NO_ROWS || count != 5) DIE("call %zu with an array of no rows: %u", n, codes[n]);
+    for (uint64_t n = 0; n < sizeof codes / sizeof *codes; n++)
+        if (codes[n] != GM_NO_ROWS || count != 5) DIE("call %" PRIu64 " with an array of no rows: %u", n, codes[n]);
     gm_export_walk walk = {0};
     gm_export_room room = {NULL, 0, NULL, 0, NULL, 0, NULL, 0};
     gm_export_batch batch;
@@ -1586,7 +1625,7 @@ int main(int argc, char **argv) {
     of_damage = !strcmp(argv[1], "damage");
     away = fopen("/dev/null", "w");
     if (!away) DIE("/dev/null can't be opened");
-    if (!strcmp(argv[1], "deep")) return check_deep((size_t)strtol(argv[2], NULL, 10)), 0;
+    if (!strcmp(argv[1], "deep")) return check_deep((uint64_t)strtol(argv[2], NULL, 10)), 0;
     check_words();
     check_cut();
     check_symbols();
@@ -1594,12 +1633,12 @@ int main(int argc, char **argv) {
     check_shared();
     check(NULL, 0);
     for (int i = 2 + of_damage; i < argc; i++) {
-        size_t len;
+        uint64_t len;
         uint8_t *bytes = read_file(argv[i], &len);
         if (of_damage) {
             for (long k = strtol(argv[2], NULL, 10); k > 0; k--) damage(bytes, len);
         } else if (!strcmp(argv[1], "check")) {
-            for (size_t n = 0; n <= len; n++) {
+            for (uint64_t n = 0; n <= len; n++) {
                 uint8_t *prefix = malloc(n + !n);
                 memcpy(prefix, bytes, n);
                 check(prefix, n);
@@ -1607,11 +1646,11 @@ int main(int argc, char **argv) {
             }
         } else {
             gm_fat_entry entries[8];
-            size_t n = gm_fat_entries(bytes, len, 0, entries, 8);
+            uint64_t n = gm_fat_entries(bytes, len, 0, entries, 8);
             if (!n) print(argv[1], bytes, len);
             if (!strcmp(argv[1], "layout")) print_list(named("table"), &(given){.bytes = bytes, .len = len});
-            for (size_t k = 0; k < n; k++) {
-                printf("arch %zu\n", k);
+            for (uint64_t k = 0; k < n; k++) {
+                printf("arch %" PRIu64 "\n", k);
                 const gm_fat_entry *e = entries + k;
                 if (e->size >= 8 && !memcmp(bytes + e->offset, "!<arch>\n", 8)) puts("archive");
                 else print(argv[1], bytes + e->offset, e->size);
@@ -1620,9 +1659,9 @@ int main(int argc, char **argv) {
         free(bytes);
     }
     fclose(away);
-    if (!strcmp(argv[1], "constants")) printf("%zu numbers have the names that they are to have\n", named_numbers);
+    if (!strcmp(argv[1], "constants")) printf("%" PRIu64 " numbers have the names that they are to have\n", named_numbers);
     if (!strcmp(argv[1], "check"))
-        printf("%zu lists agree, %zu of trees; %zu exports as they are found, %zu of them brought, and %zu others of a name\n", tested, trees, alike, brought,
+        printf("%" PRIu64 " lists agree, %" PRIu64 " of trees; %" PRIu64 " exports as they are found, %" PRIu64 " of them brought, and %" PRIu64 " others of a name\n", tested, trees, alike, brought,
                others);
     return 0;
 }

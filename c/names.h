@@ -241,3 +241,18 @@ static const char *arm64_name(uint32_t type) {
     default: return NULL;
     }
 }
+
+const char *gm_kind_name(uint32_t kind) {
+    switch (kind) {
+    case GM_KIND_EMPTY: return "an empty file";
+    case GM_KIND_ELF: return "an ELF file";
+    case GM_KIND_JAVA_CLASS: return "a Java class";
+    case GM_KIND_PE: return "a PE or DOS program";
+    case GM_KIND_ARCHIVE: return "an archive";
+    case GM_KIND_BITCODE: return "LLVM bitcode";
+    case GM_KIND_IMAGE: return "an image";
+    case GM_KIND_FAT: return "a fat file";
+    case GM_KIND_FAT_64: return "a fat file of 64 bits";
+    default: return NULL;
+    }
+}

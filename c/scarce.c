@@ -22,18 +22,18 @@
 #include <time.h>
 #include <unistd.h>
 
-extern void *__libc_malloc(size_t), *__libc_calloc(size_t, size_t), *__libc_realloc(void *, size_t), *__libc_memalign(size_t, size_t);
+extern void *__libc_malloc(size_t), *__libc_calloc(size_t, uint64_t), *__libc_realloc(void *, uint64_t), *__libc_memalign(size_t, uint64_t);
 extern void __libc_free(void *);
 
 enum { MOST = 16 };
 static uintptr_t own_from, own_upto;
 static uint64_t refused, spared, growths, now, steps[MOST];
-static size_t count, readings, most, held;
+static uint64_t count, readings, most, held;
 static bool all_behind, is_heap, no_clock, no_renames;
 static int told = -1;
 
 /* Where the program's own code is: the first of all objects is the program. */
-static int find_own(struct dl_phdr_info *info, size_t size, void *nothing) {
+static int find_own(struct dl_phdr_info *info, uint64_t size, void *nothing) {
     (void)size, (void)nothing;
     for (int i = 0; i < info->dlpi_phnum; i++) {
         const ElfW(Phdr) *part = &info->dlpi_phdr[i];
@@ -74,10 +74,10 @@ static bool is_own(void *back) {
 }
 
 /* Whether a growth to so many bytes, instead of those of a block, exceeds the limit. */
-static bool is_past_heap(size_t size, void *block) {
+static bool is_past_heap(uint64_t size, void *block) {
     if (!is_heap) return false;
     tell('h');
-    size_t others = held - malloc_usable_size(block);
+    uint64_t others = held - malloc_usable_size(block);
     return size > most || others > most - size;
 }
 
@@ -91,7 +91,7 @@ static bool is_numbered(void) {
 }
 
 /* Whether an allocator call that returns to this address is refused; it requests so many bytes instead of a block, or a new block. */
-static bool is_refused(void *back, size_t size, void *block) {
+static bool is_refused(void *back, uint64_t size, void *block) {
     if (!is_own(back) || (!is_numbered() && !is_past_heap(size, block))) return false;
     errno = ENOMEM;
     return true;
@@ -103,8 +103,8 @@ static void *counted(void *back, void *made) {
     return made;
 }
 
-static void *resized(void *back, void *block, size_t size) {
-    size_t before = is_own(back) ? malloc_usable_size(block) : 0;
+static void *resized(void *back, void *block, uint64_t size) {
+    uint64_t before = is_own(back) ? malloc_usable_size(block) : 0;
     void *made = __libc_realloc(block, size);
     if (made || size == 0) held -= before;
     return counted(back, made);
@@ -112,17 +112,17 @@ static void *resized(void *back, void *block, size_t size) {
 
 #define BACK __builtin_return_address(0)
 
-void *malloc(size_t size) { return is_refused(BACK, size, NULL) ? NULL : counted(BACK, __libc_malloc(size)); }
-void *realloc(void *block, size_t size) { return is_refused(BACK, size, block) ? NULL : resized(BACK, block, size); }
-void *aligned_alloc(size_t align, size_t size) { return is_refused(BACK, size, NULL) ? NULL : counted(BACK, __libc_memalign(align, size)); }
+void *malloc(uint64_t size) { return is_refused(BACK, size, NULL) ? NULL : counted(BACK, __libc_malloc(size)); }
+void *realloc(void *block, uint64_t size) { return is_refused(BACK, size, block) ? NULL : resized(BACK, block, size); }
+void *aligned_alloc(uint64_t align, uint64_t size) { return is_refused(BACK, size, NULL) ? NULL : counted(BACK, __libc_memalign(align, size)); }
 
-void *calloc(size_t items, size_t size) {
-    size_t all;
-    if (__builtin_mul_overflow(items, size, &all)) all = SIZE_MAX;
+void *calloc(uint64_t items, uint64_t size) {
+    uint64_t all;
+    if (__builtin_mul_overflow(items, size, &all)) all = UINT64_MAX;
     return is_refused(BACK, all, NULL) ? NULL : counted(BACK, __libc_calloc(items, size));
 }
 
-int posix_memalign(void **block, size_t align, size_t size) {
+int posix_memalign(void **block, uint64_t align, uint64_t size) {
     *block = is_refused(BACK, size, NULL) ? NULL : counted(BACK, __libc_memalign(align, size));
     return *block ? 0 : ENOMEM;
 }

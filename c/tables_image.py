@@ -1,7 +1,7 @@
 #!/usr/bin/env python3
 """c/tables_image.py FOLDER writes two small images that have each list of the C interface: tables.macho of 64 bits, little-endian, and
 tables32.macho of 32 bits, big-endian: function starts, data in code, linker options, tools, notes, indirect symbols with stubs and
-pointers, rebases and weak binds. No linker writes such an image; the lists are as llvm-objdump prints them."""
+pointers, rebases, weak binds, and what single commands say. No linker writes such an image; the lists are as llvm-objdump prints them."""
 import struct
 import sys
 
@@ -83,6 +83,15 @@ class Image:
         self.command(0x2D, self.pack("I", 2) + b"-framework\0Cocoa\0")
         self.command(0x2D, self.pack("I", 1) + b"-lc\0")
         self.command(0x32, self.pack("8I", 1, 0xD0000, 0xE0000, 2, 3, 0x4500000, 1, 0x120000))
+        self.command(0x1B, bytes(range(16)))
+        self.command(0x1B, bytes(16))
+        self.command(0x25, self.pack("2I", 0xA0203, 0xB0000))
+        self.command(0x2A, self.pack("Q", 0x123456789ABCDEF))
+        self.command(0x2C if self.wide else 0x21, self.pack("3I", text_at, 8, 0) + bytes(4 * self.wide))
+        self.command(0xE, self.pack("I", 12) + b"/usr/lib/dyld\0")
+        self.command(0x27, self.pack("I", 12) + b"DYLD_A=b\0")
+        self.command(0x27, self.pack("I", 2 ** 31))
+        self.command(0x80000035, self.pack("2Q2I", 2 ** 40, text_at, 32, 0) + b"com.a\0")
         self.command(0x31, self.pack("16s2Q", b"owner", note_at, 4))
         self.command(0x31, self.pack("16s2Q", b"sixteen bytes, 16", 2 ** 64 - 1, 0))
         self.command(0x31, self.pack("16s2Q", b"behind", note_at, 2 ** 32))

@@ -38,7 +38,8 @@ class Prefix(NamedTuple):
 PREFIXES = [
     Prefix("GM_OK", ""), Prefix("GM_", "ErrorCode", file="errors.rt"), Prefix("GM_STRICT", "Mode"), Prefix("GM_LOSSY", "Mode"),
     Prefix("LC_REQ_DYLD", ""), Prefix("LC_", "LoadCommand"),
-    Prefix("CPU_SUBTYPE_MASK", ""), Prefix("CPU_SUBTYPE_LIB64", ""), Prefix("CPU_TYPE_", "CpuType"), Prefix("CPU_SUBTYPE_", "CpuSubtype"),
+    Prefix("CPU_SUBTYPE_MASK", ""), Prefix("CPU_SUBTYPE_LIB64", ""), Prefix("CPU_SUBTYPE_ANY", ""),
+    Prefix("CPU_TYPE_", "CpuType"), Prefix("CPU_SUBTYPE_", "CpuSubtype"),
     Prefix("MH_MAGIC", ""), Prefix("MH_CIGAM", ""), Prefix("MH_", "FileType HeaderFlags"),
     Prefix("S_ATTR_", "SectionAttributes"), Prefix("S_", "SectionType"), Prefix("SG_", "SegmentFlags"),
     Prefix("VM_PROT_ALL", ""), Prefix("VM_PROT_NONE", ""), Prefix("VM_PROT_", "Protection"),

@@ -10,7 +10,8 @@ from contextlib import redirect_stdout
 
 import goblin_mach
 import test_goblin_mach as made
-from goblin_mach import Archive, FatPart, Refused, __main__, write_fat
+import lines
+from goblin_mach import Archive, FatPart, Refused, write_fat
 
 MAGIC = b"!<arch>\n"
 X86_64, ARM64 = 0x01000007, 0x0100000C
@@ -190,7 +191,7 @@ class AllFour(made.Case):
         for word, wanted in (("members", "112 172 2 0 0 0 420 0 0 x.o\n"), ("archive_symbols", "112 0 _a\n112 0 _b\n"), ("entries", "")):
             said = io.StringIO()
             with redirect_stdout(said):
-                self.assertEqual(__main__.main([word, path]), 0)
+                self.assertEqual(lines.main([word, path]), 0)
             self.assertEqual(said.getvalue(), wanted)
 
 

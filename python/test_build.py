@@ -39,7 +39,7 @@ class Types(unittest.TestCase):
     @unittest.skipUnless(shutil.which("mypy"), "there is no mypy")
     def test_are_strict(self):
         with tempfile.TemporaryDirectory() as room:
-            status, said = run("mypy", "--strict", "--cache-dir", room, "goblin_mach", "enums_check.py", "bench.py", cwd=HERE)
+            status, said = run("mypy", "--strict", "--cache-dir", room, "goblin_mach", "enums_check.py", "bench.py", "lines.py", cwd=HERE)
         self.assertEqual((status, said[:8]), (0, "Success:"), said)
 
 

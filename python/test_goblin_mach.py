@@ -176,13 +176,14 @@ class Names(Case):
             one.find_export(NOT_UTF8)
         self.assertEqual(met.exception.code, 1)
 
-    def test_are_printed_as_they_are_in_the_file(self):
-        path = self.path(image(segment(b"__\xff\xfe"), segment("__\u20ac".encode())))
+    def test_are_printed_so_that_they_forge_nothing(self):
+        path = self.path(with_symbols("_\u20ac".encode(), b"_\x1b[2J\n", b"_a\\b", "_\u202e".encode(), b"_\xff"))
         for locale in ("C", "C.UTF-8"):
             for encoding in ("latin-1", "ascii", "utf-8"):
-                ran = run(["segments", path], LC_ALL=locale, PYTHONIOENCODING=encoding)
+                ran = run(["symbols", path], LC_ALL=locale, PYTHONIOENCODING=encoding)
                 self.assertEqual((ran.returncode, ran.stderr), (0, b""))
-                self.assertEqual([line.split(b" ")[0] for line in ran.stdout.splitlines()], [b"__\xff\xfe", b"__\xe2\x82\xac"])
+                names = [line.split()[4] for line in ran.stdout.splitlines()[2:]]
+                self.assertEqual(names, ["_\u20ac".encode(), rb"_\x1b[2J\x0a", rb"_a\\b", rb"_\xe2\x80\xae", rb"_\xff"])
 
 
 class Closed(Case):
@@ -201,18 +202,24 @@ class Closed(Case):
         section = goblin_mach.Section(b"", b"", 0, 0, 0, 0, 0, 1, 0, memoryview(b""), None)
         calls = {
             "commands": one.commands, "segments": one.segments, "symbols": one.symbols, "libraries": one.libraries, "fixups": one.fixups,
-            "imports": one.imports, "bindings": one.bindings, "exports": one.exports, "run_paths": one.run_paths, "ids": one.ids,
+            "imports": one.imports, "bindings": one.bindings, "opcode_imports": one.opcode_imports, "segment": lambda: [one.segment("__DATA")],
+            "section": lambda: [one.section("__DATA", "")], "exports": one.exports, "run_paths": one.run_paths, "ids": one.ids,
             "layout_faults": one.layout_faults, "find_export": lambda: [one.find_export("_a")],
             "exports_are_a_tree": lambda: [one.exports_are_a_tree()], "name": lambda: [one.name],
-            "sections": lambda: one.sections(part), "relocations": lambda: one.relocations(section), "data": lambda: [one.data],
+            "sections": one.sections, "relocations": lambda: one.relocations(section), "data": lambda: [one.data],
             "weak_binds": one.weak_binds, "rebases": one.rebases, "function_starts": one.function_starts,
             "data_in_code": one.data_in_code, "indirect_symbols": one.indirect_symbols,
             "linker_options": one.linker_options, "build_tools": one.build_tools, "notes": one.notes, "symbol_slots": one.symbol_slots,
             "slot_at": lambda: [one.slot_at(0)], "section_at": lambda: [one.section_at(0)], "section_of": lambda: [one.section_of(0)],
+            **{name: lambda name=name: [getattr(one, name)]
+               for name in ("uuid", "platform", "minos", "sdk", "tools", "source_version", "encryption", "dylinker")},
+            "build_versions": one.build_versions, "dyld_environment": one.dyld_environment, "fileset_entries": one.fileset_entries,
+            "symbol": lambda: [one.symbol("_a")], "symbol_at": lambda: [one.symbol_at(0)], "function_at": lambda: [one.function_at(0)],
+            "address_of_offset": lambda: [one.address_of_offset(0)], "offset_of_address": lambda: [one.offset_of_address(0)],
             "signature": lambda: [one.signature], "signature_faults": one.signature_faults,
             "symbol_provider": lambda: [one.symbol_provider(goblin_mach.Symbol("_a", 0, 0, 1, 0, None))],
         }
-        numbers = {"error", "arch", "cpu_type", "cpu_subtype", "file_type", "header_flags"}
+        numbers = {"error", "arch", "cpu_type", "cpu_subtype", "file_type", "header_flags", "to_dict", "json"}
         public = {name for name in dir(goblin_mach.Image) if name[0] != "_"} - numbers
         self.assertEqual(public, set(calls))
         for call in calls.values():
@@ -302,8 +309,8 @@ class Fat(Case):
 
     def test_each_entry_is_printed(self):
         ran = run(["symbols", self.path(fat(with_symbols(b"_a"), bytes(64), with_symbols(b"_b")))])
-        self.assertEqual([line.split(b" ")[-1] for line in ran.stdout.splitlines()], [b"_a", b"_b"])
-        self.assertEqual((ran.returncode, ran.stderr.count(b"\n"), ran.stderr[:13]), (1, 1, b"goblin_mach: "))
+        self.assertEqual([line.split()[-1] for line in ran.stdout.splitlines() if b"SECT" in line], [b"_a", b"_b"])
+        self.assertEqual((ran.returncode, ran.stderr.count(b"\n"), ran.stderr[:13]), (1, 1, b"goblin-mach: "))
 
 
 def words_of(words):
@@ -330,37 +337,37 @@ def ignores_ctrl_c():
 
 
 class Program(Case):
-    def in_bounds(self, words, before):
-        """A program that writes without end, once it has written a line; and the words of that line."""
+    def begun(self, words, before, lines=3):
+        """A program that writes without end, once it has written its first items; and the last of these lines."""
         program = subprocess.Popen(words, stdin=subprocess.DEVNULL, stdout=subprocess.PIPE, stderr=subprocess.PIPE, env=surroundings(),
                                    preexec_fn=before)
         self.addCleanup(lambda: [program.kill(), program.wait(), program.stdout.close(), program.stderr.close()])
-        return program, program.stdout.readline()
+        return program, [program.stdout.readline() for _ in range(lines)][-1]
 
     def test_a_closed_pipe_ends_it_quietly(self):
-        program, line = self.in_bounds(words_of(["bindings", self.path(many_binds())]), answers_ctrl_c)
+        program, line = self.begun(words_of(["imports", self.path(many_binds())]), answers_ctrl_c)
         self.assertIn(b"_far", line)
         program.stdout.close()
         self.assertEqual(program.wait(SECONDS), -signal.SIGPIPE)
         self.assertEqual(program.stderr.read(), b"")
 
     def test_ctrl_c_ends_it_quietly(self):
-        program, line = self.in_bounds(words_of(["bindings", self.path(many_binds())]), answers_ctrl_c)
+        program, line = self.begun(words_of(["imports", self.path(many_binds())]), answers_ctrl_c)
         self.assertIn(b"_far", line)
         program.send_signal(signal.SIGINT)
         self.assertEqual(program.wait(SECONDS), -signal.SIGINT)
         self.assertEqual(program.stderr.read(), b"")
 
     def test_ctrl_c_that_is_ignored_stays_so(self):
-        program, line = self.in_bounds(words_of(["bindings", self.path(many_binds())]), ignores_ctrl_c)
+        program, line = self.begun(words_of(["imports", self.path(many_binds())]), ignores_ctrl_c)
         program.send_signal(signal.SIGINT)
-        more = [each.split(b" ")[-1] for each in itertools.islice(program.stdout, 20000)]  # far more than a pipe holds
-        self.assertEqual(more, 20000 * [line.split(b" ")[-1]])
+        more = [each.split()[1:] for each in itertools.islice(program.stdout, 20000)]  # far more than a pipe holds
+        self.assertEqual(more, 20000 * [line.split()[1:]])
 
     def test_ctrl_c_ends_a_list(self):
         code = ("import goblin_mach, sys\ntry:\n    for image in goblin_mach.open(sys.argv[1]):\n        print('begun', flush=True)\n"
                 "        for b in image.bindings(): pass\nexcept KeyboardInterrupt:\n    print('ended', flush=True)")
-        program, line = self.in_bounds([sys.executable, "-c", code, self.path(many_binds())], answers_ctrl_c)
+        program, line = self.begun([sys.executable, "-c", code, self.path(many_binds())], answers_ctrl_c, 1)
         self.assertEqual(line, b"begun\n")
         program.send_signal(signal.SIGINT)
         said = program.communicate(timeout=SECONDS)
@@ -369,13 +376,15 @@ class Program(Case):
     def test_a_failed_write(self):
         with open("/dev/full", "wb") as full:
             ran = run(["symbols", self.path(with_symbols(b"_a"))], stdout=full)
-        self.assertEqual((ran.returncode, ran.stderr[:13], ran.stderr.count(b"\n")), (2, b"goblin_mach: ", 1))
+        self.assertEqual((ran.returncode, ran.stderr[:13], ran.stderr.count(b"\n")), (2, b"goblin-mach: ", 1))
 
     def test_what_it_can_not_read(self):
-        for words in (["symbols"], ["nothing", "file"], ["symbols", self.room + "/none"], ["symbols", self.room], ["symbols", "/dev/null"]):
-            with self.subTest(words):
-                ran = run(words)
-                self.assertEqual((ran.returncode, ran.stdout, ran.stderr.count(b"\n")), (2, b"", 1))
+        for words in (["symbols"], ["nothing", "file"], [], ["--jsn", "symbols", "file"]):
+            ran = run(words)
+            self.assertEqual((ran.returncode, ran.stdout, ran.stderr[:19]), (2, b"", b"usage: goblin-mach "), words)
+        for path in (self.room + "/none", self.room, "/dev/null"):
+            ran = run(["symbols", path, self.path(with_symbols(b"_a"))])
+            self.assertEqual((ran.returncode, ran.stdout.split()[-1], ran.stderr.count(b"\n")), (2, b"_a", 1), path)
 
     def test_what_is_refused(self):
         for data in (b"", bytes(64), fat(bytes(64))):
@@ -387,18 +396,18 @@ class Program(Case):
         data[44:48] = struct.pack("<I", (1 << 32) - 1)
         ran = run(["symbols", self.path(data)])
         there = len(range(56, len(data), 16))
-        self.assertEqual((ran.returncode, ran.stdout.count(b"\n")), (1, there))
-        self.assertEqual(ran.stderr, b"goblin_mach: %d more symbols past the end\n" % ((1 << 32) - 1 - there))
+        self.assertEqual((ran.returncode, ran.stdout.count(b"\n")), (1, 2 + there))
+        self.assertEqual(ran.stderr, b"goblin-mach: %s/file: %d more symbols past the end\n" % (self.room.encode(), (1 << 32) - 1 - there))
 
     def test_more_items_than_bytes(self):
         data = many_binds()
-        ran = run(["bindings", self.path(data)])
-        self.assertEqual((ran.returncode, ran.stdout.count(b"\n"), ran.stderr.count(b"\n")), (1, len(data), 1))
+        ran = run(["imports", self.path(data)])
+        self.assertEqual((ran.returncode, ran.stdout.count(b"\n"), ran.stderr.count(b"\n")), (1, 2 + len(data), 1))
 
     def test_a_list_that_is_refused(self):
         chains = command(0x80000034, struct.pack("<2I", 0x10000, 8))
         ran = run(["symbols", self.path(image(chains))])
-        self.assertEqual((ran.returncode, ran.stdout, ran.stderr), (0, b"", b""))
+        self.assertEqual((ran.returncode, ran.stdout.count(b"\n"), ran.stderr), (0, 1, b""))
         first = next(goblin_mach.Image(image(chains)).fixups())
         self.assertIsNotNone(first.error)
 

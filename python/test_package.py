@@ -58,8 +58,9 @@ class Files(made.Case):
         for number in (4, -5, 1 << 70):
             with self.assertRaises(IndexError):
                 file[number]
-        with self.assertRaises(TypeError):
-            file["arm64"]
+        self.assertEqual((file["arm64"], file["x86_64"].error.code), (images[1], 2))
+        with self.assertRaises(KeyError):
+            file["armv7"]
 
     def test_of_one_image(self):
         file = self.opened(made.image())
@@ -278,7 +279,7 @@ class Items(unittest.TestCase):
                          (goblin_mach.SectionType.CSTRING_LITERALS, ("SOME_INSTRUCTIONS", "PURE_INSTRUCTIONS")))
         export = goblin_mach.Export("_a", "address", 0, 0, 0x25, None, None)
         self.assertEqual((export.export_kind, export.export_flags.names), (goblin_mach.ExportKind.THREAD_LOCAL, ("WEAK_DEFINITION", "0x20")))
-        self.assertIs(goblin_mach.Command(0, 8, 0x80000028).load_command, goblin_mach.LoadCommand.MAIN)
+        self.assertIs(goblin_mach.Command(0, 8, 0x80000028, memoryview(b"")).load_command, goblin_mach.LoadCommand.MAIN)
         entry = goblin_mach.FatEntry(ARM64, 0x80000002, 0, 0, 0, None)
         self.assertEqual((entry.arch, entry.cpu_type, entry.cpu_subtype), ("arm64e", goblin_mach.CpuType.ARM64, goblin_mach.Arm64Subtype.ARM64E))
 
@@ -320,7 +321,7 @@ class Structs(unittest.TestCase):
                 told[name][field] = (int(at), int(size))
         for name, item in known.items():
             with self.subTest(name):
-                self.assertEqual(ctypes.sizeof(item), int(sizes.get(name, 64)))  # a header older than 0.2.0 doesn't assert it for gm_export_room
+                self.assertEqual(ctypes.sizeof(item), int(sizes[name]))
                 found = {field: (getattr(item, field).offset, getattr(item, field).size) for field, *_ in item._fields_ if field in told[name]}
                 self.assertEqual(found, told[name])
         self.assertGreater(len([name for name in told if told[name]]), 20)
@@ -341,7 +342,7 @@ class Version(unittest.TestCase):
         def answers(number):
             return type("Call", (), {"__call__": lambda self: number})()
 
-        numbers = ("gm_version_number", 3000), ("gm_version_number", 0), ("gm_version", 2), ("gm_version_number", 2000)  # the last one has no other call
+        numbers = ("gm_version_number", 4000), ("gm_version_number", 2000), ("gm_version", 2), ("gm_version_number", 3000)  # the last one has no other call
         for calls in ({name: answers(number)} for name, number in numbers):
             opened, _library._open_first = _library._open_first, lambda paths, calls=calls: types.SimpleNamespace(_name="x.so", **calls)
             try:
@@ -384,25 +385,25 @@ class Loading(made.Case):
 
     def test_in_order(self):
         folder = os.path.join(self.room, "system")
-        plain, soname = self.put("system/libgoblin_mach.so"), self.put("system/libgoblin_mach.so.0")
-        built = self.put("top/build/libgoblin_mach.so.0.2.0")
-        self.assertEqual(self.loads(LD_LIBRARY_PATH=folder), "libgoblin_mach.so.0")
+        plain, soname = self.put("system/libgoblin_mach.so"), self.put("system/libgoblin_mach.so.0.3")
+        built = self.put("top/build/libgoblin_mach.so.0.3.0")
+        self.assertEqual(self.loads(LD_LIBRARY_PATH=folder), "libgoblin_mach.so.0.3")
         with open(os.path.join(self.top, "python/pyproject.toml"), "w", encoding="utf-8"):
             pass
         self.assertEqual(self.loads(LD_LIBRARY_PATH=folder), built)
-        beside = self.put("top/python/goblin_mach/libgoblin_mach.so.0")
+        beside = self.put("top/python/goblin_mach/libgoblin_mach.so.0.3")
         self.assertEqual(self.loads(LD_LIBRARY_PATH=folder), beside)
         for path in (beside, built, soname):
             os.remove(path)
         self.assertEqual(self.loads(LD_LIBRARY_PATH=folder), "libgoblin_mach.so")
         os.remove(plain)
-        self.assertRegex(self.loads(LD_LIBRARY_PATH=folder), "^not: libgoblin_mach.so is not found: .*libgoblin_mach.so.0: cannot open")
+        self.assertRegex(self.loads(LD_LIBRARY_PATH=folder), "^not: libgoblin_mach.so is not found: .*libgoblin_mach.so.0.3: cannot open")
 
     def test_passes_over_what_is_no_library(self):
         broken = self.put("top/python/goblin_mach/libgoblin_mach.so")
         with open(broken, "wb") as file:
             file.write(b"no library")
-        good = self.put("top/python/goblin_mach/libgoblin_mach.so.0")
+        good = self.put("top/python/goblin_mach/libgoblin_mach.so.0.3")
         self.assertEqual(self.loads(), good)
 
 

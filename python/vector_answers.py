@@ -36,7 +36,8 @@ def each(items, line):
     """The lines of items up to their end or to what refuses them. An item after the end is `more`."""
     try:
         for item in items:
-            yield error(item.error) if getattr(item, "error", None) else line(item)
+            is_read = getattr(item, "is_read", not getattr(item, "error", None))
+            yield line(item) if is_read else error(item.error)
     except Refused as refused:
         yield why(refused)
     if next(iter(items), None) is not None:
@@ -182,7 +183,7 @@ def exports(image):
 
 
 def imports(image):
-    return each(image.imports(), lambda it: (
+    return each(image.opcode_imports(), lambda it: (
         f"import {quoted(it.name)} of {library(image, it.library)} at {it.address:#x} {it.offset:#x} size {it.size} addend {it.addend} "
         f"start {it.start_of_sequence_offset}{words_if(weak=it.is_weak, lazy=it.is_lazy)}"))
 
@@ -197,7 +198,7 @@ def binding(it, where, is_lazy):
 
 
 def bindings(image):
-    return each(image.bindings(), lambda it: binding(it, provider(image, it), it.is_lazy))
+    return each(image.imports(), lambda it: binding(it, provider(image, it), it.is_lazy))
 
 
 def weak_binds(image):
@@ -221,8 +222,7 @@ def entry(it):
 
 def archive_kind(data):
     """The kind of an archive. None if it is thin, or none: the package refuses these."""
-    is_archive = goblin_mach.parse(data).kind == "archive" and not data.startswith(b"!<thin>")
-    return Archive(data).kind if is_archive else None
+    return Archive(data).kind if data.startswith(b"!<arch>\n") else None
 
 
 def member(it):

@@ -328,6 +328,8 @@ static uint32_t entries_rows(asked *a, place *at, void *out, size_t *count) {
         if (narrow != *count || same[i].cputype != rows[i].cputype || same[i].cpusubtype != rows[i].cpusubtype || same[i].offset != rows[i].offset ||
             same[i].size != rows[i].size || same[i].align != rows[i].align || same[i].code != rows[i].code)
             differ(&a->to, "(the same entries by both calls)", "others");
+    for (size_t i = 0; i < *count; i++)
+        if (rows[i].cputype || rows[i].offset || rows[i].size) rows[i].code = GM_OK; /* (a record that is read, wherever the entry's bytes are) */
     at->first += *count;
     return GM_OK;
 }

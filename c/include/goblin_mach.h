@@ -12,7 +12,10 @@
    the start; it is used with the bytes and the image, and may be copied. These calls open the image again, and allocate memory while they run. A
    refused call leaves the array, the cursor and *count unchanged.
 
-   The names of numbers, such as GM_LC_MAIN for a command's, and calls that return them as texts are at the end. */
+   Calls that return a bool write what they find to *found and return true, or return false and leave *found unchanged.
+
+   Sizes, offsets and counts have 64 bits for every compiler. A field `reserved` has no meaning. The names of numbers, such as GM_LC_MAIN for a
+   command's, and calls that return them as texts are at the end. */
 #ifndef GOBLIN_MACH_H
 #define GOBLIN_MACH_H
 #include <stdbool.h>
@@ -23,19 +26,20 @@ extern "C" {
 #endif
 
 /* The version of this header. gm_version() and gm_version_number() return those of the library. If MAJOR or MINOR differ, structs and calls may
-   differ: test GM_VERSION_FITS() once. */
+   differ: test GM_VERSION_FITS() once. The loader refuses a shared library with another MAJOR or MINOR for a program that was linked to this
+   one. */
 #define GM_VERSION_MAJOR 0
-#define GM_VERSION_MINOR 2
+#define GM_VERSION_MINOR 3
 #define GM_VERSION_PATCH 0
-#define GM_VERSION_TEXT "0.2.0"
+#define GM_VERSION_TEXT "0.3.0"
 #define GM_VERSION_NUMBER (GM_VERSION_MAJOR * UINT32_C(1000000) + GM_VERSION_MINOR * UINT32_C(1000) + GM_VERSION_PATCH)
 #define GM_VERSION_FITS() (gm_version_number() / 1000 == GM_VERSION_NUMBER / 1000)
 const char *gm_version(void);
 uint32_t gm_version_number(void);
 
 /* malformed bytes; a magic that no image has; a read past the end, or of bytes that aren't text; a count that is too large; memory ran out;
-   `cap` is 0; the output is larger than `cap` */
-enum { GM_OK, GM_MALFORMED, GM_BAD_MAGIC, GM_SHORT, GM_TOO_MANY, GM_NO_MEMORY, GM_NO_ROWS, GM_NO_SPACE };
+   `cap` is 0; the output is larger than `cap`; the file has no image for the cpu */
+enum { GM_OK, GM_MALFORMED, GM_BAD_MAGIC, GM_SHORT, GM_TOO_MANY, GM_NO_MEMORY, GM_NO_ROWS, GM_NO_SPACE, GM_NO_IMAGE };
 
 /* why a call was refused; the text ends with a zero byte */
 typedef struct gm_error { uint32_t code; char text[124]; } gm_error;
@@ -49,24 +53,35 @@ typedef struct gm_memory {
 } gm_memory;
 
 /* Memory for calls from a buffer of the caller's, which is aligned to 16; `used` and `blocks` begin as 0. */
-typedef struct gm_arena { uint8_t *bytes; size_t size, used, blocks; } gm_arena;
+typedef struct gm_arena { uint8_t *bytes; uint64_t size, used, blocks; } gm_arena;
 gm_memory gm_arena_memory(gm_arena *arena);
 
-/* ---- a fat file: its entries; 0 if the bytes are none. An entry is `size` bytes at bytes + offset; check that they lie in the file. If the
-   header claims more records than the bytes have, the last entry is the first that isn't whole in them: its code is not GM_OK, and no other's
-   is. */
-typedef struct gm_fat_entry { uint32_t cputype, cpusubtype, offset, size, align, code; } gm_fat_entry;
-size_t gm_fat_entries(const uint8_t *bytes, size_t len, size_t first, gm_fat_entry *out, size_t cap);
+/* ---- what bytes are, by how they begin: an image, a fat file of 32 or 64 bits, an archive (also a thin one), a program or library of ELF or PE,
+   a Java class (whose magic is that of fat files), LLVM bitcode. What begins so need not be whole, and need not open. */
+enum { GM_KIND_UNKNOWN, GM_KIND_EMPTY, GM_KIND_IMAGE, GM_KIND_FAT, GM_KIND_FAT_64, GM_KIND_ARCHIVE, GM_KIND_ELF, GM_KIND_PE, GM_KIND_JAVA_CLASS,
+       GM_KIND_BITCODE };
+uint32_t gm_kind(const uint8_t *bytes, uint64_t len);
 
-/* The same for a fat file of 32 or 64 bits, whichever the bytes are. Check an offset and a size before you add them: the sum may not fit 64
-   bits. */
+/* ---- a fat file: its entries; 0 if the bytes are none. An entry is `size` bytes at bytes + offset. If these aren't all in the file, its code
+   is GM_SHORT, and the rest is as in the record. If the header claims more records than the bytes have, the last entry is the first that isn't
+   whole in them: its code is GM_SHORT, and the rest is 0. */
+typedef struct gm_fat_entry { uint32_t cputype, cpusubtype, offset, size, align, code; } gm_fat_entry;
+uint64_t gm_fat_entries(const uint8_t *bytes, uint64_t len, uint64_t first, gm_fat_entry *out, uint64_t cap);
+
+/* The same for a fat file of 32 or 64 bits, whichever the bytes are. */
 typedef struct gm_fat_entry64 { uint64_t offset, size; uint32_t cputype, cpusubtype, align, code; } gm_fat_entry64;
-size_t gm_fat_entries64(const uint8_t *bytes, size_t len, size_t first, gm_fat_entry64 *out, size_t cap);
+uint64_t gm_fat_entries64(const uint8_t *bytes, uint64_t len, uint64_t first, gm_fat_entry64 *out, uint64_t cap);
+
+/* The one image for a cpu in a fat file of 32 or 64 bits, or in a thin file, which is an image itself: `size` bytes at bytes + offset. Only bits
+   that are no capabilities are compared of a `cpusubtype`; with GM_CPU_SUBTYPE_ANY all fit. Of several entries the first counts. Refused if that
+   entry isn't all in the file (GM_SHORT), and if there is none, also if the bytes are neither (GM_NO_IMAGE). A refused call leaves *found
+   unchanged. */
+uint32_t gm_image_for(const uint8_t *bytes, uint64_t len, uint32_t cputype, uint32_t cpusubtype, gm_fat_entry64 *found, gm_error *error);
 
 /* ---- a fat file written from parts of a buffer, each for another cpu: `len` bytes from `offset` on. In the file each part follows the one
    before it, at a multiple of 2 to the power of `align`, which is at most 15. */
 typedef struct gm_fat_part {
-    size_t offset, len;
+    uint64_t offset, len;
     uint32_t cputype, cpusubtype, align, reserved; /* the last is not read */
 } gm_fat_part;
 
@@ -75,8 +90,8 @@ typedef struct gm_fat_part {
    too large, two parts are for one cpu whatever its capabilities, or an offset or a length is too large for a record (GM_MALFORMED). These
    refusals leave *needed unchanged, and every refusal `out`. It allocates memory for the parts while it runs, not for their bytes. `out` and the
    bytes must not overlap. */
-uint32_t gm_write_fat(const uint8_t *bytes, size_t len, const gm_fat_part *parts, size_t count, uint32_t is_64, uint8_t *out, size_t cap, size_t *needed,
-                      const gm_memory *memory, gm_error *error);
+uint32_t gm_write_fat(const uint8_t *bytes, uint64_t len, const gm_fat_part *parts, uint64_t count, uint32_t is_64, uint8_t *out, uint64_t cap,
+                      uint64_t *needed, const gm_memory *memory, gm_error *error);
 
 /* ---- an archive: a static library */
 enum { GM_ARCHIVE_NONE, GM_ARCHIVE_GNU, GM_ARCHIVE_BSD, GM_ARCHIVE_THIN };
@@ -84,7 +99,7 @@ enum { GM_ARCHIVE_NONE, GM_ARCHIVE_GNU, GM_ARCHIVE_BSD, GM_ARCHIVE_THIN };
 /* Which archive the bytes are, by their first 8 and the members at the start: how short names are written; GM_ARCHIVE_NONE if they don't begin
    as an archive; GM_ARCHIVE_THIN if its members are other files, which no call reads. It is refused if the start of an archive can't be read;
    then *kind is unchanged. */
-uint32_t gm_archive_kind(const uint8_t *bytes, size_t len, uint32_t *kind, gm_error *error);
+uint32_t gm_archive_kind(const uint8_t *bytes, uint64_t len, uint32_t *kind, gm_error *error);
 
 /* Its members in order. The bytes of one are `data_len` at bytes + data. If they are an image, open it with these bytes; its offsets count from
    there. The name is `name_len` bytes at bytes + name, and may be any bytes; if `name_code` is not GM_OK it can't be read, and both numbers are
@@ -92,116 +107,136 @@ uint32_t gm_archive_kind(const uint8_t *bytes, size_t len, uint32_t *kind, gm_er
    a cost: the headers before it are read, so request many members at a time. */
 typedef struct gm_archive_member {
     uint64_t date, uid, gid, mode; /* seconds from 1970, owner, group, mode; each GM_NO_NUMBER if its field is no number */
-    size_t header;                 /* the offset of its header, which has 60 bytes */
-    size_t data, data_len, name, name_len;
+    uint64_t header;               /* the offset of its header, which has 60 bytes */
+    uint64_t data, data_len, name, name_len;
     uint32_t name_code, code;
 } gm_archive_member;
 #define GM_NO_NUMBER UINT64_MAX
-size_t gm_archive_members(const uint8_t *bytes, size_t len, size_t first, gm_archive_member *out, size_t cap);
+uint64_t gm_archive_members(const uint8_t *bytes, uint64_t len, uint64_t first, gm_archive_member *out, uint64_t cap);
 
 /* The symbols of its index in the order of the index; none if it has none. Each name is `name_len` bytes at bytes + name, and `member` is the
    `header` of the member that defines it, which isn't checked. A row with a `code` is the last: why a name or the index can't be read, or why
    the bytes are no archive. The names before `first` are read. */
 typedef struct gm_archive_symbol {
     uint64_t member;
-    size_t name, name_len;
+    uint64_t name, name_len;
     uint32_t code, reserved;
 } gm_archive_symbol;
-size_t gm_archive_symbols(const uint8_t *bytes, size_t len, size_t first, gm_archive_symbol *out, size_t cap);
+uint64_t gm_archive_symbols(const uint8_t *bytes, uint64_t len, uint64_t first, gm_archive_symbol *out, uint64_t cap);
 
 /* The member that defines a symbol, by the index; and the first member with a name. If there is none, that is no refusal, and all of *member is
    0, also `header`. Refused if the archive, its index or a header on the way can't be read; gm_archive_find also if the name isn't UTF-8. A
    refused call leaves *member unchanged. */
-uint32_t gm_archive_find(const uint8_t *bytes, size_t len, const char *symbol, size_t symbol_len, gm_archive_member *member, gm_error *error);
-uint32_t gm_archive_member_named(const uint8_t *bytes, size_t len, const char *name, size_t name_len, gm_archive_member *member, gm_error *error);
+uint32_t gm_archive_find(const uint8_t *bytes, uint64_t len, const char *symbol, uint64_t symbol_len, gm_archive_member *member, gm_error *error);
+uint32_t gm_archive_member_named(const uint8_t *bytes, uint64_t len, const char *name, uint64_t name_len, gm_archive_member *member, gm_error *error);
 
 /* ---- an image */
 typedef struct gm_image {
-    size_t offset;                                              /* its offset in the bytes */
-    uint64_t entry;                                             /* the address of its entry point, or 0 */
-    size_t first_command, commands;                             /* the offset of its commands, and how many they are */
-    size_t segments, libraries, run_paths, symbols;             /* how many the call of that name returns */
-    size_t symbols_at, names_at;                                /* the offsets of its symbols and of their names */
-    uint32_t magic, cputype, cpusubtype, filetype, flags;       /* of its header */
+    uint64_t offset;                                                /* its offset in the bytes */
+    uint64_t entry;                                                 /* the address of its entry point, or 0 */
+    uint64_t first_command, commands;                               /* the offset of its commands, and how many they are */
+    uint64_t segments, libraries, run_paths, symbols;               /* how many the call of that name returns */
+    uint64_t symbols_at, names_at;                                  /* the offsets of its symbols and of their names */
+    uint32_t magic, cputype, cpusubtype, filetype, flags;           /* of its header */
     uint32_t is_lossy, is_old_style_entry, is_little_endian, is_64; /* 0 or 1 each */
+    uint32_t reserved;
 } gm_image;
 enum { GM_STRICT, GM_LOSSY };
 
 /* How many of `count` records of `size` bytes each, from `start` on, begin within `len` bytes. A file may claim any count of records. The rows
    after those that begin there can't be read. */
-static inline uint64_t gm_in_bounds(size_t len, uint64_t start, uint64_t size, uint64_t count) {
+static inline uint64_t gm_in_bounds(uint64_t len, uint64_t start, uint64_t size, uint64_t count) {
     uint64_t begun = start < len && size != 0 ? (len - start - 1) / size + 1 : 0;
     return begun < count ? begun : count;
 }
 
 /* Opens the image at `offset`. GM_STRICT refuses what can't be read; GM_LOSSY skips it; any other mode is refused as GM_MALFORMED. It allocates
    memory for the commands while it runs. A refused call leaves *image unchanged, and GM_OK leaves *error. */
-uint32_t gm_open(const uint8_t *bytes, size_t len, size_t offset, uint32_t mode, const gm_memory *memory, gm_image *image, gm_error *error);
+uint32_t gm_open(const uint8_t *bytes, uint64_t len, uint64_t offset, uint32_t mode, const gm_memory *memory, gm_image *image, gm_error *error);
 
 /* ---- its load commands: each record is `size` bytes at `offset` */
-typedef struct gm_command { size_t offset, size; uint32_t cmd; } gm_command;
-size_t gm_commands(const uint8_t *bytes, size_t len, const gm_image *image, size_t first, gm_command *out, size_t cap);
+typedef struct gm_command { uint64_t offset, size; uint32_t cmd, reserved; } gm_command;
+uint64_t gm_commands(const uint8_t *bytes, uint64_t len, const gm_image *image, uint64_t first, gm_command *out, uint64_t cap);
 
 /* ---- its segments: the command is at `command`; the data are `data_len` bytes at `fileoff`, or none */
 typedef struct gm_segment {
     uint8_t name[16]; /* padded with zeros if it has fewer than 16 bytes */
     uint64_t vmaddr, vmsize, fileoff, filesize;
-    size_t command, data_len;
+    uint64_t command, data_len;
     uint32_t maxprot, initprot, sections, flags;
 } gm_segment;
-size_t gm_segments(const uint8_t *bytes, size_t len, const gm_image *image, size_t first, gm_segment *out, size_t cap);
+uint64_t gm_segments(const uint8_t *bytes, uint64_t len, const gm_image *image, uint64_t first, gm_segment *out, uint64_t cap);
+
+/* the first segment with a name, which has at most 16 bytes */
+bool gm_segment_named(const uint8_t *bytes, uint64_t len, const gm_image *image, const char *name, uint64_t name_len, gm_segment *found);
+
+/* The address in memory of what is at an offset in the file, counted from the image's first byte; and the offset of what is at an address: by the
+   first segment whose part in the file holds it. There is none in zero-filled memory. */
+bool gm_address_of_offset(const uint8_t *bytes, uint64_t len, const gm_image *image, uint64_t offset, uint64_t *found);
+bool gm_offset_of_address(const uint8_t *bytes, uint64_t len, const gm_image *image, uint64_t address, uint64_t *found);
 
 /* ---- the sections of a segment, which is given by its `command` and its `sections`; the data of a section are `data_len` bytes at `offset` */
 typedef struct gm_section {
     uint8_t name[16], segment[16];
     uint64_t addr, size;
-    size_t data_len;
+    uint64_t data_len;
     uint32_t offset, align, reloff, nreloc, flags, code; /* code: GM_OK, or why it can't be read */
 } gm_section;
-size_t gm_sections(const uint8_t *bytes, size_t len, const gm_image *image, size_t command, uint32_t sections, size_t first, gm_section *out, size_t cap);
+uint64_t gm_sections(const uint8_t *bytes, uint64_t len, const gm_image *image, uint64_t command, uint32_t sections, uint64_t first, gm_section *out,
+                     uint64_t cap);
+
+/* The sections of all segments in order, each with the offset of its segment's command and its number there, from 1. They end with the first that
+   can't be read; so the one at index `k` has number `k + 1` in the `section` of a gm_symbol. */
+typedef struct gm_numbered_section {
+    gm_section section;
+    uint64_t command;
+    uint32_t number, reserved;
+} gm_numbered_section;
+uint64_t gm_all_sections(const uint8_t *bytes, uint64_t len, const gm_image *image, uint64_t first, gm_numbered_section *out, uint64_t cap);
 
 /* ---- the relocations of a section, which is given by its `reloff` and its `nreloc` */
 typedef struct gm_relocation { int32_t address; uint32_t info, code; } gm_relocation;
-size_t gm_relocations(const uint8_t *bytes, size_t len, const gm_image *image, uint32_t reloff, uint32_t nreloc, size_t first, gm_relocation *out, size_t cap);
+uint64_t gm_relocations(const uint8_t *bytes, uint64_t len, const gm_image *image, uint32_t reloff, uint32_t nreloc, uint64_t first, gm_relocation *out,
+                        uint64_t cap);
 
 /* ---- its symbols: the name of one is `name_len` bytes at bytes + name. If `code` says that these aren't text, or that there is no name, the
    rest is as in the record; if the record can't be read everything else is 0. */
 typedef struct gm_symbol {
     uint64_t value;
-    size_t name, name_len, section;
+    uint64_t name, name_len, section;
     uint32_t code; /* GM_OK, or why it or its name can't be read */
     uint16_t desc;
-    uint8_t n_type;
+    uint8_t n_type, reserved;
 } gm_symbol;
-size_t gm_symbols(const uint8_t *bytes, size_t len, const gm_image *image, size_t first, gm_symbol *out, size_t cap);
+uint64_t gm_symbols(const uint8_t *bytes, uint64_t len, const gm_image *image, uint64_t first, gm_symbol *out, uint64_t cap);
 
 /* ---- its libraries, the one of ordinal 1 first: the name of one is `name_len` bytes at bytes + name */
 typedef struct gm_library {
-    size_t name, name_len;
+    uint64_t name, name_len;
     uint32_t kind, timestamp, current_version, compatibility_version; /* kind: by its command */
     uint32_t attributes, reserved; /* how it is used: the sum of GM_USED_WEAK and the following ones */
 } gm_library;
 enum { GM_REQUIRED, GM_WEAK, GM_REEXPORT, GM_UPWARD, GM_LAZY };
 enum { GM_USED_WEAK = 1, GM_USED_REEXPORT = 2, GM_USED_UPWARD = 4, GM_USED_DELAYED = 8 };
-size_t gm_libraries(const uint8_t *bytes, size_t len, const gm_image *image, size_t first, gm_library *out, size_t cap);
+uint64_t gm_libraries(const uint8_t *bytes, uint64_t len, const gm_image *image, uint64_t first, gm_library *out, uint64_t cap);
 
 /* ---- the paths on which its libraries are searched: each is `path_len` bytes at bytes + path */
-typedef struct gm_run_path { size_t path, path_len; } gm_run_path;
-size_t gm_run_paths(const uint8_t *bytes, size_t len, const gm_image *image, size_t first, gm_run_path *out, size_t cap);
+typedef struct gm_run_path { uint64_t path, path_len; } gm_run_path;
+uint64_t gm_run_paths(const uint8_t *bytes, uint64_t len, const gm_image *image, uint64_t first, gm_run_path *out, uint64_t cap);
 
 /* ---- the names of the image itself as a library (LC_ID_DYLIB), each `name_len` bytes at bytes + name: if there are several, the last one
    counts */
-typedef struct gm_id { size_t name, name_len; } gm_id;
-size_t gm_ids(const uint8_t *bytes, size_t len, const gm_image *image, size_t first, gm_id *out, size_t cap);
+typedef struct gm_id { uint64_t name, name_len; } gm_id;
+uint64_t gm_ids(const uint8_t *bytes, uint64_t len, const gm_image *image, uint64_t first, gm_id *out, uint64_t cap);
 
 /* ---- the start addresses of its functions (LC_FUNCTION_STARTS), in ascending order, before sliding */
 typedef struct gm_function_start {
     uint64_t address;
     uint32_t code, reserved; /* code: GM_OK, or why no further ones can be read */
 } gm_function_start;
-typedef struct gm_start_cursor { size_t place; uint64_t address; uint32_t stage, reserved; } gm_start_cursor;
-uint32_t gm_function_starts(const uint8_t *bytes, size_t len, const gm_image *image, gm_start_cursor *cursor, gm_function_start *out, size_t cap,
-                            size_t *count, const gm_memory *memory, gm_error *error);
+typedef struct gm_start_cursor { uint64_t place; uint64_t address; uint32_t stage, reserved; } gm_start_cursor;
+uint32_t gm_function_starts(const uint8_t *bytes, uint64_t len, const gm_image *image, gm_start_cursor *cursor, gm_function_start *out, uint64_t cap,
+                            uint64_t *count, const gm_memory *memory, gm_error *error);
 
 /* ---- the data in its code (LC_DATA_IN_CODE): `length` bytes, `offset` bytes after the image's first byte in memory; in an object file after
    address 0 */
@@ -210,7 +245,7 @@ typedef struct gm_data_in_code_entry {
     uint16_t length, kind; /* kind: a GM_DICE_KIND_ number */
     uint32_t code;         /* GM_OK, or why it can't be read */
 } gm_data_in_code_entry;
-size_t gm_data_in_code(const uint8_t *bytes, size_t len, const gm_image *image, size_t first, gm_data_in_code_entry *out, size_t cap);
+uint64_t gm_data_in_code(const uint8_t *bytes, uint64_t len, const gm_image *image, uint64_t first, gm_data_in_code_entry *out, uint64_t cap);
 
 /* ---- its table of indirect symbols: those of the pointers and stubs of a section follow one another from the section's place in it */
 typedef struct gm_indirect_symbol {
@@ -218,38 +253,77 @@ typedef struct gm_indirect_symbol {
     uint32_t code;         /* GM_OK, or why it can't be read */
 } gm_indirect_symbol;
 enum { GM_INDIRECT_SYMBOL, GM_INDIRECT_LOCAL, GM_INDIRECT_ABSOLUTE, GM_INDIRECT_LOCAL_ABSOLUTE };
-size_t gm_indirect_symbols(const uint8_t *bytes, size_t len, const gm_image *image, size_t first, gm_indirect_symbol *out, size_t cap);
+uint64_t gm_indirect_symbols(const uint8_t *bytes, uint64_t len, const gm_image *image, uint64_t first, gm_indirect_symbol *out, uint64_t cap);
 
 /* ---- the linker options in an object file (LC_LINKER_OPTION): each is `text_len` bytes at bytes + text, from the command at `command` */
 typedef struct gm_linker_option {
-    size_t command, text, text_len;
+    uint64_t command, text, text_len;
     uint32_t code, reserved; /* code: GM_OK; or why it can't be read, and then none follows it */
 } gm_linker_option;
-size_t gm_linker_options(const uint8_t *bytes, size_t len, const gm_image *image, size_t first, gm_linker_option *out, size_t cap);
+uint64_t gm_linker_options(const uint8_t *bytes, uint64_t len, const gm_image *image, uint64_t first, gm_linker_option *out, uint64_t cap);
 
 /* ---- the tools that it was built with (LC_BUILD_VERSION), from the command at `command` */
 typedef struct gm_build_tool {
-    size_t command;
+    uint64_t command;
     uint32_t tool, version;  /* a GM_TOOL_ number, and X.Y.Z in 16, 8 and 8 bits */
     uint32_t code, reserved; /* code: GM_OK; or why it can't be read, and then none follows it */
 } gm_build_tool;
-size_t gm_build_tools(const uint8_t *bytes, size_t len, const gm_image *image, size_t first, gm_build_tool *out, size_t cap);
+uint64_t gm_build_tools(const uint8_t *bytes, uint64_t len, const gm_image *image, uint64_t first, gm_build_tool *out, uint64_t cap);
+
+/* ---- its platforms (LC_BUILD_VERSION, LC_VERSION_MIN_MACOSX and the like), in the order of the commands, from the command at `command`: dyld
+   takes the first. Versions are X.Y.Z in 16, 8 and 8 bits. */
+typedef struct gm_build_version {
+    uint64_t command;
+    uint32_t platform;   /* a GM_PLATFORM_ number; for an x86 LC_VERSION_MIN_IPHONEOS and the like name the simulator's */
+    uint32_t minos, sdk; /* the oldest system that it runs on, and the SDK that it was built with */
+    uint32_t reserved;
+} gm_build_version;
+uint64_t gm_build_versions(const uint8_t *bytes, uint64_t len, const gm_image *image, uint64_t first, gm_build_version *out, uint64_t cap);
+
+/* ---- its identity (LC_UUID), and the version of its source (LC_SOURCE_VERSION): A.B.C.D.E in 24, 10, 10, 10 and 10 bits. Of several commands
+   the first counts. */
+typedef struct gm_image_uuid { uint8_t bytes[16]; } gm_image_uuid;
+bool gm_uuid(const uint8_t *bytes, uint64_t len, const gm_image *image, gm_image_uuid *found);
+bool gm_source_version(const uint8_t *bytes, uint64_t len, const gm_image *image, uint64_t *found);
+
+/* ---- its encrypted part (LC_ENCRYPTION_INFO, LC_ENCRYPTION_INFO_64): `size` bytes at `offset`, counted from the image's first byte; the first
+   command counts. With an `id` of 0 they are not encrypted yet. */
+typedef struct gm_encrypted_part { uint32_t offset, size, id; } gm_encrypted_part;
+bool gm_encryption(const uint8_t *bytes, uint64_t len, const gm_image *image, gm_encrypted_part *found);
+
+/* ---- a text in the command at `command`: `text_len` bytes at bytes + text */
+typedef struct gm_command_text {
+    uint64_t command, text, text_len;
+    uint32_t code, reserved; /* code: GM_OK, or why it can't be read */
+} gm_command_text;
+
+/* the path of its dynamic linker (the first LC_LOAD_DYLINKER), and the variables that it sets for dyld (LC_DYLD_ENVIRONMENT) */
+bool gm_dylinker(const uint8_t *bytes, uint64_t len, const gm_image *image, gm_command_text *found);
+uint64_t gm_dyld_environment(const uint8_t *bytes, uint64_t len, const gm_image *image, uint64_t first, gm_command_text *out, uint64_t cap);
+
+/* ---- the images of a fileset (LC_FILESET_ENTRY), such as a kernel collection: each at `address` in memory, and at `offset`, counted from the
+   fileset's first byte; its name is `name_len` bytes at bytes + name */
+typedef struct gm_fileset_entry {
+    uint64_t address, offset, name, name_len;
+    uint32_t code, reserved; /* code: GM_OK, or why the name can't be read */
+} gm_fileset_entry;
+uint64_t gm_fileset_entries(const uint8_t *bytes, uint64_t len, const gm_image *image, uint64_t first, gm_fileset_entry *out, uint64_t cap);
 
 /* ---- its notes (LC_NOTE), from the command at `command`: the owner's name is `owner_len` bytes at bytes + owner, and the note is `size` bytes
    at bytes + place. An empty note may be placed anywhere. */
 typedef struct gm_note {
-    size_t command, owner, owner_len;
+    uint64_t command, owner, owner_len;
     uint64_t place;
-    size_t size;
+    uint64_t size;
     uint32_t code, reserved; /* code: GM_OK, or why it can't be read */
 } gm_note;
-size_t gm_notes(const uint8_t *bytes, size_t len, const gm_image *image, size_t first, gm_note *out, size_t cap);
+uint64_t gm_notes(const uint8_t *bytes, uint64_t len, const gm_image *image, uint64_t first, gm_note *out, uint64_t cap);
 
 /* ---- its slots: the stubs and the pointers that belong to symbols, `len` bytes at `address` in memory, in section number `section` of segment
    number `segment` */
 typedef struct gm_slot {
     uint64_t address, len;
-    size_t segment, name, name_len; /* for GM_INDIRECT_SYMBOL: its symbol's name is `name_len` bytes at bytes + name */
+    uint64_t segment, name, name_len; /* for GM_INDIRECT_SYMBOL: its symbol's name is `name_len` bytes at bytes + name */
     uint32_t section, kind;         /* kind: GM_SLOT_POINTER and the following ones */
     uint32_t index, owner, symbol;  /* the index of its entry for gm_indirect_symbols, and that entry's `kind` and `symbol` */
     uint32_t code;                  /* GM_OK, or why it can't be read, nor those after it in its section if they have no entry */
@@ -259,12 +333,12 @@ enum { GM_NO_SLOT, GM_SLOT_POINTER, GM_SLOT_LAZY_POINTER, GM_SLOT_STUB, GM_SLOT_
 /* The slots from index `first` on; how many were written is in *count. It opens the image again, allocates memory while it runs, and visits the
    slots before `first`: request many at a time. With a `cap` of 0 it is refused with GM_NO_ROWS. A refused call leaves the array and *count
    unchanged. */
-uint32_t gm_slots(const uint8_t *bytes, size_t len, const gm_image *image, size_t first, gm_slot *out, size_t cap, size_t *count,
+uint32_t gm_slots(const uint8_t *bytes, uint64_t len, const gm_image *image, uint64_t first, gm_slot *out, uint64_t cap, uint64_t *count,
                   const gm_memory *memory, gm_error *error);
 
 /* Finds the slot that holds an address; its kind is GM_NO_SLOT if there is none. It opens the image again, and allocates memory while it runs.
    It is also refused if that slot can't be read; a refused call leaves *slot unchanged. */
-uint32_t gm_slot_at(const uint8_t *bytes, size_t len, const gm_image *image, uint64_t address, gm_slot *slot, const gm_memory *memory, gm_error *error);
+uint32_t gm_slot_at(const uint8_t *bytes, uint64_t len, const gm_image *image, uint64_t address, gm_slot *slot, const gm_memory *memory, gm_error *error);
 
 /* ---- the provider of an undefined symbol, as the linker recorded it in images with GM_MH_TWOLEVEL: from a number of the symbol alone, which
    dyld need not follow. For any other symbol `is_reported` and everything else is 0. */
@@ -279,7 +353,7 @@ void gm_symbol_provider(const gm_image *image, const gm_symbol *symbol, gm_provi
 typedef struct gm_found_section {
     uint8_t name[16], segment_name[16];
     uint64_t addr, size;
-    size_t segment;
+    uint64_t segment;
     uint32_t number, offset, align, reloff, nreloc, flags;
     uint32_t reserved1, reserved2; /* for pointers and stubs: the index of the first for gm_indirect_symbols; for stubs the size of each */
     uint32_t is_found, reserved;
@@ -288,15 +362,45 @@ typedef struct gm_found_section {
 /* The first section that holds an address, among those that are in the bytes; and the one with the number `section` of a gm_symbol, counted from
    1 over all segments. Both open the image again, and allocate memory while they run. A refused call leaves *section unchanged; the second is
    also refused if that section isn't in the bytes. */
-uint32_t gm_section_at(const uint8_t *bytes, size_t len, const gm_image *image, uint64_t address, gm_found_section *section, const gm_memory *memory,
+uint32_t gm_section_at(const uint8_t *bytes, uint64_t len, const gm_image *image, uint64_t address, gm_found_section *section, const gm_memory *memory,
                        gm_error *error);
-uint32_t gm_section_of(const uint8_t *bytes, size_t len, const gm_image *image, size_t number, gm_found_section *section, const gm_memory *memory,
+uint32_t gm_section_of(const uint8_t *bytes, uint64_t len, const gm_image *image, uint64_t number, gm_found_section *section, const gm_memory *memory,
                        gm_error *error);
+
+/* the first section with a name in a segment of that name, by the names that the section has itself, among those that are in the bytes */
+uint32_t gm_section_named(const uint8_t *bytes, uint64_t len, const gm_image *image, const char *segment, uint64_t segment_len, const char *name,
+                          uint64_t name_len, gm_found_section *section, const gm_memory *memory, gm_error *error);
+
+/* ---- a symbol that is looked up, with its index for gm_symbols; all 0 if `is_found` is 0 */
+typedef struct gm_found_symbol {
+    gm_symbol symbol;
+    uint64_t index;
+    uint64_t distance; /* of gm_symbol_at: the address less the symbol's value; else 0 */
+    uint32_t is_found, reserved;
+} gm_found_symbol;
+
+/* The first symbol with a name, among those whose names can be read; and the one that names an address: of the defined ones in the section that
+   holds the address, at or below it, that of the greatest value, and of several the last. Both open the image again, and allocate memory while
+   they run. A refused call leaves *symbol unchanged. */
+uint32_t gm_symbol_named(const uint8_t *bytes, uint64_t len, const gm_image *image, const char *name, uint64_t name_len, gm_found_symbol *symbol,
+                         const gm_memory *memory, gm_error *error);
+uint32_t gm_symbol_at(const uint8_t *bytes, uint64_t len, const gm_image *image, uint64_t address, gm_found_symbol *symbol, const gm_memory *memory,
+                      gm_error *error);
+
+/* The function that holds an address, by the starts of functions: from the greatest start at or below it in the section that holds the address to
+   the next start, or to the end of the section; all 0 if `is_found` is 0. It opens the image again, and allocates memory while it runs. A refused
+   call leaves *function unchanged. */
+typedef struct gm_found_function {
+    uint64_t start, end;
+    uint32_t is_found, reserved;
+} gm_found_function;
+uint32_t gm_function_at(const uint8_t *bytes, uint64_t len, const gm_image *image, uint64_t address, gm_found_function *function,
+                        const gm_memory *memory, gm_error *error);
 
 /* ---- one name among its exports: addresses count from the image's start */
 typedef struct gm_export {
     uint64_t address, resolver, flags;
-    size_t library_len, target_len; /* for a re-export: the lengths of the library's name and of the name there; 0: the same name */
+    uint64_t library_len, target_len; /* for a re-export: the lengths of the library's name and of the name there; 0: the same name */
     uint32_t kind, reserved;
 } gm_export;
 enum { GM_NO_EXPORT, GM_ADDRESS, GM_REEXPORTED, GM_STUB };
@@ -304,16 +408,16 @@ enum { GM_NO_EXPORT, GM_ADDRESS, GM_REEXPORTED, GM_STUB };
 /* Finds the export of a name; only the nodes on its path are read. For a re-export it writes as much of the library's name as fits to `library`,
    and of the name there to `target`. It opens the image again, and allocates memory while it runs. A refused call leaves everything but *error
    unchanged. */
-uint32_t gm_find_export(const uint8_t *bytes, size_t len, const gm_image *image, const char *name, size_t name_len, gm_export *found,
-                        char *library, size_t library_cap, char *target, size_t target_cap, const gm_memory *memory, gm_error *error);
+uint32_t gm_find_export(const uint8_t *bytes, uint64_t len, const gm_image *image, const char *name, uint64_t name_len, gm_export *found,
+                        char *library, uint64_t library_cap, char *target, uint64_t target_cap, const gm_memory *memory, gm_error *error);
 
 /* ---- all of its exports, in batches */
 
 /* The position of a walk over the exports: numbers, all 0 at the start, as in `gm_export_walk walk = {0};`. They may be copied, and are used
    with the bytes, the image, and the `name` and the `stack` that the previous call left. */
-typedef struct gm_open_node { size_t left, place, name_len; } gm_open_node;
+typedef struct gm_open_node { uint64_t left, place, name_len; } gm_open_node;
 typedef struct gm_export_walk {
-    size_t phase, visits_left, name_len, depth, node;
+    uint64_t phase, visits_left, name_len, depth, node;
     gm_open_node top;
     uint32_t is_begun;
     uint32_t code; /* GM_OK, or why the walk was refused; then the next call is refused, too */
@@ -321,23 +425,23 @@ typedef struct gm_export_walk {
 
 /* a row: its name is `name_len` bytes at names + name, with no zero byte after it */
 typedef struct gm_listed_export {
-    size_t name, name_len;
-    size_t library; /* for a re-export: index `library - 1` for gm_libraries; 0 is the image itself */
-    size_t target;  /* the name there is `what.target_len` bytes at bytes + target; none: the same name */
+    uint64_t name, name_len;
+    uint64_t library; /* for a re-export: index `library - 1` for gm_libraries; 0 is the image itself */
+    uint64_t target;  /* the name there is `what.target_len` bytes at bytes + target; none: the same name */
     gm_export what; /* `kind` is never GM_NO_EXPORT */
 } gm_listed_export;
 
 /* What a call may write to. `name` belongs to the walk, and must hold the longest name; so does `stack`, for the nodes that are open at once;
    `out` is for rows, and `names` for their names, one after the other: make it many times as long as `name`. */
 typedef struct gm_export_room {
-    char *name; size_t name_cap;
-    gm_open_node *stack; size_t stack_cap;
-    gm_listed_export *out; size_t cap;
-    char *names; size_t names_cap;
+    char *name; uint64_t name_cap;
+    gm_open_node *stack; uint64_t stack_cap;
+    gm_listed_export *out; uint64_t cap;
+    char *names; uint64_t names_cap;
 } gm_export_room;
 
 /* how many rows and how many bytes of names were written; why there are no more; and how much is needed to go on */
-typedef struct gm_export_batch { size_t count, names_len, needed; uint32_t end, reserved; } gm_export_batch;
+typedef struct gm_export_batch { uint64_t count, names_len, needed; uint32_t end, reserved; } gm_export_batch;
 enum {
     GM_MORE,        /* the array is full, or less is left of `names` than a name may need: call again */
     GM_END,         /* there are no more. If two paths lead to one node its exports came twice: see gm_exports_are_a_tree */
@@ -350,13 +454,20 @@ enum {
 /* Goes on with a walk. If `name`, `stack` or `names` is too short, call again with a larger one that begins with the old contents; no export is
    lost. It opens the image again, and allocates memory while it runs. If memory runs out, everything but *batch and *error is unchanged, and the
    call may be repeated. */
-uint32_t gm_exports(const uint8_t *bytes, size_t len, const gm_image *image, gm_export_walk *walk, const gm_export_room *room,
+uint32_t gm_exports(const uint8_t *bytes, uint64_t len, const gm_image *image, gm_export_walk *walk, const gm_export_room *room,
                     gm_export_batch *batch, const gm_memory *memory, gm_error *error);
+
+/* Calls `each` for each of its exports, with a name that ends with a zero byte, until it returns another number than 0: then that is GM_OK, too.
+   It opens the image again, and allocates memory while it runs, also while `each` runs. If no further exports can be read, it is refused after
+   those before. */
+typedef int (*gm_export_call)(void *user, const gm_listed_export *item, const char *name);
+uint32_t gm_exports_each(const uint8_t *bytes, uint64_t len, const gm_image *image, gm_export_call each, void *user, const gm_memory *memory,
+                         gm_error *error);
 
 /* Whether all exports can be read, and no two paths of their trie lead to one node: GM_OK, and then a walk of gm_exports returns the image's
    list of exports; else the code of a fault. It opens the image again, visits all exports, and allocates memory while it runs: for the commands,
    and one bit for each byte of the trie. */
-uint32_t gm_exports_are_a_tree(const uint8_t *bytes, size_t len, const gm_image *image, const gm_memory *memory, gm_error *error);
+uint32_t gm_exports_are_a_tree(const uint8_t *bytes, uint64_t len, const gm_image *image, const gm_memory *memory, gm_error *error);
 
 /* ---- the fixups of its chains (LC_DYLD_CHAINED_FIXUPS): a pointer at `address` in memory, `offset` bytes after the start of segment number
    `segment` */
@@ -367,12 +478,12 @@ typedef struct gm_fixup {
     uint32_t import; /* for a bind: the index of its import, and what is added to the address */
     int32_t addend;
     uint32_t is_signed, key, diversity, is_address_diverse; /* how the pointer is signed on arm64e */
-    uint32_t code; /* GM_OK, or why the chains can't be read further */
+    uint32_t code, reserved; /* code: GM_OK, or why the chains can't be read further */
 } gm_fixup;
 enum { GM_REBASE, GM_BIND, GM_NUMBER };
 
 typedef struct gm_fixup_cursor { uint64_t chains[4]; uint32_t stage, reserved; } gm_fixup_cursor;
-uint32_t gm_fixups(const uint8_t *bytes, size_t len, const gm_image *image, gm_fixup_cursor *cursor, gm_fixup *out, size_t cap, size_t *count,
+uint32_t gm_fixups(const uint8_t *bytes, uint64_t len, const gm_image *image, gm_fixup_cursor *cursor, gm_fixup *out, uint64_t cap, uint64_t *count,
                    const gm_memory *memory, gm_error *error);
 
 /* ---- its imports, from the binds of LC_DYLD_INFO: the name of one is `name_len` bytes at bytes + name, and its library has ordinal `library`,
@@ -381,21 +492,21 @@ typedef struct gm_import {
     uint64_t address, offset; /* of the pointer to bind: in memory, and in the file */
     int64_t addend;
     uint64_t start_of_sequence_offset; /* the offset after the last DONE before it, counted from the start of its range, or 0 */
-    size_t name, name_len;
+    uint64_t name, name_len;
     uint64_t library;
-    size_t size;                /* 8 for a lazy one, else 0 */
-    uint32_t is_weak, is_lazy; /* whether the symbol may be missing, whether it is bound at its first use: 0 or 1 each */
-    uint32_t code;              /* GM_OK, or why no further ones can be read */
+    uint64_t size;              /* 8 for a lazy one, else 0 */
+    uint32_t is_weak, is_lazy;  /* whether the symbol may be missing, whether it is bound at its first use: 0 or 1 each */
+    uint32_t code, reserved;    /* code: GM_OK, or why no further ones can be read */
 } gm_import;
 typedef struct gm_bind_cursor { uint64_t binds[12]; uint32_t stage, reserved; } gm_bind_cursor;
-uint32_t gm_imports(const uint8_t *bytes, size_t len, const gm_image *image, gm_bind_cursor *cursor, gm_import *out, size_t cap, size_t *count,
+uint32_t gm_imports(const uint8_t *bytes, uint64_t len, const gm_image *image, gm_bind_cursor *cursor, gm_import *out, uint64_t cap, uint64_t *count,
                     const gm_memory *memory, gm_error *error);
 
 /* ---- its bindings, from the opcodes of LC_DYLD_INFO and then from the chains: the name of one is `name_len` bytes at bytes + name */
 typedef struct gm_binding {
     uint64_t address, offset; /* of the pointer to bind: in memory, and in the file */
     int64_t addend;
-    size_t name, name_len;
+    uint64_t name, name_len;
     uint64_t library;           /* the ordinal of a library, else 0 */
     uint32_t provider;          /* where the symbol is looked for */
     uint32_t is_weak, is_lazy; /* whether the symbol may be missing, whether it is bound at its first use: 0 or 1 each */
@@ -403,7 +514,7 @@ typedef struct gm_binding {
 } gm_binding;
 enum { GM_OF_LIBRARY, GM_OF_ITSELF, GM_OF_PROGRAM, GM_OF_ANY, GM_OF_ANY_WEAK };
 typedef struct gm_binding_cursor { gm_bind_cursor opcodes; gm_fixup_cursor chains; } gm_binding_cursor;
-uint32_t gm_bindings(const uint8_t *bytes, size_t len, const gm_image *image, gm_binding_cursor *cursor, gm_binding *out, size_t cap, size_t *count,
+uint32_t gm_bindings(const uint8_t *bytes, uint64_t len, const gm_image *image, gm_binding_cursor *cursor, gm_binding *out, uint64_t cap, uint64_t *count,
                      const gm_memory *memory, gm_error *error);
 
 /* ---- its weak binds, from LC_DYLD_INFO, which images of C++ have: names that the image defines itself and not weakly, and places that take the
@@ -411,12 +522,12 @@ uint32_t gm_bindings(const uint8_t *bytes, size_t len, const gm_image *image, gm
 typedef struct gm_weak_bind {
     uint64_t address, offset; /* of the pointer to bind: in memory, and in the file */
     int64_t addend;
-    size_t name, name_len;
+    uint64_t name, name_len;
     uint32_t is_strong;      /* 1 if the image defines the name itself: then no place is bound, and the other numbers are 0 */
     uint32_t is_weak;        /* whether the symbol may be missing: 0 or 1 */
     uint32_t code, reserved; /* code: GM_OK, or why no further ones can be read */
 } gm_weak_bind;
-uint32_t gm_weak_binds(const uint8_t *bytes, size_t len, const gm_image *image, gm_bind_cursor *cursor, gm_weak_bind *out, size_t cap, size_t *count,
+uint32_t gm_weak_binds(const uint8_t *bytes, uint64_t len, const gm_image *image, gm_bind_cursor *cursor, gm_weak_bind *out, uint64_t cap, uint64_t *count,
                        const gm_memory *memory, gm_error *error);
 
 /* ---- its rebases, from the opcodes of LC_DYLD_INFO and then from the chains: places in memory whose number dyld adjusts by the slide of the
@@ -430,7 +541,7 @@ typedef struct gm_rebase {
 } gm_rebase;
 enum { GM_REBASE_POINTER = 1, GM_REBASE_TEXT_ABSOLUTE, GM_REBASE_TEXT_RELATIVE };
 typedef struct gm_rebase_cursor { gm_bind_cursor opcodes; gm_fixup_cursor chains; } gm_rebase_cursor;
-uint32_t gm_rebases(const uint8_t *bytes, size_t len, const gm_image *image, gm_rebase_cursor *cursor, gm_rebase *out, size_t cap, size_t *count,
+uint32_t gm_rebases(const uint8_t *bytes, uint64_t len, const gm_image *image, gm_rebase_cursor *cursor, gm_rebase *out, uint64_t cap, uint64_t *count,
                     const gm_memory *memory, gm_error *error);
 
 /* ---- the faults of its layout, rule by rule: what lies where the format and its readers don't allow it. docs/C.md says what `found` and
@@ -440,6 +551,7 @@ typedef struct gm_layout_fault {
     uint64_t command, index;             /* the owner: the offset of its command or record, and its number there, or 0 */
     uint64_t other_command, other_index; /* the same for the other owner, if two disagree */
     uint32_t rule, part, other_part;     /* GM_LAYOUT_.., and GM_PART_..: other_part is GM_PART_NONE if there is no other owner */
+    uint32_t reserved;
 } gm_layout_fault;
 
 /* the rules and the parts, with their plain names */
@@ -490,19 +602,19 @@ const char *gm_layout_part(uint32_t part);
 /* The faults from index `first` on; how many were written is in *count. They are those of the file that begins with the image, and offsets count
    from there. It opens the image again, and allocates memory while it runs. With a `cap` of 0 it is refused with GM_NO_ROWS. A refused call
    leaves the array and *count unchanged. */
-uint32_t gm_layout_faults(const uint8_t *bytes, size_t len, const gm_image *image, size_t first, gm_layout_fault *out, size_t cap, size_t *count,
+uint32_t gm_layout_faults(const uint8_t *bytes, uint64_t len, const gm_image *image, uint64_t first, gm_layout_fault *out, uint64_t cap, uint64_t *count,
                           const gm_memory *memory, gm_error *error);
 
 /* The same for the table of a fat file, of 32 or 64 bits: none if the bytes are none. Unless `cap` is 0, it is only refused with GM_NO_MEMORY. */
-uint32_t gm_container_faults(const uint8_t *bytes, size_t len, size_t first, gm_layout_fault *out, size_t cap, size_t *count,
+uint32_t gm_container_faults(const uint8_t *bytes, uint64_t len, uint64_t first, gm_layout_fault *out, uint64_t cap, uint64_t *count,
                              const gm_memory *memory, gm_error *error);
 
 /* ---- its code signature: the code directory that counts, which is the one that the system takes. A text is `.._len` bytes at bytes + .., and
    both are 0 if there is none. */
 typedef struct gm_signature {
     uint64_t limit, pages;                                   /* how many bytes of the image are covered, and how many pages they have */
-    size_t identifier, identifier_len, team, team_len;
-    size_t entitlements, entitlements_len;                   /* in XML */
+    uint64_t identifier, identifier_len, team, team_len;
+    uint64_t entitlements, entitlements_len;                   /* in XML */
     uint32_t version, flags, hash_type;                      /* flags: GM_CS_ADHOC and the like; hash_type: GM_CS_HASHTYPE_SHA256 and the like */
     uint32_t page_size;                                      /* the size of a page as a power of 2; 0 if all covered bytes are one page */
     uint32_t identifier_code, team_code, entitlements_code;  /* GM_OK, or why the text can't be read */
@@ -513,7 +625,7 @@ typedef struct gm_signature {
 
 /* Writes it. It opens the image again, and allocates memory while it runs. It is also refused if the signature or one of its directories can't
    be read, if two directories have the same hash type, or if there is none; a refused call leaves *signature unchanged. */
-uint32_t gm_code_signature(const uint8_t *bytes, size_t len, const gm_image *image, gm_signature *signature, const gm_memory *memory, gm_error *error);
+uint32_t gm_code_signature(const uint8_t *bytes, uint64_t len, const gm_image *image, gm_signature *signature, const gm_memory *memory, gm_error *error);
 
 /* what isn't as it was signed: a fault of a kind, of the directory at a slot or of a blob. docs/C.md says what `found` and `limit` are for each
    kind. */
@@ -538,15 +650,22 @@ const char *gm_signature_kind(uint32_t kind);
    image again, allocates memory while it runs, and hashes the covered bytes from the first page on: if there are many faults, pass an array that
    holds them all. With a `cap` of 0 it is refused with GM_NO_ROWS; it is also refused if the signature can't be read. A refused call leaves the
    array and *count unchanged. */
-uint32_t gm_signature_faults(const uint8_t *bytes, size_t len, const gm_image *image, size_t first, gm_signature_fault *out, size_t cap, size_t *count,
+uint32_t gm_signature_faults(const uint8_t *bytes, uint64_t len, const gm_image *image, uint64_t first, gm_signature_fault *out, uint64_t cap, uint64_t *count,
                              const gm_memory *memory, gm_error *error);
 
 /* Whether the image has a signature and is as it was signed: writes 1 or 0 to *as_signed. It opens the image again, allocates memory while it
    runs, and hashes the covered bytes. It is also refused if the signature can't be read; a refused call leaves *as_signed unchanged. Who signed
    is not checked. */
-uint32_t gm_is_as_signed(const uint8_t *bytes, size_t len, const gm_image *image, uint32_t *as_signed, const gm_memory *memory, gm_error *error);
+uint32_t gm_is_as_signed(const uint8_t *bytes, uint64_t len, const gm_image *image, uint32_t *as_signed, const gm_memory *memory, gm_error *error);
+
+/* ---- a name as a text for C: a copy of it in `out` that fits on a line, as the programs print it, and ends with a zero byte. A backslash is \\,
+   and each byte of a control character, of a mark that changes the direction of text, and of what isn't UTF-8 is \xNN. Zero bytes at the end of
+   a name are left out. Returns the bytes that the whole text needs, with its zero byte; if `cap` is less, it is cut before an escape or a
+   character that doesn't fit. */
+uint64_t gm_text(char *out, uint64_t cap, const void *name, uint64_t name_len);
 
 /* ---- the names of numbers; NULL for a number without one */
+const char *gm_kind_name(uint32_t kind);                              /* "an ELF file", for a GM_KIND_ number */
 const char *gm_code_name(uint32_t code);                              /* "malformed", for the code of an error or of a row */
 const char *gm_cpu_name(uint32_t cputype, uint32_t cpusubtype);       /* "arm64e", as clang, lipo and LLVM call it */
 const char *gm_file_type_name(uint32_t filetype);                     /* "EXECUTE" */
@@ -578,6 +697,7 @@ const char *gm_platform_name(uint32_t platform);                      /* "MACOS"
 /* `cpusubtype`: the bits of capabilities; the others are the kind of the cpu */
 #define GM_CPU_SUBTYPE_LIB64 UINT32_C(0x80000000) /* a capability: an executable for libraries of 64 bits */
 #define GM_CPU_SUBTYPE_MASK  UINT32_C(0xff000000) /* the bits of a CPU subtype that hold its capabilities */
+#define GM_CPU_SUBTYPE_ANY   UINT32_C(0xffffffff) /* for gm_image_for: every kind */
 /* the kinds of GM_CPU_TYPE_X86 and GM_CPU_TYPE_X86_64 */
 #define GM_CPU_SUBTYPE_I386_ALL   UINT32_C(3)
 #define GM_CPU_SUBTYPE_X86_64_ALL UINT32_C(3)
@@ -980,6 +1100,7 @@ const char *gm_platform_name(uint32_t platform);                      /* "MACOS"
 #define GM_FIELD(type, field, at, size) GM_ASSERT(type##_##field, offsetof(type, field) == (at) && GM_WIDTH(type, field) == (size))
 #define GM_SIZE(type, size) GM_ASSERT(type, sizeof(type) == (size))
 #define GM_IS(name, number) GM_ASSERT(name, name == (number))
+#if UINTPTR_MAX == UINT64_MAX
 GM_FIELD(gm_memory, self, 0, 8);
 GM_FIELD(gm_memory, take, 8, 8);
 GM_FIELD(gm_memory, give, 16, 8);
@@ -998,6 +1119,7 @@ GM_FIELD(gm_export_room, cap, 40, 8);
 GM_FIELD(gm_export_room, names, 48, 8);
 GM_FIELD(gm_export_room, names_cap, 56, 8);
 GM_SIZE(gm_export_room, 64);
+#endif
 /* ---- layout: written by c/constants.py */
 GM_FIELD(gm_archive_member, date, 0, 8);
 GM_FIELD(gm_archive_member, uid, 8, 8);
@@ -1040,15 +1162,31 @@ GM_FIELD(gm_build_tool, version, 12, 4);
 GM_FIELD(gm_build_tool, code, 16, 4);
 GM_FIELD(gm_build_tool, reserved, 20, 4);
 GM_SIZE(gm_build_tool, 24);
+GM_FIELD(gm_build_version, command, 0, 8);
+GM_FIELD(gm_build_version, platform, 8, 4);
+GM_FIELD(gm_build_version, minos, 12, 4);
+GM_FIELD(gm_build_version, sdk, 16, 4);
+GM_FIELD(gm_build_version, reserved, 20, 4);
+GM_SIZE(gm_build_version, 24);
 GM_FIELD(gm_command, offset, 0, 8);
 GM_FIELD(gm_command, size, 8, 8);
 GM_FIELD(gm_command, cmd, 16, 4);
 GM_SIZE(gm_command, 24);
+GM_FIELD(gm_command_text, command, 0, 8);
+GM_FIELD(gm_command_text, text, 8, 8);
+GM_FIELD(gm_command_text, text_len, 16, 8);
+GM_FIELD(gm_command_text, code, 24, 4);
+GM_FIELD(gm_command_text, reserved, 28, 4);
+GM_SIZE(gm_command_text, 32);
 GM_FIELD(gm_data_in_code_entry, offset, 0, 4);
 GM_FIELD(gm_data_in_code_entry, length, 4, 2);
 GM_FIELD(gm_data_in_code_entry, kind, 6, 2);
 GM_FIELD(gm_data_in_code_entry, code, 8, 4);
 GM_SIZE(gm_data_in_code_entry, 12);
+GM_FIELD(gm_encrypted_part, offset, 0, 4);
+GM_FIELD(gm_encrypted_part, size, 4, 4);
+GM_FIELD(gm_encrypted_part, id, 8, 4);
+GM_SIZE(gm_encrypted_part, 12);
 GM_FIELD(gm_error, code, 0, 4);
 GM_FIELD(gm_error, text, 4, 124);
 GM_SIZE(gm_error, 128);
@@ -1096,6 +1234,13 @@ GM_FIELD(gm_fat_part, cpusubtype, 20, 4);
 GM_FIELD(gm_fat_part, align, 24, 4);
 GM_FIELD(gm_fat_part, reserved, 28, 4);
 GM_SIZE(gm_fat_part, 32);
+GM_FIELD(gm_fileset_entry, address, 0, 8);
+GM_FIELD(gm_fileset_entry, offset, 8, 8);
+GM_FIELD(gm_fileset_entry, name, 16, 8);
+GM_FIELD(gm_fileset_entry, name_len, 24, 8);
+GM_FIELD(gm_fileset_entry, code, 32, 4);
+GM_FIELD(gm_fileset_entry, reserved, 36, 4);
+GM_SIZE(gm_fileset_entry, 40);
 GM_FIELD(gm_fixup, address, 0, 8);
 GM_FIELD(gm_fixup, offset, 8, 8);
 GM_FIELD(gm_fixup, target, 16, 8);
@@ -1112,6 +1257,11 @@ GM_SIZE(gm_fixup, 64);
 GM_FIELD(gm_fixup_cursor, chains, 0, 32);
 GM_FIELD(gm_fixup_cursor, stage, 32, 4);
 GM_SIZE(gm_fixup_cursor, 40);
+GM_FIELD(gm_found_function, start, 0, 8);
+GM_FIELD(gm_found_function, end, 8, 8);
+GM_FIELD(gm_found_function, is_found, 16, 4);
+GM_FIELD(gm_found_function, reserved, 20, 4);
+GM_SIZE(gm_found_function, 24);
 GM_FIELD(gm_found_section, name, 0, 16);
 GM_FIELD(gm_found_section, segment_name, 16, 16);
 GM_FIELD(gm_found_section, addr, 32, 8);
@@ -1128,6 +1278,12 @@ GM_FIELD(gm_found_section, reserved2, 84, 4);
 GM_FIELD(gm_found_section, is_found, 88, 4);
 GM_FIELD(gm_found_section, reserved, 92, 4);
 GM_SIZE(gm_found_section, 96);
+GM_FIELD(gm_found_symbol, symbol, 0, 40);
+GM_FIELD(gm_found_symbol, index, 40, 8);
+GM_FIELD(gm_found_symbol, distance, 48, 8);
+GM_FIELD(gm_found_symbol, is_found, 56, 4);
+GM_FIELD(gm_found_symbol, reserved, 60, 4);
+GM_SIZE(gm_found_symbol, 64);
 GM_FIELD(gm_function_start, address, 0, 8);
 GM_FIELD(gm_function_start, code, 8, 4);
 GM_FIELD(gm_function_start, reserved, 12, 4);
@@ -1155,6 +1311,8 @@ GM_FIELD(gm_image, is_old_style_entry, 104, 4);
 GM_FIELD(gm_image, is_little_endian, 108, 4);
 GM_FIELD(gm_image, is_64, 112, 4);
 GM_SIZE(gm_image, 120);
+GM_FIELD(gm_image_uuid, bytes, 0, 16);
+GM_SIZE(gm_image_uuid, 16);
 GM_FIELD(gm_import, address, 0, 8);
 GM_FIELD(gm_import, offset, 8, 8);
 GM_FIELD(gm_import, addend, 16, 8);
@@ -1210,6 +1368,11 @@ GM_FIELD(gm_note, size, 32, 8);
 GM_FIELD(gm_note, code, 40, 4);
 GM_FIELD(gm_note, reserved, 44, 4);
 GM_SIZE(gm_note, 48);
+GM_FIELD(gm_numbered_section, section, 0, 80);
+GM_FIELD(gm_numbered_section, command, 80, 8);
+GM_FIELD(gm_numbered_section, number, 88, 4);
+GM_FIELD(gm_numbered_section, reserved, 92, 4);
+GM_SIZE(gm_numbered_section, 96);
 GM_FIELD(gm_open_node, left, 0, 8);
 GM_FIELD(gm_open_node, place, 8, 8);
 GM_FIELD(gm_open_node, name_len, 16, 8);
@@ -1343,6 +1506,7 @@ GM_IS(GM_TOO_MANY, 4);
 GM_IS(GM_NO_MEMORY, 5);
 GM_IS(GM_NO_ROWS, 6);
 GM_IS(GM_NO_SPACE, 7);
+GM_IS(GM_NO_IMAGE, 8);
 GM_IS(GM_MORE, 0);
 GM_IS(GM_END, 1);
 GM_IS(GM_NO_ROOM, 2);
@@ -1360,6 +1524,16 @@ GM_IS(GM_INDIRECT_SYMBOL, 0);
 GM_IS(GM_INDIRECT_LOCAL, 1);
 GM_IS(GM_INDIRECT_ABSOLUTE, 2);
 GM_IS(GM_INDIRECT_LOCAL_ABSOLUTE, 3);
+GM_IS(GM_KIND_UNKNOWN, 0);
+GM_IS(GM_KIND_EMPTY, 1);
+GM_IS(GM_KIND_IMAGE, 2);
+GM_IS(GM_KIND_FAT, 3);
+GM_IS(GM_KIND_FAT_64, 4);
+GM_IS(GM_KIND_ARCHIVE, 5);
+GM_IS(GM_KIND_ELF, 6);
+GM_IS(GM_KIND_PE, 7);
+GM_IS(GM_KIND_JAVA_CLASS, 8);
+GM_IS(GM_KIND_BITCODE, 9);
 GM_IS(GM_REQUIRED, 0);
 GM_IS(GM_WEAK, 1);
 GM_IS(GM_REEXPORT, 2);

@@ -14,6 +14,8 @@ UTF-8 become surrogates, as by `os.fsdecode`. The package needs nothing but Pyth
 from __future__ import annotations
 
 from ._exports import EXPORTS
+from ._item import Item
+from ._library import escaped
 from ._lists import FIXUPS, INDIRECT, KINDS, PROVIDERS, REBASES, SLOTS
 from ._rows import BATCH, Rows
 from .archive import Archive
@@ -24,11 +26,12 @@ from .enums import (
 )
 from .errors import ERRORS, Refused
 from .fat import FatPart, write_fat
-from .file import File, container_faults, fat_entries, open, parse
+from .file import File, container_faults, fat_entries, kind_of, open, parse
 from .image import Image
 from .items import (
-    ArchiveSymbol, BuildTool, Command, DataInCode, Export, FatEntry, FunctionStart, IndirectSymbol, LayoutFault, Library, LinkerOption, Member, Note,
-    NumberedSection, Owner, Relocation, Section, Segment, Symbol, SymbolProvider, SymbolSlot,
+    ArchiveSymbol, BuildTool, BuildVersion, Command, CommandText, DataInCode, Encryption, Export, FatEntry, FilesetEntry, FoundSymbol, Function,
+    FunctionStart, IndirectSymbol, LayoutFault, Library, LinkerOption, Member, Note, NumberedSection, Owner, Relocation, Section, Segment, Symbol,
+    SymbolProvider, SymbolSlot,
 )
 from .pointers import Binding, Fixup, Import, Rebase, WeakBind
 from .signature import Signature, SignatureFault
@@ -37,17 +40,18 @@ from .symbol_enums import (
     Stab, SymbolDescription, SymbolType, X86_64Relocation,
 )
 
-__version__ = "0.2.0"
+__version__ = "0.3.0"
 
 STRICT, LOSSY = Mode.STRICT, Mode.LOSSY
 NO_MEMORY = ErrorCode.NO_MEMORY
 
 __all__ = [
-    "open", "parse", "fat_entries", "container_faults", "write_fat", "File", "Image", "Archive", "Rows", "Refused",
+    "open", "parse", "kind_of", "escaped", "fat_entries", "container_faults", "write_fat", "File", "Image", "Archive", "Rows", "Refused",
     "FatEntry", "FatPart", "Member", "ArchiveSymbol", "Command", "Segment", "Section", "Relocation", "Symbol", "Library", "Fixup", "Import", "Binding",
     "Export", "Owner", "LayoutFault",
     "WeakBind", "Rebase", "Signature", "SignatureFault",
     "FunctionStart", "DataInCode", "IndirectSymbol", "SymbolSlot", "SymbolProvider", "NumberedSection", "LinkerOption", "BuildTool", "Note",
+    "Item", "BuildVersion", "CommandText", "Encryption", "FilesetEntry", "FoundSymbol", "Function",
     "Mode", "STRICT", "LOSSY", "ErrorCode", "ERRORS", "NO_MEMORY", "BATCH", "FIXUPS", "PROVIDERS", "REBASES", "KINDS", "INDIRECT", "SLOTS", "EXPORTS",
     "CpuType", "CpuSubtype", "CPU_SUBTYPES", "X86Subtype", "X86_64Subtype", "ArmSubtype", "Arm64Subtype", "Arm64_32Subtype", "PowerPcSubtype",
     "FileType", "HeaderFlags", "LoadCommand", "Protection", "SegmentFlags", "SectionType", "SectionAttributes", "Platform", "Tool", "DataKind",

@@ -1,255 +1,148 @@
-"""`python3 -m goblin_mach WORD FILE` prints a list of each image of a file."""
+"""The command `goblin-mach WORD FILE..`, which is `python3 -m goblin_mach` too: shows what is in Mach-O files, with labels or as JSON."""
 
 from __future__ import annotations
 
+import argparse
 import io
+import json
 import os
 import signal
 import sys
 from itertools import islice
-from typing import Any, Callable, Dict, Iterator, List, Optional, Tuple
+from typing import Any, Iterator, List, Optional
 
 import goblin_mach
 
-from ._rows import Rows
-from .errors import Refused, code_of
+from ._item import plain
+from ._library import escaped
+from ._show import FACTS, PAST_END, TABLES, WORDS
+from .errors import Refused
 from .file import File
 from .image import Image
 
 
-def _commands(image: Image) -> Iterator[str]:
-    for c in image.commands():
-        yield f"0x{c.offset:x} {c.cmd:x} size: {c.size}"
+def _complain(words: object) -> int:
+    """Reports something on standard error; returns the status for that."""
+    print(f"goblin-mach: {escaped(str(words))}", file=sys.stderr)
+    return 1
 
 
-def _segments(image: Image) -> Iterator[str]:
-    for s in image.segments():
-        yield (f"{s.name.decode('utf-8', 'surrogateescape')} {s.vmaddr:x} {s.vmsize:x} {s.fileoff:x} {s.filesize:x} {s.command} {len(s.data)} "
-               f"{s.maxprot:x} {s.initprot:x} {s.nsects} {s.flags:x}")
+def _items(name: str, image: Image, left_out: List[str]) -> Iterator[Any]:
+    """The items of a table, but no more than the image has bytes. What is left out, and why, is added to `left_out`."""
+    limit = len(image.data)
+    items = iter(TABLES[name].items(image))
+    try:
+        yield from islice(items, limit)
+        if next(items, None) is not None:
+            left_out.append(f"{limit} {name} are shown, and there are more")
+    except Refused as why:
+        left_out.append(str(why))
+    past = PAST_END[name](image) if name in PAST_END else 0
+    if past:
+        left_out.append(f"{past} more {name} past the end")
 
 
-def _symbols(image: Image) -> Iterator[str]:
-    for s in image.symbols().in_bounds():
-        yield f"{s.value:0{16 if image.is_64 else 8}x} {s.n_type:x} {s.section} {s.desc:x} {code_of(s.error)} {s.name}"
+def _show_text(word: str, image: Image, left_out: List[str]) -> int:
+    """Prints what a word selects of an image, with labels; returns how many items it has."""
+    count = 0
+    for label, value in FACTS.get(word, lambda image: {})(image).items():
+        for line in value if isinstance(value, list) else [value]:
+            print(f"  {label.replace('_', ' ') + ':':<18} {'-' if line is None else escaped(str(line))}")
+    for name in WORDS[word].tables:
+        table = TABLES[name]
+        cells = table.cells(image)
+        for number, item in enumerate(_items(name, image, left_out)):
+            if number == 0:
+                print("  " + table.form.format(*table.headings).rstrip())
+            error = getattr(item, "error", None)
+            print("  " + table.form.format(*cells(item)).rstrip() + (f" ({error})" if error else ""))
+            count += 1
+    return count
 
 
-def _libraries(image: Image) -> Iterator[str]:
-    for library in image.libraries():
-        used = library.is_weak + 2 * library.is_reexport + 4 * library.is_upward + 8 * library.is_delayed
-        yield (f"{goblin_mach.KINDS.index(library.kind)} {library.timestamp} {library.current_version:x} {library.compatibility_version:x} {used} "
-               f"{library.name}")
+def _show_json(word: str, label: str, image: Image, left_out: List[str]) -> int:
+    """Prints what a word selects of an image as one object, each list item by item; returns how many items it has."""
+    count = 0
+    is_open = image.error is None
+    facts = {name: plain(value) for name, value in FACTS[word](image).items()} if is_open and word in FACTS else {}
+    print(json.dumps({"label": label, **facts, **image.to_dict()})[:-1], end="")
+    for name in WORDS[word].tables if is_open else []:
+        print(f', "{name}": [', end="")
+        for number, item in enumerate(_items(name, image, left_out)):
+            print(", " if number else "", json.dumps(plain(item)), sep="", end="")
+            count += 1
+        print("]", end="")
+    print(f', "left_out": {json.dumps(left_out)}}}')
+    return count
 
 
-def _function_starts(image: Image) -> Iterator[str]:
-    for f in image.function_starts():
-        yield f"{f.address:x} {code_of(f.error)}"
-
-
-def _data_in_code(image: Image) -> Iterator[str]:
-    for d in image.data_in_code().in_bounds():
-        yield f"{d.offset:x} {d.length} {d.kind} {code_of(d.error)}"
-
-
-def _indirect_symbols(image: Image) -> Iterator[str]:
-    for i in image.indirect_symbols().in_bounds():
-        yield f"{goblin_mach.INDIRECT.index(i.kind)} {i.symbol or 0} {code_of(i.error)}"
-
-
-def _slots(image: Image) -> Iterator[str]:
-    for s in image.symbol_slots():
-        yield (f"{s.address:x} {s.len} {s.segment} {s.section} {goblin_mach.SLOTS.index(s.kind)} {s.index} {goblin_mach.INDIRECT.index(s.owner)} "
-               f"{s.symbol or 0} {code_of(s.error)} {s.name or ''}")
-
-
-def _linker_options(image: Image) -> Iterator[str]:
-    for o in image.linker_options():
-        yield f"{o.command:x} {code_of(o.error)} {o.text}"
-
-
-def _build_tools(image: Image) -> Iterator[str]:
-    for t in image.build_tools():
-        yield f"{t.command:x} {t.tool} {t.version:x} {code_of(t.error)}"
-
-
-def _notes(image: Image) -> Iterator[str]:
-    for n in image.notes():
-        yield f"{n.command:x} {len(n.data)} {code_of(n.error)} {n.owner}"
-
-
-def _fixups(image: Image) -> Iterator[str]:
-    for f in image.fixups():
-        yield (f"{f.address:x} {f.offset:x} {f.target:x} {f.segment} {goblin_mach.FIXUPS.index(f.kind)} {f.import_number} {f.addend} "
-               f"{int(f.is_signed)} {f.key} {f.diversity} {int(f.is_address_diverse)} {code_of(f.error)}")
-
-
-def _exports(image: Image) -> Iterator[str]:
-    for e in image.exports():
-        yield f"0x{e.address if e.kind == goblin_mach.EXPORTS[1] else 0:x} {e.name}"
-
-
-def _imports(image: Image) -> Iterator[str]:
-    names = ["self"] + [library.name for library in image.libraries()]
-    for i in image.imports():
-        yield (f"{code_of(i.error)} {i.library} {i.offset:x} {i.addend} {i.start_of_sequence_offset:x} {i.size} {int(i.is_weak)} {int(i.is_lazy)} "
-               f"0x{i.address:x} {names[i.library]} {i.name}")
-
-
-def _bindings(image: Image) -> Iterator[str]:
-    for b in image.bindings():
-        yield (f"{code_of(b.error)} {goblin_mach.PROVIDERS.index(b.provider)} {b.library} {b.offset:x} {b.addend} {int(b.is_weak)} {int(b.is_lazy)} "
-               f"0x{b.address:x} {b.name}")
-
-
-def _weak_binds(image: Image) -> Iterator[str]:
-    for w in image.weak_binds():
-        yield f"{code_of(w.error)} {int(w.is_strong)} {w.offset:x} {w.addend} {int(w.is_weak)} 0x{w.address:x} {w.name}"
-
-
-def _rebases(image: Image) -> Iterator[str]:
-    for r in image.rebases():
-        yield (f"{r.address:x} {r.offset:x} {r.target:x} {r.segment} {goblin_mach.REBASES.index(r.kind)} {int(r.is_signed)} {r.key} {r.diversity} "
-               f"{int(r.is_address_diverse)} {code_of(r.error)}")
-
-
-def _signature(image: Image) -> Iterator[str]:
-    found = image.signature
-    if found is not None:
-        codes = " ".join(str(code_of(found.errors.get(name))) for name in ("identifier", "team", "entitlements"))
-        power = found.page_size.bit_length() - 1 if found.page_size else 0
-        yield (f"{found.version:x} {found.flags:x} {found.hash_type} {power} {found.limit:x} {found.pages} {codes} {len(found.entitlements or b'')} "
-               f"{found.cdhash.hex()} {found.identifier or ''} {found.team or ''}")
-
-
-def _signature_faults(image: Image) -> Iterator[str]:
-    for f in image.signature_faults():
-        yield f"{f.kind} {f.slot:x} {f.number} {f.found:x} {f.limit:x} {code_of(f.error)}"
-
-
-def _layout(image: Image) -> Iterator[str]:
-    for fault in image.layout_faults():
-        yield str(fault)
-
-
-LINES: Dict[str, Callable[[Image], Iterator[str]]] = {
-    "commands": _commands,
-    "segments": _segments,
-    "symbols": _symbols,
-    "libraries": _libraries,
-    "run_paths": lambda image: iter(image.run_paths()),
-    "ids": lambda image: iter(image.ids()),
-    "function_starts": _function_starts,
-    "data_in_code": _data_in_code,
-    "indirect_symbols": _indirect_symbols,
-    "slots": _slots,
-    "linker_options": _linker_options,
-    "build_tools": _build_tools,
-    "notes": _notes,
-    "fixups": _fixups,
-    "exports": _exports,
-    "imports": _imports,
-    "bindings": _bindings,
-    "weak_binds": _weak_binds,
-    "rebases": _rebases,
-    "layout": _layout,
-    "signature": _signature,
-    "signature_faults": _signature_faults,
-}
-"""For each word, what is printed for an image."""
-
-TABLES: Dict[str, Tuple[str, Callable[[Image], Rows[Any]]]] = {
-    "symbols": ("symbols", Image.symbols),
-    "data_in_code": ("data in code entries", Image.data_in_code),
-    "indirect_symbols": ("indirect symbols", Image.indirect_symbols),
-}
-"""For each word of a table, what its records are called, and their list."""
-
-
-def _left_out(image: Image, word: str, lines: Iterator[str]) -> Iterator[str]:
-    """What isn't printed of a list: the records past the end, and the lines beyond the limit."""
-    if word in TABLES:
-        called, table = TABLES[word]
-        past = len(table(image)) - len(table(image).in_bounds())
-        if past:
-            yield f"{past} more {called} past the end"
-    if next(lines, None) is not None:
-        yield f"{len(image.data)} {word.replace('_', ' ')} are printed, and there are more"
-
-
-def _told(*numbers: Optional[int]) -> str:
-    return " ".join("-1" if number is None else str(number) for number in numbers)
-
-
-def _members(file: File) -> Iterator[str]:
-    for _, archive in file.archives():
-        for m in archive.members():
-            yield f"{m.offset} {m.start} {m.data.nbytes} {_told(m.date, m.uid, m.gid, m.mode)} {code_of(m.name_error)} {code_of(m.error)} {m.name or ''}"
-
-
-def _archive_symbols(file: File) -> Iterator[str]:
-    for _, archive in file.archives():
-        for symbol in archive.symbols():
-            yield f"{symbol.member} {code_of(symbol.error)} {symbol.name}"
-
-
-def _entries(file: File) -> Iterator[str]:
-    for e in goblin_mach.fat_entries(file._whole()):
-        yield f"{e.cputype:x} {e.cpusubtype:x} {e.offset} {e.size} {e.align} {code_of(e.error)}"
-
-
-WHOLE: Dict[str, Callable[[File], Iterator[str]]] = {"members": _members, "archive_symbols": _archive_symbols, "entries": _entries}
-"""For each word, what is printed for a file."""
-
-
-def _print(file: File, word: str) -> int:
-    """Prints the lines of a file's images, and what can't be opened; returns the status."""
+def _show(word: str, file: File, as_json: bool) -> int:
+    """Shows what a word selects of each image of a file; returns the status."""
     status = 0
-    if word in WHOLE:
-        for line in WHOLE[word](file):
-            print(line)
-        sys.stdout.flush()
-        return status
-    if word == "layout":
-        for fault in file.container_faults():
-            print(fault)
-    for image in file:
+    for fault in file.container_faults() if word == "audit" else ():
+        status = _complain(f"{file.label}: {fault}")
+    for label, image in file.images():
+        left_out: List[str] = []
+        count = 0
+        if not as_json and image.error is None:
+            print(f"{escaped(label)}:")
         try:
-            lines = LINES[word](image)
-            for line in islice(lines, len(image.data)):
-                print(line)
-            for words in _left_out(image, word, lines):
-                print(f"goblin_mach: {words}", file=sys.stderr)
-                status = 1
+            if as_json:
+                count = _show_json(word, label, image, left_out)
+            elif image.error is None:
+                count = _show_text(word, image, left_out)
         except Refused as why:
-            print(f"goblin_mach: {why}", file=sys.stderr)
+            left_out.append(why.words)
+        for words in left_out if image.error is None else [image.error.words]:
+            status = _complain(f"{label}: {words}")
+        if word == "audit" and count:
             status = 1
+        elif word == "audit" and image.error is None and not as_json and not left_out:
+            print("  no fault was found")
     sys.stdout.flush()
     return status
 
 
+def _arguments(words: List[str]) -> argparse.Namespace:
+    """The arguments of the command. Wrong ones, `--help` and `--version` end the program."""
+    parser = argparse.ArgumentParser(prog="goblin-mach", description="Shows what is in Mach-O files, fat files and archives.",
+                                     formatter_class=argparse.RawDescriptionHelpFormatter,
+                                     epilog="words:\n" + "\n".join(f"  {name:<10} {word.about}" for name, word in WORDS.items()))
+    parser.add_argument("word", metavar="WORD", choices=list(WORDS), help="what to show, see below")
+    parser.add_argument("files", metavar="FILE", nargs="+", help="the files, in this order")
+    parser.add_argument("--json", action="store_true", help="print one JSON object for each image, on a line")
+    parser.add_argument("--version", action="version", version=f"goblin-mach {goblin_mach.__version__}")
+    return parser.parse_args(words)
+
+
 def main(words: List[str]) -> int:
-    """Runs the program with these arguments; returns the status."""
-    if len(words) != 2 or words[0] not in (LINES.keys() | WHOLE.keys()):
-        print(f"usage: python3 -m goblin_mach {'|'.join([*LINES, *WHOLE])} FILE", file=sys.stderr)
-        return 2
-    try:
-        with goblin_mach.open(words[1]) as file:
-            return _print(file, words[0])
-    except (OSError, Refused) as why:
-        print(f"goblin_mach: {why}", file=sys.stderr)
-        return 1 if isinstance(why, Refused) else 2
+    """Runs the command with these arguments; returns the greatest status of its files."""
+    given = _arguments(words)
+    status = 0
+    for path in given.files:
+        try:
+            with goblin_mach.open(path) as file:
+                status = max(status, _show(given.word, file, given.json))
+        except Refused as why:
+            status = max(status, _complain(f"{path}: {why}"))
+        except OSError as why:
+            _complain(why)
+            status = 2
+    return status
 
 
-def program() -> None:
-    """Runs the program, and ends it."""
+def program(words: Optional[List[str]] = None) -> None:
+    """Runs the command, and ends the program."""
     # A closed pipe and Ctrl-C end it as they end other programs: without a message, and by their signal. If Ctrl-C was ignored it stays
     # ignored.
     signal.signal(signal.SIGPIPE, signal.SIG_DFL)
     if signal.getsignal(signal.SIGINT) is signal.default_int_handler:
         signal.signal(signal.SIGINT, signal.SIG_DFL)
-    # Names are written as their bytes in the file, whatever the locale is.
-    if isinstance(sys.stdout, io.TextIOWrapper):
-        sys.stdout.reconfigure(encoding="utf-8", errors="surrogateescape")
-    status = main(sys.argv[1:])
+    # Names are written as UTF-8, whatever the locale is.
+    for stream in (sys.stdout, sys.stderr):
+        if isinstance(stream, io.TextIOWrapper):
+            stream.reconfigure(encoding="utf-8", errors="surrogateescape")
+    status = main(sys.argv[1:] if words is None else words)
     if status == 2:  # the rest of the buffer would fail again, with a message and a status of Python's own
         os.dup2(os.open(os.devnull, os.O_WRONLY), sys.stdout.fileno())
     sys.exit(status)

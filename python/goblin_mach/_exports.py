@@ -3,7 +3,7 @@
 from __future__ import annotations
 
 import ctypes
-from ctypes import byref, c_char, c_size_t, sizeof
+from ctypes import byref, c_char, sizeof
 from typing import Any, Callable, Iterator, List, Optional, Tuple
 
 from . import _structs as s

@@ -6,18 +6,18 @@ import ctypes
 import glob
 import os
 import sys
-from ctypes import POINTER, c_char_p, c_size_t, c_uint32, c_uint64, c_void_p
-from typing import Any, Dict, List, Sequence, Tuple
+from ctypes import POINTER, c_bool, c_char_p, c_uint32, c_uint64, c_void_p
+from typing import Any, Dict, List, Sequence, Tuple, Union
 
 from . import _structs as s
 from .errors import Refused
 
-FITS = (0, 2)
+FITS = (0, 3)
 """MAJOR and MINOR of the library versions that this package is written for; others may have other structs and calls."""
 
 HERE = os.path.dirname(os.path.abspath(__file__))
 NAME = {"darwin": "libgoblin_mach.dylib", "win32": "goblin_mach.dll"}.get(sys.platform, "libgoblin_mach.so")
-SONAME = "libgoblin_mach.so.0"
+SONAME = "libgoblin_mach.so.0.3"
 
 
 def _in_folder(folder: str) -> List[str]:
@@ -48,28 +48,42 @@ def _open_first(paths: Sequence[str]) -> ctypes.CDLL:
 
 def _prototypes() -> Dict[str, Tuple[Any, List[Any]]]:
     """What each call returns, and what it takes."""
-    image, error, count = POINTER(s.gm_image), POINTER(s.gm_error), POINTER(c_size_t)
-    held: List[Any] = [c_void_p, c_size_t]
-    by_number: List[Any] = [c_size_t, c_void_p, c_size_t]
+    image, error, count = POINTER(s.gm_image), POINTER(s.gm_error), POINTER(c_uint64)
+    held: List[Any] = [c_void_p, c_uint64]
+    name: List[Any] = [c_char_p, c_uint64]
+    by_number: List[Any] = [c_uint64, c_void_p, c_uint64]
     calls: Dict[str, Tuple[Any, List[Any]]] = {
-        "gm_open": (c_uint32, [*held, c_size_t, c_uint32, c_void_p, image, error]),
-        "gm_fat_entries": (c_size_t, [*held, *by_number]),
-        "gm_fat_entries64": (c_size_t, [*held, *by_number]),
-        "gm_write_fat": (c_uint32, [*held, POINTER(s.gm_fat_part), c_size_t, c_uint32, c_void_p, c_size_t, count, c_void_p, error]),
+        "gm_kind": (c_uint32, held),
+        "gm_text": (c_uint64, [c_char_p, c_uint64, c_char_p, c_uint64]),
+        "gm_open": (c_uint32, [*held, c_uint64, c_uint32, c_void_p, image, error]),
+        "gm_fat_entries": (c_uint64, [*held, *by_number]),
+        "gm_fat_entries64": (c_uint64, [*held, *by_number]),
+        "gm_write_fat": (c_uint32, [*held, POINTER(s.gm_fat_part), c_uint64, c_uint32, c_void_p, c_uint64, count, c_void_p, error]),
         "gm_archive_kind": (c_uint32, [*held, POINTER(c_uint32), error]),
-        "gm_archive_members": (c_size_t, [*held, *by_number]),
-        "gm_archive_symbols": (c_size_t, [*held, *by_number]),
-        "gm_archive_find": (c_uint32, [*held, c_char_p, c_size_t, POINTER(s.gm_archive_member), error]),
-        "gm_archive_member_named": (c_uint32, [*held, c_char_p, c_size_t, POINTER(s.gm_archive_member), error]),
-        "gm_sections": (c_size_t, [*held, image, c_size_t, c_uint32, *by_number]),
-        "gm_relocations": (c_size_t, [*held, image, c_uint32, c_uint32, *by_number]),
-        "gm_find_export": (c_uint32, [*held, image, c_char_p, c_size_t, POINTER(s.gm_export), c_void_p, c_size_t, c_void_p, c_size_t, c_void_p, error]),
+        "gm_archive_members": (c_uint64, [*held, *by_number]),
+        "gm_archive_symbols": (c_uint64, [*held, *by_number]),
+        "gm_archive_find": (c_uint32, [*held, c_char_p, c_uint64, POINTER(s.gm_archive_member), error]),
+        "gm_archive_member_named": (c_uint32, [*held, c_char_p, c_uint64, POINTER(s.gm_archive_member), error]),
+        "gm_sections": (c_uint64, [*held, image, c_uint64, c_uint32, *by_number]),
+        "gm_relocations": (c_uint64, [*held, image, c_uint32, c_uint32, *by_number]),
+        "gm_find_export": (c_uint32, [*held, image, c_char_p, c_uint64, POINTER(s.gm_export), c_void_p, c_uint64, c_void_p, c_uint64, c_void_p, error]),
         "gm_exports": (c_uint32, [*held, image, POINTER(s.gm_export_walk), POINTER(s.gm_export_room), POINTER(s.gm_export_batch), c_void_p, error]),
         "gm_exports_are_a_tree": (c_uint32, [*held, image, c_void_p, error]),
         "gm_slots": (c_uint32, [*held, image, *by_number, count, c_void_p, error]),
         "gm_slot_at": (c_uint32, [*held, image, c_uint64, POINTER(s.gm_slot), c_void_p, error]),
         "gm_section_at": (c_uint32, [*held, image, c_uint64, POINTER(s.gm_found_section), c_void_p, error]),
-        "gm_section_of": (c_uint32, [*held, image, c_size_t, POINTER(s.gm_found_section), c_void_p, error]),
+        "gm_section_named": (c_uint32, [*held, image, *name, *name, POINTER(s.gm_found_section), c_void_p, error]),
+        "gm_symbol_named": (c_uint32, [*held, image, *name, POINTER(s.gm_found_symbol), c_void_p, error]),
+        "gm_symbol_at": (c_uint32, [*held, image, c_uint64, POINTER(s.gm_found_symbol), c_void_p, error]),
+        "gm_function_at": (c_uint32, [*held, image, c_uint64, POINTER(s.gm_found_function), c_void_p, error]),
+        "gm_segment_named": (c_bool, [*held, image, *name, POINTER(s.gm_segment)]),
+        "gm_address_of_offset": (c_bool, [*held, image, c_uint64, POINTER(c_uint64)]),
+        "gm_offset_of_address": (c_bool, [*held, image, c_uint64, POINTER(c_uint64)]),
+        "gm_uuid": (c_bool, [*held, image, POINTER(s.gm_image_uuid)]),
+        "gm_source_version": (c_bool, [*held, image, POINTER(c_uint64)]),
+        "gm_encryption": (c_bool, [*held, image, POINTER(s.gm_encrypted_part)]),
+        "gm_dylinker": (c_bool, [*held, image, POINTER(s.gm_command_text)]),
+        "gm_section_of": (c_uint32, [*held, image, c_uint64, POINTER(s.gm_found_section), c_void_p, error]),
         "gm_symbol_provider": (None, [image, POINTER(s.gm_symbol), POINTER(s.gm_provider)]),
         "gm_layout_faults": (c_uint32, [*held, image, *by_number, count, c_void_p, error]),
         "gm_container_faults": (c_uint32, [*held, *by_number, count, c_void_p, error]),
@@ -80,21 +94,17 @@ def _prototypes() -> Dict[str, Tuple[Any, List[Any]]]:
         "gm_layout_rule": (c_char_p, [c_uint32]),
         "gm_layout_part": (c_char_p, [c_uint32]),
     }
-    for name in ("commands", "segments", "symbols", "libraries", "run_paths", "ids",
-                 "data_in_code", "indirect_symbols", "linker_options", "build_tools", "notes"):
-        calls["gm_" + name] = c_size_t, [*held, image, *by_number]
-    for name, cursor in (("fixups", s.gm_fixup_cursor), ("imports", s.gm_bind_cursor), ("bindings", s.gm_binding_cursor),
+    for call in ("commands", "segments", "all_sections", "symbols", "libraries", "run_paths", "ids", "data_in_code", "indirect_symbols",
+                 "linker_options", "build_tools", "build_versions", "dyld_environment", "fileset_entries", "notes"):
+        calls["gm_" + call] = c_uint64, [*held, image, *by_number]
+    for call, cursor in (("fixups", s.gm_fixup_cursor), ("imports", s.gm_bind_cursor), ("bindings", s.gm_binding_cursor),
                          ("weak_binds", s.gm_bind_cursor), ("rebases", s.gm_rebase_cursor), ("function_starts", s.gm_start_cursor)):
-        calls["gm_" + name] = c_uint32, [*held, image, POINTER(cursor), c_void_p, c_size_t, count, c_void_p, error]
+        calls["gm_" + call] = c_uint32, [*held, image, POINTER(cursor), c_void_p, c_uint64, count, c_void_p, error]
     return calls
 
 
 def version_of(found: ctypes.CDLL) -> Tuple[int, int, int]:
-    """The version of a library. One without a call for its number is older than 0.2.0, and has the same structs and calls if it answers
-    1."""
-    if not hasattr(found, "gm_version_number"):
-        found.gm_version.restype = c_uint32
-        return (0, 2, 0) if found.gm_version() == 1 else (0, 0, 0)
+    """The version of a library."""
     found.gm_version_number.restype = c_uint32
     number = int(found.gm_version_number())
     return number // 1000000, number // 1000 % 1000, number % 1000
@@ -121,3 +131,12 @@ lib = load(places())
 def refused(error: s.gm_error) -> Refused:
     """The error for a refusal, with the library's text."""
     return Refused(error.code, error.text.decode("utf-8", "replace"))
+
+
+def escaped(name: Union[str, bytes]) -> str:
+    """A name as the programs print it, so that it can't forge output and fits on a line: a backslash is twice there, and each byte of a
+    control character, of a mark that changes the direction of text, and of what isn't UTF-8 is \\xNN."""
+    raw = name.encode("utf-8", "surrogateescape") if isinstance(name, str) else name
+    room = ctypes.create_string_buffer(4 * len(raw) + 1)
+    lib.gm_text(ctypes.cast(room, c_char_p), len(room), raw, len(raw))
+    return room.value.decode()

@@ -12,8 +12,8 @@ from ._memory import Held
 from ._rows import Kind
 from .errors import ERRORS
 from .items import (
-    ArchiveSymbol, BuildTool, Command, DataInCode, FatEntry, FunctionStart, IndirectSymbol, LayoutFault, Library, LinkerOption, Member, Note,
-    NumberedSection, Owner, Relocation, Section, Segment, Symbol, SymbolProvider, SymbolSlot,
+    ArchiveSymbol, BuildTool, BuildVersion, Command, CommandText, DataInCode, FatEntry, FilesetEntry, FoundSymbol, FunctionStart, IndirectSymbol,
+    LayoutFault, Library, LinkerOption, Member, Note, NumberedSection, Owner, Relocation, Section, Segment, Symbol, SymbolProvider, SymbolSlot,
 )
 from .pointers import Binding, Fixup, Import, Rebase, WeakBind
 from .signature import SignatureFault
@@ -58,7 +58,8 @@ def archive_symbols(held: Held, raws: Raws, first: int) -> List[ArchiveSymbol]:
 
 
 def commands(held: Held, raws: Raws, first: int) -> List[Command]:
-    return [_new(Command, raw) for raw in raws]
+    view = held.view
+    return [_new(Command, (offset, size, cmd, view[offset:offset + size])) for offset, size, cmd, _ in raws]
 
 
 def segments(held: Held, raws: Raws, first: int) -> List[Segment]:
@@ -77,6 +78,10 @@ def sections(held: Held, raws: Raws, first: int) -> List[Section]:
     ]
 
 
+def all_sections(held: Held, raws: Raws, first: int) -> List[Section]:
+    return sections(held, (raw[:11] for raw in raws), first)
+
+
 def relocations(held: Held, raws: Raws, first: int) -> List[Relocation]:
     return [_new(Relocation, (address, info, _error(code))) for address, info, code in raws]
 
@@ -85,7 +90,7 @@ def symbols(held: Held, raws: Raws, first: int) -> List[Symbol]:
     view, new = held.view, _new
     return [
         new(Symbol, (str(view[name:name + size], "utf-8", _ESCAPED), value, section, n_type, desc, _error(code) if code else None))
-        for value, name, size, section, code, desc, n_type in raws
+        for value, name, size, section, code, desc, n_type, _ in raws
     ]
 
 
@@ -110,7 +115,7 @@ def fixups(held: Held, raws: Raws, first: int) -> List[Fixup]:
     return [
         new(Fixup, (address, segment, offset, FIXUPS[kind], target, number, addend, signed != 0, key, diversity, diverse != 0,
                     _error(code) if code else None))
-        for address, offset, target, segment, kind, number, addend, signed, key, diversity, diverse, code in raws
+        for address, offset, target, segment, kind, number, addend, signed, key, diversity, diverse, code, _ in raws
     ]
 
 
@@ -119,7 +124,7 @@ def imports(held: Held, raws: Raws, first: int) -> List[Import]:
     return [
         new(Import, (str(view[name:name + length], "utf-8", _ESCAPED), library, address, offset, addend, size, start, weak != 0, lazy != 0,
                      _error(code) if code else None))
-        for address, offset, addend, start, name, length, library, size, weak, lazy, code in raws
+        for address, offset, addend, start, name, length, library, size, weak, lazy, code, _ in raws
     ]
 
 
@@ -172,6 +177,18 @@ def build_tools(held: Held, raws: Raws, first: int) -> List[BuildTool]:
     return [BuildTool(tool, version, command, _error(code)) for command, tool, version, code, _ in raws]
 
 
+def build_versions(held: Held, raws: Raws, first: int) -> List[BuildVersion]:
+    return [BuildVersion(platform, minos, sdk, command) for command, platform, minos, sdk, _ in raws]
+
+
+def command_texts(held: Held, raws: Raws, first: int) -> List[CommandText]:
+    return [CommandText(held.text(text, size), command, _error(code)) for command, text, size, code, _ in raws]
+
+
+def fileset_entries(held: Held, raws: Raws, first: int) -> List[FilesetEntry]:
+    return [FilesetEntry(held.text(name, size), address, offset, _error(code)) for address, offset, name, size, code, _ in raws]
+
+
 def notes(held: Held, raws: Raws, first: int) -> List[Note]:
     view = held.view
     return [
@@ -186,6 +203,11 @@ def slots(held: Held, raws: Raws, first: int) -> List[SymbolSlot]:
                    held.text(name, name_len) if not owner and not code else None, _error(code))
         for address, size, segment, name, name_len, section, kind, index, owner, symbol, code in raws
     ]
+
+
+def found_symbol(held: Held, found: s.gm_found_symbol) -> Optional[FoundSymbol]:
+    """A symbol that was looked up, if it was found."""
+    return FoundSymbol(SYMBOLS.items_of(held, found.symbol)[0], found.index, found.distance) if found.is_found else None
 
 
 def provider(found: s.gm_provider) -> Optional[SymbolProvider]:
@@ -214,7 +236,7 @@ def _part(number: int) -> str:
 def layout_faults(held: Held, raws: Raws, first: int) -> List[LayoutFault]:
     return [
         LayoutFault(_rule(rule), Owner(_part(part), command, index), found, limit, Owner(_part(other), other_command, other_index) if other else None)
-        for found, limit, command, index, other_command, other_index, rule, part, other in raws
+        for found, limit, command, index, other_command, other_index, rule, part, other, _ in raws
     ]
 
 
@@ -236,6 +258,7 @@ ARCHIVE_SYMBOLS = Kind(lib.gm_archive_symbols, s.gm_archive_symbol, archive_symb
 COMMANDS = Kind(lib.gm_commands, s.gm_command, commands)
 SEGMENTS = Kind(lib.gm_segments, s.gm_segment, segments)
 SECTIONS = Kind(lib.gm_sections, s.gm_section, sections)
+ALL_SECTIONS = Kind(lib.gm_all_sections, s.gm_numbered_section, all_sections, grows=True)
 RELOCATIONS = Kind(lib.gm_relocations, s.gm_relocation, relocations)
 SYMBOLS = Kind(lib.gm_symbols, s.gm_symbol, symbols)
 LIBRARIES = Kind(lib.gm_libraries, s.gm_library, libraries)
@@ -245,6 +268,9 @@ DATA_IN_CODE = Kind(lib.gm_data_in_code, s.gm_data_in_code_entry, data_in_code)
 INDIRECT_SYMBOLS = Kind(lib.gm_indirect_symbols, s.gm_indirect_symbol, indirect_symbols)
 LINKER_OPTIONS = Kind(lib.gm_linker_options, s.gm_linker_option, linker_options)
 BUILD_TOOLS = Kind(lib.gm_build_tools, s.gm_build_tool, build_tools)
+BUILD_VERSIONS = Kind(lib.gm_build_versions, s.gm_build_version, build_versions)
+DYLD_ENVIRONMENT = Kind(lib.gm_dyld_environment, s.gm_command_text, command_texts)
+FILESET_ENTRIES = Kind(lib.gm_fileset_entries, s.gm_fileset_entry, fileset_entries)
 NOTES = Kind(lib.gm_notes, s.gm_note, notes)
 SLOTS_BY_NUMBER = Kind(lib.gm_slots, s.gm_slot, slots)
 FUNCTION_STARTS_BEHIND = Kind(lib.gm_function_starts, s.gm_function_start, function_starts)

@@ -3,7 +3,7 @@
 from __future__ import annotations
 
 import ctypes
-from typing import TYPE_CHECKING, Optional
+from typing import TYPE_CHECKING, Optional, Union
 
 if TYPE_CHECKING:
     from _typeshed import ReadableBuffer
@@ -63,3 +63,8 @@ class Held:
 def text(raw: ReadableBuffer) -> str:
     """Bytes as text. Those that aren't UTF-8 become surrogates."""
     return str(raw, "utf-8", "surrogateescape")
+
+
+def bytes_of(name: Union[str, bytes]) -> bytes:
+    """A name as its bytes in a file."""
+    return name.encode("utf-8", "surrogateescape") if isinstance(name, str) else name

@@ -138,7 +138,7 @@ class Rows(Generic[T]):
 
 def rows_behind(kind: Kind[T], live: Callable[[], Held], numbers: Any, cursor: ctypes.Structure) -> Iterator[T]:
     """The items of a list that goes on from a cursor, which begins as zeros."""
-    held, array, count, error, first = live(), kind.array(BATCH), ctypes.c_size_t(), gm_error(), 0
+    held, array, count, error, first = live(), kind.array(BATCH), ctypes.c_uint64(), gm_error(), 0
     life = held.life
     while True:
         life.check()
@@ -159,7 +159,7 @@ def in_growing_batches(kind: Kind[T], live: Callable[[], Held], given: Sequence[
     life = held.life
     while True:
         life.check()
-        array, count, error = kind.array(cap), ctypes.c_size_t(), gm_error()
+        array, count, error = kind.array(cap), ctypes.c_uint64(), gm_error()
         if kind.call(held.at, held.len, *given, first, array, cap, ctypes.byref(count), None, ctypes.byref(error)):
             raise refused(error)
         for item in kind.items(held, array, count.value, first):

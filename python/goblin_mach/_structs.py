@@ -5,7 +5,7 @@ from __future__ import annotations
 
 import ctypes
 import struct
-from ctypes import c_char, c_int32, c_int64, c_size_t, c_uint8, c_uint16, c_uint32, c_uint64, c_void_p
+from ctypes import c_char, c_int32, c_int64, c_uint8, c_uint16, c_uint32, c_uint64, c_void_p
 from typing import Any, List, Tuple, Type
 
 Fields = List[Tuple[str, Any]]
@@ -23,19 +23,14 @@ def _u64(names: str) -> Fields:
     return _fields(c_uint64, names)
 
 
-def _sizes(names: str) -> Fields:
-    return _fields(c_size_t, names)
-
-
 class gm_error(ctypes.Structure):
     _fields_ = [("code", c_uint32), ("text", c_char * 124)]
 
 
 class gm_image(ctypes.Structure):
     _fields_ = (
-        [("offset", c_size_t), ("entry", c_uint64)]
-        + _sizes("first_command commands segments libraries run_paths symbols symbols_at names_at")
-        + _u32("magic cputype cpusubtype filetype flags is_lossy is_old_style_entry is_little_endian is_64")
+        _u64("offset entry first_command commands segments libraries run_paths symbols symbols_at names_at")
+        + _u32("magic cputype cpusubtype filetype flags is_lossy is_old_style_entry is_little_endian is_64 reserved")
     )
 
 
@@ -48,32 +43,35 @@ class gm_fat_entry64(ctypes.Structure):
 
 
 class gm_fat_part(ctypes.Structure):
-    _fields_ = _sizes("offset len") + _u32("cputype cpusubtype align reserved")
+    _fields_ = _u64("offset len") + _u32("cputype cpusubtype align reserved")
 
 
 class gm_archive_member(ctypes.Structure):
-    _fields_ = _u64("date uid gid mode") + _sizes("header data data_len name name_len") + _u32("name_code code")
+    _fields_ = _u64("date uid gid mode header data data_len name name_len") + _u32("name_code code")
 
 
 class gm_archive_symbol(ctypes.Structure):
-    _fields_ = _u64("member") + _sizes("name name_len") + _u32("code reserved")
+    _fields_ = _u64("member name name_len") + _u32("code reserved")
 
 
 class gm_command(ctypes.Structure):
-    _fields_ = _sizes("offset size") + _u32("cmd")
+    _fields_ = _u64("offset size") + _u32("cmd reserved")
 
 
 class gm_segment(ctypes.Structure):
-    _fields_ = [("name", c_uint8 * 16)] + _u64("vmaddr vmsize fileoff filesize") + _sizes("command data_len") + _u32("maxprot initprot sections flags")
+    _fields_ = [("name", c_uint8 * 16)] + _u64("vmaddr vmsize fileoff filesize command data_len") + _u32("maxprot initprot sections flags")
 
 
 class gm_section(ctypes.Structure):
     _fields_ = (
         [("name", c_uint8 * 16), ("segment", c_uint8 * 16)]
-        + _u64("addr size")
-        + _sizes("data_len")
+        + _u64("addr size data_len")
         + _u32("offset align reloff nreloc flags code")
     )
+
+
+class gm_numbered_section(ctypes.Structure):
+    _fields_ = [("section", gm_section)] + _u64("command") + _u32("number reserved")
 
 
 class gm_relocation(ctypes.Structure):
@@ -81,19 +79,19 @@ class gm_relocation(ctypes.Structure):
 
 
 class gm_symbol(ctypes.Structure):
-    _fields_ = _u64("value") + _sizes("name name_len section") + [("code", c_uint32), ("desc", c_uint16), ("n_type", c_uint8)]
+    _fields_ = _u64("value name name_len section") + [("code", c_uint32), ("desc", c_uint16), ("n_type", c_uint8), ("reserved", c_uint8)]
 
 
 class gm_library(ctypes.Structure):
-    _fields_ = _sizes("name name_len") + _u32("kind timestamp current_version compatibility_version attributes reserved")
+    _fields_ = _u64("name name_len") + _u32("kind timestamp current_version compatibility_version attributes reserved")
 
 
 class gm_run_path(ctypes.Structure):
-    _fields_ = _sizes("path path_len")
+    _fields_ = _u64("path path_len")
 
 
 class gm_id(ctypes.Structure):
-    _fields_ = _sizes("name name_len")
+    _fields_ = _u64("name name_len")
 
 
 class gm_function_start(ctypes.Structure):
@@ -101,7 +99,7 @@ class gm_function_start(ctypes.Structure):
 
 
 class gm_start_cursor(ctypes.Structure):
-    _fields_ = _sizes("place") + _u64("address") + _u32("stage reserved")
+    _fields_ = _u64("place address") + _u32("stage reserved")
 
 
 class gm_data_in_code_entry(ctypes.Structure):
@@ -113,19 +111,39 @@ class gm_indirect_symbol(ctypes.Structure):
 
 
 class gm_linker_option(ctypes.Structure):
-    _fields_ = _sizes("command text text_len") + _u32("code reserved")
+    _fields_ = _u64("command text text_len") + _u32("code reserved")
 
 
 class gm_build_tool(ctypes.Structure):
-    _fields_ = _sizes("command") + _u32("tool version code reserved")
+    _fields_ = _u64("command") + _u32("tool version code reserved")
+
+
+class gm_build_version(ctypes.Structure):
+    _fields_ = _u64("command") + _u32("platform minos sdk reserved")
+
+
+class gm_image_uuid(ctypes.Structure):
+    _fields_ = [("bytes", c_uint8 * 16)]
+
+
+class gm_encrypted_part(ctypes.Structure):
+    _fields_ = _u32("offset size id")
+
+
+class gm_command_text(ctypes.Structure):
+    _fields_ = _u64("command text text_len") + _u32("code reserved")
+
+
+class gm_fileset_entry(ctypes.Structure):
+    _fields_ = _u64("address offset name name_len") + _u32("code reserved")
 
 
 class gm_note(ctypes.Structure):
-    _fields_ = _sizes("command owner owner_len") + _u64("place") + _sizes("size") + _u32("code reserved")
+    _fields_ = _u64("command owner owner_len place size") + _u32("code reserved")
 
 
 class gm_slot(ctypes.Structure):
-    _fields_ = _u64("address len") + _sizes("segment name name_len") + _u32("section kind index owner symbol code")
+    _fields_ = _u64("address len segment name name_len") + _u32("section kind index owner symbol code")
 
 
 class gm_provider(ctypes.Structure):
@@ -135,35 +153,42 @@ class gm_provider(ctypes.Structure):
 class gm_found_section(ctypes.Structure):
     _fields_ = (
         [("name", c_uint8 * 16), ("segment_name", c_uint8 * 16)]
-        + _u64("addr size")
-        + _sizes("segment")
+        + _u64("addr size segment")
         + _u32("number offset align reloff nreloc flags reserved1 reserved2 is_found reserved")
     )
 
 
+class gm_found_symbol(ctypes.Structure):
+    _fields_ = [("symbol", gm_symbol)] + _u64("index distance") + _u32("is_found reserved")
+
+
+class gm_found_function(ctypes.Structure):
+    _fields_ = _u64("start end") + _u32("is_found reserved")
+
+
 class gm_export(ctypes.Structure):
-    _fields_ = _u64("address resolver flags") + _sizes("library_len target_len") + _u32("kind reserved")
+    _fields_ = _u64("address resolver flags library_len target_len") + _u32("kind reserved")
 
 
 class gm_open_node(ctypes.Structure):
-    _fields_ = _sizes("left place name_len")
+    _fields_ = _u64("left place name_len")
 
 
 class gm_export_walk(ctypes.Structure):
-    _fields_ = _sizes("phase visits_left name_len depth node") + [("top", gm_open_node)] + _u32("is_begun code")
+    _fields_ = _u64("phase visits_left name_len depth node") + [("top", gm_open_node)] + _u32("is_begun code")
 
 
 class gm_listed_export(ctypes.Structure):
-    _fields_ = _sizes("name name_len library target") + [("what", gm_export)]
+    _fields_ = _u64("name name_len library target") + [("what", gm_export)]
 
 
 class gm_export_room(ctypes.Structure):
-    _fields_ = [("name", c_void_p), ("name_cap", c_size_t), ("stack", c_void_p), ("stack_cap", c_size_t),
-                ("out", c_void_p), ("cap", c_size_t), ("names", c_void_p), ("names_cap", c_size_t)]
+    _fields_ = [("name", c_void_p), ("name_cap", c_uint64), ("stack", c_void_p), ("stack_cap", c_uint64),
+                ("out", c_void_p), ("cap", c_uint64), ("names", c_void_p), ("names_cap", c_uint64)]
 
 
 class gm_export_batch(ctypes.Structure):
-    _fields_ = _sizes("count names_len needed") + _u32("end reserved")
+    _fields_ = _u64("count names_len needed") + _u32("end reserved")
 
 
 class gm_fixup(ctypes.Structure):
@@ -171,7 +196,7 @@ class gm_fixup(ctypes.Structure):
         _u64("address offset target")
         + _u32("segment kind import")
         + [("addend", c_int32)]
-        + _u32("is_signed key diversity is_address_diverse code")
+        + _u32("is_signed key diversity is_address_diverse code reserved")
     )
 
 
@@ -184,10 +209,8 @@ class gm_import(ctypes.Structure):
         _u64("address offset")
         + [("addend", c_int64)]
         + _u64("start_of_sequence_offset")
-        + _sizes("name name_len")
-        + _u64("library")
-        + _sizes("size")
-        + _u32("is_weak is_lazy code")
+        + _u64("name name_len library size")
+        + _u32("is_weak is_lazy code reserved")
     )
 
 
@@ -199,8 +222,7 @@ class gm_binding(ctypes.Structure):
     _fields_ = (
         _u64("address offset")
         + [("addend", c_int64)]
-        + _sizes("name name_len")
-        + _u64("library")
+        + _u64("name name_len library")
         + _u32("provider is_weak is_lazy code")
     )
 
@@ -213,7 +235,7 @@ class gm_weak_bind(ctypes.Structure):
     _fields_ = (
         _u64("address offset")
         + [("addend", c_int64)]
-        + _sizes("name name_len")
+        + _u64("name name_len")
         + _u32("is_strong is_weak code reserved")
     )
 
@@ -227,13 +249,12 @@ class gm_rebase_cursor(ctypes.Structure):
 
 
 class gm_layout_fault(ctypes.Structure):
-    _fields_ = _u64("found limit command index other_command other_index") + _u32("rule part other_part")
+    _fields_ = _u64("found limit command index other_command other_index") + _u32("rule part other_part reserved")
 
 
 class gm_signature(ctypes.Structure):
     _fields_ = (
-        _u64("limit pages")
-        + _sizes("identifier identifier_len team team_len entitlements entitlements_len")
+        _u64("limit pages identifier identifier_len team team_len entitlements entitlements_len")
         + _u32("version flags hash_type page_size identifier_code team_code entitlements_code is_signed")
         + [("cdhash", c_uint8 * 20), ("reserved", c_uint32)]
     )

@@ -8,7 +8,7 @@ from typing import TYPE_CHECKING, Any, Callable, Iterator, List, Optional, Tuple
 from . import _lists
 from . import _structs as s
 from ._library import lib, refused
-from ._memory import Held
+from ._memory import Held, bytes_of
 from ._rows import Rows
 from .enums import Mode
 from .errors import Refused, code_of
@@ -19,11 +19,7 @@ if TYPE_CHECKING:
     from _typeshed import ReadableBuffer
 
 KINDS = ("none", "gnu", "bsd", "thin")
-_IMAGES = {b"\xfe\xed\xfa\xce", b"\xfe\xed\xfa\xcf", b"\xce\xfa\xed\xfe", b"\xcf\xfa\xed\xfe"}
-
-
-def _bytes_of(name: Union[str, bytes]) -> bytes:
-    return name.encode("utf-8", "surrogateescape") if isinstance(name, str) else name
+IMAGE_MAGICS = {b"\xfe\xed\xfa\xce", b"\xfe\xed\xfa\xcf", b"\xce\xfa\xed\xfe", b"\xcf\xfa\xed\xfe"}
 
 
 class Archive:
@@ -58,11 +54,11 @@ class Archive:
 
     def member(self, name: Union[str, bytes]) -> Optional[Member]:
         """The first member with a name, or None; raises `Refused` if a header before it can't be read."""
-        return self._found(lib.gm_archive_member_named, _bytes_of(name))
+        return self._found(lib.gm_archive_member_named, bytes_of(name))
 
     def defining(self, symbol: Union[str, bytes]) -> Optional[Member]:
         """The member that defines a symbol, by the index, or None; raises `Refused` if the index or the member can't be read."""
-        return self._found(lib.gm_archive_find, _bytes_of(symbol))
+        return self._found(lib.gm_archive_find, bytes_of(symbol))
 
     def image(self, member: Member, mode: int = Mode.STRICT) -> Image:
         """The image of a member. One that can't be opened has an `error`."""
@@ -73,7 +69,7 @@ class Archive:
     def images(self, mode: int = Mode.STRICT) -> Iterator[Tuple[Member, Image]]:
         """The members that are images (they begin as one), each with its image. If no more members can be read, the last image says why."""
         for member in self.members():
-            if member.error is not None or bytes(member.data[:4]) in _IMAGES:
+            if member.error is not None or bytes(member.data[:4]) in IMAGE_MAGICS:
                 yield member, self.image(member, mode)
 
     def __iter__(self) -> Iterator[Member]:

@@ -29,6 +29,7 @@ class ErrorCode(Number):
     NO_MEMORY = 5
     NO_ROWS = 6
     NO_SPACE = 7
+    NO_IMAGE = 8
 
 
 class CpuType(Number):

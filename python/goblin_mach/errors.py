@@ -14,6 +14,7 @@ ERRORS: Dict[int, str] = {
     ErrorCode.NO_MEMORY: "out of memory",
     ErrorCode.NO_ROWS: "no rows",
     ErrorCode.NO_SPACE: "no space",
+    ErrorCode.NO_IMAGE: "no image",
 }
 _CODES = {words: code for code, words in ERRORS.items()}
 

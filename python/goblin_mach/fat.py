@@ -11,7 +11,6 @@ from ._memory import Held
 from .archive import Archive
 from .enums import CpuType, ErrorCode
 from .errors import Refused
-from .items import readable
 
 if TYPE_CHECKING:
     from _typeshed import ReadableBuffer
@@ -21,7 +20,6 @@ _SMALL_PAGES = {CpuType.X86, CpuType.X86_64, CpuType.POWERPC, CpuType.POWERPC64}
 _ABI64 = 0x01000000
 
 
-@readable
 class FatPart(NamedTuple):
     """An entry for a fat file to be written: its cpu, its bytes, and the power of 2 that its offset is a multiple of, at most 15."""
 
@@ -81,7 +79,7 @@ def write_fat(parts: Iterable[FatPart], is_64: bool = False) -> bytearray:
     for number, (part, view) in enumerate(zip(given, views)):
         rows[number] = _row(part, end, len(view))
         end += len(view)
-    held, needed, error = Held(b"".join(views)), ctypes.c_size_t(), s.gm_error()
+    held, needed, error = Held(b"".join(views)), ctypes.c_uint64(), s.gm_error()
     taken = held.at, held.len, rows, len(given), int(is_64)
     if lib.gm_write_fat(*taken, None, 0, ctypes.byref(needed), None, ctypes.byref(error)) != ErrorCode.NO_SPACE:
         raise refused(error)

@@ -10,10 +10,11 @@ import stat
 from typing import TYPE_CHECKING, Any, Dict, Iterator, List, Optional, Sequence, Tuple, Union, overload
 
 from . import _lists
+from ._library import lib
 from ._memory import Held, Life
 from ._rows import Rows, in_growing_batches
 from .archive import Archive
-from .enums import Mode
+from .enums import ErrorCode, Mode
 from .errors import Refused
 from .image import Image
 from .items import FatEntry, LayoutFault, Member
@@ -23,19 +24,29 @@ if TYPE_CHECKING:
 
     StrOrBytesPath = Union[str, bytes, os.PathLike[str], os.PathLike[bytes]]
 
-FAT_KINDS = {b"\xca\xfe\xba\xbe": "fat", b"\xca\xfe\xba\xbf": "fat64"}
-ARCHIVE_MAGIC, THIN_MAGIC = b"!<arch>\n", b"!<thin>\n"
+KINDS = ("unknown", "empty", "image", "fat", "fat64", "archive", "ELF", "PE", "Java class", "bitcode")
+FOREIGN = {"empty": "an empty file", "ELF": "an ELF file", "PE": "a PE or DOS program", "Java class": "a Java class", "bitcode": "LLVM bitcode"}
+"""The words of the programs for the kinds of files that aren't Mach-O."""
+ARCHIVE_MAGIC = b"!<arch>\n"
 
 
 def _held(data: Union[ReadableBuffer, Held]) -> Held:
     return data if isinstance(data, Held) else Held(data)
 
 
-def _kind(view: memoryview) -> str:
-    """The kind of some bytes, from how they begin."""
-    if view[:8] in (ARCHIVE_MAGIC, THIN_MAGIC):
-        return "archive"
-    return FAT_KINDS.get(bytes(view[:4]), "image") if len(view) >= 8 else "image"
+def kind_of(data: Union[ReadableBuffer, Held]) -> str:
+    """What bytes are, by how they begin: "image", "fat", "fat64", "archive", "ELF", "PE", "Java class", "bitcode", "empty" or "unknown"."""
+    held = _held(data).live()
+    return KINDS[lib.gm_kind(held.at, held.len)]
+
+
+def _check(held: Held) -> None:
+    """Raises `Refused` for bytes that begin neither as an image, nor as a fat file, nor as an archive."""
+    found = kind_of(held)
+    if found in FOREIGN:
+        raise Refused(ErrorCode.BAD_MAGIC, f"not Mach-O: {FOREIGN[found]}")
+    if found == "unknown" or held.len < 8 and found in ("fat", "fat64"):
+        Image(held)  # reports which magic they have
 
 
 def fat_entries(data: Union[ReadableBuffer, Held]) -> Rows[FatEntry]:
@@ -71,13 +82,14 @@ class File(Sequence[Image]):
         """The path that it was opened by; None for bytes."""
         self._mode, self._life = mode, Life()
         self._held: Optional[Held] = Held(data, self._life)
+        _check(self._held)
         self._kept: Optional[Tuple[FatEntry, ...]] = None
         self._members: Optional[Tuple[Member, ...]] = None
 
     @property
     def kind(self) -> str:
-        """Its kind, from how it begins: `archive`, `fat`, `fat64`, or else `image`, whether it is one or not."""
-        return _kind(self._whole().view)
+        """Its kind, from how it begins: `image`, `fat`, `fat64` or `archive`."""
+        return kind_of(self._whole())
 
     @property
     def closed(self) -> bool:
@@ -113,7 +125,7 @@ class File(Sequence[Image]):
         """Its image, or those of a fat file's entries or of an archive's members, in order. One that can't be opened is an image with an
         `error`."""
         whole = self._whole()
-        kind = _kind(whole.view)
+        kind = kind_of(whole)
         if kind == "image":
             yield Image(whole, 0, self._mode)
             self._life.check()
@@ -136,16 +148,22 @@ class File(Sequence[Image]):
         return 1 if kind == "image" else len(self._image_members() if kind == "archive" else self._entries())
 
     @overload
-    def __getitem__(self, index: int) -> Image: ...
+    def __getitem__(self, index: Union[int, str]) -> Image: ...
 
     @overload
     def __getitem__(self, index: slice) -> List[Image]: ...
 
-    def __getitem__(self, index: Union[int, slice]) -> Union[Image, List[Image]]:
+    def __getitem__(self, index: Union[int, str, slice]) -> Union[Image, List[Image]]:
+        """An image by its index, or the first one of an architecture ("arm64"), or some by a slice."""
         whole = self._whole()
+        if isinstance(index, str):
+            found = next((image for image in self if image.arch == index), None)
+            if found is None:
+                raise KeyError(index)
+            return found
         if isinstance(index, slice):
             return [self[number] for number in range(*index.indices(len(self)))]
-        kind = _kind(whole.view)
+        kind = kind_of(whole)
         if kind == "archive":
             return Archive(whole).image(self._image_members()[index], self._mode)
         if kind != "image":
@@ -165,23 +183,24 @@ class File(Sequence[Image]):
         raise LookupError(f"no image of {arch or 'any architecture'}: there are {there}")
 
     @property
-    def _label(self) -> str:
+    def label(self) -> str:
+        """The path that it was opened by, as text; empty for bytes."""
         return "" if self.name is None else os.fsdecode(self.name)
 
     def _parts(self) -> Iterator[Tuple[str, FatEntry, Held]]:
         """The entries of a fat file: the name of each, its record, its bytes."""
         whole = self._whole()
         for entry in fat_entries(whole):
-            yield f"{self._label}: arch {entry.arch}".lstrip(": "), entry, Held(self._part(whole, entry), self._life)
+            yield f"{self.label}: arch {entry.arch}".lstrip(": "), entry, Held(self._part(whole, entry), self._life)
 
     def archives(self) -> Iterator[Tuple[str, Archive]]:
         """The archive that it is, or those among a fat file's entries, each with its name. Raises `Refused` if the start of one can't be
         read."""
         whole = self._whole()
-        if _kind(whole.view) == "archive":
-            yield self._label, Archive(whole)
+        if kind_of(whole) == "archive":
+            yield self.label, Archive(whole)
         for label, _, part in self._parts():
-            if _kind(part.view) == "archive":
+            if kind_of(part) == "archive":
                 yield label, Archive(part)
 
     def images(self) -> Iterator[Tuple[str, Image]]:
@@ -189,20 +208,20 @@ class File(Sequence[Image]):
         `libx.a: arch arm64(member.o)` for a member of an archive among its entries. An entry or a member that can't be opened has an
         `error`."""
         whole = self._whole()
-        kind = _kind(whole.view)
+        kind = kind_of(whole)
         if kind == "image":
             for image in self:
-                yield self._label, image
+                yield self.label, image
         elif kind == "archive":
             for member, image in Archive(whole).images(self._mode):
-                yield f"{self._label}({member.label})", image
+                yield f"{self.label}({member.label})", image
         else:
             for label, entry, part in self._parts():
                 yield from self._images_of(label, entry, part)
 
     def _images_of(self, label: str, entry: FatEntry, part: Held) -> Iterator[Tuple[str, Image]]:
         """The images of an entry of a fat file: its own, or those of the archive that it is."""
-        if _kind(part.view) != "archive":
+        if kind_of(part) != "archive":
             yield label, Image._of_entry(entry, part, self._mode)
             return
         try:
@@ -235,8 +254,9 @@ class File(Sequence[Image]):
 
 def open(path: Union[StrOrBytesPath, ReadableBuffer], mode: int = Mode.STRICT) -> File:
     """Maps the file at a path: a str, bytes or a `pathlib.Path`. Any other object with a buffer, such as a bytearray, a memoryview or an
-    mmap, is used as the bytes of a file (`parse`). Its images are opened one by one during iteration. What can't be opened raises
-    `Refused`; an entry of a fat file is an image with that `error`."""
+    mmap, is used as the bytes of a file (`parse`). What is no Mach-O file, fat file or archive raises `Refused`, with the words of the
+    programs: "not Mach-O: an ELF file". Its images are opened one by one during iteration. One that can't be opened raises `Refused`
+    then; an entry of a fat file is an image with that `error`."""
     if isinstance(path, (bytearray, memoryview, mmap.mmap)) or not isinstance(path, (str, bytes, int)) and not hasattr(path, "__fspath__"):
         return parse(path, mode)
     return File(path, mode)

@@ -3,27 +3,32 @@
 from __future__ import annotations
 
 import ctypes
+import json
 import struct
-from typing import TYPE_CHECKING, Any, Callable, Iterator, List, Optional, Tuple, Union
+import uuid
+from typing import TYPE_CHECKING, Any, Callable, Dict, Iterator, List, Optional, Tuple, TypeVar, Union
 
 from . import _exports, _lists
 from . import signature as _signature
 from . import _structs as s
 from ._arch import arch_name
 from ._library import lib, refused
-from ._memory import Held
+from ._memory import Held, bytes_of
 from ._rows import Rows, in_growing_batches, rows_behind
-from .enums import CpuSubtype, CpuType, ErrorCode, FileType, HeaderFlags, LoadCommand, Mode, cpu_subtype
-from .errors import Refused, again, code_of
+from .enums import CpuSubtype, CpuType, ErrorCode, FileType, HeaderFlags, LoadCommand, Mode, Platform, cpu_subtype
+from .errors import ERRORS, Refused, again, code_of
 from .items import (
-    BuildTool, Command, DataInCode, Export, FatEntry, FunctionStart, IndirectSymbol, LayoutFault, Library, LinkerOption, Note, NumberedSection,
-    Relocation, Section, Segment, Symbol, SymbolProvider, SymbolSlot,
+    BuildTool, BuildVersion, Command, CommandText, DataInCode, Encryption, Export, FatEntry, FilesetEntry, FoundSymbol, Function, FunctionStart,
+    IndirectSymbol, LayoutFault, Library, LinkerOption, Note, NumberedSection, Relocation, Section, Segment, Symbol, SymbolProvider, SymbolSlot,
 )
 from .pointers import Binding, Fixup, Import, Rebase, WeakBind
 from .signature import Signature, SignatureFault
 
 if TYPE_CHECKING:
     from _typeshed import ReadableBuffer
+
+
+F = TypeVar("F", bound="ctypes._CData")
 
 
 def _bits64(number: int) -> int:
@@ -90,7 +95,7 @@ class Image:
     @classmethod
     def _of_entry(cls, entry: FatEntry, part: Held, mode: int) -> Image:
         """The image of an entry of a fat file with these bytes, or one with the reason why it can't be opened."""
-        why = None if entry.error is None else Refused(code_of(entry.error), entry.error)
+        why = None if entry.is_read or entry.error is None else Refused(code_of(entry.error), entry.error)
         return cls._of_part(part, mode, entry.offset, entry.arch, why)
 
     def _live(self) -> Held:
@@ -139,11 +144,26 @@ class Image:
         """Its segments."""
         return Rows(_lists.SEGMENTS, self._live, (self._pointer,), lambda: int(self._numbers.segments))
 
-    def sections(self, segment: Segment) -> Rows[Section]:
-        """The sections of a segment. One that can't be read has an `error`."""
+    def segment(self, name: Union[str, bytes]) -> Optional[Segment]:
+        """The first segment with a name, such as "__DATA", or None."""
+        held, raw, found = self._live(), bytes_of(name), s.gm_segment()
+        is_found = lib.gm_segment_named(held.at, held.len, self._pointer, raw, len(raw), ctypes.byref(found))
+        return _lists.SEGMENTS.items_of(held, found)[0] if is_found else None
+
+    def sections(self, segment: Optional[Segment] = None) -> Rows[Section]:
+        """The sections of a segment: one that can't be read has an `error`. Without a segment those of all segments: they end with the first
+        that can't be read, and the one of a symbol's number `section` has index `section - 1`."""
+        if segment is None:
+            return Rows(_lists.ALL_SECTIONS, self._live, (self._pointer,))
         front, size = (72, 80) if self.is_64 else (56, 68)
-        return Rows(_lists.SECTIONS, self._live, (self._pointer, segment.command, segment.nsects),
-                    table=lambda: (segment.command + front, size, segment.nsects))
+        place, count = segment.command, segment.nsects
+        return Rows(_lists.SECTIONS, self._live, (self._pointer, place, count), table=lambda: (place + front, size, count))
+
+    def section(self, segment: Union[str, bytes], name: Union[str, bytes]) -> Optional[Section]:
+        """The first section with these names of its own, such as "__TEXT" and "__text", or None. `data` are its bytes."""
+        names = [part for raw in (bytes_of(segment), bytes_of(name)) for part in (raw, len(raw))]
+        found = self._section(lib.gm_section_named, *names)
+        return None if found is None else self.sections(self.segments()[found.segment])[found.number]
 
     def relocations(self, section: Section) -> Rows[Relocation]:
         """The relocations of a section. One that can't be read has an `error`."""
@@ -202,10 +222,8 @@ class Image:
 
     def slot_at(self, address: int) -> Optional[SymbolSlot]:
         """The stub or pointer that holds an address, or None. One that can't be read raises `Refused`."""
-        held, found, error = self._live(), s.gm_slot(), s.gm_error()
-        if lib.gm_slot_at(held.at, held.len, self._pointer, _bits64(address), ctypes.byref(found), None, ctypes.byref(error)):
-            raise refused(error)
-        return next(iter(_lists.SLOTS_BY_NUMBER.items_of(held, found))) if found.kind else None
+        found = self._looked_up(lib.gm_slot_at, s.gm_slot(), _bits64(address))
+        return _lists.SLOTS_BY_NUMBER.items_of(self._live(), found)[0] if found.kind else None
 
     def symbol_provider(self, symbol: Symbol) -> Optional[SymbolProvider]:
         """The provider of an undefined symbol, as the linker recorded it, or None if it didn't. An ordinal past the last library is an
@@ -224,11 +242,104 @@ class Image:
         `Refused`."""
         return self._section(lib.gm_section_of, _bits64(number))
 
-    def _section(self, call: Callable[..., Any], by: int) -> Optional[NumberedSection]:
-        held, found, error = self._live(), s.gm_found_section(), s.gm_error()
-        if call(held.at, held.len, self._pointer, by, ctypes.byref(found), None, ctypes.byref(error)):
+    def _section(self, call: Callable[..., Any], *by: Any) -> Optional[NumberedSection]:
+        return _lists.numbered_section(self._looked_up(call, s.gm_found_section(), *by))
+
+    def _looked_up(self, call: Callable[..., Any], found: F, *by: Any) -> F:
+        """What a look-up finds, which may be nothing. A refused one raises `Refused`."""
+        held, error = self._live(), s.gm_error()
+        if call(held.at, held.len, self._pointer, *by, ctypes.byref(found), None, ctypes.byref(error)):
             raise refused(error)
-        return _lists.numbered_section(found)
+        return found
+
+    def _said(self, call: Callable[..., Any], found: F, *by: Any) -> Optional[F]:
+        """What a call that returns a bool finds, or None."""
+        held = self._live()
+        return found if call(held.at, held.len, self._pointer, *by, ctypes.byref(found)) else None
+
+    def symbol(self, name: Union[str, bytes]) -> Optional[FoundSymbol]:
+        """The first symbol with a name that can be read, such as "_main", or None."""
+        raw = bytes_of(name)
+        return _lists.found_symbol(self._live(), self._looked_up(lib.gm_symbol_named, s.gm_found_symbol(), raw, len(raw)))
+
+    def symbol_at(self, address: int) -> Optional[FoundSymbol]:
+        """The symbol that names an address, or None: of those that are defined in the section which holds the address, at or below it, the
+        one of the greatest value, and of several the last."""
+        return _lists.found_symbol(self._live(), self._looked_up(lib.gm_symbol_at, s.gm_found_symbol(), _bits64(address)))
+
+    def function_at(self, address: int) -> Optional[Function]:
+        """The function that holds an address, by the starts of functions, or None. It ends at the next start, or with its section."""
+        found = self._looked_up(lib.gm_function_at, s.gm_found_function(), _bits64(address))
+        return Function(found.start, found.end) if found.is_found else None
+
+    def address_of_offset(self, offset: int) -> Optional[int]:
+        """The address in memory of the byte at an offset after the image's first byte, or None if no segment has it."""
+        found = self._said(lib.gm_address_of_offset, ctypes.c_uint64(), _bits64(offset))
+        return None if found is None else found.value
+
+    def offset_of_address(self, address: int) -> Optional[int]:
+        """The offset after the image's first byte of what is at an address in memory, or None if the file doesn't have it."""
+        found = self._said(lib.gm_offset_of_address, ctypes.c_uint64(), _bits64(address))
+        return None if found is None else found.value
+
+    @property
+    def uuid(self) -> Optional[uuid.UUID]:
+        """Its identity (the first LC_UUID), or None."""
+        found = self._said(lib.gm_uuid, s.gm_image_uuid())
+        return None if found is None else uuid.UUID(bytes=bytes(found.bytes))
+
+    def build_versions(self) -> Rows[BuildVersion]:
+        """The platforms that it was built for (LC_BUILD_VERSION, LC_VERSION_MIN_MACOSX and the like). dyld takes the first."""
+        return Rows(_lists.BUILD_VERSIONS, self._live, (self._pointer,))
+
+    @property
+    def platform(self) -> Optional[Platform]:
+        """The first platform that it was built for, or None."""
+        return next((version.build_platform for version in self.build_versions()), None)
+
+    @property
+    def minos(self) -> Optional[str]:
+        """The oldest system of `platform` that it runs on, as X.Y.Z, or None."""
+        return next((version.minos_text for version in self.build_versions()), None)
+
+    @property
+    def sdk(self) -> Optional[str]:
+        """The SDK that it was built with, as X.Y.Z, or None."""
+        return next((version.sdk_text for version in self.build_versions()), None)
+
+    @property
+    def tools(self) -> List[BuildTool]:
+        """The tools that it was built with: all of `build_tools()`."""
+        return list(self.build_tools())
+
+    @property
+    def source_version(self) -> Optional[str]:
+        """The version of its source (the first LC_SOURCE_VERSION) as A.B.C.D.E, or None."""
+        found = self._said(lib.gm_source_version, ctypes.c_uint64())
+        parts = ((40, 0xFFFFFF), (30, 0x3FF), (20, 0x3FF), (10, 0x3FF), (0, 0x3FF))
+        return None if found is None else ".".join(str(found.value >> shift & mask) for shift, mask in parts)
+
+    @property
+    def encryption(self) -> Optional[Encryption]:
+        """Its encrypted part (the first LC_ENCRYPTION_INFO or LC_ENCRYPTION_INFO_64), or None."""
+        found = self._said(lib.gm_encryption, s.gm_encrypted_part())
+        return None if found is None else Encryption(found.offset, found.size, found.id)
+
+    @property
+    def dylinker(self) -> Optional[str]:
+        """The path of its dynamic linker (the first LC_LOAD_DYLINKER), or None. One that can't be read raises `Refused`."""
+        found = self._said(lib.gm_dylinker, s.gm_command_text())
+        if found is not None and found.code:
+            raise Refused(found.code, ERRORS[found.code])
+        return None if found is None else self._live().text(found.text, found.text_len)
+
+    def dyld_environment(self) -> Rows[CommandText]:
+        """The variables that it sets for dyld (LC_DYLD_ENVIRONMENT). One that can't be read has an `error`."""
+        return Rows(_lists.DYLD_ENVIRONMENT, self._live, (self._pointer,))
+
+    def fileset_entries(self) -> Rows[FilesetEntry]:
+        """The images in it, if it is a fileset (LC_FILESET_ENTRY). One whose name can't be read has an `error`."""
+        return Rows(_lists.FILESET_ENTRIES, self._live, (self._pointer,))
 
     def linker_options(self) -> Rows[LinkerOption]:
         """Its linker options (LC_LINKER_OPTION); the last item may be the error that ends them."""
@@ -246,13 +357,18 @@ class Image:
         """The fixups of its chains (LC_DYLD_CHAINED_FIXUPS); the last item may be the error that ends them."""
         return rows_behind(_lists.FIXUPS_BEHIND, self._live, self._pointer, s.gm_fixup_cursor())
 
-    def imports(self) -> Iterator[Import]:
-        """Its imports, from the binds of LC_DYLD_INFO; the last item may be the error that ends them."""
-        return rows_behind(_lists.IMPORTS_BEHIND, self._live, self._pointer, s.gm_bind_cursor())
+    def imports(self) -> Iterator[Binding]:
+        """What dyld binds: the places that take a symbol's address, from opcodes and then from chains. The last item may be the error
+        that ends them."""
+        return rows_behind(_lists.BINDINGS_BEHIND, self._live, self._pointer, s.gm_binding_cursor())
 
     def bindings(self) -> Iterator[Binding]:
-        """Its bindings, from opcodes and then from chains; the last item may be the error that ends them."""
-        return rows_behind(_lists.BINDINGS_BEHIND, self._live, self._pointer, s.gm_binding_cursor())
+        """The same as `imports()`, under the name that C has for it."""
+        return self.imports()
+
+    def opcode_imports(self) -> Iterator[Import]:
+        """The binds of LC_DYLD_INFO alone, as the Rust crate reads them. The last item may be the error that ends them."""
+        return rows_behind(_lists.IMPORTS_BEHIND, self._live, self._pointer, s.gm_bind_cursor())
 
     def weak_binds(self) -> Iterator[WeakBind]:
         """Its weak binds, from LC_DYLD_INFO; the last item may be the error that ends them."""
@@ -296,6 +412,15 @@ class Image:
     def signature_faults(self) -> Iterator[SignatureFault]:
         """The faults of its signature, also if no code directory counts; none if there is no signature."""
         return in_growing_batches(_lists.SIGNATURE_FAULTS, self._live, (self._pointer,))
+
+    def to_dict(self) -> Dict[str, Any]:
+        """What its header says, with its place in the file, by the names of the attributes, for `json.dumps`."""
+        names = ("arch", "fat_offset", "offset", "entry", "cputype", "cpusubtype", "filetype", "flags", "is_64", "is_little_endian")
+        return {**{name: getattr(self, name) for name in names}, "error": None if self.error is None else self.error.words}
+
+    def json(self) -> str:
+        """`to_dict()` as JSON, on one line."""
+        return json.dumps(self.to_dict())
 
     def _place(self) -> Tuple[object, ...]:
         """The identity of the image: two at one place in the same bytes, opened in the same mode, are equal."""

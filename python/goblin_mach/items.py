@@ -3,46 +3,31 @@ the file, and the properties give their meaning."""
 
 from __future__ import annotations
 
-from typing import Any, NamedTuple, Optional, Type, TypeVar
+from typing import Any, Dict, NamedTuple, Optional
 
 from ._arch import arch_name
+from ._commands import fields_of
+from ._item import Item, plain
 from .enums import (
-    CpuSubtype, CpuType, DataKind, LoadCommand, Protection, SectionAttributes, SectionType, SegmentFlags, Tool, cpu_subtype,
+    CpuSubtype, CpuType, DataKind, LoadCommand, Platform, Protection, SectionAttributes, SectionType, SegmentFlags, Tool, cpu_subtype,
 )
 from .symbol_enums import (
     ExportFlags, ExportKind, ReferenceType, RelocationType, Stab, SymbolDescription, SymbolType, relocation_type,
 )
 
-Item = TypeVar("Item", bound=Type[Any])
 
+class FatEntry(Item, NamedTuple("FatEntry", [
+    ("cputype", int), ("cpusubtype", int), ("offset", int), ("size", int), ("align", int), ("error", Optional[str]),
+])):
+    """A record of a fat file: where an image lies in it. `align` is a power of 2. It has an `error` if the image isn't all in the file, or
+    if the record isn't: then its numbers are 0."""
 
-def _shown(value: object) -> str:
-    """A value as text: numbers in hexadecimal, and for bytes of the file how many they are."""
-    if isinstance(value, int) and not isinstance(value, bool):
-        return str(value) if -10 < value < 10 else hex(value)
-    return f"<{len(value)} bytes>" if isinstance(value, memoryview) else repr(value)
+    __slots__ = ()
 
-
-def _words(item: Any) -> str:
-    return f"{type(item).__name__}({', '.join(f'{name}={_shown(value)}' for name, value in zip(item._fields, item))})"
-
-
-def readable(item: Item) -> Item:
-    """Gives a kind of item a readable `repr`."""
-    setattr(item, "__repr__", _words)
-    return item
-
-
-@readable
-class FatEntry(NamedTuple):
-    """A record of a fat file: where an image lies in it. `align` is a power of 2."""
-
-    cputype: int
-    cpusubtype: int
-    offset: int
-    size: int
-    align: int
-    error: Optional[str]
+    @property
+    def is_read(self) -> bool:
+        """Whether the record is in the file, wherever its image is."""
+        return self.error is None or any(self[:5])
 
     @property
     def arch(self) -> str:
@@ -60,22 +45,15 @@ class FatEntry(NamedTuple):
         return cpu_subtype(self.cputype, self.cpusubtype)
 
 
-@readable
-class Member(NamedTuple):
+class Member(Item, NamedTuple("Member", [
+    ("name", Optional[str]), ("offset", int), ("start", int), ("data", memoryview), ("date", Optional[int]), ("uid", Optional[int]),
+    ("gid", Optional[int]), ("mode", Optional[int]), ("name_error", Optional[str]), ("error", Optional[str]),
+])):
     """A member of an archive: `data` are its bytes, which begin at `start`, and `offset` is that of its header. A value of its header is
     None if the field is no number. `name` is None if it can't be read, and `name_error` says why. A member with an `error` is no
     member: it says why no more can be read."""
 
-    name: Optional[str]
-    offset: int
-    start: int
-    data: memoryview
-    date: Optional[int]
-    uid: Optional[int]
-    gid: Optional[int]
-    mode: Optional[int]
-    name_error: Optional[str]
-    error: Optional[str]
+    __slots__ = ()
 
     @property
     def label(self) -> str:
@@ -83,45 +61,42 @@ class Member(NamedTuple):
         return f"at {self.offset}" if self.name is None else self.name
 
 
-@readable
-class ArchiveSymbol(NamedTuple):
+class ArchiveSymbol(Item, NamedTuple("ArchiveSymbol", [("name", str), ("member", int), ("error", Optional[str])])):
     """A symbol of an archive's index. `member` is the `offset` of the member that defines it, which isn't checked."""
 
-    name: str
-    member: int
-    error: Optional[str]
+    __slots__ = ()
 
 
-@readable
-class Command(NamedTuple):
-    """A load command: `size` bytes at `offset`."""
+class Command(Item, NamedTuple("Command", [("offset", int), ("size", int), ("cmd", int), ("data", memoryview)])):
+    """A load command: `size` bytes at `offset`, which are `data`."""
 
-    offset: int
-    size: int
-    cmd: int
+    __slots__ = ()
 
     @property
     def load_command(self) -> LoadCommand:
         """`cmd` as an enum."""
         return LoadCommand.of(self.cmd)
 
+    @property
+    def fields(self) -> Dict[str, Any]:
+        """The fields of its record by their names in mach-o/loader.h, as far as the command's bytes hold them: numbers as in the file,
+        names and texts as `str`, or None if the text isn't in the command, and a UUID as `uuid.UUID`. Empty for a command that is not
+        known."""
+        return fields_of(self.cmd, self.data)
 
-@readable
-class Segment(NamedTuple):
+    def to_dict(self) -> Dict[str, Any]:
+        """Its fields by their names, with those of its record in `fields`."""
+        return {**super().to_dict(), "fields": {name: plain(value) for name, value in self.fields.items()}}
+
+
+class Segment(Item, NamedTuple("Segment", [
+    ("name", bytes), ("vmaddr", int), ("vmsize", int), ("fileoff", int), ("filesize", int), ("maxprot", int), ("initprot", int),
+    ("flags", int), ("data", memoryview), ("command", int), ("nsects", int),
+])):
     """A segment. `data` are its bytes: all of them, or none if they are not all in the file. `command` is the offset of its load
     command."""
 
-    name: bytes
-    vmaddr: int
-    vmsize: int
-    fileoff: int
-    filesize: int
-    maxprot: int
-    initprot: int
-    flags: int
-    data: memoryview
-    command: int
-    nsects: int
+    __slots__ = ()
 
     @property
     def max_protection(self) -> Protection:
@@ -139,21 +114,13 @@ class Segment(NamedTuple):
         return SegmentFlags.of(self.flags)
 
 
-@readable
-class Section(NamedTuple):
+class Section(Item, NamedTuple("Section", [
+    ("name", bytes), ("segment", bytes), ("addr", int), ("size", int), ("offset", int), ("align", int), ("reloff", int), ("nreloc", int),
+    ("flags", int), ("data", memoryview), ("error", Optional[str]),
+])):
     """A section of a segment. `align` is a power of 2. `data` are its bytes: all of them, or none."""
 
-    name: bytes
-    segment: bytes
-    addr: int
-    size: int
-    offset: int
-    align: int
-    reloff: int
-    nreloc: int
-    flags: int
-    data: memoryview
-    error: Optional[str]
+    __slots__ = ()
 
     @property
     def type(self) -> SectionType:
@@ -166,13 +133,10 @@ class Section(NamedTuple):
         return SectionAttributes.of(self.flags & 0xFFFFFF00)
 
 
-@readable
-class Relocation(NamedTuple):
+class Relocation(Item, NamedTuple("Relocation", [("address", int), ("info", int), ("error", Optional[str])])):
     """A relocation of a section: at `address`, with everything else in the bits of `info`. Scattered relocations are not recognized."""
 
-    address: int
-    info: int
-    error: Optional[str]
+    __slots__ = ()
 
     @property
     def number(self) -> int:
@@ -204,16 +168,10 @@ class Relocation(NamedTuple):
         return relocation_type(cputype, self.type_number)
 
 
-@readable
-class Symbol(NamedTuple):
+class Symbol(Item, NamedTuple("Symbol", [("name", str), ("value", int), ("section", int), ("n_type", int), ("desc", int), ("error", Optional[str])])):
     """A symbol. One that can't be read, or whose name can't, has an `error`."""
 
-    name: str
-    value: int
-    section: int
-    n_type: int
-    desc: int
-    error: Optional[str]
+    __slots__ = ()
 
     @property
     def type(self) -> SymbolType:
@@ -256,39 +214,42 @@ class Symbol(NamedTuple):
         return self.desc >> 8 if self.is_undefined else None
 
 
-@readable
-class Library(NamedTuple):
+class FoundSymbol(Item, NamedTuple("FoundSymbol", [("symbol", Symbol), ("index", int), ("distance", int)])):
+    """A symbol that was looked up, with its index in `symbols`. For an address `distance` is how many bytes it is after the symbol."""
+
+    __slots__ = ()
+
+    @property
+    def name(self) -> str:
+        """The name of the symbol."""
+        return self.symbol.name
+
+    @property
+    def value(self) -> int:
+        """The value of the symbol: its address, if it is defined in a section."""
+        return self.symbol.value
+
+
+class Library(Item, NamedTuple("Library", [
+    ("ordinal", int), ("name", str), ("kind", str), ("timestamp", int), ("current_version", int), ("compatibility_version", int),
+    ("is_weak", bool), ("is_reexport", bool), ("is_upward", bool), ("is_delayed", bool),
+])):
     """A library that the image loads. `kind` is "required", "weak", "reexport", "upward" or "lazy", by its command. The last four fields
     say how it is used; they are from the command's flags if it has some."""
 
-    ordinal: int
-    name: str
-    kind: str
-    timestamp: int
-    current_version: int
-    compatibility_version: int
-    is_weak: bool
-    is_reexport: bool
-    is_upward: bool
-    is_delayed: bool
+    __slots__ = ()
 
 
-@readable
-class FunctionStart(NamedTuple):
+class FunctionStart(Item, NamedTuple("FunctionStart", [("address", int), ("error", Optional[str])])):
     """The start of a function: its address in memory, before sliding."""
 
-    address: int
-    error: Optional[str]
+    __slots__ = ()
 
 
-@readable
-class DataInCode(NamedTuple):
+class DataInCode(Item, NamedTuple("DataInCode", [("offset", int), ("length", int), ("kind", int), ("error", Optional[str])])):
     """Data in code: `length` bytes, `offset` bytes after the image's first byte in memory (in an object file after address 0)."""
 
-    offset: int
-    length: int
-    kind: int
-    error: Optional[str]
+    __slots__ = ()
 
     @property
     def data_kind(self) -> DataKind:
@@ -296,62 +257,39 @@ class DataInCode(NamedTuple):
         return DataKind.of(self.kind)
 
 
-@readable
-class IndirectSymbol(NamedTuple):
+class IndirectSymbol(Item, NamedTuple("IndirectSymbol", [("kind", str), ("symbol", Optional[int]), ("error", Optional[str])])):
     """An entry of the table of indirect symbols. `kind` is "symbol", and `symbol` its index in `symbols`; or "local", "absolute" or
     "local absolute", if no symbol names the target of a pointer."""
 
-    kind: str
-    symbol: Optional[int]
-    error: Optional[str]
+    __slots__ = ()
 
 
-@readable
-class SymbolSlot(NamedTuple):
+class SymbolSlot(Item, NamedTuple("SymbolSlot", [
+    ("address", int), ("len", int), ("segment", int), ("section", int), ("kind", str), ("index", int), ("owner", str),
+    ("symbol", Optional[int]), ("name", Optional[str]), ("error", Optional[str]),
+])):
     """A stub or a pointer that belongs to a symbol: `len` bytes at `address`, in section number `section` of segment number `segment`.
     `kind` is "pointer", "lazy pointer", "stub", "lazy library pointer" or "thread-local pointer". `owner` is the kind of entry
     `index` of the table of indirect symbols: "symbol", "local", "absolute" or "local absolute"; for a symbol `symbol` is its number
     and `name` its name."""
 
-    address: int
-    len: int
-    segment: int
-    section: int
-    kind: str
-    index: int  # type: ignore[assignment]  # in a tuple it would be a method
-    owner: str
-    symbol: Optional[int]
-    name: Optional[str]
-    error: Optional[str]
+    __slots__ = ()
 
 
-@readable
-class SymbolProvider(NamedTuple):
+class SymbolProvider(Item, NamedTuple("SymbolProvider", [("provider", str), ("library", int), ("error", Optional[str])])):
     """The provider of an undefined symbol, as the linker recorded it: "library" (by its ordinal), "itself", "program" or "any"."""
 
-    provider: str
-    library: int
-    error: Optional[str]
+    __slots__ = ()
 
 
-@readable
-class NumberedSection(NamedTuple):
+class NumberedSection(Item, NamedTuple("NumberedSection", [
+    ("segment", int), ("number", int), ("name", bytes), ("segment_name", bytes), ("addr", int), ("size", int), ("offset", int),
+    ("align", int), ("reloff", int), ("nreloc", int), ("flags", int), ("reserved1", int), ("reserved2", int),
+])):
     """A section that was looked up: number `number` of segment number `segment`. For pointers and stubs `reserved1` is the index of the
     first in the table of indirect symbols, and for stubs `reserved2` is the size of each."""
 
-    segment: int
-    number: int
-    name: bytes
-    segment_name: bytes
-    addr: int
-    size: int
-    offset: int
-    align: int
-    reloff: int
-    nreloc: int
-    flags: int
-    reserved1: int
-    reserved2: int
+    __slots__ = ()
 
     @property
     def type(self) -> SectionType:
@@ -364,23 +302,16 @@ class NumberedSection(NamedTuple):
         return SectionAttributes.of(self.flags & 0xFFFFFF00)
 
 
-@readable
-class LinkerOption(NamedTuple):
+class LinkerOption(Item, NamedTuple("LinkerOption", [("text", str), ("command", int), ("error", Optional[str])])):
     """A linker option, from the load command at `command`. None follows one with an `error`."""
 
-    text: str
-    command: int
-    error: Optional[str]
+    __slots__ = ()
 
 
-@readable
-class BuildTool(NamedTuple):
+class BuildTool(Item, NamedTuple("BuildTool", [("tool", int), ("version", int), ("command", int), ("error", Optional[str])])):
     """A tool that the image was built with, from the load command at `command`. None follows one with an `error`."""
 
-    tool: int
-    version: int
-    command: int
-    error: Optional[str]
+    __slots__ = ()
 
     @property
     def build_tool(self) -> Tool:
@@ -390,30 +321,83 @@ class BuildTool(NamedTuple):
     @property
     def version_text(self) -> str:
         """`version` as X.Y.Z."""
-        return f"{self.version >> 16}.{self.version >> 8 & 255}.{self.version & 255}"
+        return version_text(self.version)
 
 
-@readable
-class Note(NamedTuple):
+def version_text(version: int) -> str:
+    """A version of 16, 8 and 8 bits as X.Y.Z."""
+    return f"{version >> 16}.{version >> 8 & 255}.{version & 255}"
+
+
+class BuildVersion(Item, NamedTuple("BuildVersion", [("platform", int), ("minos", int), ("sdk", int), ("command", int)])):
+    """A platform that the image was built for, from the load command at `command`: the oldest system that it runs on there, and the SDK
+    that it was built with."""
+
+    __slots__ = ()
+
+    @property
+    def build_platform(self) -> Platform:
+        """`platform` as an enum."""
+        return Platform.of(self.platform)
+
+    @property
+    def minos_text(self) -> str:
+        """`minos` as X.Y.Z."""
+        return version_text(self.minos)
+
+    @property
+    def sdk_text(self) -> str:
+        """`sdk` as X.Y.Z."""
+        return version_text(self.sdk)
+
+
+class Encryption(Item, NamedTuple("Encryption", [("offset", int), ("size", int), ("id", int)])):
+    """The part of an image that is encrypted: `size` bytes, `offset` bytes after its first byte. With an `id` of 0 it isn't yet."""
+
+    __slots__ = ()
+
+    @property
+    def is_encrypted(self) -> bool:
+        """Whether it is encrypted now."""
+        return self.id != 0
+
+
+class CommandText(Item, NamedTuple("CommandText", [("text", str), ("command", int), ("error", Optional[str])])):
+    """A text from the load command at `command`. One that can't be read has an `error`."""
+
+    __slots__ = ()
+
+
+class FilesetEntry(Item, NamedTuple("FilesetEntry", [("name", str), ("address", int), ("offset", int), ("error", Optional[str])])):
+    """An image of a fileset: its address in memory, and its offset after the fileset's first byte. One whose name can't be read has an
+    `error`."""
+
+    __slots__ = ()
+
+
+class Function(Item, NamedTuple("Function", [("start", int), ("end", int)])):
+    """A function, by the starts of functions: from its first address to the one after its last."""
+
+    __slots__ = ()
+
+    @property
+    def size(self) -> int:
+        """How many bytes it has."""
+        return self.end - self.start
+
+
+class Note(Item, NamedTuple("Note", [("owner", str), ("data", memoryview), ("command", int), ("error", Optional[str])])):
     """Data of some tool, from the load command at `command`."""
 
-    owner: str
-    data: memoryview
-    command: int
-    error: Optional[str]
+    __slots__ = ()
 
 
-@readable
-class Export(NamedTuple):
+class Export(Item, NamedTuple("Export", [
+    ("name", str), ("kind", str), ("address", int), ("resolver", int), ("flags", int), ("library", Optional[str]), ("target", Optional[str]),
+])):
     """The export of a name: `kind` is "address", "re-export" or "stub". Addresses count from the image's start."""
 
-    name: str
-    kind: str
-    address: int
-    resolver: int
-    flags: int
-    library: Optional[str]
-    target: Optional[str]
+    __slots__ = ()
 
     @property
     def export_kind(self) -> ExportKind:
@@ -429,29 +413,21 @@ class Export(NamedTuple):
 NUMBERED = ("section", "relocations", "slice", "imports", "symbol ranges")
 
 
-@readable
-class Owner(NamedTuple):
+class Owner(Item, NamedTuple("Owner", [("part", str), ("command", int), ("index", int)])):
     """The owner of a range or a fault: a part, the offset of its command or record, and its number there, or 0."""
 
-    part: str
-    command: int
-    index: int  # type: ignore[assignment]  # in a tuple it would be a method
+    __slots__ = ()
 
     def __str__(self) -> str:
         number = f" {self.index}" if self.index or self.part in NUMBERED else ""
         return f"{self.part}{number} at 0x{self.command:x}"
 
 
-@readable
-class LayoutFault(NamedTuple):
+class LayoutFault(Item, NamedTuple("LayoutFault", [("rule", str), ("owner", Owner), ("found", int), ("limit", int), ("other", Optional[Owner])])):
     """A fault of layout, for the rule with this plain name: what is there and the limit that it breaks. docs/C.md says what these are
     for each rule."""
 
-    rule: str
-    owner: Owner
-    found: int
-    limit: int
-    other: Optional[Owner]
+    __slots__ = ()
 
     def __str__(self) -> str:
         other = f" of {self.other}" if self.other else ""

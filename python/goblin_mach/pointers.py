@@ -4,85 +4,51 @@ from __future__ import annotations
 
 from typing import NamedTuple, Optional
 
-from .items import readable
+from ._item import Item
 
 
-@readable
-class Fixup(NamedTuple):
+class Fixup(Item, NamedTuple("Fixup", [
+    ("address", int), ("segment", int), ("offset", int), ("kind", str), ("target", int), ("import_number", int), ("addend", int),
+    ("is_signed", bool), ("key", int), ("diversity", int), ("is_address_diverse", bool), ("error", Optional[str]),
+])):
     """A pointer that dyld changes. `kind` is "rebase", "bind" or "number"; for a rebase `target` is an address, for a bind
     `import_number` counts from 0."""
 
-    address: int
-    segment: int
-    offset: int
-    kind: str
-    target: int
-    import_number: int
-    addend: int
-    is_signed: bool
-    key: int
-    diversity: int
-    is_address_diverse: bool
-    error: Optional[str]
+    __slots__ = ()
 
 
-@readable
-class Import(NamedTuple):
+class Import(Item, NamedTuple("Import", [
+    ("name", str), ("library", int), ("address", int), ("offset", int), ("addend", int), ("size", int), ("start_of_sequence_offset", int),
+    ("is_weak", bool), ("is_lazy", bool), ("error", Optional[str]),
+])):
     """A symbol that the image takes from a library with ordinal `library`: 0 is the image itself. `offset` is a file offset."""
 
-    name: str
-    library: int
-    address: int
-    offset: int
-    addend: int
-    size: int
-    start_of_sequence_offset: int
-    is_weak: bool
-    is_lazy: bool
-    error: Optional[str]
+    __slots__ = ()
 
 
-@readable
-class Binding(NamedTuple):
+class Binding(Item, NamedTuple("Binding", [
+    ("name", str), ("provider", str), ("library", int), ("address", int), ("offset", int), ("addend", int), ("is_weak", bool),
+    ("is_lazy", bool), ("error", Optional[str]),
+])):
     """A place that takes a symbol's address from a provider: "library" (by its ordinal), "itself", "program", "any" or "any weak"."""
 
-    name: str
-    provider: str
-    library: int
-    address: int
-    offset: int
-    addend: int
-    is_weak: bool
-    is_lazy: bool
-    error: Optional[str]
+    __slots__ = ()
 
 
-@readable
-class WeakBind(NamedTuple):
+class WeakBind(Item, NamedTuple("WeakBind", [
+    ("name", str), ("is_strong", bool), ("address", int), ("offset", int), ("addend", int), ("is_weak", bool), ("error", Optional[str]),
+])):
     """A place that takes the definition of a name that all images share, whatever was bound there before; or, if `is_strong`, a name
     that the image defines itself and not weakly: then it has no place. `offset` is a file offset."""
 
-    name: str
-    is_strong: bool
-    address: int
-    offset: int
-    addend: int
-    is_weak: bool
-    error: Optional[str]
+    __slots__ = ()
 
 
-@readable
-class Rebase(NamedTuple):
+class Rebase(Item, NamedTuple("Rebase", [
+    ("address", int), ("segment", int), ("offset", int), ("kind", str), ("target", int), ("is_signed", bool), ("key", int),
+    ("diversity", int), ("is_address_diverse", bool), ("error", Optional[str]),
+])):
     """A place in memory whose number dyld adjusts by the slide of the image: `target` is the number before that. `kind` is "pointer", or
     "absolute32" or "relative32" for 32 bits in code, and "none" for a fault."""
 
-    address: int
-    segment: int
-    offset: int
-    kind: str
-    target: int
-    is_signed: bool
-    key: int
-    diversity: int
-    is_address_diverse: bool
-    error: Optional[str]
+    __slots__ = ()

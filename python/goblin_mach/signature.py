@@ -3,15 +3,16 @@
 from __future__ import annotations
 
 import ctypes
+import json
 import plistlib
 from typing import Any, Callable, Dict, Iterator, NamedTuple, Optional
 
 from . import _structs as s
+from ._item import Item
 from ._library import lib, refused
 from ._memory import Held
 from .enums import SignatureFlags, SignatureHash
 from .errors import ERRORS
-from .items import readable
 
 SLOTS = {
     0: "code directory", 1: "info.plist", 2: "requirements", 3: "resources", 4: "application", 5: "entitlements", 6: "disk image",
@@ -45,17 +46,13 @@ _WORDS: Dict[str, str] = {
 }
 
 
-@readable
-class SignatureFault(NamedTuple):
+class SignatureFault(Item, NamedTuple("SignatureFault", [
+    ("kind", str), ("slot", int), ("number", int), ("found", int), ("limit", int), ("error", Optional[str]),
+])):
     """Something that isn't as it was signed: a fault of the directory at a slot, or of a blob; `number` is that of the blob or the page,
     or the special slot. docs/C.md says what `found` and `limit` are for each kind."""
 
-    kind: str
-    slot: int
-    number: int
-    found: int
-    limit: int
-    error: Optional[str]
+    __slots__ = ()
 
     def __str__(self) -> str:
         words = _WORDS[self.kind].format(index=self.number, special=slot_name(self.number), slot=slot_name(self.slot), found=self.found,
@@ -109,6 +106,16 @@ class Signature:
     def hash_kind(self) -> SignatureHash:
         """`hash_type` as an enum."""
         return SignatureHash.of(self.hash_type)
+
+    def to_dict(self) -> Dict[str, Any]:
+        """Its values by their names, with values that `json.dumps` takes: `cdhash` and `entitlements` are in hexadecimal."""
+        names = ("identifier", "team", "flags", "hash_type", "limit", "pages", "page_size", "version", "errors")
+        return {**{name: getattr(self, name) for name in names}, "cdhash": self.cdhash.hex(),
+                "entitlements": None if self.entitlements is None else self.entitlements.hex()}
+
+    def json(self) -> str:
+        """`to_dict()` as JSON, on one line."""
+        return json.dumps(self.to_dict())
 
     @property
     def is_ad_hoc(self) -> bool:

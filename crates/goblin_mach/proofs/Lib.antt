@@ -18,8 +18,11 @@ pub mod ExportedOrNot
 pub mod NamedExports
 pub mod Walked
 pub mod TableFacts
+pub mod SaidFacts
 pub mod StreamFacts
 pub mod SlotFacts
+pub mod NearestItems
+pub mod LookedUpFacts
 pub mod ListBounds
 pub mod Files
 pub mod FatNumbers

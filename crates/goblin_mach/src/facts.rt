@@ -24,6 +24,8 @@ ghost use Rattle.goblin_mach.specs.ImageFacts.{HasFacts, facts_view};
 ghost use Rattle.goblin_mach.specs.Libraries.{libraries_in};
 ghost use Rattle.goblin_mach.specs.LookUp.{IsAnswerInImage};
 
+pub mod looked_up;
+pub mod said;
 pub mod slots;
 pub mod streams;
 pub mod tables;

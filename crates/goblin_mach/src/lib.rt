@@ -17,6 +17,7 @@ mod opened;
 pub mod readings;
 mod rebases;
 mod relocations;
+pub mod said;
 mod single_value;
 mod subjects;
 pub mod table_places;
@@ -24,6 +25,7 @@ mod weak_binds;
 
 // A file: an image, a fat file, or anything else that holds images.
 mod fat_file;
+pub mod first_bytes;
 mod images;
 mod input;
 mod item;
@@ -45,14 +47,16 @@ pub use crate::fat_file::entry::SingleArch;
 pub use crate::fat_file::table::{
     EntryIterator, FatTable, MultiArch, MultiArch64, SingleArch64Iterator, SingleArchIterator,
 };
+pub use crate::first_bytes::Foreign;
 pub use crate::fixups::FixupIterator;
 pub use crate::images::Images;
 pub use crate::input::{Input, begins_archive};
 pub use crate::item::{Content, EntryCpu, InputItem, ItemPlace};
 pub use crate::libraries::{Library, LibraryAttributes, LibraryIterator, LibraryKind};
 pub use crate::mach::Mach;
-pub use crate::macho::MachO;
+pub use crate::macho::{Function, MachO, SymbolAt};
 pub use crate::rebases::RebaseIterator;
+pub use crate::said::{BuildVersion, Encryption, FilesetEntry};
 pub use crate::subjects::{id_place, library_place, run_path_place};
 pub use crate::view::{LinkView, link_view};
 pub use mach_base::{

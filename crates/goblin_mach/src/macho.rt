@@ -15,11 +15,16 @@ ghost use Rattle.goblin_mach.specs.Subjects.{ListsImageImports, ImageImportsFaul
 mod debug;
 mod dyld;
 pub mod look_up;
+mod named;
+mod nearest;
+mod offsets;
+mod said;
 mod slots;
 mod streams;
 mod tables;
 
 use crate::fields::Fields;
+pub use crate::macho::nearest::{Function, SymbolAt};
 use crate::opened::Opened;
 use crate::relocations::{RelocatedSection, relocations};
 use mach_base::{Ctx, Result};

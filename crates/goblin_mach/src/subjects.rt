@@ -15,8 +15,8 @@ use mach_load::{CommandVariant, LoadCommand};
 use mach_parts::segment::Segment;
 use mach_parts::symbols::Symbols;
 
-// Returns the place `offset` bytes after another, or the last place there is.
-fn place_of(start: usize, offset: u32) -> usize
+/// Returns the place `offset` bytes after another, or the last place there is.
+pub(crate) fn place_of(start: usize, offset: u32) -> usize
     ensures { result ≡ place_after start offset }
 {
     start.saturating_add(offset as usize)

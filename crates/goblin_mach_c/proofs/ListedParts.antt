@@ -1,6 +1,7 @@
 -- What is left of the list of one command, item by item.
 use Rattle.std.proofs.Common.{◌≡◌, ◌∙◌, ◌<◌, ◌+◌, ◌-◌, ℕ, suc, List, ◌∷◌, length, map, take, Result, Ok, Err, sym, ap, arith}
 use Rattle.mach_base.specs.Answer.{◌>>=◌}
+use Rattle.mach_base.specs.declared.context.Ctx.{Ctx}
 use Rattle.mach_base.specs.declared.context.Endian.{Endian}
 use Rattle.mach_base.specs.Fault.{Fault}
 use Rattle.mach_base.specs.Items.{items_from}
@@ -10,6 +11,9 @@ use Rattle.mach_load.specs.BuildTools.{tool_at}
 use Rattle.mach_load.specs.CommandLists.{with_number}
 use Rattle.mach_load.specs.LinkerOptions.{option_at, option_place}
 use Rattle.mach_load.proofs.OptionsRead.{items_after}
+use Rattle.mach_parts.specs.Section.{section_item}
+use Rattle.mach_parts.specs.declared.segment.section.Section.{Section}
+use Rattle.goblin_mach_c.specs.SectionRows.{placed_section, sections_of_part}
 use Rattle.goblin_mach_c.specs.TableRows.{options_of_part, placed_option, placed_options, tools_in_part, tools_of_part, with_command}
 use Rattle.goblin_mach_c.specs.declared.listed.CommandItems.{CommandItems}
 use Rattle.goblin_mach_c.proofs.Filled.{items_next}
@@ -75,3 +79,15 @@ pub option_fails : (bytes : List ℕ) (p : CommandItems) (cut : List ℕ) (f : F
     → options_of_part bytes p ≡ Err f ∷ options_at p.command cut (p.place + (length (run_at cut p.place) + 1)) (p.count - 1)
 option_fails bytes p cut f front some is =
     ap (λ (b : List ℕ). options_at p.command b p.place p.count) (sym front) ∙ first_option p.command cut p.place p.count (Err f) some is
+
+-- ---- sections
+
+pub section_first : (ctx : Ctx) (bytes : List ℕ) (p : CommandItems) (r : Result (Section × List ℕ) Fault) → p.index < p.count
+    → section_item ctx bytes p.command p.index ≡ r
+    → sections_of_part ctx bytes p
+    ≡ (r >>= λ found. Ok (p.command, p.index + 1, found))
+    ∷ sections_of_part ctx bytes (record { command = p.command; place = p.place; end = p.end; index = p.index + 1; count = p.count })
+section_first ctx bytes p r less is =
+    items_next (placed_section ctx bytes p.command) p.index p.count less
+    ∙ ap (λ (x : Result (Section × List ℕ) Fault). (x >>= λ found. Ok (p.command, p.index + 1, found))
+    ∷ items_from (placed_section ctx bytes p.command) (p.index + 1) (p.count - (p.index + 1))) is

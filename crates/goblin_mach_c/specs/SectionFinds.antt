@@ -1,7 +1,9 @@
 -- A section that was looked up, as C sees it.
 use Rattle.std.specs.Prelude.{◌≡◌, ◌⊎◌, ℕ, List, replicate, Option, Some, None, Ok, Err}
-use Rattle.mach_base.specs.Fault.{Fault}
+use Rattle.std.specs.Str.{IsUtf8}
+use Rattle.mach_base.specs.Fault.{Fault, malformed}
 use Rattle.mach_parts.specs.declared.segment.numbered.NumberedSection.{NumberedSection}
+use Rattle.goblin_mach.specs.LookedUpFacts.{HasSectionNamed}
 use Rattle.goblin_mach.specs.SlotFacts.{HasSectionAt, HasSectionOf}
 use Rattle.goblin_mach_c.specs.Opened.{FaultIn, lossy_mode}
 use Rattle.goblin_mach_c.specs.declared.images.gm_image.{gm_image}
@@ -57,3 +59,11 @@ FindsSectionOf bytes o n row = (found : Option NumberedSection) × HasSectionOf 
 -- a fault of opening, or of the section
 abbrev pub SectionFaultIn : List ℕ → gm_image → ℕ → Fault → Type 0
 SectionFaultIn bytes c n f = FaultIn (lossy_mode c.is_lossy) bytes c.offset f ⊎ HasSectionOf bytes c.offset n (Err f)
+
+-- the row is that of the first section with these names of its own
+abbrev pub FindsSectionNamed : List ℕ → ℕ → (segment name : List ℕ) → gm_found_section → Type 0
+FindsSectionNamed bytes o segment name row = (found : Option NumberedSection) × HasSectionNamed bytes o segment name found × (row ≡ found_section_row found)
+
+-- a fault of opening, or of a name
+abbrev pub NameFaultIn : List ℕ → gm_image → List ℕ → Fault → Type 0
+NameFaultIn bytes c name f = FaultIn (lossy_mode c.is_lossy) bytes c.offset f ⊎ ((f ≡ malformed) × ¬ IsUtf8 name)

@@ -1,15 +1,25 @@
 -- Sections and relocations as C sees them.
-use Rattle.std.specs.Prelude.{ℕ, List, replicate, Result, Ok, Err, length}
+use Rattle.std.specs.Prelude.{ℕ, ◌+◌, ◌-◌, List, map, replicate, Option, Some, None, Result, Ok, Err, length}
+use Rattle.mach_base.specs.Answer.{◌>>=◌}
 use Rattle.mach_base.specs.Fault.{Fault}
 use Rattle.mach_base.specs.Items.{items_from}
+use Rattle.mach_base.specs.declared.context.Ctx.{Ctx}
+use Rattle.mach_load.specs.Command.{Command}
+use Rattle.mach_load.specs.Subjects.{segment_command_by}
+use Rattle.mach_records.specs.declared.segments.SegmentCommand64.{SegmentCommand64}
 use Rattle.mach_parts.specs.Relocation.{relocation_item}
 use Rattle.mach_parts.specs.Section.{section_item}
+use Rattle.mach_parts.specs.Segment.{widened}
 use Rattle.mach_parts.specs.declared.relocation.RelocationInfo.{RelocationInfo}
 use Rattle.mach_parts.specs.declared.segment.section.Section.{Section}
 use Rattle.std.specs.Prelude.{pos}
 use Rattle.goblin_mach_c.specs.Codes.{code_of_fault}
+use Rattle.goblin_mach_c.specs.CommandRows.{gm_commands_view}
 use Rattle.goblin_mach_c.specs.CViews.{gm_ctx_view}
+use Rattle.goblin_mach_c.specs.Listed.{listed_in}
 use Rattle.goblin_mach_c.specs.declared.images.gm_image.{gm_image}
+use Rattle.goblin_mach_c.specs.declared.listed.CommandItems.{CommandItems}
+use Rattle.goblin_mach_c.specs.declared.section_list.gm_numbered_section.{gm_numbered_section}
 use Rattle.goblin_mach_c.specs.declared.sections.gm_section.{gm_section}
 use Rattle.goblin_mach_c.specs.declared.relocations.gm_relocation.{gm_relocation}
 
@@ -47,6 +57,41 @@ section_row (Err f) =
 -- `count` sections after the command of a segment
 abbrev pub section_rows : List ℕ → gm_image → ℕ → ℕ → List gm_section
 section_rows bytes image command count = items_from (λ k. section_row (section_item (gm_ctx_view image) bytes command k)) 0 count
+
+-- ---- the sections of all segments
+
+-- how many sections a command claims: none if it is no segment
+abbrev pub count_of_segment : Option SegmentCommand64 → ℕ
+count_of_segment None = 0
+count_of_segment (Some s) = s.nsects
+
+abbrev pub claimed_section_count : Command → ℕ
+claimed_section_count c = count_of_segment (segment_command_by widened c.kind c.values)
+
+-- a section with the place of its command and its number there, from 1
+abbrev pub placed_section : Ctx → List ℕ → ℕ → ℕ → Result (ℕ × ℕ × (Section × List ℕ)) Fault
+placed_section ctx bytes command k = section_item ctx bytes command k >>= λ found. Ok (command, k + 1, found)
+
+abbrev pub placed_sections : Ctx → List ℕ → ℕ → ℕ → ℕ → List (Result (ℕ × ℕ × (Section × List ℕ)) Fault)
+placed_sections ctx bytes command first count = items_from (placed_section ctx bytes command) first count
+
+abbrev pub numbered_section_row : Result (ℕ × ℕ × (Section × List ℕ)) Fault → gm_numbered_section
+numbered_section_row (Ok found) = record { section = section_row (Ok found.2); command = found.0; number = found.1; reserved = 0 }
+numbered_section_row (Err f) = record { section = section_row (Err f); command = 0; number = 0; reserved = 0 }
+
+-- the sections of a command, and what is left of them
+abbrev pub sections_of_command : Ctx → List ℕ → Command → List (Result (ℕ × ℕ × (Section × List ℕ)) Fault)
+sections_of_command ctx bytes c = placed_sections ctx bytes c.offset 0 (claimed_section_count c)
+
+abbrev pub sections_of_part : Ctx → List ℕ → CommandItems → List (Result (ℕ × ℕ × (Section × List ℕ)) Fault)
+sections_of_part ctx bytes p = placed_sections ctx bytes p.command p.index (p.count - p.index)
+
+-- the rows of an image, up to the first section that can't be read
+abbrev pub all_section_rows : List ℕ → gm_image → List gm_numbered_section
+all_section_rows bytes image =
+    map numbered_section_row (listed_in (sections_of_command (gm_ctx_view image) bytes) (gm_commands_view bytes image))
+
+-- ---- relocations
 
 -- a relocation, or why it can't be read
 abbrev pub relocation_row : Result RelocationInfo Fault → gm_relocation

@@ -33,6 +33,9 @@ pub const GM_NO_ROWS: u32 = 6;
 /// The output is larger than the room for it.
 pub const GM_NO_SPACE: u32 = 7;
 
+/// The file has no image for the cpu.
+pub const GM_NO_IMAGE: u32 = 8;
+
 /// Returns the code of an error.
 pub fn code_of(error: &Error) -> u32
     ensures code { result ≡ code_of_fault (fault_of error.now) }
@@ -140,6 +143,36 @@ pub fn refuse_no_space(out: &mut gm_error) -> u32
         text: text_of(b"there is too little room for the file"),
     };
     GM_NO_SPACE
+}
+
+/// Reports that a file has no image for a cpu.
+#[cold]
+#[inline(never)]
+pub fn refuse_no_image(out: &mut gm_error) -> u32
+    ensures code { result ≡ 8 }
+    ensures reported { out.new.code ≡ 8 }
+    ensures ended { slice_get out.new.text 123 ≡ Some 0 }
+{
+    *out = gm_error {
+        code: GM_NO_IMAGE,
+        text: text_of(b"the file has no image for this cpu"),
+    };
+    GM_NO_IMAGE
+}
+
+/// Reports that an entry isn't in the file, by the code of its row.
+#[cold]
+#[inline(never)]
+pub fn refuse_outside(code: u32, out: &mut gm_error) -> u32
+    ensures code { result ≡ code }
+    ensures reported { out.new.code ≡ code }
+    ensures ended { slice_get out.new.text 123 ≡ Some 0 }
+{
+    *out = gm_error {
+        code,
+        text: text_of(b"the entry for this cpu isn't all in the file"),
+    };
+    code
 }
 
 /// Reports an earlier refusal again, by its code.

@@ -1,18 +1,19 @@
 //! The entries of a fat file, read in place.
 
-ghost use Rattle.std.specs.Prelude.{◌≡◌, drop};
+ghost use Rattle.std.specs.Prelude.{◌≡◌, drop, length};
 ghost use Rattle.goblin_mach.specs.FatFile.{arch_at, arch_read};
 ghost use Rattle.goblin_mach_c.specs.Fill.{Fills};
-ghost use Rattle.goblin_mach_c.specs.FatRows.{fat_count, fat_row, fat_rows, reported_count};
+ghost use Rattle.goblin_mach_c.specs.FatRows.{entry_code, fat_count, fat_row, fat_rows, reported_count};
 
-use crate::errors::{GM_OK, code_of};
+use crate::errors::{GM_OK, GM_SHORT, code_of};
 use crate::numbered::{Numbered, Numbers, rows_from};
 use crate::rows::fill;
 use goblin_mach::peek;
 use mach_base::Result;
 use mach_parts::fat::{FAT_MAGIC, FatArch, FatHeader, SIZEOF_FAT_ARCH, SIZEOF_FAT_HEADER};
 
-/// An entry of a fat file, from its record (struct fat_arch). If `code` isn't `GM_OK` the record can't be read, and the rest is 0.
+/// An entry of a fat file, from its record (struct fat_arch). If `code` isn't `GM_OK`, its bytes aren't all in the file; or the
+/// record can't be read, and the rest is 0.
 #[derive(Clone, Copy)]
 #[repr(C)]
 pub struct gm_fat_entry {
@@ -24,9 +25,19 @@ pub struct gm_fat_entry {
     pub code: u32,
 }
 
-// Returns a record as C sees it.
-fn row_of(found: &Result<FatArch>) -> gm_fat_entry
-    ensures { result ≡ fat_row (arch_read found.now) }
+/// Returns the code of an entry of `size` bytes at `offset`, in a file of `len` bytes: `GM_SHORT` if they aren't all in it.
+pub fn entry_code(len: usize, offset: u64, size: u64) -> u32
+    ensures { result ≡ entry_code len offset size }
+{
+    match offset.checked_add(size) {
+        Some(end) if end <= len as u64 => GM_OK,
+        _ => GM_SHORT,
+    }
+}
+
+// Returns a record of a file of `len` bytes as C sees it.
+fn row_of(len: usize, found: &Result<FatArch>) -> gm_fat_entry
+    ensures { result ≡ fat_row len (arch_read found.now) }
 {
     match found {
         Ok(arch) => gm_fat_entry {
@@ -35,7 +46,7 @@ fn row_of(found: &Result<FatArch>) -> gm_fat_entry
             offset: arch.offset,
             size: arch.size,
             align: arch.align,
-            code: GM_OK,
+            code: entry_code(len, u64::from(arch.offset), u64::from(arch.size)),
         },
         Err(why) => gm_fat_entry {
             cputype: 0,
@@ -50,10 +61,10 @@ fn row_of(found: &Result<FatArch>) -> gm_fat_entry
 
 /// Returns the entry at an index, from its record.
 pub fn fat_entry_at(bytes: &[u8], number: u32) -> gm_fat_entry
-    ensures { result ≡ fat_row (arch_at bytes.now number) }
+    ensures { result ≡ fat_row (length bytes.now) (arch_at bytes.now number) }
 {
     let place = SIZEOF_FAT_HEADER + number as usize * SIZEOF_FAT_ARCH;
-    row_of(&FatArch::parse(bytes, place))
+    row_of(bytes.len(), &FatArch::parse(bytes, place))
 }
 
 // The records of a fat file.
@@ -65,7 +76,7 @@ struct Records<'a> {
 impl<'a> Numbered for Records<'a> {
     type Row = gm_fat_entry;
 
-    ghost item = { λ s k. fat_row (arch_at s.bytes.now k) };
+    ghost item = { λ s k. fat_row (length s.bytes.now) (arch_at s.bytes.now k) };
 
     fn at(&self, number: u32) -> gm_fat_entry {
         fat_entry_at(self.bytes, number)

@@ -1,6 +1,6 @@
 //! Theorems: what the lists of an image that `gm_open` opened are, in terms of the bytes.
 
-ghost use Rattle.std.specs.Prelude.{◌≡◌, ◌<◌, ◌≤◌, ◌^◌, ◌++◌, [], ℕ, List, Result, length, map};
+ghost use Rattle.std.specs.Prelude.{◌≡◌, ◌<◌, ◌≤◌, ◌^◌, ◌++◌, [], ℕ, List, Result, IsOk, length, map};
 ghost use Rattle.mach_base.specs.Fault.{Fault};
 ghost use Rattle.mach_parts.specs.declared.symbols.nlist.Nlist.{Nlist};
 ghost use Rattle.mach_parts.specs.Segment.{SegmentView};
@@ -42,10 +42,11 @@ pub fn tables_of_opened()
         → (items : List (Result IndirectSymbol Fault)) × HasIndirectSymbols bytes o items × (indirect_rows bytes c ≡ map indirect_row items) }
 {}
 
-/// The row of a fat file's entry has no code if its record lies whole in the bytes; else it has that of a short read.
+/// The record of a fat file's entry is read if it lies whole in the bytes; else its row has the code of a short read.
 pub fn fat_codes()
-    ensures whole { (bytes : List ℕ) (k : ℕ) → length bytes < 2 ^ 64 → k < whole_fat_records bytes → (fat_row (arch_at bytes k)).code ≡ 0 }
-    ensures cut { (bytes : List ℕ) (k : ℕ) → length bytes < 2 ^ 64 → 8 ≤ length bytes → whole_fat_records bytes ≤ k → (fat_row (arch_at bytes k)).code ≡ 3 }
+    ensures whole { (bytes : List ℕ) (k : ℕ) → length bytes < 2 ^ 64 → k < whole_fat_records bytes → IsOk (arch_at bytes k) }
+    ensures cut { (bytes : List ℕ) (k : ℕ) → length bytes < 2 ^ 64 → 8 ≤ length bytes → whole_fat_records bytes ≤ k
+        → (fat_row (length bytes) (arch_at bytes k)).code ≡ 3 }
 {}
 
 /// A walk that is all zeros has returned no export of an image that opens.

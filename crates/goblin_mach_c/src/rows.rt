@@ -2,7 +2,7 @@
 
 ghost use Rattle.std.specs.Prelude.{◌≡◌, List, drop};
 ghost use Rattle.std.specs.Iterator.{YieldsFirst};
-ghost use Rattle.goblin_mach_c.specs.Fill.{Fills};
+ghost use Rattle.goblin_mach_c.specs.Fill.{Fills, WritesFound};
 
 /// Rows, one at a time.
 pub trait Rows {
@@ -39,5 +39,18 @@ pub fn skip<R: Rows>(rows: &mut R, count: usize)
         let Some(_) = rows.next() else {
             return;
         };
+    }
+}
+
+/// Writes a row that was found and returns 1, or leaves `place` unchanged and returns 0.
+pub fn put_found<T: Copy>(row: Option<T>, place: &mut T) -> u32
+    ensures { WritesFound row place.old place.new result }
+{
+    match row {
+        Some(row) => {
+            *place = row;
+            1
+        }
+        None => 0,
     }
 }

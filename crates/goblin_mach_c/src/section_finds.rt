@@ -1,14 +1,15 @@
 //! The section that holds an address, and the section of a symbol's number.
 
-ghost use Rattle.std.specs.Prelude.{◌≡◌, ◌≢◌};
+ghost use Rattle.std.specs.Prelude.{◌≡◌, ◌≢◌, ◌⊎◌};
 ghost use Rattle.goblin_mach_c.specs.Codes.{IsRefusalCode};
 ghost use Rattle.goblin_mach_c.specs.Opened.{FaultIn, lossy_mode};
-ghost use Rattle.goblin_mach_c.specs.SectionFinds.{FindsSectionAt, FindsSectionOf, SectionFaultIn, found_section_row};
+ghost use Rattle.goblin_mach_c.specs.SectionFinds.{FindsSectionAt, FindsSectionNamed, FindsSectionOf, NameFaultIn, SectionFaultIn, found_section_row};
 
 use crate::errors::{GM_OK, gm_error, refuse};
 use crate::images::gm_image;
 use crate::open::open;
-use goblin_mach::laws::{numbered_section_of_image, section_at_of_image};
+use goblin_mach::laws::{named_section_of_image, numbered_section_of_image, section_at_of_image};
+use mach_base::Error;
 use mach_parts::segment::NumberedSection;
 use std::alloc::Global;
 
@@ -131,6 +132,41 @@ pub extern "C" fn gmr_section_of(
                 }
                 Err(why) => refuse(&why, error),
             }
+        }
+        Err(why) => refuse(&why, error),
+    }
+}
+
+/// Writes the first section with a name, in a segment of that name, to `section`, by the names that the section has itself.
+/// Sections that aren't in the bytes are skipped. It opens the image again, and allocates memory for its commands while it runs.
+/// It is also refused if a name isn't UTF-8. A refused call leaves `section` unchanged.
+#[unsafe(no_mangle)]
+pub extern "C" fn gmr_section_named(
+    alloc: Global,
+    bytes: &[u8],
+    image: &gm_image,
+    segment: &[u8],
+    name: &[u8],
+    section: &mut gm_found_section,
+    error: &mut gm_error,
+) -> u32
+    ensures found { result ≡ 0 → FindsSectionNamed bytes.now image.now.offset segment.now name.now section.new }
+    ensures refused { result ≢ 0 → IsRefusalCode (λ f. NameFaultIn bytes.now image.now segment.now f ⊎ NameFaultIn bytes.now image.now name.now f) result }
+    ensures kept { result ≢ 0 → section.new ≡ section.old }
+    ensures reported { result ≢ 0 → error.new.code ≡ result }
+    ensures quiet { result ≡ 0 → error.new ≡ error.old }
+{
+    let Ok(segment) = str::from_utf8(segment) else {
+        return refuse(&Error::Malformed("a name is UTF-8"), error);
+    };
+    let Ok(name) = str::from_utf8(name) else {
+        return refuse(&Error::Malformed("a name is UTF-8"), error);
+    };
+    match open(alloc, bytes, image.offset, image.is_lossy != 0) {
+        Ok(found) => {
+            named_section_of_image(&found);
+            *section = row_of(&found.section_named(segment, name));
+            GM_OK
         }
         Err(why) => refuse(&why, error),
     }

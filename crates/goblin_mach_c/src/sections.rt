@@ -32,12 +32,12 @@ pub struct gm_section {
     pub code: u32,
 }
 
-// The sections after the command at a place.
+/// The sections after the command at a place.
 #[derive(Clone, Copy)]
-struct Sections<'a> {
-    bytes: &'a [u8],
-    command: usize,
-    ctx: Ctx,
+pub struct Sections<'a> {
+    pub bytes: &'a [u8],
+    pub command: usize,
+    pub ctx: Ctx,
 }
 
 // The command of a segment with one section.
@@ -56,8 +56,8 @@ const ONE_SECTION: SegmentCommand64 = SegmentCommand64 {
 };
 
 impl<'a> Sections<'a> {
-    // Reads the section of a number, with its data.
-    fn read(&self, number: u32) -> Result<(Section, SectionData<'a>)>
+    /// Reads the section of a number, with its data.
+    pub fn read(&self, number: u32) -> Result<(Section, SectionData<'a>)>
         ensures { section_read result ≡ section_item self.now.ctx self.now.bytes.now self.now.command number }
     {
         let following = number as usize * Section::size_with(&self.ctx);
@@ -71,8 +71,8 @@ impl<'a> Sections<'a> {
     }
 }
 
-// Returns a section with its data, or why it can't be read.
-fn row_of(found: &Result<(Section, SectionData<'_>)>) -> gm_section
+/// Returns the row of a section with its data, or of why it can't be read.
+pub fn section_row(found: &Result<(Section, SectionData<'_>)>) -> gm_section
     ensures { result ≡ section_row (section_read found.now) }
 {
     match found {
@@ -111,7 +111,7 @@ impl<'a> Numbered for Sections<'a> {
     ghost item = { λ s k. section_row (section_item s.ctx s.bytes.now s.command k) };
 
     fn at(&self, number: u32) -> gm_section {
-        row_of(&self.read(number))
+        section_row(&self.read(number))
     }
 }
 

@@ -4,8 +4,9 @@ ghost use Rattle.std.specs.Prelude.{◌≡◌, drop, IfOk};
 ghost use Rattle.mach_load.specs.Variants.{command_of};
 ghost use Rattle.mach_parts.specs.Segment.{segment_view};
 ghost use Rattle.goblin_mach.specs.Subjects.{lossy_segment_by};
+ghost use Rattle.goblin_mach_c.specs.CommandRows.{readable_commands_left};
 ghost use Rattle.goblin_mach_c.specs.Fill.{Fills};
-ghost use Rattle.goblin_mach_c.specs.PartRows.{segment_row, segment_rows, shown};
+ghost use Rattle.goblin_mach_c.specs.PartRows.{rows_of, segment_row, segment_rows, shown};
 
 use crate::commands::Commands;
 use crate::images::{ctx_of, gm_image};
@@ -32,11 +33,11 @@ pub struct gm_segment {
     pub flags: u32,
 }
 
-// The segments in some bytes.
+/// The segments in some bytes.
 #[derive(Clone, Copy)]
-struct Segments<'a> {
-    bytes: &'a [u8],
-    ctx: Ctx,
+pub struct Segments<'a> {
+    pub bytes: &'a [u8],
+    pub ctx: Ctx,
 }
 
 // Returns a segment as C sees it.
@@ -79,6 +80,20 @@ impl<'a> Pick for Segments<'a> {
     }
 }
 
+/// Returns the segments of an image.
+pub fn segment_list<'a>(bytes: &'a [u8], image: &gm_image) -> Picked<'a, Segments<'a>>
+    ensures { rows_of (λ c. shown segment_row (lossy_segment_by result.what.ctx result.what.bytes.now c)) (readable_commands_left result.commands)
+        ≡ segment_rows bytes.now image.now }
+{
+    Picked {
+        commands: Commands::of(bytes, image),
+        what: Segments {
+            bytes,
+            ctx: ctx_of(image),
+        },
+    }
+}
+
 /// Writes the segments of an image from index `first` on, as many as there are and fit, and returns how many.
 #[unsafe(no_mangle)]
 pub extern "C" fn gmr_segments(
@@ -89,13 +104,7 @@ pub extern "C" fn gmr_segments(
 ) -> usize
     ensures { Fills (drop first (segment_rows bytes.now image.now)) out.old out.new result }
 {
-    let mut rows = Picked {
-        commands: Commands::of(bytes, image),
-        what: Segments {
-            bytes,
-            ctx: ctx_of(image),
-        },
-    };
+    let mut rows = segment_list(bytes, image);
     skip(&mut rows, first);
     fill(&mut rows, out)
 }

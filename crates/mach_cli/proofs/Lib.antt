@@ -18,3 +18,4 @@ mod CallsRead
 mod Formed
 pub mod FieldLines
 mod Cputypes
+mod ShortNames

@@ -1,7 +1,5 @@
 -- What a member or an entry is, by its first bytes.
-use Rattle.std.specs.Prelude.{ℕ, List, codes, length, take, nat_le, Bool, true, false, Option, Some, None, Result, Ok, Err, if◌then◌else◌}
-use Rattle.mach_base.specs.Fault.{Fault}
-use Rattle.mach_base.specs.declared.context.Ctx.{Ctx}
+use Rattle.std.specs.Prelude.{ℕ, List, codes, length, take, nat_le, if◌then◌else◌}
 use Rattle.mach_base.specs.declared.hint.Hint.{Hint}
 use Rattle.mach_base.specs.declared.hint.Hint.TheVariants.{Mach, MachFat, Archive, Unknown}
 use Rattle.mach_parts.specs.Magic.{hint_in}
@@ -16,9 +14,3 @@ hint_text (Unknown number) = codes "unknown"
 -- the kind, by the first 16 bytes
 abbrev pub entry_kind : List ℕ → List ℕ
 entry_kind entry = if nat_le 16 (length entry) then hint_text (hint_in (take 16 entry)) else codes "too short"
-
--- whether a magic is that of an image
-abbrev pub is_image_magic : Result (ℕ × Option Ctx) Fault → Bool
-is_image_magic (Ok (magic, Some ctx)) = true
-is_image_magic (Ok (magic, None)) = false
-is_image_magic (Err f) = false

@@ -22,6 +22,8 @@ pub mod JsonArrays
 pub mod Values
 pub mod Fields
 pub mod Signing
+pub mod Origins
+pub mod ImageKinds
 pub mod Refusals
 pub mod Sinks
 pub mod ShownCalls

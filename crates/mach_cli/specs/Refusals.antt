@@ -5,7 +5,8 @@ use Rattle.mach_base.specs.Words.{described, words_of}
 use Rattle.mach_base.specs.declared.error.Error.{Error}
 use Rattle.goblin_mach.specs.Items.{ContentView, archive_member, no_member, whole_file}
 use Rattle.mach_cli.specs.Cpus.{no_entry_words, other_words}
-use Rattle.mach_cli.specs.Foreigners.{foreign_words, refused_words}
+use Rattle.goblin_mach.specs.FirstBytes.{foreign_words}
+use Rattle.mach_cli.specs.Foreigners.{refused_words}
 use Rattle.mach_cli.specs.Labels.{LabelView, label_suffix}
 use Rattle.mach_cli.specs.declared.refusal.Refusal.{Refusal}
 use Rattle.mach_cli.specs.declared.refusal.Refusal.TheVariants as refusals

@@ -10,10 +10,10 @@ ghost use Rattle.mach_cli.specs.Names.{names_text};
 ghost use Rattle.mach_cli.specs.Refusals.{complaint, content_words, label_complaint, refusal_reason};
 
 use crate::cpu::Cpu;
-use crate::first_bytes::{Foreign, refused_kind};
+use crate::first_bytes::refused_kind;
 use crate::label::{Label, LabelSuffix};
 use crate::names::Names;
-use goblin_mach::{Content, Description, Error, describe};
+use goblin_mach::{Content, Description, Error, Foreign, describe};
 use std::fmt::{Display, Formatter};
 use std::io::Write;
 use std::{fmt, io};

@@ -9,10 +9,11 @@ use Rattle.goblin_mach.specs.Image.{Opens, ImageFault, LossyOpens}
 use Rattle.goblin_mach.specs.FatFile.{FatFile, fat_file_in, arches_in}
 use Rattle.goblin_mach.specs.File.{HasFatMagic, MachFault}
 use Rattle.goblin_mach.specs.View.{IsReported}
-use Rattle.mach_cli.specs.Foreigners.{foreign_words, refused_kind}
+use Rattle.goblin_mach.specs.FirstBytes.{foreign_words}
+use Rattle.mach_cli.specs.Foreigners.{refused_kind}
 use Rattle.mach_cli.specs.Names.{names_text}
 use Rattle.mach_cli.specs.Refusals.{complaint}
-use Rattle.mach_cli.specs.declared.first_bytes.Foreign.{Foreign}
+use Rattle.goblin_mach.specs.declared.first_bytes.Foreign.{Foreign}
 use Rattle.machaudit.specs.declared.report.ImageReport.{ImageReport}
 use Rattle.machaudit.specs.declared.report.ImageReport.TheVariants as images
 use Rattle.machaudit.specs.declared.report.Report.{Report}

@@ -35,7 +35,7 @@ const PROGRAM: Program = Program {
     usage: "usage: machaudit [--quiet | --json] [--limit N] [--arch NAME | --cputype 0xN] [--names FILE] [-0] FILE..
        machaudit -h | --help | --version
 ",
-    version: "machaudit 0.2.0\n",
+    version: "machaudit 0.3.0\n",
     options: mach_cli::Options {
         has_quiet: true,
         ..mach_cli::Options::OF_IMAGES

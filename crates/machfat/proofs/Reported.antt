@@ -11,7 +11,7 @@ use Rattle.mach_fat_writer.specs.Unfit.{RefusesAs, Unfit}
 use Rattle.mach_fat_writer.specs.declared.entry_record.EntryRecord.{EntryRecord}
 use Rattle.mach_fat_writer.specs.declared.refusal.EntryRefusal.{EntryRefusal}
 use Rattle.mach_cli.specs.Foreigners.{refused_kind}
-use Rattle.mach_cli.specs.declared.first_bytes.Foreign.{Foreign}
+use Rattle.goblin_mach.specs.declared.first_bytes.Foreign.{Foreign}
 use Rattle.mach_cli.specs.declared.image_view.Outcome.{Outcome}
 use Rattle.machfat.specs.Members.{AreContentLines, AreEntryLines, entry_line, no_entries, one_more, stays}
 use Rattle.machfat.specs.Refusals.{FatFault, Refuses, RefusesFaults, RefusesRead, kind_by_front, refused_by, said_by}

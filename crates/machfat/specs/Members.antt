@@ -13,7 +13,7 @@ use Rattle.mach_fat_writer.specs.declared.refusal.EntryRefusal.TheVariants.{OutO
 use Rattle.mach_parts.specs.Magic.{magic_at}
 use Rattle.mach_cli.specs.declared.image_view.Outcome.{Outcome}
 use Rattle.machfat.specs.ArchiveLines.{AreArchiveLines}
-use Rattle.mach_cli.specs.Kinds.{is_image_magic}
+use Rattle.goblin_mach.specs.FirstBytes.{is_image_magic}
 use Rattle.machfat.specs.Names.{refused_line}
 
 -- the outcome if no line of a list is printed: whether it is whole

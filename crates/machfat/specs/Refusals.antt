@@ -13,12 +13,13 @@ use Rattle.goblin_mach.specs.Image.{Opens}
 use Rattle.goblin_mach.specs.FatFile.{fat_file_in}
 use Rattle.goblin_mach.specs.View.{ViewFault}
 use Rattle.mach_cli.specs.Cpus.{no_entry_words}
-use Rattle.mach_cli.specs.Foreigners.{foreign_words, refused_kind}
+use Rattle.goblin_mach.specs.FirstBytes.{foreign_words}
+use Rattle.mach_cli.specs.Foreigners.{refused_kind}
 use Rattle.mach_cli.specs.Names.{names_text}
 use Rattle.mach_cli.specs.Refusals.{complaint}
 use Rattle.mach_cli.specs.declared.cpu.Cpu.{Cpu}
-use Rattle.mach_cli.specs.declared.first_bytes.Foreign as declared
-use Rattle.mach_cli.specs.declared.first_bytes.Foreign.TheVariants.{Archive}
+use Rattle.goblin_mach.specs.declared.first_bytes.Foreign as declared
+use Rattle.goblin_mach.specs.declared.first_bytes.Foreign.TheVariants.{Archive}
 use Rattle.machfat.specs.Members.{MembersFault}
 use Rattle.machfat.specs.declared.refusal.WriteFailure.TheVariants as failures
 use Rattle.machfat.specs.declared.refusal.WriteFailure.{WriteFailure}

@@ -10,7 +10,8 @@ ghost use Rattle.machfat.specs.Refusals.{Refuses, RefusesUnwritten, kind_by_fron
 use crate::listed::{Listed, list_of};
 use crate::refusal::{Refusal, WriteFailure};
 use crate::text::{CpuText, EndText, write_record};
-use mach_cli::{Escaped, Foreign, Line, Object, print_cut, refused_kind};
+use goblin_mach::Foreign;
+use mach_cli::{Escaped, Line, Object, print_cut, refused_kind};
 use mach_fat_writer::{EntryRecord, EntryRefusal, indexed_entry};
 use std::alloc::{Allocator, Global};
 use std::io;

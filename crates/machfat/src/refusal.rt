@@ -5,8 +5,8 @@ ghost use Rattle.machfat.specs.Refusals.{refused_by};
 ghost use Rattle.machfat.specs.declared.refusal.Refusal.TheVariants as refusals;
 ghost use Rattle.machfat.specs.declared.refusal.WriteFailure.TheVariants as failures;
 
-use goblin_mach::{Error, describe};
-use mach_cli::{Cpu, Foreign};
+use goblin_mach::{Error, Foreign, describe};
+use mach_cli::Cpu;
 use mach_fat_writer::EntryRefusal;
 use std::alloc::AllocError;
 use std::fmt::{Display, Formatter, Write};

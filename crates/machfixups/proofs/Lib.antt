@@ -1,5 +1,4 @@
 mod Facts
 mod Changes
 mod PartLists
-mod ShortNames
 mod KeptFixups

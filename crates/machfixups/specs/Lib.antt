@@ -4,7 +4,6 @@ pub mod StoredPointers
 pub mod Lists
 pub mod KeptFixups
 pub mod KeptLeft
-pub mod Origins
 pub mod Rows
 pub mod PickWords
 pub mod RowsLeft

@@ -1,10 +1,10 @@
 -- The rows of the rebases, binds and weak binds of the opcodes and of the fixups of the chains.
-use Rattle.std.specs.Prelude.{ℕ, ℤ, pos, negsuc, ◌+ℤ◌, List, [], map, ◌++◌, slice_get, Bool, true, false, not, ◌||◌, if◌then◌else◌}
+use Rattle.std.specs.Prelude.{ℕ, ℤ, ◌+ℤ◌, List, [], map, ◌++◌, slice_get, Bool, true, false, not, ◌||◌, if◌then◌else◌}
 use Rattle.std.specs.Prelude.{Option, Some, None, option_map, Result, Ok, Err}
 use Rattle.mach_base.specs.Answer.{◌>>=◌}
 use Rattle.mach_base.specs.Fault.{Fault, malformed}
 use Rattle.mach_base.specs.declared.error.Error.{Error}
-use Rattle.mach_parts.specs.Bindings.{Binding, Provider, of_library, itself, main_executable, flat, weak_lookup, provider_of}
+use Rattle.mach_parts.specs.Bindings.{Binding, provider_of}
 use Rattle.mach_base.specs.Items.{read_as}
 use Rattle.mach_chained.specs.Fixups.{Fixup}
 use Rattle.mach_chained.specs.Header.{Fixups}
@@ -20,7 +20,7 @@ use Rattle.mach_dyld.specs.WeakBinds.{WeakBind, strong_name, weakly_bound}
 use Rattle.mach_dyld.specs.declared.rebases.RebaseKind.{RebaseKind}
 use Rattle.mach_dyld.specs.declared.rebases.RebaseKind.TheVariants.{Pointer, TextAbsolute32, TextRelative32}
 use Rattle.machfixups.specs.Lists.{PointerLists}
-use Rattle.machfixups.specs.Origins.{origin_of, provider_name}
+use Rattle.mach_cli.specs.Origins.{ordinal_of, origin_of, provider_name}
 use Rattle.machfixups.specs.StoredPointers.{PointerSource, raw_of}
 use Rattle.machfixups.specs.AllStretches.{SegmentStretches, part_with, section_with, stretch_name}
 use Rattle.machfixups.specs.KeptFixups.{kept_fixups, kinds_in_lines, kinds_in_objects}
@@ -83,13 +83,6 @@ abbrev pub row_by_segment : List SegmentStretches → (segment address : ℕ) �
 row_by_segment parts segment address action raw = corrects (place_in (slice_get parts segment) address) action raw
 
 -- ---- rebases and binds of the opcodes
-
-abbrev pub ordinal_of : Provider → ℤ
-ordinal_of (of_library ordinal name) = pos ordinal
-ordinal_of itself = pos 0
-ordinal_of main_executable = negsuc 0
-ordinal_of flat = negsuc 1
-ordinal_of weak_lookup = negsuc 2
 
 abbrev pub bind_of_binding : Binding → PointerBind
 bind_of_binding b = record {

@@ -47,7 +47,6 @@ mod laws;
 mod lists;
 mod members;
 mod memory;
-mod origins;
 mod row;
 mod rows;
 mod section_names;
@@ -73,7 +72,7 @@ const USAGE: &str =
 const PROGRAM: Program = Program {
     name: "machfixups",
     usage: USAGE,
-    version: "machfixups 0.2.0\n",
+    version: "machfixups 0.3.0\n",
     options: Options::OF_IMAGES,
     known: &[
         "--arch",

@@ -5,23 +5,23 @@ ghost use Rattle.mach_base.specs.Answer.{Reads};
 ghost use Rattle.mach_base.specs.Text.{texts};
 ghost use Rattle.mach_dyld.specs.RebasesLeft.{rebase_read};
 ghost use Rattle.mach_dyld.specs.WeakBindsLeft.{weak_bind_read};
-ghost use Rattle.mach_parts.specs.Bindings.{binding_view, binding_read, provider_view};
+ghost use Rattle.mach_parts.specs.Bindings.{binding_view, binding_read};
 ghost use Rattle.mach_chained.specs.PointerViews.{kind_view};
 ghost use Rattle.mach_parts.specs.PointerSigning.{auth_option_view};
 ghost use Rattle.mach_chained.specs.Views.{import_view};
 ghost use Rattle.mach_chained.specs.WalkViews.{fixup_view, fixup_read};
 ghost use Rattle.machfixups.specs.AllStretches.{part_with, part_view, parts_view};
-ghost use Rattle.machfixups.specs.Rows.{place_by_address, place_in, target_by_kind, ordinal_of, bind_of_binding, row_by_address, row_by_segment};
+ghost use Rattle.machfixups.specs.Rows.{place_by_address, place_in, target_by_kind, bind_of_binding, row_by_address, row_by_segment};
 ghost use Rattle.machfixups.specs.Rows.{import_in, action_of, bind_of_import};
 ghost use Rattle.machfixups.specs.Rows.{row_for_binding, row_for_rebase, row_for_weak, row_for_fixup, place_view, bind_view, action_view, row_view};
 ghost use Rattle.machfixups.specs.Rows.{row_of_fixup, row_read, fixups_table_view};
 ghost use Rattle.machfixups.specs.StoredPointers.{source_option_view};
 
-use crate::origins::{origin_of, provider_name};
 use crate::section_names::{AllStretches, SegmentStretches};
 use crate::stored_pointers::{StoredPointers, raw_of};
 use goblin_mach::chained_fixups::{ChainedFixups, ChainedImport, Fixup, FixupKind, PointerAuth};
-use goblin_mach::{Binding, Error, Provider, Rebase, RebaseKind, Result, WeakBind};
+use goblin_mach::{Binding, Error, Rebase, RebaseKind, Result, WeakBind};
+use mach_cli::{ordinal_of, origin_of, provider_name};
 use std::alloc::Allocator;
 
 /// An address.
@@ -119,19 +119,6 @@ fn target_by_kind<'b, A: Allocator>(
             segment: None,
             section: None,
         },
-    }
-}
-
-// Returns the ordinal of a provider.
-fn ordinal_of(provider: &Provider<'_>) -> i128
-    ensures { result ≡ ordinal_of (provider_view provider.now) }
-{
-    match provider {
-        Provider::Library { ordinal, .. } => i128::from(*ordinal),
-        Provider::Itself => 0,
-        Provider::MainExecutable => -1,
-        Provider::Flat => -2,
-        Provider::WeakLookup => -3,
     }
 }
 

@@ -6,6 +6,7 @@ use Rattle.mach_base.specs.Fault.{Fault}
 use Rattle.mach_base.specs.Text.{texts}
 use Rattle.mach_records.specs.declared.linkedit.DataInCodeEntry.{DataInCodeEntry}
 use Rattle.mach_records.specs.declared.versions.BuildToolVersion.{BuildToolVersion}
+use Rattle.mach_parts.specs.Bindings.{Binding}
 use Rattle.mach_parts.specs.Slots.{Slot}
 use Rattle.mach_parts.specs.declared.indirect.IndirectSymbol.{IndirectSymbol}
 use Rattle.mach_dyld.specs.Rebases.{Rebase}
@@ -18,10 +19,11 @@ use Rattle.goblin_mach.specs.ImageStreams.{AreImageRebases, AreImageWeakBinds, r
 use Rattle.goblin_mach.specs.EntryPoint.{EntryPoint}
 use Rattle.goblin_mach.specs.ImageFacts.{facts_view}
 use Rattle.goblin_mach.specs.Libraries.{LibraryView, libraries_in}
-use Rattle.goblin_mach.specs.OpenImage.{IsImage, bytes_view, commands_view, ctx_view, segments_view}
+use Rattle.goblin_mach.specs.Bindings.{AreImageBindings}
+use Rattle.goblin_mach.specs.OpenImage.{IsImage, binds_view, bytes_view, commands_view, ctx_view, segments_view}
 use Rattle.goblin_mach.specs.Tables.{AreStartsAt, data_in_code_there, data_place_in, starts_place_in}
 use Rattle.goblin_mach.specs.declared.macho.MachO.{MachO}
-use Rattle.goblin_mach.proofs.ImageFacts.{entry_point_is, facts_are, libraries_by_kind_are, strict-lossy}
+use Rattle.goblin_mach.proofs.ImageFacts.{bindings_are, entry_point_is, facts_are, libraries_by_kind_are, strict-lossy}
 use Rattle.goblin_mach.proofs.SlotFacts.{indirect_symbols_are, slots_are}
 use Rattle.goblin_mach.proofs.StreamFacts.{rebases_are, weak_binds_are}
 use Rattle.goblin_mach.proofs.TableFacts.{function_starts_are, data_in_code_are, linker_options_are, build_tools_are}
@@ -30,7 +32,7 @@ use Rattle.machinfo.specs.NumberedNotes.{NumberedNoteView, numbered_notes_from}
 use Rattle.machinfo.specs.ProvidedSymbols.{ProvidedView, provided_in, symbols_past_in}
 use Rattle.machinfo.specs.Lists.{HasRows, as_rows, commands_there, libraries_there}
 use Rattle.machinfo.specs.Rows.{command_row, start_row, slot_row, indirect_row, data_row, option_row, tool_row, note_row}
-use Rattle.machinfo.specs.Rows.{provided_row, library_row, rebase_row, weak_row, part_row}
+use Rattle.machinfo.specs.Rows.{provided_row, library_row, rebase_row, weak_row, import_row, part_row}
 use Rattle.machinfo.specs.Parts.{PartRowView, past_of_part, rows_of_part}
 use Rattle.machinfo.specs.declared.word.Part.{Part}
 use Rattle.machinfo.specs.declared.word.Word.TheVariants as words
@@ -93,6 +95,11 @@ module _ {A : Type 0} (m : MachO A) (bytes : List ℕ) (o : ℕ) (p : IsImage by
       → AreImageWeakBinds (weak_stream_in (bytes_view m) (commands_view m)) (pointer_size (ctx_view m).container) (segments_view m) items
       → HasRows words.Weak bytes o (as_rows weak_row items) 0
   weak_rows items is = ((items, ((weak_binds_are m).strict bytes o p items).1 is, refl), refl)
+
+  pub import_rows : (items : List (Result Binding Fault))
+      → AreImageBindings (binds_view m) (chained_view m) (pointer_size (ctx_view m).container) (texts m.libs.items) (segments_view m) items
+      → HasRows words.Imports bytes o (as_rows import_row items) 0
+  import_rows items is = ((items, ((bindings_are m).strict bytes o p items).1 is, refl), refl)
 
   pub part_rows : (part : Part) (items : List (Result PartRowView Fault)) (past : ℕ)
       → items ≡ rows_of_part part m.entry (facts_view m) → past ≡ past_of_part part (facts_view m)

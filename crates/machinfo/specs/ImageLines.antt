@@ -1,24 +1,29 @@
 -- The lines that the program shows of an image.
-use Rattle.std.specs.Prelude.{◌≡◌, ◌==◌, ◌&&◌, ℕ, List, [], ◌∷◌, ◌++◌, Bool, Option, Some, None, Result, codes}
+use Rattle.std.specs.Prelude.{◌≡◌, ◌==◌, ◌&&◌, ℕ, List, [], ◌∷◌, ◌++◌, map, Bool, Option, Some, None, Result, codes}
 use Rattle.std.specs.Fmt.{decimal}
 use Rattle.mach_base.specs.Fault.{Fault}
 use Rattle.goblin_mach.specs.Image.{Opens}
 use Rattle.goblin_mach.specs.ImageFacts.{Facts, HasFacts}
-use Rattle.mach_cli.specs.Listings.{AreFirstLines}
+use Rattle.mach_cli.specs.Fields.{FieldView, fields_line, fields_object}
+use Rattle.mach_cli.specs.Listings.{AreFirstLines, reported_by}
 use Rattle.mach_cli.specs.Shown.{ImageLines}
 use Rattle.mach_cli.specs.JsonArrays.{AreMembersInBounds}
 use Rattle.mach_signature.specs.Directories.{Directory}
 use Rattle.mach_signature.specs.SignedFacts.{HasCodeDirectory}
 use Rattle.machinfo.specs.Counts.{AreCounts, counted_words}
-use Rattle.machinfo.specs.Lists.{HasRows, past_name}
+use Rattle.machinfo.specs.Exports.{HasExportFields}
+use Rattle.machinfo.specs.Lists.{HasRows}
 use Rattle.machinfo.specs.PartLines.{AreLinesOfParts}
-use Rattle.machinfo.specs.RowFields.{row_objects, list_texts}
+use Rattle.machinfo.specs.RowFields.{fields_of_rows, lines_form}
+use Rattle.machinfo.specs.ListLines.{AreRowLines}
 use Rattle.machinfo.specs.Rows.{RowView}
 use Rattle.machinfo.specs.Words.{spelling_of}
 use Rattle.machinfo.specs.Signed.{AreSignatureLinesOf, is_readable}
 use Rattle.machinfo.specs.StateLines.{state_lines}
 use Rattle.machinfo.specs.States.{state_of_commands}
 use Rattle.machinfo.specs.Summary.{AreFrontLines, AreUsedLines}
+use Rattle.machinfo.specs.declared.word.Choice.{Choice}
+use Rattle.machinfo.specs.declared.word.Choice.TheVariants as choices
 use Rattle.machinfo.specs.declared.word.Word.{Word}
 use Rattle.machinfo.specs.declared.counts.Form.TheVariants.{Lines, Members}
 
@@ -27,10 +32,28 @@ use Rattle.machinfo.specs.declared.counts.Form.TheVariants.{Lines, Members}
 -- no more, and each row can be read. Of the limit `rest` are left after it.
 pub record AreImageListLines (word : Word) (limit left : ℕ) (bytes : List ℕ) (text : List ℕ) (whole : Bool) (rest : ℕ) : Type 0 where
   pub opens : Opens bytes 0
-  pub rows : List (Result RowView Fault)
-  pub past : ℕ
-  pub has_rows : HasRows word bytes 0 rows past
-  pub lines : AreFirstLines (codes "refused") limit left (list_texts word rows) (past_name word) past text whole rest
+  pub lines : AreRowLines word (lines_form word) (codes "refused") limit left bytes text whole rest
+
+-- The members of a list of items: an array of this name with an object for each, as many as are left of the limit; whether there are
+-- more; and how many more are claimed past the end of the bytes.
+abbrev pub AreItemMembers : (name : List ℕ) → (left : ℕ) → List (Result (List FieldView) Fault) → (past : ℕ) → (text : List ℕ) → (whole : Bool) → (rest : ℕ)
+    → Type 0
+AreItemMembers name left fields past text whole rest =
+    AreMembersInBounds left (record { name = name; rows = map (reported_by fields_object) fields } ∷ []) past text whole rest
+
+-- The text is a line for each item of a list that has fields, in order, as many as are left of the limit, and a last line if there are
+-- more. An item that can't be read is `refused` and why.
+pub record AreListedLines (Has : List (Result (List FieldView) Fault) → Type 0) (limit left : ℕ) (text : List ℕ) (whole : Bool) (rest : ℕ) : Type 0 where
+  pub fields : List (Result (List FieldView) Fault)
+  pub has : Has fields
+  pub lines : AreFirstLines (codes "refused") limit left (map (reported_by fields_line) fields) [] 0 text whole rest
+
+-- The same as members.
+pub record AreListedMembers (name : List ℕ) (Has : List (Result (List FieldView) Fault) → Type 0) (left : ℕ) (text : List ℕ) (whole : Bool) (rest : ℕ)
+    : Type 0 where
+  pub fields : List (Result (List FieldView) Fault)
+  pub has : Has fields
+  pub members : AreItemMembers name left fields 0 text whole rest
 
 -- The text is the members of the image at the start of the bytes: exactly one object for each row of the word's list, in order,
 -- as many as are left of the limit; whether there are more; and how many more are claimed past the end of the bytes. It is whole
@@ -40,7 +63,7 @@ pub record AreImageListMembers (word : Word) (left : ℕ) (bytes : List ℕ) (te
   pub rows : List (Result RowView Fault)
   pub past : ℕ
   pub has_rows : HasRows word bytes 0 rows past
-  pub members : AreMembersInBounds left (record { name = spelling_of word; rows = row_objects rows } ∷ []) past text whole rest
+  pub members : AreItemMembers (spelling_of word) left (fields_of_rows rows) past text whole rest
 
 -- The text is the summary of the image at the start of the bytes. Its parts are: the first lines; the lines of the entry point, the
 -- segments and the sections; those of the libraries and the run paths; whether the image is signed, and what its code directory says;
@@ -89,12 +112,14 @@ pub record AreImageSummaryMembers (limit left : ℕ) (bytes : List ℕ) (text : 
   pub is_whole : whole ≡ (front_whole && counts_whole)
   pub is_rest : rest ≡ left
 
--- The lines of a word's list, or without a word of the summary.
-abbrev pub AreInfoLines : Option Word → (file : List ℕ) → (limit : ℕ) → ImageLines
-AreInfoLines (Some word) file limit = AreImageListLines word limit
+-- The lines of what is selected, or of the summary.
+abbrev pub AreInfoLines : Option Choice → (file : List ℕ) → (limit : ℕ) → ImageLines
+AreInfoLines (Some (choices.Word word)) file limit = AreImageListLines word limit
+AreInfoLines (Some choices.Exports) file limit = λ left bytes. AreListedLines (HasExportFields bytes) limit left
 AreInfoLines None file limit = AreImageSummaryLines limit
 
 -- The same as members.
-abbrev pub AreInfoMembers : Option Word → (file : List ℕ) → (limit : ℕ) → ImageLines
-AreInfoMembers (Some word) file limit = AreImageListMembers word
+abbrev pub AreInfoMembers : Option Choice → (file : List ℕ) → (limit : ℕ) → ImageLines
+AreInfoMembers (Some (choices.Word word)) file limit = AreImageListMembers word
+AreInfoMembers (Some choices.Exports) file limit = λ left bytes. AreListedMembers (codes "exports") (HasExportFields bytes) left
 AreInfoMembers None file limit = AreImageSummaryMembers limit

@@ -22,4 +22,6 @@ pub mod Summary
 pub mod Tools
 pub mod RowFields
 pub mod FactTexts
+pub mod ListLines
+pub mod Exports
 pub mod PartLines

@@ -7,7 +7,8 @@ use Rattle.mach_parts.specs.SlotViews.{indirect_left}
 use Rattle.mach_parts.specs.SlotsLeft.{slots_left}
 use Rattle.mach_dyld.specs.WeakBindsLeft.{weak_binds_left}
 use Rattle.mach_load.specs.TablesLeft.{starts_left, data_in_code_left, options_left, build_tools_left}
-use Rattle.goblin_mach.specs.Facts.{HasLibrariesByKind}
+use Rattle.goblin_mach.specs.BindingsLeft.{bindings_left}
+use Rattle.goblin_mach.specs.Facts.{HasBindings, HasLibrariesByKind}
 use Rattle.goblin_mach.specs.Libraries.{LibraryView, libraries_left}
 use Rattle.goblin_mach.specs.RebasesLeft.{rebases_left}
 use Rattle.goblin_mach.specs.SlotFacts.{HasIndirectSymbols, HasSymbolSlots}
@@ -19,7 +20,7 @@ use Rattle.goblin_mach.specs.ImageFacts.{OfFacts}
 use Rattle.machinfo.specs.ProvidedSymbols.{HasProvidedSymbols, provided_left, symbols_past_in}
 use Rattle.machinfo.specs.Parts.{HasPart, part_past_name, part_rows_left, part_rows_past, part_name_of}
 use Rattle.machinfo.specs.Rows.{RowView, command_row, start_row, slot_row, indirect_row, data_row, option_row, tool_row, note_row}
-use Rattle.machinfo.specs.Rows.{provided_row, library_row, rebase_row, weak_row, part_row, verdict_row}
+use Rattle.machinfo.specs.Rows.{provided_row, library_row, rebase_row, weak_row, import_row, part_row, verdict_row}
 use Rattle.machinfo.specs.Security.{HasFindings, findings_left}
 use Rattle.machinfo.specs.declared.list.ImageList.{ImageList}
 use Rattle.machinfo.specs.declared.list.ImageList.TheVariants as lists
@@ -65,6 +66,7 @@ HasRows words.Libraries bytes o found past =
     (libraries : List LibraryView) × HasLibrariesByKind bytes o libraries × (found ≡ as_rows library_row (libraries_there libraries)) × (past ≡ 0)
 HasRows words.Rebases bytes o found past = AreRowsOf rebase_row (HasRebases bytes o) found × (past ≡ 0)
 HasRows words.Weak bytes o found past = AreRowsOf weak_row (HasWeakBinds bytes o) found × (past ≡ 0)
+HasRows words.Imports bytes o found past = AreRowsOf import_row (HasBindings bytes o) found × (past ≡ 0)
 HasRows (words.Part part) bytes o found past = AreRowsOf part_row (λ items. HasPart part bytes o items past) found
 HasRows words.Security bytes o found past = AreRowsOf verdict_row (HasFindings bytes o) found × (past ≡ 0)
 
@@ -92,6 +94,7 @@ list_rows_left (lists.Providers it) = as_rows provided_row (provided_left it)
 list_rows_left (lists.Libraries it) = as_rows library_row (libraries_there (libraries_left it))
 list_rows_left (lists.Rebases it) = as_rows rebase_row (rebases_left it)
 list_rows_left (lists.Weak it) = as_rows weak_row (weak_binds_left it)
+list_rows_left (lists.Imports it) = as_rows import_row (bindings_left it)
 list_rows_left (lists.Part it) = as_rows part_row (part_rows_left it)
 list_rows_left (lists.Security it) = as_rows verdict_row (findings_left it)
 

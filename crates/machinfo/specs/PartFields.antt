@@ -4,7 +4,7 @@ use Rattle.std.specs.Result.{result_ok}
 use Rattle.mach_base.specs.Named.{Named, name_or}
 use Rattle.mach_base.specs.Text.{text_at}
 use Rattle.mach_parts.specs.Cpu.{caps_of_cpu, kind_of_cpu}
-use Rattle.mach_parts.specs.HeaderNames.{filetype_name, flag_name, flag_names}
+use Rattle.mach_parts.specs.HeaderNames.{flag_name, flag_names}
 use Rattle.mach_parts.specs.Segment.{SegmentView}
 use Rattle.mach_parts.specs.declared.header.Header.{Header}
 use Rattle.mach_parts.specs.declared.segment.numbered.NumberedSection.{NumberedSection}
@@ -12,6 +12,7 @@ use Rattle.mach_records.specs.declared.segments.Section64.{Section64}
 use Rattle.mach_cli.specs.Fields.{FieldView, ValueView, alone_field, field_of, flag, hex, line_field, named, number, object_field, optional_text}
 use Rattle.mach_cli.specs.Fields.{text, uuid, wide_field}
 use Rattle.mach_cli.specs.Cpus.{arch_rows, cpu_named}
+use Rattle.mach_cli.specs.ImageKinds.{image_kind}
 use Rattle.machinfo.specs.CommandFields.{if_known}
 use Rattle.machinfo.specs.Parts.{PartRowView, entry_part, header_part, rpath_part, section_part, segment_part, uuid_part}
 use Rattle.machinfo.specs.Segments.{rights_text}
@@ -201,8 +202,8 @@ header_members h =
     ∷ object_field (codes "cputype") (hex h.cputype)
     ∷ object_field (codes "cpusubtype") (number (kind_of_cpu h.cpusubtype))
     ∷ object_field (codes "capabilities") (hex (caps_of_cpu h.cpusubtype))
-    ∷ field_of (codes "filetype") (named h.filetype (if_known (codes "UNKNOWN FILETYPE") (filetype_name h.filetype))) 2
-    ∷ alone_field (codes "kind") (text (filetype_name h.filetype))
+    ∷ field_of (codes "filetype") (named h.filetype (if_known (codes "image") (image_kind h.filetype))) 2
+    ∷ alone_field (codes "image_kind") (text (image_kind h.filetype))
     ∷ object_field (codes "commands") (number h.ncmds)
     ∷ object_field (codes "size_of_commands") (number h.sizeofcmds)
     ∷ object_field (codes "flags") (hex h.flags)

@@ -2,6 +2,7 @@
 use Rattle.std.specs.Prelude.{ℕ, List}
 use Rattle.mach_records.specs.declared.linkedit.DataInCodeEntry.{DataInCodeEntry}
 use Rattle.mach_records.specs.declared.versions.BuildToolVersion.{BuildToolVersion}
+use Rattle.mach_parts.specs.Bindings.{Binding, binding_view}
 use Rattle.mach_parts.specs.Slots.{Slot}
 use Rattle.mach_parts.specs.SlotViews.{slot_view}
 use Rattle.mach_parts.specs.declared.indirect.IndirectSymbol.{IndirectSymbol}
@@ -34,6 +35,7 @@ pub data RowView : Type 0 where
   library_row : (library : LibraryView) → RowView
   rebase_row : (rebase : Rebase) → RowView
   weak_row : (bind : WeakBind) → RowView
+  import_row : (binding : Binding) → RowView
   part_row : (row : PartRowView) → RowView
   verdict_row : (finding : Finding) → RowView
 
@@ -52,5 +54,6 @@ list_row_view (rows.Provided provided) = provided_row (provided_view provided)
 list_row_view (rows.Library library) = library_row (library_view library)
 list_row_view (rows.Rebase rebase) = rebase_row (rebase_view rebase)
 list_row_view (rows.Weak bind) = weak_row (weak_bind_view bind)
+list_row_view (rows.Import binding) = import_row (binding_view binding)
 list_row_view (rows.Part row) = part_row (part_row_view row)
 list_row_view (rows.Verdict finding) = verdict_row finding

@@ -1,8 +1,8 @@
 -- Verdicts on how an image is hardened: whether each holds of its header, segments, commands, symbols and signature.
-use Rattle.std.specs.Prelude.{◌≡◌, ◌==◌, ◌&&◌, ◌||◌, ℕ, ◌-◌, ◌/◌, ◌%◌, min, List, [], ◌∷◌, ◌++◌, codes, drop, map, Bool, true, false, not, nat_eq}
+use Rattle.std.specs.Prelude.{◌≡◌, ◌==◌, ◌&&◌, ◌||◌, ℕ, ◌-◌, ◌/◌, ◌%◌, min, List, [], ◌∷◌, ◌++◌, codes, drop, length, map, Bool, true, false, not, nat_eq}
 use Rattle.std.specs.Prelude.{Option, Some, None, Result, Ok, Err}
 use Rattle.std.specs.Borrow.{Bor}
-use Rattle.std.specs.List.{list_any, range_with_len, starts_with}
+use Rattle.std.specs.List.{list_any, position_or_len, range_with_len, starts_with}
 use Rattle.mach_base.specs.declared.context.Ctx.{Ctx}
 use Rattle.mach_base.specs.declared.error.Error.{Error}
 use Rattle.mach_base.specs.Answer.{◌>>=◌}
@@ -51,6 +51,7 @@ all_verdicts =
     ∷ verdicts.HardenedRuntime
     ∷ verdicts.LibraryValidation
     ∷ verdicts.Entitlements
+    ∷ verdicts.GetTaskAllow
     ∷ []
 
 -- the name of a verdict, and what `yes` means
@@ -73,6 +74,7 @@ finding_words verdicts.Cms = (codes "cms", codes "a CMS message, which says who 
 finding_words verdicts.HardenedRuntime = (codes "hardened-runtime", codes "started in the hardened runtime")
 finding_words verdicts.LibraryValidation = (codes "library-validation", codes "only libraries of its team or of the system")
 finding_words verdicts.Entitlements = (codes "entitlements", codes "entitlements in the signature")
+finding_words verdicts.GetTaskAllow = (codes "get-task-allow", codes "debuggers may attach to it")
 
 -- the bytes begin with this text and a zero byte
 abbrev pub holds_name : (name bytes : List ℕ) → Bool
@@ -172,6 +174,32 @@ has_content slot s = content_of s slot >>= (λ content. Ok (is_filled content))
 abbrev pub has_entitlements : SuperBlob → Result Bool Fault
 has_entitlements s = has_content 5 s >>= (λ xml. has_content 7 s >>= (λ der. Ok (xml || der)))
 
+-- a byte that isn't white space (XML 1.0, section 2.3)
+abbrev pub is_no_space : ℕ → Bool
+is_no_space byte = not (byte == 0x20 || byte == 0x9 || byte == 0xa || byte == 0xd)
+
+-- the bytes after the white space at their start
+abbrev pub after_space : List ℕ → List ℕ
+after_space bytes = drop (position_or_len is_no_space bytes) bytes
+
+-- the bytes begin with the key `get-task-allow` and, after white space, its value `true`
+abbrev pub allows_here : List ℕ → Bool
+allows_here bytes =
+    starts_with nat_eq bytes (codes "<key>get-task-allow</key>") && starts_with nat_eq (after_space (drop 25 bytes)) (codes "<true/>")
+
+-- somewhere they do
+abbrev pub allows_somewhere : List ℕ → Bool
+allows_somewhere xml = list_any (λ (k : ℕ). allows_here (drop k xml)) (range_with_len 0 (length xml))
+
+-- the entitlements in XML, if there are any, do
+abbrev pub allows_debuggers : Option (List ℕ) → Bool
+allows_debuggers None = false
+allows_debuggers (Some xml) = allows_somewhere xml
+
+-- the entitlements in XML let debuggers attach (CSSLOT_ENTITLEMENTS)
+abbrev pub gets_task : SuperBlob → Result Bool Fault
+gets_task s = content_of s 5 >>= (λ xml. Ok (allows_debuggers xml))
+
 -- a test of a signature, if there is one
 abbrev pub signature_meets : (SuperBlob → Result Bool Fault) → Option SuperBlob → Result Bool Fault
 signature_meets test None = Ok false
@@ -201,6 +229,7 @@ is_so f verdicts.Cms = image_signature f.bytes f.commands >>= signature_meets (h
 is_so f verdicts.HardenedRuntime = directory_meets (has_code_flag 0x10000) f
 is_so f verdicts.LibraryValidation = directory_meets (has_code_flag 0x2000) f
 is_so f verdicts.Entitlements = image_signature f.bytes f.commands >>= signature_meets has_entitlements
+is_so f verdicts.GetTaskAllow = image_signature f.bytes f.commands >>= signature_meets gets_task
 
 abbrev pub finding_of : Facts → Verdict → Result Finding Fault
 finding_of f verdict = is_so f verdict >>= (λ it. Ok (record { verdict = verdict; is_so = it }))

@@ -6,7 +6,8 @@ use Rattle.std.specs.List.{flat_map, range_with_len}
 use Rattle.mach_base.specs.Fault.{Fault}
 use Rattle.goblin_mach.specs.ImageFacts.{Facts}
 use Rattle.mach_parts.specs.Cpu.{kind_of_cpu}
-use Rattle.mach_parts.specs.HeaderNames.{filetype_name, flag_name}
+use Rattle.mach_parts.specs.HeaderNames.{flag_name}
+use Rattle.mach_cli.specs.ImageKinds.{image_kind}
 use Rattle.mach_parts.specs.declared.header.Header.{Header}
 use Rattle.mach_cli.specs.Cpus.{arch_rows, cpu_named}
 use Rattle.mach_cli.specs.Escapes.{escaped_text}
@@ -27,7 +28,7 @@ cpu_line cputype cpusubtype = cpu_in_words (cpu_named arch_rows cputype (kind_of
 
 -- the kind of the file, and the cpu
 abbrev pub kind_lines : Header → List ℕ
-kind_lines h = (codes "kind: " ++ (filetype_name h.filetype ++ codes "\n")) ++ cpu_line h.cputype h.cpusubtype
+kind_lines h = (codes "kind: " ++ (image_kind h.filetype ++ codes "\n")) ++ cpu_line h.cputype h.cpusubtype
 
 -- the name as a library, if the image has one
 abbrev pub own_name_line : Option (List ℕ) → List ℕ

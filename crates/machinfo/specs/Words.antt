@@ -1,12 +1,14 @@
 -- The words that select a list.
-use Rattle.std.specs.Prelude.{◌≡◌, ◌&&◌, ℕ, List, [], ◌∷◌, codes, Bool, true, Option, Some, None, bytes_eq, drop, nat_le, if◌then◌else◌}
+use Rattle.std.specs.Prelude.{◌≡◌, ◌&&◌, ℕ, List, [], ◌∷◌, codes, Bool, true, Option, Some, None, option_map, bytes_eq, drop, nat_le, if◌then◌else◌}
 use Rattle.std.specs.Borrow.{Bor}
 use Rattle.std.specs.List.{list_all}
 use Rattle.mach_cli.specs.declared.misuse.Misuse.{Misuse}
 use Rattle.mach_cli.specs.declared.misuse.Misuse.TheVariants.{UnknownWord}
+use Rattle.machinfo.specs.declared.word.Choice.{Choice}
+use Rattle.machinfo.specs.declared.word.Choice.TheVariants as choices
 use Rattle.machinfo.specs.declared.word.Word.{Word}
 use Rattle.machinfo.specs.declared.word.Word.TheVariants.{Commands, Starts, Slots, Indirect, Data, Options, Tools, Notes, Providers, Libraries, Rebases}
-use Rattle.machinfo.specs.declared.word.Word.TheVariants.{Weak, Part, Security}
+use Rattle.machinfo.specs.declared.word.Word.TheVariants.{Weak, Imports, Part, Security}
 use Rattle.machinfo.specs.declared.word.Part.TheVariants as parts
 
 -- a word, and how it is spelled
@@ -28,6 +30,7 @@ list_words =
     ∷ record { spelling = codes "libraries"; word = Libraries }
     ∷ record { spelling = codes "rebases"; word = Rebases }
     ∷ record { spelling = codes "weak"; word = Weak }
+    ∷ record { spelling = codes "imports"; word = Imports }
     ∷ record { spelling = codes "segments"; word = Part parts.Segments }
     ∷ record { spelling = codes "sections"; word = Part parts.Sections }
     ∷ record { spelling = codes "uuid"; word = Part parts.Uuid }
@@ -59,6 +62,7 @@ spelling_of Providers = codes "providers"
 spelling_of Libraries = codes "libraries"
 spelling_of Rebases = codes "rebases"
 spelling_of Weak = codes "weak"
+spelling_of Imports = codes "imports"
 spelling_of (Part parts.Segments) = codes "segments"
 spelling_of (Part parts.Sections) = codes "sections"
 spelling_of (Part parts.Uuid) = codes "uuid"
@@ -67,20 +71,24 @@ spelling_of (Part parts.Entry) = codes "entrypoint"
 spelling_of (Part parts.Header) = codes "header"
 spelling_of Security = codes "security"
 
+-- what a spelling selects: the exports, or a word's list
+unfoldable pub choice_named : List ℕ → Option Choice
+choice_named text = if bytes_eq text (codes "exports") then Some choices.Exports else option_map (λ word. choices.Word word) (word_named text)
+
 -- ---- the arguments of a call
 
--- the word that selects a list: the first argument, if it is one
-abbrev pub word_selected : List (Bor (List ℕ)) → Option Word
-word_selected [] = None
-word_selected (first ∷ others) = word_named first.now
+-- what the first argument selects
+abbrev pub choice_selected : List (Bor (List ℕ)) → Option Choice
+choice_selected [] = None
+choice_selected (first ∷ others) = choice_named first.now
 
--- the files: all arguments, but for that word
-abbrev pub files_after : Option Word → List (Bor (List ℕ)) → List (Bor (List ℕ))
+-- the files: all arguments, but for one that selects
+abbrev pub files_after : Option Choice → List (Bor (List ℕ)) → List (Bor (List ℕ))
 files_after None arguments = arguments
-files_after (Some word) arguments = drop 1 arguments
+files_after (Some choice) arguments = drop 1 arguments
 
 abbrev pub files_named : List (Bor (List ℕ)) → List (Bor (List ℕ))
-files_named arguments = files_after (word_selected arguments) arguments
+files_named arguments = files_after (choice_selected arguments) arguments
 
 -- a small letter (ASCII)
 abbrev pub is_small_letter : ℕ → Bool
@@ -91,4 +99,4 @@ abbrev pub IsMisspelled : List (Bor (List ℕ)) → Misuse → Type 0
 IsMisspelled [] misuse = ⊥
 IsMisspelled (first ∷ []) misuse = ⊥
 IsMisspelled (first ∷ next ∷ others) misuse =
-    (misuse ≡ UnknownWord first) × (word_named first.now ≡ None) × (list_all is_small_letter first.now ≡ true)
+    (misuse ≡ UnknownWord first) × (choice_named first.now ≡ None) × (list_all is_small_letter first.now ≡ true)

@@ -1,7 +1,7 @@
-//! What the header, the segments, the commands and the symbols of an image say of how it is hardened.
+//! What the header, the segments, the commands, the symbols and the entitlements of an image say of how it is hardened.
 
-ghost use Rattle.std.specs.Prelude.{◌≡◌, drop};
-ghost use Rattle.std.specs.List.{list_any};
+ghost use Rattle.std.specs.Prelude.{◌≡◌, drop, option_map};
+ghost use Rattle.std.specs.List.{list_any, position_or_len};
 ghost use Rattle.mach_base.specs.Answer.{Reads};
 ghost use Rattle.mach_dyld.specs.Nodes.{has_bit};
 ghost use Rattle.mach_load.specs.Variants.{command_of};
@@ -181,5 +181,53 @@ pub fn has_canary<A: Allocator>(image: &MachO<'_, A>) -> bool
     match &image.symbols {
         None => false,
         Some(table) => any_canary(image.bytes(), &table.in_bounds()),
+    }
+}
+
+// Whether a byte isn't white space.
+fn is_no_space(byte: u8) -> bool
+    ensures { result ≡ defined.is_no_space byte }
+{
+    !(byte == b' ' || byte == b'\t' || byte == b'\n' || byte == b'\r')
+}
+
+// Returns the number of bytes of white space at the start.
+fn space_len(bytes: &[u8]) -> usize
+    ensures { result ≡ position_or_len defined.is_no_space bytes.now }
+{
+    let found = bytes.iter().position(|byte| is_no_space(*byte));
+    found.unwrap_or(bytes.len())
+}
+
+// Returns the bytes from a place on.
+fn rest_from(bytes: &[u8], place: usize) -> &[u8]
+    ensures { result.now ≡ drop place bytes.now }
+{
+    bytes.get(place..).unwrap_or(&[])
+}
+
+// Whether the bytes begin with the key `get-task-allow` and, after white space, its value `true`.
+fn allows_here(bytes: &[u8]) -> bool
+    ensures { result ≡ defined.allows_here bytes.now }
+{
+    let value = rest_from(bytes, 25);
+    let value = rest_from(value, space_len(value));
+    bytes.starts_with(b"<key>get-task-allow</key>") && value.starts_with(b"<true/>")
+}
+
+// Whether they do so somewhere. White space is gone over once for each key before it.
+fn allows_somewhere(xml: &[u8]) -> bool
+    ensures { result ≡ defined.allows_somewhere xml.now }
+{
+    (0..xml.len()).any(|place| allows_here(rest_from(xml, place)))
+}
+
+/// Whether the entitlements in XML let debuggers attach.
+pub fn allows_debuggers(xml: Option<&[u8]>) -> bool
+    ensures { result ≡ defined.allows_debuggers (option_map (λ bytes. bytes.now) xml.entry) }
+{
+    match xml {
+        Some(bytes) => allows_somewhere(bytes),
+        None => false,
     }
 }

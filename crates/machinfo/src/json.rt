@@ -1,14 +1,18 @@
 //! What the program writes of an image as JSON.
 
-ghost use Rattle.std.specs.Prelude.{ℕ, List, IfOk, OnOk};
+ghost use Rattle.std.specs.Prelude.{ℕ, List, [], codes, IfErr, IfOk, OnOk};
 ghost use Rattle.std.specs.Io.KnownBytes.{Appends};
 ghost use Rattle.goblin_mach.specs.OpenImage.{IsImage};
-ghost use Rattle.machinfo.specs.ImageLines.{AreImageListMembers, AreImageSummaryMembers, AreInfoMembers, counts_end};
+ghost use Rattle.mach_cli.specs.Failures.{IfMemory};
+ghost use Rattle.machinfo.specs.Exports.{HasExportFields};
+ghost use Rattle.machinfo.specs.ImageLines.{AreImageListMembers, AreImageSummaryMembers, AreInfoMembers, AreItemMembers, AreListedMembers};
+ghost use Rattle.machinfo.specs.ImageLines.{counts_end};
 
 use crate::counts::{COUNTED, Form, print_counts};
+use crate::exports::{ExportList, exports_of};
 use crate::list::ImageList;
 use crate::members::write_front;
-use crate::word::Word;
+use crate::word::{Choice, Word};
 use goblin_mach::MachO;
 use mach_cli::{
     ImageView, InForm, ItemList, Object, Outcome, ShowFailure, print_end_past, print_member,
@@ -17,26 +21,27 @@ use std::alloc::Allocator;
 use std::io;
 use std::io::Write;
 
-/// The members of the list that a word selects, or of the summary.
+/// The members of what a call selects, or of the summary.
 #[derive(Clone, Copy)]
 pub struct InfoObjects {
-    pub word: Option<Word>,
+    pub choice: Option<Choice>,
 }
 
 impl ImageView for InfoObjects {
-    ghost lines = { λ s. AreInfoMembers s.word };
+    ghost lines = { λ s. AreInfoMembers s.choice };
 
     fn show<A: Allocator + Clone, O: Write>(
         &self,
-        _alloc: &A,
+        alloc: &A,
         _file: &str,
         image: &MachO<'_, A>,
         limit: usize,
         left: usize,
         out: &mut O,
     ) -> Result<Outcome, ShowFailure> {
-        match self.word {
-            Some(word) => Ok(write_rows(word, image, left, out)?),
+        match self.choice {
+            Some(Choice::Word(word)) => Ok(write_rows(word, image, left, out)?),
+            Some(Choice::Exports) => write_exports(alloc, image, left, out),
             None => Ok(write_summary(image, limit, left, out)?),
         }
     }
@@ -53,12 +58,42 @@ fn write_rows<A: Allocator, O: Write>(
     ensures { (bytes : List ℕ) → IsImage bytes 0 image.now → IfOk result (λ outcome. (text : List ℕ)
         × AreImageListMembers word left bytes text outcome.whole outcome.left × Appends (O.contents out.old) (O.contents out.new) text) }
 {
-    let mut list = InForm {
-        list: ImageList::of(word, image),
-        form: Object,
+    write_items(word.name(), ImageList::of(word, image), left, out)
+}
+
+// Writes the exports of an image as objects, at most `left` of them, or the fault of its trie.
+fn write_exports<A: Allocator + Clone, O: Write>(
+    alloc: &A,
+    image: &MachO<'_, A>,
+    left: usize,
+    out: &mut O,
+) -> Result<Outcome, ShowFailure>
+    ensures shown { (bytes : List ℕ) → IsImage bytes 0 image.now → IfOk result (λ outcome. (text : List ℕ)
+        × AreListedMembers (codes "exports") (HasExportFields bytes) left text outcome.whole outcome.left
+        × Appends (O.contents out.old) (O.contents out.new) text) }
+    ensures memory { IfErr result (IfMemory (Appends (O.contents out.old) (O.contents out.new) [])) }
+{
+    let (exports, refusal) = exports_of(alloc, image)?;
+    let list = ExportList {
+        refusal,
+        exports: exports.as_slice(),
     };
-    let name = word.name();
-    let past = list.list.items_past();
+    Ok(write_items("exports", list, left, out)?)
+}
+
+// Writes the items of a list as an array of this name, at most `left` of them; whether there are more; and how many more are claimed
+// past the end of the bytes. Returns whether all were written and can be read, and how many more may be written.
+fn write_items<L: ItemList + Drop, O: Write>(
+    name: &str,
+    list: L,
+    left: usize,
+    out: &mut O,
+) -> io::Result<Outcome>
+    ensures { IfOk result (λ outcome. (text : List ℕ) × AreItemMembers name.now left (L.items_left list) (L.items_past list) text
+        outcome.whole outcome.left × Appends (O.contents out.old) (O.contents out.new) text) }
+{
+    let past = list.items_past();
+    let mut list = InForm { list, form: Object };
     let reported = print_member(name, &mut list, left, out)?;
     print_end_past(reported, past, out)
 }

@@ -18,7 +18,7 @@ use crate::security::Findings;
 use crate::word::Word;
 use goblin_mach::slots::{IndirectSymbolIterator, SlotIterator};
 use goblin_mach::{
-    BuildToolIterator, DataInCodeIterator, FunctionStartIterator, LibraryIterator,
+    BindingIterator, BuildToolIterator, DataInCodeIterator, FunctionStartIterator, LibraryIterator,
     LinkerOptionIterator, MachO, RebaseIterator, Result, WeakBindIterator,
 };
 use mach_cli::{FieldsForm, ItemList};
@@ -42,6 +42,7 @@ pub enum ImageList<'a, 'b, A: Allocator> {
     Libraries(LibraryIterator<'a, 'b>),
     Rebases(RebaseIterator<'a, 'b>),
     Weak(WeakBindIterator<'a, 'b>),
+    Imports(BindingIterator<'a, 'b>),
     Part(PartList<'a, 'b>),
     Security(Findings<'a, 'b, A>),
 }
@@ -93,6 +94,7 @@ impl<'a, 'b, A: Allocator> ImageList<'a, 'b, A> {
             Word::Libraries => ImageList::Libraries(image.libraries()),
             Word::Rebases => ImageList::Rebases(image.rebases()),
             Word::Weak => ImageList::Weak(image.weak_binds()),
+            Word::Imports => ImageList::Imports(image.bindings()),
             Word::Part(part) => ImageList::Part(PartList::of(part, image)),
             Word::Security => ImageList::Security(Findings::of(image)),
         }
@@ -152,6 +154,10 @@ impl<'a, 'b, A: Allocator> ItemList for ImageList<'a, 'b, A> {
             },
             ImageList::Weak(list) => match list.next()? {
                 Ok(bind) => Some(Ok(Row::Weak(bind))),
+                Err(error) => Some(Err(error)),
+            },
+            ImageList::Imports(list) => match list.next()? {
+                Ok(binding) => Some(Ok(Row::Import(binding))),
                 Err(error) => Some(Err(error)),
             },
             ImageList::Part(list) => match list.take_next()? {

@@ -2,7 +2,7 @@
 //!
 //! With a word it prints one list instead, an item a line: load commands, function starts, stubs and pointers, indirect symbols,
 //! data in code, linker options, tools, notes, providers of symbols, libraries, rebases, weak binds, segments, sections,
-//! UUIDs, run paths, the entry point, the header or how it is hardened. Of a fat file it prints that of each entry, or of the
+//! UUIDs, run paths, the entry point, the header, how it is hardened, exports or imports. Of a fat file it prints that of each entry, or of the
 //! entries for one cpu, under a line that says which.
 //!
 //! It prints at most as many rows of a file as `--limit` says, and a line after those of an image that has more. A row that can't
@@ -34,9 +34,11 @@ mod views;
 // The lists of an image: an item is a row, whose fields are shown as a line or as an object of JSON.
 mod command_fields;
 mod commands;
+mod exports;
 mod fields;
 mod hardening;
 mod list;
+mod list_lines;
 mod notes;
 mod part_fields;
 mod parts;
@@ -46,7 +48,7 @@ mod sections;
 mod security;
 mod word;
 
-use crate::word::Word;
+use crate::word::Choice;
 use json::InfoObjects;
 use mach_cli::{
     Call, ForTerminal, ImageFiles, Misuse, Options, Others, Program, SharedOnly, Titled,
@@ -65,9 +67,9 @@ const PROGRAM: Program = Program {
     usage: "usage: machinfo [--json] [--limit N] [--arch NAME | --cputype 0xN] [--names FILE] [-0] [WORD] FILE..
        machinfo -h | --help | --version
 WORD: commands, starts, slots, indirect, data, options, tools, notes, providers, libraries, rebases, weak,
-      segments, sections, uuid, rpaths, entrypoint, header, security
+      segments, sections, uuid, rpaths, entrypoint, header, security, exports, imports
 ",
-    version: "machinfo 0.2.0\n",
+    version: "machinfo 0.3.0\n",
     options: Options::OF_IMAGES,
     known: &[
         "-0",
@@ -81,7 +83,9 @@ WORD: commands, starts, slots, indirect, data, options, tools, notes, providers,
         "commands",
         "data",
         "entrypoint",
+        "exports",
         "header",
+        "imports",
         "indirect",
         "libraries",
         "notes",
@@ -148,7 +152,7 @@ fn misspelled<'a>(rt: &HostRuntime, arguments: &[&'a str]) -> Option<Misuse<'a>>
     let [first, _, ..] = arguments else {
         return None;
     };
-    if Word::named(first).is_some() || !has_small_letters(first.as_bytes()) {
+    if Choice::named(first).is_some() || !has_small_letters(first.as_bytes()) {
         return None;
     }
     let misuse = Misuse::UnknownWord(first);
@@ -157,11 +161,11 @@ fn misspelled<'a>(rt: &HostRuntime, arguments: &[&'a str]) -> Option<Misuse<'a>>
 }
 
 // Returns the list that the first argument selects, if it does.
-fn selected_by(arguments: &[&str]) -> Option<Word>
-    ensures { result ≡ words.word_selected arguments.now }
+fn selected_by(arguments: &[&str]) -> Option<Choice>
+    ensures { result ≡ words.choice_selected arguments.now }
 {
     let first = arguments.first()?;
-    Word::named(first)
+    Choice::named(first)
 }
 
 // Returns the arguments that are files: all but a first one that selects a list.
@@ -178,17 +182,18 @@ fn files_named<'a, 'b>(arguments: &'a [&'b str]) -> &'a [&'b str]
 fn shown_by(call: &Call<'_, Global, SharedOnly>) -> ImageFiles<InfoLines, InfoObjects>
     ensures program { (result.program.name.now ≡ codes "machinfo") × (result.has_titles ≡ true) }
     ensures call { (result.cpu ≡ call.now.cpu) × (result.limit ≡ limit_of call.now.limit 10000000) × (result.is_json ≡ is_json call.now.format) }
-    ensures view { let word = words.word_selected call.now.words.items in (result.lines ≡ record { word = word }) × (result.objects ≡ record { word = word }) }
+    ensures view { let choice = words.choice_selected call.now.words.items in (result.lines ≡ record { choice = choice })
+        × (result.objects ≡ record { choice = choice }) }
 {
-    let word = selected_by(&call.words);
+    let choice = selected_by(&call.words);
     ImageFiles {
         program: PROGRAM,
         cpu: call.cpu,
         limit: call.limit.unwrap_or(DEFAULT_LIMIT),
         is_json: call.format.is_json(),
         has_titles: true,
-        lines: InfoLines { word },
-        objects: InfoObjects { word },
+        lines: InfoLines { choice },
+        objects: InfoObjects { choice },
     }
 }
 
@@ -201,9 +206,9 @@ fn show<W: Write + Drop>(
     out: &mut BufWriter<Titled<W>>,
 ) -> Result<u8, u8>
     ensures text { let s = shown.now in s.is_json ≡ false
-        → IfOk result (ShowsText s s.program.name.now (AreInfoLines s.lines.word) W.contents files.now others.now out.old out.new) }
+        → IfOk result (ShowsText s s.program.name.now (AreInfoLines s.lines.choice) W.contents files.now others.now out.old out.new) }
     ensures json { let s = shown.now in s.is_json ≡ true
-        → IfOk result (ShowsJson s s.program.name.now (AreInfoMembers s.objects.word) W.contents files.now others.now out.old out.new) }
+        → IfOk result (ShowsJson s s.program.name.now (AreInfoMembers s.objects.choice) W.contents files.now others.now out.old out.new) }
 {
     let call = shown.files();
     if shown.is_json {

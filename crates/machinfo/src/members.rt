@@ -12,9 +12,9 @@ use crate::segments::{TextOrNull, write_segments};
 use crate::signed::{is_ad_hoc, is_readable};
 use crate::state::{State, state_of};
 use crate::summary::flag_short_name;
-use goblin_mach::header::{Header, filetype_to_str};
+use goblin_mach::header::Header;
 use goblin_mach::{Error, MachO, Result, describe};
-use mach_cli::{ListProgress, comma_before, cpu_name, print_member, then};
+use mach_cli::{ListProgress, comma_before, cpu_name, image_kind, print_member, then};
 use mach_signature::CodeDirectory;
 use mach_signature::image::code_directory;
 use std::alloc::Allocator;
@@ -90,7 +90,7 @@ fn write_header<O: Write>(
 {
     let (cputype, cpusubtype) = (header.cputype, header.cpusubtype);
     let cpu = TextOrNull(cpu_name(cputype, cpusubtype % 0x100_0000));
-    let filetype = filetype_to_str(header.filetype);
+    let words = image_kind(header.filetype);
     let name = TextOrNull(name);
     write!(
         out,
@@ -98,7 +98,7 @@ fn write_header<O: Write>(
     )?;
     write!(
         out,
-        "\"entry_point\":{entry},\"filetype\":\"{filetype}\",\"name\":{name},"
+        "\"entry_point\":{entry},\"image_kind\":\"{words}\",\"name\":{name},"
     )
 }
 

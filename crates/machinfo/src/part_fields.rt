@@ -21,11 +21,11 @@ use goblin_mach::header::{
     MH_HAS_TLV_DESCRIPTORS, MH_INCRLINK, MH_LAZY_INIT, MH_NO_HEAP_EXECUTION,
     MH_NO_REEXPORTED_DYLIBS, MH_NOFIXPREBINDING, MH_NOMULTIDEFS, MH_NOUNDEFS, MH_PIE,
     MH_PREBINDABLE, MH_PREBOUND, MH_ROOT_SAFE, MH_SETUID_SAFE, MH_SPLIT_SEGS,
-    MH_SUBSECTIONS_VIA_SYMBOLS, MH_TWOLEVEL, MH_WEAK_DEFINES, filetype_to_str,
+    MH_SUBSECTIONS_VIA_SYMBOLS, MH_TWOLEVEL, MH_WEAK_DEFINES,
 };
 use goblin_mach::load_command::Section64;
 use goblin_mach::segment::{NumberedSection, Segment};
-use mach_cli::{Field, FieldsForm, Value, cpu_name};
+use mach_cli::{Field, FieldsForm, Value, cpu_name, image_kind};
 use std::io;
 use std::io::Write;
 
@@ -243,19 +243,15 @@ fn header_members(header: &Header) -> [Field<'static>; 11]
 {
     let (cputype, cpusubtype) = (header.cputype, header.cpusubtype);
     let (kind, capabilities) = (cpusubtype % 0x100_0000, cpusubtype / 0x100_0000);
-    let filetype = filetype_to_str(header.filetype);
+    let words = image_kind(header.filetype);
     [
         Field::of_object("magic", Value::Hex(u64::from(header.magic))),
         Field::new("cpu", Value::OptionalText(cpu_name(cputype, kind)), 1),
         Field::of_object("cputype", Value::Hex(u64::from(cputype))),
         Field::of_object("cpusubtype", Value::Number(u64::from(kind))),
         Field::of_object("capabilities", Value::Hex(u64::from(capabilities))),
-        Field::new(
-            "filetype",
-            named(header.filetype, filetype, "UNKNOWN FILETYPE"),
-            2,
-        ),
-        Field::alone("kind", Value::Text(filetype)),
+        Field::new("filetype", named(header.filetype, words, "image"), 2),
+        Field::alone("image_kind", Value::Text(words)),
         Field::of_object("commands", Value::Number(header.ncmds as u64)),
         Field::of_object(
             "size_of_commands",

@@ -3,13 +3,13 @@
 ghost use Rattle.std.specs.Prelude.{ℕ, List, IfOk};
 ghost use Rattle.std.specs.Io.KnownBytes.{Appends};
 ghost use Rattle.goblin_mach.specs.OpenImage.{IsImage};
-ghost use Rattle.machinfo.specs.PartLines.{part_line, AreLinesOfParts, ArePartLines};
+ghost use Rattle.machinfo.specs.PartLines.{part_line, AreLinesOfParts};
 ghost use Rattle.machinfo.specs.declared.word.Part.TheVariants.{Entry, Sections, Segments};
 
-use crate::list::ImageList;
+use crate::list_lines::print_in_form;
 use crate::word::{Part, Word};
 use goblin_mach::MachO;
-use mach_cli::{Field, FieldsForm, InForm, Line, print_listing};
+use mach_cli::{Field, FieldsForm, Line};
 use std::alloc::Allocator;
 use std::io;
 use std::io::Write;
@@ -75,41 +75,13 @@ pub fn print_parts<A: Allocator, O: Write>(
     ensures { (bytes : List ℕ) → IsImage bytes 0 image.now → IfOk result (λ whole. (text : List ℕ) × AreLinesOfParts limit bytes text whole
         × Appends (O.contents out.old) (O.contents out.new) text) }
 {
-    let entry = print_part(Part::Entry, EntryLine, "entry: refused", image, 1, out)?;
-    let segments = print_part(
-        Part::Segments,
-        SegmentLine,
-        "segment: refused",
-        image,
-        limit,
-        out,
-    )?;
-    let sections = print_part(
-        Part::Sections,
-        SectionLine,
-        "section: refused",
-        image,
-        limit,
-        out,
-    )?;
-    Ok(entry & segments & sections)
-}
-
-// Prints the rows of a part of an image in a form, up to the limit; a row that can't be read is `refused` and why. Returns whether all
-// were printed and can be read.
-fn print_part<F: FieldsForm + Drop, A: Allocator, O: Write>(
-    part: Part,
-    form: F,
-    refused: &str,
-    image: &MachO<'_, A>,
-    limit: usize,
-    out: &mut O,
-) -> io::Result<bool>
-    ensures { (bytes : List ℕ) → IsImage bytes 0 image.now → IfOk result (λ whole. (text : List ℕ)
-        × ArePartLines part F.fields_text refused.now limit bytes text whole × Appends (O.contents out.old) (O.contents out.new) text) }
-{
-    let list = ImageList::of(Word::Part(part), image);
-    let mut lines = InForm { list, form };
-    let outcome = print_listing(&mut lines, refused, limit, limit, out)?;
-    Ok(outcome.whole)
+    let word = Word::Part(Part::Entry);
+    let entry = print_in_form(word, EntryLine, "entry: refused", image, 1, 1, out)?;
+    let word = Word::Part(Part::Segments);
+    let refused = "segment: refused";
+    let segments = print_in_form(word, SegmentLine, refused, image, limit, limit, out)?;
+    let word = Word::Part(Part::Sections);
+    let refused = "section: refused";
+    let sections = print_in_form(word, SectionLine, refused, image, limit, limit, out)?;
+    Ok(entry.whole & segments.whole & sections.whole)
 }

@@ -17,7 +17,7 @@ use crate::providers::Provided;
 use crate::security::Finding;
 use goblin_mach::load_command::{BuildToolVersion, DataInCodeEntry};
 use goblin_mach::slots::{IndirectSymbol, SymbolSlot};
-use goblin_mach::{Library, Rebase, WeakBind};
+use goblin_mach::{Binding, Library, Rebase, WeakBind};
 
 /// A row of a list.
 #[derive(Clone, Copy)]
@@ -34,6 +34,7 @@ pub enum Row<'a, 'b> {
     Library(Library<'a>),
     Rebase(Rebase),
     Weak(WeakBind<'a>),
+    Import(Binding<'a>),
     Part(PartRow<'a, 'b>),
     Verdict(Finding),
 }

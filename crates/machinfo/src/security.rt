@@ -9,8 +9,8 @@ ghost use Rattle.machinfo.specs.Security as defined;
 ghost use Rattle.machinfo.specs.declared.security.Verdict.TheVariants as verdicts;
 
 use crate::hardening::{
-    has_bit, has_canary, has_chained_fixups, has_relative_path, has_restricted, has_writable_code,
-    is_arm64e, may_have_writable_code,
+    allows_debuggers, has_bit, has_canary, has_chained_fixups, has_relative_path, has_restricted,
+    has_writable_code, is_arm64e, may_have_writable_code,
 };
 use crate::state::{is_encrypted, state_of};
 use goblin_mach::header::{MH_ALLOW_STACK_EXECUTION, MH_NO_HEAP_EXECUTION, MH_PIE};
@@ -40,10 +40,11 @@ pub enum Verdict {
     HardenedRuntime,
     LibraryValidation,
     Entitlements,
+    GetTaskAllow,
 }
 
 // All verdicts, in order.
-const VERDICTS: [Verdict; 18] = [
+const VERDICTS: [Verdict; 19] = [
     Verdict::Pie,
     Verdict::NoHeapExecution,
     Verdict::StackExecution,
@@ -62,6 +63,7 @@ const VERDICTS: [Verdict; 18] = [
     Verdict::HardenedRuntime,
     Verdict::LibraryValidation,
     Verdict::Entitlements,
+    Verdict::GetTaskAllow,
 ];
 
 impl Verdict {
@@ -100,6 +102,7 @@ impl Verdict {
                 "only libraries of its team or of the system",
             ),
             Verdict::Entitlements => ("entitlements", "entitlements in the signature"),
+            Verdict::GetTaskAllow => ("get-task-allow", "debuggers may attach to it"),
         }
     }
 }
@@ -182,6 +185,16 @@ fn has_entitlements<A: Allocator>(image: &MachO<'_, A>) -> Result<bool>
     }
 }
 
+// Whether the entitlements in the signature of an image let debuggers attach.
+fn gets_task<A: Allocator>(image: &MachO<'_, A>) -> Result<bool>
+    ensures { Reads (λ it. it) result (defined.is_so (facts_view image.now) verdicts.GetTaskAllow) }
+{
+    match code_signature(image)? {
+        Some(signature) => Ok(allows_debuggers(signature.entitlements()?)),
+        None => Ok(false),
+    }
+}
+
 // Whether a verdict holds of an image, or why its signature can't be read.
 #[tactic(auto, using(crate::proofs::Verdicts::any_of_views))]
 fn is_so<A: Allocator>(image: &MachO<'_, A>, verdict: Verdict) -> Result<bool>
@@ -209,6 +222,7 @@ fn is_so<A: Allocator>(image: &MachO<'_, A>, verdict: Verdict) -> Result<bool>
         Verdict::HardenedRuntime => has_code_flag(image, 0x1_0000),
         Verdict::LibraryValidation => has_code_flag(image, 0x2000),
         Verdict::Entitlements => has_entitlements(image),
+        Verdict::GetTaskAllow => gets_task(image),
     }
 }
 

@@ -13,8 +13,8 @@ ghost use Rattle.machinfo.specs.Summary.{AreFactLines, AreFrontLines, AreUsedLin
 use crate::command_facts::{CommandFacts, Question};
 use crate::fact::{FactLines, FactList};
 use goblin_mach::MachO;
-use goblin_mach::header::{Header, filetype_to_str, flag_to_str};
-use mach_cli::{Escaped, cpu_name, print_listing};
+use goblin_mach::header::{Header, flag_to_str};
+use mach_cli::{Escaped, cpu_name, image_kind, print_listing};
 use std::alloc::Allocator;
 use std::io;
 use std::io::Write;
@@ -75,7 +75,7 @@ fn print_list<O: Write>(
 fn print_kind<O: Write>(header: &Header, out: &mut O) -> io::Result<()>
     ensures { OnOk result (Appends (O.contents out.old) (O.contents out.new) (kind_lines header.now)) }
 {
-    let kind = filetype_to_str(header.filetype);
+    let kind = image_kind(header.filetype);
     writeln!(out, "kind: {kind}")?;
     print_cpu(header.cputype, header.cpusubtype, out)
 }

@@ -1,44 +1,48 @@
 //! What the program prints of an image.
 
-ghost use Rattle.std.specs.Prelude.{◌≡◌, ℕ, List, IfOk};
+ghost use Rattle.std.specs.Prelude.{◌≡◌, ℕ, List, [], IfErr, IfOk};
 ghost use Rattle.std.specs.Io.KnownBytes.{Appends};
 ghost use Rattle.goblin_mach.specs.OpenImage.{IsImage};
-ghost use Rattle.machinfo.specs.ImageLines.{AreImageListLines, AreImageSummaryLines, AreInfoLines};
+ghost use Rattle.mach_cli.specs.Failures.{IfMemory};
+ghost use Rattle.machinfo.specs.Exports.{HasExportFields};
+ghost use Rattle.machinfo.specs.ImageLines.{AreImageListLines, AreImageSummaryLines, AreInfoLines, AreListedLines};
 ghost use Rattle.machinfo.specs.RowFields.{has_names};
 
 use crate::counts::{COUNTED, Form, print_counts};
-use crate::list::ImageList;
+use crate::exports::{ExportList, exports_of};
+use crate::list_lines::print_in_form;
 use crate::part_lines::print_parts;
 use crate::signed::print_signed;
 use crate::state::{print_state, state_of};
 use crate::summary::{print_front, print_used};
-use crate::word::{Part, Word};
+use crate::word::{Choice, Part, Word};
 use goblin_mach::MachO;
 use mach_cli::{ImageView, InForm, Line, Outcome, Pairs, ShowFailure, print_listing};
 use std::alloc::Allocator;
 use std::io;
 use std::io::Write;
 
-/// The lines of the list that a word selects, or of the summary.
+/// The lines of what a call selects, or of the summary.
 #[derive(Clone, Copy)]
 pub struct InfoLines {
-    pub word: Option<Word>,
+    pub choice: Option<Choice>,
 }
 
 impl ImageView for InfoLines {
-    ghost lines = { λ s. AreInfoLines s.word };
+    ghost lines = { λ s. AreInfoLines s.choice };
 
     fn show<A: Allocator + Clone, O: Write>(
         &self,
-        _alloc: &A,
+        alloc: &A,
         _file: &str,
         image: &MachO<'_, A>,
         limit: usize,
         left: usize,
         out: &mut O,
     ) -> Result<Outcome, ShowFailure> {
-        match self.word {
-            Some(word) => Ok(print_list(word, image, limit, left, out)?),
+        match self.choice {
+            Some(Choice::Word(word)) => Ok(print_list(word, image, limit, left, out)?),
+            Some(Choice::Exports) => print_exports(alloc, image, limit, left, out),
             None => Ok(print_summary(image, limit, left, out)?),
         }
     }
@@ -56,14 +60,32 @@ fn print_list<A: Allocator, O: Write>(
     ensures { (bytes : List ℕ) → IsImage bytes 0 image.now → IfOk result (λ outcome. (text : List ℕ)
         × AreImageListLines word limit left bytes text outcome.whole outcome.left × Appends (O.contents out.old) (O.contents out.new) text) }
 {
-    let list = ImageList::of(word, image);
     if has_names(word) {
-        let mut lines = InForm { list, form: Pairs };
-        print_listing(&mut lines, "refused", limit, left, out)
+        print_in_form(word, Pairs, "refused", image, limit, left, out)
     } else {
-        let mut lines = InForm { list, form: Line };
-        print_listing(&mut lines, "refused", limit, left, out)
+        print_in_form(word, Line, "refused", image, limit, left, out)
     }
+}
+
+// Prints the exports of an image, at most `left` of them, or the fault of its trie.
+fn print_exports<A: Allocator + Clone, O: Write>(
+    alloc: &A,
+    image: &MachO<'_, A>,
+    limit: usize,
+    left: usize,
+    out: &mut O,
+) -> Result<Outcome, ShowFailure>
+    ensures shown { (bytes : List ℕ) → IsImage bytes 0 image.now → IfOk result (λ outcome. (text : List ℕ)
+        × AreListedLines (HasExportFields bytes) limit left text outcome.whole outcome.left × Appends (O.contents out.old) (O.contents out.new) text) }
+    ensures memory { IfErr result (IfMemory (Appends (O.contents out.old) (O.contents out.new) [])) }
+{
+    let (exports, refusal) = exports_of(alloc, image)?;
+    let list = ExportList {
+        refusal,
+        exports: exports.as_slice(),
+    };
+    let mut lines = InForm { list, form: Line };
+    Ok(print_listing(&mut lines, "refused", limit, left, out)?)
 }
 
 // Whether the lines of a word's list have the names of fields.
@@ -83,6 +105,7 @@ fn has_names(word: Word) -> bool
         Word::Libraries => false,
         Word::Rebases => false,
         Word::Weak => false,
+        Word::Imports => false,
         Word::Part(Part::Header) => true,
         Word::Part(_) => false,
         Word::Security => false,

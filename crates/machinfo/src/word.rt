@@ -1,9 +1,18 @@
 //! The words that select a list.
 
 ghost use Rattle.std.specs.Prelude.{◌≡◌};
-ghost use Rattle.machinfo.specs.Words.{spelling_of, word_named};
+ghost use Rattle.machinfo.specs.Words.{choice_named, spelling_of, word_named};
 
-/// A list of an image.
+/// What a call shows of an image in place of its summary.
+#[derive(Clone, Copy, PartialEq)]
+pub enum Choice {
+    /// A list that takes no memory.
+    Word(Word),
+    /// Its exports.
+    Exports,
+}
+
+/// A list of an image that takes no memory.
 #[derive(Clone, Copy, PartialEq)]
 pub enum Word {
     /// Its load commands.
@@ -30,6 +39,8 @@ pub enum Word {
     Rebases,
     /// Its weak binds.
     Weak,
+    /// What dyld binds in it.
+    Imports,
     /// A part of it.
     Part(Part),
     /// How it is hardened.
@@ -53,6 +64,19 @@ pub enum Part {
     Header,
 }
 
+impl Choice {
+    /// Returns what this spelling selects, if anything.
+    #[tactic(auto, unfolding(crate::specs::Words::choice_named))]
+    pub fn named(text: &str) -> Option<Choice>
+        ensures { result ≡ choice_named text.now }
+    {
+        match text {
+            "exports" => Some(Choice::Exports),
+            _ => Some(Choice::Word(Word::named(text)?)),
+        }
+    }
+}
+
 impl Word {
     /// Returns the word with this spelling, if there is one.
     pub fn named(text: &str) -> Option<Word>
@@ -71,6 +95,7 @@ impl Word {
             "libraries" => Some(Word::Libraries),
             "rebases" => Some(Word::Rebases),
             "weak" => Some(Word::Weak),
+            "imports" => Some(Word::Imports),
             "segments" => Some(Word::Part(Part::Segments)),
             "sections" => Some(Word::Part(Part::Sections)),
             "uuid" => Some(Word::Part(Part::Uuid)),
@@ -99,6 +124,7 @@ impl Word {
             Word::Libraries => "libraries",
             Word::Rebases => "rebases",
             Word::Weak => "weak",
+            Word::Imports => "imports",
             Word::Part(Part::Segments) => "segments",
             Word::Part(Part::Sections) => "sections",
             Word::Part(Part::Uuid) => "uuid",

@@ -5,8 +5,8 @@ use Rattle.mach_base.specs.Record.{Value, number_among, record_at}
 use Rattle.mach_base.specs.declared.context.Endian.TheVariants.{Big}
 use Rattle.mach_base.specs.declared.error.Error.{Error}
 use Rattle.mach_cli.specs.Foreigners.{refused_kind, words_by}
-use Rattle.mach_cli.specs.declared.first_bytes.Foreign.{Foreign}
-use Rattle.mach_cli.specs.declared.first_bytes.Foreign.TheVariants.{JavaClass}
+use Rattle.goblin_mach.specs.declared.first_bytes.Foreign.{Foreign}
+use Rattle.goblin_mach.specs.declared.first_bytes.Foreign.TheVariants.{JavaClass}
 use Rattle.mach_parts.specs.Fat.{fat_header_fields}
 
 -- whether bytes of this size hold the table that a fat file's header counts: 20 for each entry, after the 8 of the header (`mach-o/fat.h`).

@@ -5,8 +5,8 @@ ghost use Rattle.machresolve.specs.Refusals.{has_table, kind_reported};
 
 use crate::inputs::Given;
 use goblin_mach::fat::{FatHeader, SIZEOF_FAT_ARCH, SIZEOF_FAT_HEADER};
-use goblin_mach::{Error, describe};
-use mach_cli::{Escaped, Foreign, refused_kind};
+use goblin_mach::{Error, Foreign, describe};
+use mach_cli::{Escaped, refused_kind};
 use std::fmt;
 use std::fmt::{Display, Formatter, Write};
 

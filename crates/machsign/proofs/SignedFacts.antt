@@ -17,8 +17,10 @@ module _ {A : Type 0} (m : MachO A) (bytes : List ℕ) (p : IsImage bytes 0 m) w
   abbrev pub held : Result (Option SignedImage) Fault
   held = image_signed (bytes_view m) (commands_view m) (segments_view m)
 
-  pub signed_is : HasSigned bytes 0 held
-  signed_is = (facts_are bytes 0 m (strict-lossy bytes 0 m p) (λ f. held ≡ image_signed f.bytes f.commands f.segments)).1 refl
+  pub signed_is : HasSigned bytes 0 (segments_view m) held
+  signed_is =
+      (facts_are bytes 0 m (strict-lossy bytes 0 m p)
+      (λ f. (segments_view m ≡ f.segments) × (held ≡ image_signed f.bytes f.commands (segments_view m)))).1 (refl, refl)
 
   -- the same holds of its entitlements
   pub entitlements_are : (found : Option (List ℕ)) → found ≡ entitlements_of (image_signature (bytes_view m) (commands_view m))

@@ -49,17 +49,17 @@ abbrev pub is_all_reported : (left : ℕ) → Result (Option SignedImage) Fault 
 is_all_reported left there = is_unfaulted there && not (is_there_cut left there)
 
 -- lines and objects are whole exactly then
-pub lines_unfaulted : (limit left : ℕ) (there : Result (Option SignedImage) Fault) (text : List ℕ) (whole : Bool) (rest : ℕ)
-    → AreSignatureLines limit left there text whole rest → whole ≡ is_all_reported left there
-lines_unfaulted limit left _ _ _ _ unsigned = refl
-lines_unfaulted limit left _ _ _ _ (unreadable e) = refl
-lines_unfaulted limit left _ _ _ _ (signed x text whole rest are) = are.is_whole
+pub lines_unfaulted : (limit left : ℕ) (segments : List SegmentView) (there : Result (Option SignedImage) Fault) (text : List ℕ) (whole : Bool) (rest : ℕ)
+    → AreSignatureLines limit left segments there text whole rest → whole ≡ is_all_reported left there
+lines_unfaulted limit left segments _ _ _ _ unsigned = refl
+lines_unfaulted limit left segments _ _ _ _ (unreadable e) = refl
+lines_unfaulted limit left segments _ _ _ _ (signed x text whole rest are) = are.is_whole
 
-pub object_unfaulted : (left : ℕ) (there : Result (Option SignedImage) Fault) (text : List ℕ) (whole : Bool) (rest : ℕ)
-    → IsSignatureObject left there text whole rest → whole ≡ is_all_reported left there
-object_unfaulted left _ _ _ _ unsigned_object = refl
-object_unfaulted left _ _ _ _ (unreadable_object e) = refl
-object_unfaulted left _ _ _ _ (signed_object x text whole rest is) = is.is_whole
+pub object_unfaulted : (left : ℕ) (segments : List SegmentView) (there : Result (Option SignedImage) Fault) (text : List ℕ) (whole : Bool) (rest : ℕ)
+    → IsSignatureObject left segments there text whole rest → whole ≡ is_all_reported left there
+object_unfaulted left segments _ _ _ _ unsigned_object = refl
+object_unfaulted left segments _ _ _ _ (unreadable_object e) = refl
+object_unfaulted left segments _ _ _ _ (signed_object x text whole rest is) = is.is_whole
 
 -- both of two conditions hold
 pub and_not : (a b : Bool) → IsTrue (a && not b) ↔ (IsTrue a × (b ≡ false))

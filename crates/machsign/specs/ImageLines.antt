@@ -22,9 +22,10 @@ signed_there bytes (Some place) plist =
 abbrev pub image_signed : List ℕ → List Command → List SegmentView → Result (Option SignedImage) Fault
 image_signed bytes cs segments = signed_there bytes (signature_place_in cs) (plist_of bytes segments)
 
--- The image at o of the bytes has this signature, if it has one.
-abbrev pub HasSigned : List ℕ → ℕ → Result (Option SignedImage) Fault → Type 0
-HasSigned bytes o there = OfImage bytes o (λ ctx cs. there ≡ image_signed bytes cs (lossy_segments_in ctx bytes cs))
+-- The image at o of the bytes has these segments, and this signature, if it has one.
+abbrev pub HasSigned : List ℕ → ℕ → List SegmentView → Result (Option SignedImage) Fault → Type 0
+HasSigned bytes o segments there =
+    OfImage bytes o (λ ctx cs. (segments ≡ lossy_segments_in ctx bytes cs) × (there ≡ image_signed bytes cs segments))
 
 -- whether it has more blobs and faults than may be printed
 abbrev pub is_there_cut : (left : ℕ) → Result (Option SignedImage) Fault → Bool
@@ -37,6 +38,7 @@ is_there_cut left (Err f) = false
 pub record AreImageSignatureLines (limit left : ℕ) (bytes text : List ℕ) (whole : Bool) (rest : ℕ) : Type 0 where
   pub opens : Opens bytes 0
   pub there : Result (Option SignedImage) Fault
-  pub has_signed : HasSigned bytes 0 there
-  pub lines : AreSignatureLines limit left there text whole rest
+  pub segments : List SegmentView
+  pub has_signed : HasSigned bytes 0 segments there
+  pub lines : AreSignatureLines limit left segments there text whole rest
   pub as_signed : IsTrue whole ↔ (HoldsAsSigned bytes 0 × (is_there_cut left there ≡ false))

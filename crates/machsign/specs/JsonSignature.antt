@@ -8,9 +8,10 @@ use Rattle.mach_base.specs.Words.{words_of}
 use Rattle.mach_base.specs.declared.error.Error.{Error}
 use Rattle.goblin_mach.specs.Image.{Opens}
 use Rattle.mach_cli.specs.JsonArrays.{error_end}
-use Rattle.mach_cli.specs.JsonText.{json_bool, json_string}
+use Rattle.mach_cli.specs.JsonText.{json_bool}
 use Rattle.mach_cli.specs.SignatureNames.{bytes_text}
-use Rattle.mach_signature.specs.AsSigned.{SignedImage, signature_faults_of}
+use Rattle.mach_parts.specs.Segment.{SegmentView}
+use Rattle.mach_signature.specs.AsSigned.{SignedImage}
 use Rattle.mach_signature.specs.Chosen.{directory_of}
 use Rattle.mach_signature.specs.Directories.{Directory, cdhash_of, code_limit_of, identifier_of, page_count_of, team_of}
 use Rattle.mach_signature.specs.DirectoryViews.{directory_view}
@@ -20,19 +21,16 @@ use Rattle.mach_signature.specs.declared.records.ExecutableSegment.{ExecutableSe
 use Rattle.mach_signature.specs.declared.records.RuntimeFields.{RuntimeFields}
 use Rattle.machsign.specs.Blobs.{blobs_array}
 use Rattle.machsign.specs.Blocks.{full_cdhash_of}
-use Rattle.machsign.specs.Faults.{fault_strings, ReportsFaults}
+use Rattle.machsign.specs.Faults.{ReportsFaults}
 use Rattle.machsign.specs.ImageLines.{HasSigned, is_there_cut}
+use Rattle.machsign.specs.JsonNames.{json_name}
 use Rattle.machsign.specs.Kinds.{has_cms, has_hardened_runtime, has_library_validation, is_ad_hoc, is_linker_signed, kind_of}
 use Rattle.machsign.specs.Signatures.{blobs_counted, is_cut, is_unfaulted_whole, limited_count}
+use Rattle.machsign.specs.Pages.{shown_faults}
 use Rattle.machsign.specs.Special.{slots_array}
 use Rattle.machsign.specs.Texts.{runtime_text}
+use Rattle.machsign.specs.declared.form.Form.TheVariants.{Objects}
 use Rattle.machsign.specs.declared.kind.Kind.{Kind}
-
--- a name that a directory may have
-abbrev pub json_name : Result (Option (List ℕ)) Fault → List ℕ
-json_name (Ok (Some name)) = json_string name
-json_name (Ok None) = codes "null"
-json_name (Err f) = codes "{\"error\":\"unreadable\"}"
 
 -- the page size, by its power of 2; 0 is any size
 abbrev pub page_size_text : ℕ → List ℕ
@@ -118,39 +116,42 @@ refused_object words = codes "{" ++ error_end words
 -- The text is the object of a signature that can be read: its blobs; its directory that is used, or why none is; and all that
 -- differs from what was signed. Of blobs and faults together these are the first ones, no more than `left`, and whether there are
 -- more. It is whole if there is no fault, and all is written.
-pub record IsSignedObject (left : ℕ) (x : SignedImage) (text : List ℕ) (whole : Bool) (rest : ℕ) : Type 0 where
+pub record IsSignedObject (left : ℕ) (segments : List SegmentView) (x : SignedImage) (text : List ℕ) (whole : Bool) (rest : ℕ) : Type 0 where
   pub directory : Result CodeDirectory Error
   pub is_directory : read_as directory_view directory ≡ directory_of x.signature
   pub faults : List ℕ
-  pub are_faults : ReportsFaults fault_strings (left - blobs_counted x) (signature_faults_of x) faults
+  pub are_faults : ReportsFaults Objects segments (left - blobs_counted x) (shown_faults x) faults
   pub is_text : text
       ≡ (codes "{\"blobs\":" ++ blobs_array left x.signature) ++ (before_faults directory ++ (faults ++ after_faults x (is_cut left x) directory))
   pub is_whole : whole ≡ is_unfaulted_whole left x
   pub is_rest : rest ≡ left - limited_count x
 
 -- Such an object was written.
-pub record WritesSignedObject (left : ℕ) (x : SignedImage) (whole : Bool) (rest : ℕ) (old new : Option (List ℕ)) : Type 0 where
+pub record WritesSignedObject (left : ℕ) (segments : List SegmentView) (x : SignedImage) (whole : Bool) (rest : ℕ) (old new : Option (List ℕ)) : Type 0 where
   pub text : List ℕ
-  pub object : IsSignedObject left x text whole rest
+  pub object : IsSignedObject left segments x text whole rest
   pub written : Appends old new text
 
 -- The text is the object of a signature, of a missing one, or of one that can't be read.
-pub data IsSignatureObject (left : ℕ) : Result (Option SignedImage) Fault → (text : List ℕ) → (whole : Bool) → (rest : ℕ) → Type 0 where
-  unsigned_object : IsSignatureObject left (Ok None) (codes "null") false left
-  unreadable_object : (e : Error) → IsSignatureObject left (Err (fault_of e)) (refused_object (words_of e)) false left
-  signed_object : (x : SignedImage) (text : List ℕ) (whole : Bool) (rest : ℕ) → IsSignedObject left x text whole rest
-      → IsSignatureObject left (Ok (Some x)) text whole rest
+pub data IsSignatureObject (left : ℕ) (segments : List SegmentView)
+    : Result (Option SignedImage) Fault → (text : List ℕ) → (whole : Bool) → (rest : ℕ) → Type 0 where
+  unsigned_object : IsSignatureObject left segments (Ok None) (codes "null") false left
+  unreadable_object : (e : Error) → IsSignatureObject left segments (Err (fault_of e)) (refused_object (words_of e)) false left
+  signed_object : (x : SignedImage) (text : List ℕ) (whole : Bool) (rest : ℕ) → IsSignedObject left segments x text whole rest
+      → IsSignatureObject left segments (Ok (Some x)) text whole rest
 
 -- The text is the members of an image with such an object.
-pub record AreSignatureMembers (left : ℕ) (there : Result (Option SignedImage) Fault) (text : List ℕ) (whole : Bool) (rest : ℕ) : Type 0 where
+pub record AreSignatureMembers (left : ℕ) (segments : List SegmentView) (there : Result (Option SignedImage) Fault) (text : List ℕ) (whole : Bool) (rest : ℕ)
+    : Type 0 where
   pub signature : List ℕ
-  pub is_signature : IsSignatureObject left there signature whole rest
+  pub is_signature : IsSignatureObject left segments there signature whole rest
   pub is_text : text ≡ codes "\"kind\":\"image\",\"signature\":" ++ signature
 
 -- Such members were written.
-pub record WritesSignatureMembers (left : ℕ) (there : Result (Option SignedImage) Fault) (whole : Bool) (rest : ℕ) (old new : Option (List ℕ)) : Type 0 where
+pub record WritesSignatureMembers (left : ℕ) (segments : List SegmentView) (there : Result (Option SignedImage) Fault) (whole : Bool) (rest : ℕ)
+    (old new : Option (List ℕ)) : Type 0 where
   pub text : List ℕ
-  pub members : AreSignatureMembers left there text whole rest
+  pub members : AreSignatureMembers left segments there text whole rest
   pub written : Appends old new text
 
 -- The text is the members of the image at the start of the bytes. It is whole exactly if the image is as it was signed, and all
@@ -158,6 +159,7 @@ pub record WritesSignatureMembers (left : ℕ) (there : Result (Option SignedIma
 pub record AreImageSignatureMembers (left : ℕ) (bytes text : List ℕ) (whole : Bool) (rest : ℕ) : Type 0 where
   pub opens : Opens bytes 0
   pub there : Result (Option SignedImage) Fault
-  pub has_signed : HasSigned bytes 0 there
-  pub members : AreSignatureMembers left there text whole rest
+  pub segments : List SegmentView
+  pub has_signed : HasSigned bytes 0 segments there
+  pub members : AreSignatureMembers left segments there text whole rest
   pub as_signed : IsTrue whole ↔ (HoldsAsSigned bytes 0 × (is_there_cut left there ≡ false))

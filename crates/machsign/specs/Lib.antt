@@ -6,6 +6,8 @@ pub mod Blocks
 pub mod Kinds
 pub mod Blobs
 pub mod BlobsLeft
+pub mod JsonNames
+pub mod Pages
 pub mod Faults
 pub mod Signatures
 pub mod ImageLines

@@ -19,12 +19,14 @@ mod arguments;
 mod blobs;
 mod block;
 mod entitlements;
+mod faults;
 mod form;
 mod full_hash;
 mod json;
 mod kind;
 mod laws;
 mod members;
+mod page;
 mod print;
 mod signature_view;
 mod signed;
@@ -45,7 +47,7 @@ const PROGRAM: Program = Program {
     name: NAME,
     usage: "usage: machsign [--json] [--limit N] [--arch NAME | --cputype 0xN] [--names FILE] [-0] FILE..\n\
         \x20      machsign --entitlements [--arch NAME | --cputype 0xN] FILE\n       machsign -h | --help | --version\n",
-    version: "machsign 0.2.0\n",
+    version: "machsign 0.3.0\n",
     options: Options::OF_IMAGES,
     known: &[
         "-0",

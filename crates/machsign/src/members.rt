@@ -1,33 +1,33 @@
 //! The members of an image's object: its signature.
 
-ghost use Rattle.std.specs.Prelude.{◌≡◌, ◌≤◌, ◌++◌, codes, false, IfOk, OnOk, Some};
+ghost use Rattle.std.specs.Prelude.{◌≡◌, ◌≤◌, codes, false, map, IfOk, OnOk, Some};
 ghost use Rattle.std.specs.Io.KnownBytes.{Appends};
 ghost use Rattle.std.specs.Option.{option_map};
 ghost use Rattle.mach_base.specs.Items.{read_as};
 ghost use Rattle.mach_base.specs.Words.{words_of};
 ghost use Rattle.goblin_mach.specs.OpenImage.{bytes_view, commands_view, segments_view};
-ghost use Rattle.mach_cli.specs.JsonArrays.{comma_before, with_commas};
 ghost use Rattle.mach_cli.specs.JsonText.{json_string};
+ghost use Rattle.mach_parts.specs.Segment.{segment_view};
 ghost use Rattle.mach_signature.specs.DirectoryViews.{directory_view};
-ghost use Rattle.mach_signature.specs.FaultViews.{signed_view, signature_faults_left};
+ghost use Rattle.mach_signature.specs.FaultViews.{signed_view};
 ghost use Rattle.mach_signature.specs.SignViews.{signature_view};
-ghost use Rattle.machsign.specs.Faults.{WritesFaults, fault_string, fault_strings};
 ghost use Rattle.machsign.specs.ImageLines.{image_signed};
+ghost use Rattle.machsign.specs.JsonNames.{json_name};
 ghost use Rattle.machsign.specs.JsonSignature as defined;
 ghost use Rattle.machsign.specs.Texts.{runtime_text};
 
 use crate::blobs::OtherBlobs;
+use crate::faults::write_faults;
 use crate::form::Form;
 use crate::full_hash::print_hash_of;
 use crate::kind::Kind;
 use crate::signed::signed_image;
 use crate::special::{MOST_SLOTS, SpecialSlots};
 use crate::text::RuntimeText;
+use goblin_mach::segment::Segment;
 use goblin_mach::{Error, MachO, Result, describe};
-use mach_cli::{JsonString, ListProgress, Outcome, print_array, print_bytes};
-use mach_signature::{
-    CodeDirectory, ExecutableSegment, RuntimeFields, SignatureFault, SignatureFaults, SignedBytes,
-};
+use mach_cli::{JsonString, Outcome, print_array, print_bytes};
+use mach_signature::{CodeDirectory, ExecutableSegment, RuntimeFields, SignedBytes};
 use std::alloc::Allocator;
 use std::fmt::{Display, Formatter};
 use std::io::Write;
@@ -40,13 +40,13 @@ pub fn write_members<A: Allocator, O: Write>(
     left: usize,
     out: &mut O,
 ) -> io::Result<Outcome>
-    ensures { IfOk result (λ outcome. defined.WritesSignatureMembers left
+    ensures { IfOk result (λ outcome. defined.WritesSignatureMembers left (segments_view image.now)
         (image_signed (bytes_view image.now) (commands_view image.now) (segments_view image.now)) outcome.whole outcome.left
         (O.contents out.old) (O.contents out.new)) }
 {
     write!(out, "\"kind\":\"image\",\"signature\":")?;
     match signed_image(image) {
-        Ok(Some(signed)) => write_signed(&signed, left, out),
+        Ok(Some(signed)) => write_signed(&signed, image.segments.as_slice(), left, out),
         Ok(None) => write_unsigned(left, out),
         Err(error) => write_refused(&error, left, out),
     }
@@ -72,16 +72,21 @@ fn write_refused<O: Write>(error: &Error, left: usize, out: &mut O) -> io::Resul
 }
 
 // Writes the object of a signature that can be read, up to the limit. Returns whether it has no fault and all were written.
-fn write_signed<O: Write>(signed: &SignedBytes<'_>, left: usize, out: &mut O) -> io::Result<Outcome>
-    ensures { IfOk result (λ outcome. defined.WritesSignedObject left (signed_view signed.now) outcome.whole outcome.left
-        (O.contents out.old) (O.contents out.new)) }
+fn write_signed<O: Write>(
+    signed: &SignedBytes<'_>,
+    segments: &[Segment<'_>],
+    left: usize,
+    out: &mut O,
+) -> io::Result<Outcome>
+    ensures { IfOk result (λ outcome. defined.WritesSignedObject left (map segment_view segments.now) (signed_view signed.now)
+        outcome.whole outcome.left (O.contents out.old) (O.contents out.new)) }
 {
     let directory = signed.signature.directory();
     write!(out, "{{\"blobs\":")?;
     let mut rows = OtherBlobs::of(&signed.signature, Form::Objects);
     let blobs = print_array(&mut rows, left, out)?;
     write_before(&directory, out)?;
-    let faults = write_faults(signed.faults(), blobs.left, out)?;
+    let faults = write_faults(Form::Objects, segments, blobs.left, signed, out)?;
     let more = blobs.more | faults.more;
     write_after(signed, &directory, more, out)?;
     Ok(Outcome {
@@ -288,10 +293,10 @@ fn write_team<O: Write>(directory: &CodeDirectory<'_>, out: &mut O) -> io::Resul
     write_name(directory.team(), out)
 }
 
-// Writes a name that a directory may have.
-fn write_name<O: Write>(name: mach_base::Result<Option<&str>>, out: &mut O) -> io::Result<()>
+/// Writes a name that may be there.
+pub fn write_name<O: Write>(name: mach_base::Result<Option<&str>>, out: &mut O) -> io::Result<()>
     ensures { OnOk result (Appends (O.contents out.old) (O.contents out.new)
-        (defined.json_name (read_as (option_map (λ text. text.now)) name.entry))) }
+        (json_name (read_as (option_map (λ text. text.now)) name.entry))) }
 {
     match name {
         Ok(Some(name)) => write_string(name, out),
@@ -306,42 +311,4 @@ fn write_string<O: Write>(text: &str, out: &mut O) -> io::Result<()>
 {
     let text = JsonString(text);
     write!(out, "{text}")
-}
-
-// Writes the words of a fault as a string, after a comma unless it is the first.
-fn write_fault<O: Write>(fault: &SignatureFault, is_first: bool, out: &mut O) -> io::Result<()>
-    ensures { OnOk result (Appends (O.contents out.old) (O.contents out.new) (comma_before is_first ++ fault_string fault.now)) }
-{
-    let comma = if is_first { "" } else { "," };
-    write!(out, "{comma}\"{fault}\"")
-}
-
-// Writes the words of each of the first faults, up to a limit.
-fn write_faults<O: Write>(
-    mut faults: SignatureFaults<'_>,
-    limit: usize,
-    out: &mut O,
-) -> io::Result<ListProgress>
-    ensures { IfOk result (WritesFaults fault_strings limit (signature_faults_left faults.entry) (O.contents out.old) (O.contents out.new)) }
-{
-    let mut left = limit;
-    let mut whole = true;
-    'faults: while let Some(fault) = faults.next() {
-        let is_first = whole;
-        whole = false;
-        let Some(rest) = left.checked_sub(1) else {
-            return Ok(ListProgress {
-                left: 0,
-                whole,
-                more: true,
-            });
-        };
-        left = rest;
-        write_fault(&fault, is_first, out)?;
-    }
-    Ok(ListProgress {
-        left,
-        whole,
-        more: false,
-    })
 }

@@ -1,27 +1,29 @@
 //! The lines of a signature.
 
-ghost use Rattle.std.specs.Prelude.{◌≡◌, ◌++◌, ◌&&◌, codes, false, not, flat_map, IfOk, OnOk};
+ghost use Rattle.std.specs.Prelude.{◌≡◌, ◌++◌, codes, false, flat_map, map, IfOk, OnOk};
 ghost use Rattle.std.specs.Io.KnownBytes.{Appends};
 ghost use Rattle.mach_base.specs.Words.{words_of};
 ghost use Rattle.goblin_mach.specs.OpenImage.{bytes_view, commands_view, segments_view};
+ghost use Rattle.mach_parts.specs.Segment.{segment_view};
 ghost use Rattle.mach_signature.specs.Chosen.{directories_of};
 ghost use Rattle.mach_signature.specs.ChosenViews.{slot_directory_read};
-ghost use Rattle.mach_signature.specs.FaultViews.{signed_view, signature_faults_left};
+ghost use Rattle.mach_signature.specs.FaultViews.{signed_view};
 ghost use Rattle.mach_signature.specs.SignViews.{signature_view};
 ghost use Rattle.machsign.specs.Blocks.{slot_directory_lines};
-ghost use Rattle.machsign.specs.Faults.{WritesFaults, fault_line, signature_fault_lines};
 ghost use Rattle.machsign.specs.ImageLines.{image_signed};
 ghost use Rattle.machsign.specs.Kinds.{kind_line, unchecked_line};
 ghost use Rattle.machsign.specs.Signatures as defined;
 
 use crate::blobs::OtherBlobs;
 use crate::block::print_directory;
+use crate::faults::write_faults;
 use crate::form::Form;
 use crate::kind::{Cms, Kind, cms_of};
 use crate::signed::signed_image;
+use goblin_mach::segment::Segment;
 use goblin_mach::{Error, MachO, describe};
-use mach_cli::{ListProgress, Outcome, print_cut, print_rows};
-use mach_signature::{CodeDirectory, SignatureFault, SignatureFaults, SignedBytes};
+use mach_cli::{Outcome, print_cut, print_rows};
+use mach_signature::{CodeDirectory, SignedBytes};
 use std::alloc::Allocator;
 use std::io;
 use std::io::Write;
@@ -35,12 +37,12 @@ pub fn print_signature<A: Allocator, O: Write>(
     left: usize,
     out: &mut O,
 ) -> io::Result<Outcome>
-    ensures { IfOk result (λ outcome. defined.WritesSignature limit left
+    ensures { IfOk result (λ outcome. defined.WritesSignature limit left (segments_view image.now)
         (image_signed (bytes_view image.now) (commands_view image.now) (segments_view image.now)) outcome.whole outcome.left
         (O.contents out.old) (O.contents out.new)) }
 {
     match signed_image(image) {
-        Ok(Some(signed)) => print_signed(&signed, limit, left, out),
+        Ok(Some(signed)) => print_signed(&signed, image.segments.as_slice(), limit, left, out),
         Ok(None) => print_unsigned(left, out),
         Err(error) => print_refused(&error, left, out),
     }
@@ -68,17 +70,18 @@ fn print_refused<O: Write>(error: &Error, left: usize, out: &mut O) -> io::Resul
 // Prints the lines of a signature that can be read, up to the limit. Returns whether it has no fault and all were printed.
 fn print_signed<O: Write>(
     signed: &SignedBytes<'_>,
+    segments: &[Segment<'_>],
     limit: usize,
     left: usize,
     out: &mut O,
 ) -> io::Result<Outcome>
-    ensures { IfOk result (λ outcome. defined.WritesSigned limit left (signed_view signed.now) outcome.whole outcome.left
-        (O.contents out.old) (O.contents out.new)) }
+    ensures { IfOk result (λ outcome. defined.WritesSigned limit left (map segment_view segments.now) (signed_view signed.now)
+        outcome.whole outcome.left (O.contents out.old) (O.contents out.new)) }
 {
     print_front(signed, out)?;
     let mut rows = OtherBlobs::of(&signed.signature, Form::Lines);
     let blobs = print_rows(&mut rows, "", left, out)?;
-    let faults = print_faults(signed.faults(), blobs.left, out)?;
+    let faults = write_faults(Form::Lines, segments, blobs.left, signed, out)?;
     let more = blobs.more | faults.more;
     print_back(signed, limit, more, out)?;
     Ok(Outcome {
@@ -152,40 +155,4 @@ fn print_unchecked<O: Write>(cms: Cms, out: &mut O) -> io::Result<()>
 {
     let why = cms.why_unknown();
     writeln!(out, "not checked: who signed ({why})")
-}
-
-// Prints the line of a fault.
-fn print_fault<O: Write>(fault: &SignatureFault, out: &mut O) -> io::Result<()>
-    ensures { OnOk result (Appends (O.contents out.old) (O.contents out.new) (fault_line fault.now)) }
-{
-    writeln!(out, "fault: {fault}")
-}
-
-// Prints a line for each of the first faults, up to a limit.
-fn print_faults<O: Write>(
-    mut faults: SignatureFaults<'_>,
-    limit: usize,
-    out: &mut O,
-) -> io::Result<ListProgress>
-    ensures { IfOk result (WritesFaults signature_fault_lines limit (signature_faults_left faults.entry) (O.contents out.old) (O.contents out.new)) }
-{
-    let mut left = limit;
-    let mut whole = true;
-    'faults: while let Some(fault) = faults.next() {
-        whole = false;
-        let Some(rest) = left.checked_sub(1) else {
-            return Ok(ListProgress {
-                left: 0,
-                whole,
-                more: true,
-            });
-        };
-        left = rest;
-        print_fault(&fault, out)?;
-    }
-    Ok(ListProgress {
-        left,
-        whole,
-        more: false,
-    })
 }

@@ -1,4 +1,4 @@
-use Rattle.std.proofs.Common.{◌∙◌, ℕ, List, drop, ap, subst}
+use Rattle.std.proofs.Common.{◌∙◌, ℕ, List, drop, length, ap, subst}
 use Rattle.mach_base.specs.Items.{items_from}
 use Rattle.goblin_mach.specs.FatFile.{arch_at}
 use Rattle.goblin_mach_c.specs.FatRows.{fat_row}
@@ -8,6 +8,6 @@ use Rattle.goblin_mach_c.proofs.fat.gmr_fat_entries.Goals as goal
 
 pub returns : goal.returns
 returns c =
-    let rows = λ (count : ℕ). drop c.args.first (items_from (λ k. fat_row (arch_at c.args.bytes.now k)) 0 count) in
+    let rows = λ (count : ℕ). drop c.args.first (items_from (λ k. fat_row (length c.args.bytes.now) (arch_at c.args.bytes.now k)) 0 count) in
     subst (λ (l : List gm_fat_entry). Fills l c.args.out.now c.fill.new.out c.fill.result)
     (c.rows_from-rows.ensures ∙ ap rows c.reported_of.ensures) c.fill.ensures.filled

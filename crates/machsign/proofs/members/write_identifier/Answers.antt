@@ -3,7 +3,7 @@ use Rattle.std.specs.Prelude.{OnOk}
 use Rattle.std.specs.Io.KnownBytes.{Appends}
 use Rattle.mach_base.specs.Fault.{Fault}
 use Rattle.mach_base.proofs.ItemLists.{read_as-Reads}
-use Rattle.machsign.specs.JsonSignature.{json_name}
+use Rattle.machsign.specs.JsonNames.{json_name}
 use Rattle.machsign.proofs.members.write_identifier.Goals as goal
 
 pub returns : goal.returns

@@ -1,14 +1,17 @@
-use Rattle.std.proofs.Common.{◌++◌, ℕ, List, Bool, length, refl, subst}
+use Rattle.std.proofs.Common.{◌++◌, ℕ, Bool, length, map, refl, subst}
 use Rattle.std.specs.Io.KnownBytes.{Appends}
 use Rattle.std.specs.Prelude.{codes}
 use Rattle.mach_base.proofs.ItemLists.{read_as-Reads}
 use Rattle.mach_base.proofs.Written.{Appends-both}
-use Rattle.mach_signature.specs.AsSigned.{SignatureFaultView, signature_faults_of}
+use Rattle.mach_parts.specs.Segment.{segment_view}
+use Rattle.mach_signature.specs.AsSigned.{signature_faults_of}
 use Rattle.mach_signature.specs.FaultViews.{signed_view}
 use Rattle.machsign.specs.Blobs.{blobs_array, other_blobs_of}
-use Rattle.machsign.specs.Faults.{fault_strings, ReportsFaults, WritesFaults}
+use Rattle.machsign.specs.Faults.{ReportsFaults}
 use Rattle.machsign.specs.JsonSignature.{before_faults, after_faults}
+use Rattle.machsign.specs.Pages.{shown_faults}
 use Rattle.machsign.specs.Signatures.{is_cut}
+use Rattle.machsign.specs.declared.form.Form.TheVariants.{Objects}
 use Rattle.machsign.proofs.Limited.{blobs_arrayed}
 use Rattle.machsign.proofs.ListProgress.{counted}
 use Rattle.machsign.proofs.Written.{three}
@@ -19,16 +22,14 @@ returns g c =
     let x = signed_view c.args.signed.now in
     let left = c.args.left in
     let blobs = other_blobs_of x.signature in
-    let seen = signature_faults_of x in
+    let segments = map segment_view c.args.segments.now in
+    let seen = shown_faults x in
     let directory = c.directory-directory.result in
     let before = c.in_ok-blobs.blobs in
     let following = c.in_ok-faults.faults in
     let rows = blobs_arrayed c.of-rows.result blobs left _ _ before c.of-rows.ensures.blobs c.of-rows.ensures.form c.in_ok-blobs.ensures in
-    let reported = subst
-    (λ (faults : List SignatureFaultView).
-    WritesFaults fault_strings before.left faults (g.O.Write.contents c.write_before.new.out) (g.O.Write.contents c.write_faults.new.out) following)
-    c.faults.ensures c.in_ok-faults.ensures in
-    let count = counted left (length blobs) seen before.left before.more following rows.1 rows.2 reported.counts in
+    let reported = c.in_ok-faults.ensures in
+    let count = counted left (length blobs) (signature_faults_of x) seen before.left before.more following rows.1 rows.2 reported.counts in
     let last = subst
     (λ (more : Bool).
     Appends (g.O.Write.contents c.write_faults.new.out) (g.O.Write.contents c.write_after.new.out) (after_faults x more directory))
@@ -40,7 +41,7 @@ returns g c =
         directory = directory;
         is_directory = read_as-Reads _ _ _ c.directory-directory.ensures.value;
         faults = reported.text;
-        are_faults = subst (λ (n : ℕ). ReportsFaults fault_strings n seen reported.text) rows.1 reported.reports;
+        are_faults = subst (λ (n : ℕ). ReportsFaults Objects segments n seen reported.text) rows.1 reported.reports;
         is_text = refl;
         is_whole = count.1;
         is_rest = count.2;

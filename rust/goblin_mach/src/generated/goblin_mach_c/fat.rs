@@ -2,7 +2,7 @@
 //! The entries of a fat file, read in place.
 #![forbid(unsafe_code)]
 
-use crate::generated::goblin_mach_c::errors::{GM_OK, code_of};
+use crate::generated::goblin_mach_c::errors::{GM_OK, GM_SHORT, code_of};
 use crate::generated::goblin_mach_c::numbered::{Numbered, rows_from};
 use crate::generated::goblin_mach_c::rows::fill;
 use crate::generated::mach::peek;
@@ -11,7 +11,8 @@ use crate::generated::mach_parts::fat::{
     FAT_MAGIC, FatArch, FatHeader, SIZEOF_FAT_ARCH, SIZEOF_FAT_HEADER,
 };
 
-/// An entry of a fat file, from its record (struct fat_arch). If `code` isn't `GM_OK` the record can't be read, and the rest is 0.
+/// An entry of a fat file, from its record (struct fat_arch). If `code` isn't `GM_OK`, its bytes aren't all in the file; or the
+/// record can't be read, and the rest is 0.
 #[derive(Clone, Copy)]
 #[repr(C)]
 pub struct gm_fat_entry {
@@ -23,8 +24,20 @@ pub struct gm_fat_entry {
     pub code: u32,
 }
 
-// Returns a record as C sees it.
-fn row_of(found: &Result<FatArch>) -> gm_fat_entry {
+/// Returns the code of an entry of `size` bytes at `offset`, in a file of `len` bytes: `GM_SHORT` if they aren't all in it.
+///
+/// # Proved
+///
+/// - `result ≡ entry_code len offset size`
+pub fn entry_code(len: usize, offset: u64, size: u64) -> u32 {
+    match offset.checked_add(size) {
+        Some(end) if end <= len as u64 => GM_OK,
+        _ => GM_SHORT,
+    }
+}
+
+// Returns a record of a file of `len` bytes as C sees it.
+fn row_of(len: usize, found: &Result<FatArch>) -> gm_fat_entry {
     match found {
         Ok(arch) => gm_fat_entry {
             cputype: arch.cputype,
@@ -32,7 +45,7 @@ fn row_of(found: &Result<FatArch>) -> gm_fat_entry {
             offset: arch.offset,
             size: arch.size,
             align: arch.align,
-            code: GM_OK,
+            code: entry_code(len, u64::from(arch.offset), u64::from(arch.size)),
         },
         Err(why) => gm_fat_entry {
             cputype: 0,
@@ -49,10 +62,10 @@ fn row_of(found: &Result<FatArch>) -> gm_fat_entry {
 ///
 /// # Proved
 ///
-/// - `result ≡ fat_row (arch_at bytes number)`
+/// - `result ≡ fat_row (length bytes) (arch_at bytes number)`
 pub fn fat_entry_at(bytes: &[u8], number: u32) -> gm_fat_entry {
     let place = SIZEOF_FAT_HEADER + number as usize * SIZEOF_FAT_ARCH;
-    row_of(&FatArch::parse(bytes, place))
+    row_of(bytes.len(), &FatArch::parse(bytes, place))
 }
 
 // The records of a fat file.

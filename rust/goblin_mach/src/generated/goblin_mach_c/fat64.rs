@@ -2,17 +2,20 @@
 //! The entries of a fat file of 32 or 64 bits, in rows of one type.
 #![forbid(unsafe_code)]
 
-use crate::generated::goblin_mach_c::errors::{GM_OK, code_of};
-use crate::generated::goblin_mach_c::fat::{fat_entry_at, gm_fat_entry, reported_of};
-use crate::generated::goblin_mach_c::numbered::{Numbered, rows_from};
-use crate::generated::goblin_mach_c::rows::fill;
-use crate::generated::mach::peek;
+use crate::generated::goblin_mach_c::errors::{
+    GM_OK, code_of, gm_error, refuse_no_image, refuse_outside,
+};
+use crate::generated::goblin_mach_c::fat::{entry_code, fat_entry_at, gm_fat_entry, reported_of};
+use crate::generated::goblin_mach_c::numbered::{Numbered, Numbers, rows_from};
+use crate::generated::goblin_mach_c::rows::{Rows, fill};
+use crate::generated::mach::cputype::CPU_SUBTYPE_MASK;
+use crate::generated::mach::{parse_magic_and_ctx, peek};
 use crate::generated::mach_base::{Endian, Result, read_u32};
 use crate::generated::mach_parts::fat::SIZEOF_FAT_HEADER;
 use crate::generated::mach_parts::{FAT_MAGIC_64, FatArch64, SIZEOF_FAT_ARCH_64, read_arch};
 
-/// An entry of a fat file of 32 or 64 bits, from its record (struct fat_arch, struct fat_arch_64). If `code` isn't `GM_OK` the
-/// record can't be read, and the rest is 0.
+/// An entry of a fat file of 32 or 64 bits, from its record (struct fat_arch, struct fat_arch_64). If `code` isn't `GM_OK`, its
+/// bytes aren't all in the file; or the record can't be read, and the rest is 0.
 #[derive(Clone, Copy)]
 #[repr(C)]
 pub struct gm_fat_entry64 {
@@ -36,8 +39,8 @@ fn wide(entry: &gm_fat_entry) -> gm_fat_entry64 {
     }
 }
 
-// Returns a record of 64 bits as C sees it.
-fn row_of_64(found: &Result<FatArch64>) -> gm_fat_entry64 {
+// Returns a record of 64 bits of a file of `len` bytes as C sees it.
+fn row_of_64(len: usize, found: &Result<FatArch64>) -> gm_fat_entry64 {
     match found {
         Ok(arch) => gm_fat_entry64 {
             offset: arch.offset,
@@ -45,7 +48,7 @@ fn row_of_64(found: &Result<FatArch64>) -> gm_fat_entry64 {
             cputype: arch.cputype,
             cpusubtype: arch.cpusubtype,
             align: arch.align,
-            code: GM_OK,
+            code: entry_code(len, arch.offset, arch.size),
         },
         Err(why) => gm_fat_entry64 {
             offset: 0,
@@ -58,31 +61,23 @@ fn row_of_64(found: &Result<FatArch64>) -> gm_fat_entry64 {
     }
 }
 
-// The records of a fat file of 32 bits.
+// The records of a fat file, of 64 bits or of 32.
 #[derive(Clone, Copy)]
-struct Records32<'a> {
+struct Records<'a> {
     bytes: &'a [u8],
+    is_64: bool,
 }
 
-impl<'a> Numbered for Records32<'a> {
+impl<'a> Numbered for Records<'a> {
     type Row = gm_fat_entry64;
 
     fn at(&self, number: u32) -> gm_fat_entry64 {
-        wide(&fat_entry_at(self.bytes, number))
-    }
-}
-
-// The records of a fat file of 64 bits.
-#[derive(Clone, Copy)]
-struct Records64<'a> {
-    bytes: &'a [u8],
-}
-
-impl<'a> Numbered for Records64<'a> {
-    type Row = gm_fat_entry64;
-
-    fn at(&self, number: u32) -> gm_fat_entry64 {
-        row_of_64(&read_arch::<FatArch64>(self.bytes, number as usize))
+        if self.is_64 {
+            let found = read_arch::<FatArch64>(self.bytes, number as usize);
+            row_of_64(self.bytes.len(), &found)
+        } else {
+            wide(&fat_entry_at(self.bytes, number))
+        }
     }
 }
 
@@ -105,16 +100,28 @@ fn reported_of_64(bytes: &[u8]) -> u32 {
     }
 }
 
-// Writes the entries of a fat file of 64 bits from index `first` on.
-fn write_64(bytes: &[u8], first: usize, out: &mut [gm_fat_entry64]) -> usize {
-    let mut rows = rows_from(Records64 { bytes }, first, reported_of_64(bytes));
-    fill(&mut rows, out)
+// Whether the bytes begin as a fat file of 64 bits.
+fn begins_fat_64(bytes: &[u8]) -> bool {
+    match peek(bytes, 0) {
+        Ok(magic) => magic == FAT_MAGIC_64,
+        Err(_) => false,
+    }
 }
 
-// Writes the entries of a fat file of 32 bits from index `first` on.
-fn write_32(bytes: &[u8], first: usize, out: &mut [gm_fat_entry64]) -> usize {
-    let mut rows = rows_from(Records32 { bytes }, first, reported_of(bytes));
-    fill(&mut rows, out)
+// Returns how many records of a file are reported.
+fn count_by(is_64: bool, bytes: &[u8]) -> u32 {
+    if is_64 {
+        reported_of_64(bytes)
+    } else {
+        reported_of(bytes)
+    }
+}
+
+// Returns the entries of a file from index `first` on.
+fn entries_from<'a>(bytes: &'a [u8], first: usize) -> Numbers<Records<'a>> {
+    let is_64 = begins_fat_64(bytes);
+    let count = count_by(is_64, bytes);
+    rows_from(Records { bytes, is_64 }, first, count)
 }
 
 /// Writes the entries of a fat file of 32 or 64 bits from index `first` on, as many as there are and fit, and returns how many.
@@ -125,8 +132,79 @@ fn write_32(bytes: &[u8], first: usize, out: &mut [gm_fat_entry64]) -> usize {
 ///
 /// - `Fills (drop first (wide_fat_rows bytes)) out.old out.new result`
 pub fn gmr_fat_entries64(bytes: &[u8], first: usize, out: &mut [gm_fat_entry64]) -> usize {
-    match peek(bytes, 0) {
-        Ok(FAT_MAGIC_64) => write_64(bytes, first, out),
-        _ => write_32(bytes, first, out),
+    let mut rows = entries_from(bytes, first);
+    fill(&mut rows, out)
+}
+
+// Whether a row is for a cpu. Capabilities aren't compared, and the greatest number stands for any kind.
+fn is_for(row: &gm_fat_entry64, cputype: u32, cpusubtype: u32) -> bool {
+    row.cputype == cputype
+        && (cpusubtype == u32::MAX
+            || row.cpusubtype & !CPU_SUBTYPE_MASK == cpusubtype & !CPU_SUBTYPE_MASK)
+}
+
+// Returns the image that is a whole file, if its cpu can be read.
+fn thin_entry(bytes: &[u8], le: Endian) -> Option<gm_fat_entry64> {
+    match (read_u32(bytes, 4, le), read_u32(bytes, 8, le)) {
+        (Ok(cputype), Ok(cpusubtype)) => Some(gm_fat_entry64 {
+            offset: 0,
+            size: bytes.len() as u64,
+            cputype,
+            cpusubtype,
+            align: 0,
+            code: GM_OK,
+        }),
+        _ => None,
+    }
+}
+
+// Returns the first entry of a fat file that is for a cpu.
+fn find_entry(bytes: &[u8], cputype: u32, cpusubtype: u32) -> Option<gm_fat_entry64> {
+    let mut rows = entries_from(bytes, 0);
+    while let Some(row) = rows.next() {
+        if is_for(&row, cputype, cpusubtype) {
+            return Some(row);
+        }
+    }
+    None
+}
+
+// Returns the first image of a file that is for a cpu.
+fn find_image(bytes: &[u8], cputype: u32, cpusubtype: u32) -> Option<gm_fat_entry64> {
+    match parse_magic_and_ctx(bytes, 0) {
+        Ok((_, Some(ctx))) => match thin_entry(bytes, ctx.le) {
+            Some(row) if is_for(&row, cputype, cpusubtype) => Some(row),
+            _ => None,
+        },
+        Ok((_, None)) => find_entry(bytes, cputype, cpusubtype),
+        Err(_) => None,
+    }
+}
+
+/// Writes the one image for a cpu in a fat file of 32 or 64 bits, or in a file that is an image, to `found`. The first counts.
+/// It is refused with `GM_SHORT` if that entry isn't all in the file, and with `GM_NO_IMAGE` if there is none. A refused call
+/// leaves `found` unchanged.
+///
+/// # Proved
+///
+/// - *code*: `result ≡ image_code (image_for cputype cpusubtype bytes)`
+/// - *found*: if `result ≡ 0`, `image_for cputype cpusubtype bytes ≡ Some found.new`
+/// - *kept*: if `result ≢ 0`, `found.new ≡ found.old`
+/// - *reported*: if `result ≢ 0`, `error.new.code ≡ result`
+/// - *quiet*: if `result ≡ 0`, `error.new ≡ error.old`
+pub fn gmr_image_for(
+    bytes: &[u8],
+    cputype: u32,
+    cpusubtype: u32,
+    found: &mut gm_fat_entry64,
+    error: &mut gm_error,
+) -> u32 {
+    match find_image(bytes, cputype, cpusubtype) {
+        None => refuse_no_image(error),
+        Some(row) if row.code == GM_OK => {
+            *found = row;
+            GM_OK
+        }
+        Some(row) => refuse_outside(row.code, error),
     }
 }

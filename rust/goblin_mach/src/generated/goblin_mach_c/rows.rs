@@ -43,3 +43,18 @@ pub fn skip<R: Rows>(rows: &mut R, count: usize) {
         };
     }
 }
+
+/// Writes a row that was found and returns 1, or leaves `place` unchanged and returns 0.
+///
+/// # Proved
+///
+/// - `WritesFound row place.old place.new result`
+pub fn put_found<T: Copy>(row: Option<T>, place: &mut T) -> u32 {
+    match row {
+        Some(row) => {
+            *place = row;
+            1
+        }
+        None => 0,
+    }
+}

@@ -5,6 +5,7 @@
 use crate::generated::goblin_mach_c::errors::{GM_OK, gm_error, refuse};
 use crate::generated::goblin_mach_c::images::gm_image;
 use crate::generated::goblin_mach_c::open::open;
+use crate::generated::mach_base::Error;
 use crate::generated::mach_parts::segment::NumberedSection;
 
 /// A section that was looked up: number `number` of segment `segment`, with its whole record. If `is_found` is 0 there is none,
@@ -121,6 +122,40 @@ pub fn gmr_section_of(
             }
             Err(why) => refuse(&why, error),
         },
+        Err(why) => refuse(&why, error),
+    }
+}
+
+/// Writes the first section with a name, in a segment of that name, to `section`, by the names that the section has itself.
+/// Sections that aren't in the bytes are skipped. It opens the image again, and allocates memory for its commands while it runs.
+/// It is also refused if a name isn't UTF-8. A refused call leaves `section` unchanged.
+///
+/// # Proved
+///
+/// - *found*: if `result ≡ 0`, `FindsSectionNamed bytes image.offset segment name section.new`
+/// - *refused*: if `result ≢ 0`, `IsRefusalCode (λ f. NameFaultIn bytes image segment f ⊎ NameFaultIn bytes image name f) result`
+/// - *kept*: if `result ≢ 0`, `section.new ≡ section.old`
+/// - *reported*: if `result ≢ 0`, `error.new.code ≡ result`
+/// - *quiet*: if `result ≡ 0`, `error.new ≡ error.old`
+pub fn gmr_section_named(
+    bytes: &[u8],
+    image: &gm_image,
+    segment: &[u8],
+    name: &[u8],
+    section: &mut gm_found_section,
+    error: &mut gm_error,
+) -> u32 {
+    let Ok(segment) = str::from_utf8(segment) else {
+        return refuse(&Error::Malformed("a name is UTF-8"), error);
+    };
+    let Ok(name) = str::from_utf8(name) else {
+        return refuse(&Error::Malformed("a name is UTF-8"), error);
+    };
+    match open(bytes, image.offset, image.is_lossy != 0) {
+        Ok(found) => {
+            *section = row_of(&found.section_named(segment, name));
+            GM_OK
+        }
         Err(why) => refuse(&why, error),
     }
 }

@@ -28,12 +28,12 @@ pub struct gm_section {
     pub code: u32,
 }
 
-// The sections after the command at a place.
+/// The sections after the command at a place.
 #[derive(Clone, Copy)]
-struct Sections<'a> {
-    bytes: &'a [u8],
-    command: usize,
-    ctx: Ctx,
+pub struct Sections<'a> {
+    pub bytes: &'a [u8],
+    pub command: usize,
+    pub ctx: Ctx,
 }
 
 // The command of a segment with one section.
@@ -52,8 +52,12 @@ const ONE_SECTION: SegmentCommand64 = SegmentCommand64 {
 };
 
 impl<'a> Sections<'a> {
-    // Reads the section of a number, with its data.
-    fn read(&self, number: u32) -> Result<(Section, SectionData<'a>)> {
+    /// Reads the section of a number, with its data.
+    ///
+    /// # Proved
+    ///
+    /// - `section_read result ≡ section_item self.ctx self.bytes self.command number`
+    pub fn read(&self, number: u32) -> Result<(Section, SectionData<'a>)> {
         let following = number as usize * Section::size_with(&self.ctx);
         let place = self.command.saturating_add(following);
         let segment = Segment::from_64_lossy(self.bytes, &ONE_SECTION, place, self.ctx)?;
@@ -65,8 +69,12 @@ impl<'a> Sections<'a> {
     }
 }
 
-// Returns a section with its data, or why it can't be read.
-fn row_of(found: &Result<(Section, SectionData<'_>)>) -> gm_section {
+/// Returns the row of a section with its data, or of why it can't be read.
+///
+/// # Proved
+///
+/// - `result ≡ section_row (section_read found)`
+pub fn section_row(found: &Result<(Section, SectionData<'_>)>) -> gm_section {
     match found {
         Ok((section, bytes)) => gm_section {
             name: section.sectname,
@@ -101,7 +109,7 @@ impl<'a> Numbered for Sections<'a> {
     type Row = gm_section;
 
     fn at(&self, number: u32) -> gm_section {
-        row_of(&self.read(number))
+        section_row(&self.read(number))
     }
 }
 

@@ -27,11 +27,11 @@ pub struct gm_segment {
     pub flags: u32,
 }
 
-// The segments in some bytes.
+/// The segments in some bytes.
 #[derive(Clone, Copy)]
-struct Segments<'a> {
-    bytes: &'a [u8],
-    ctx: Ctx,
+pub struct Segments<'a> {
+    pub bytes: &'a [u8],
+    pub ctx: Ctx,
 }
 
 // Returns a segment as C sees it.
@@ -69,19 +69,28 @@ impl<'a> Pick for Segments<'a> {
     }
 }
 
+/// Returns the segments of an image.
+///
+/// # Proved
+///
+/// - `rows_of (λ c. shown segment_row (lossy_segment_by result.what.ctx result.what.bytes c)) (readable_commands_left result.commands) ≡ segment_rows bytes image`
+pub fn segment_list<'a>(bytes: &'a [u8], image: &gm_image) -> Picked<'a, Segments<'a>> {
+    Picked {
+        commands: Commands::of(bytes, image),
+        what: Segments {
+            bytes,
+            ctx: ctx_of(image),
+        },
+    }
+}
+
 /// Writes the segments of an image from index `first` on, as many as there are and fit, and returns how many.
 ///
 /// # Proved
 ///
 /// - `Fills (drop first (segment_rows bytes image)) out.old out.new result`
 pub fn gmr_segments(bytes: &[u8], image: &gm_image, first: usize, out: &mut [gm_segment]) -> usize {
-    let mut rows = Picked {
-        commands: Commands::of(bytes, image),
-        what: Segments {
-            bytes,
-            ctx: ctx_of(image),
-        },
-    };
+    let mut rows = segment_list(bytes, image);
     skip(&mut rows, first);
     fill(&mut rows, out)
 }

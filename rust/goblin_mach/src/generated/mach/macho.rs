@@ -7,11 +7,16 @@ use alloc::vec::Vec;
 mod debug;
 mod dyld;
 pub mod look_up;
+mod named;
+mod nearest;
+mod offsets;
+mod said;
 mod slots;
 mod streams;
 mod tables;
 
 use crate::generated::mach::fields::Fields;
+pub use crate::generated::mach::macho::nearest::{Function, SymbolAt};
 use crate::generated::mach::opened::Opened;
 use crate::generated::mach::relocations::{RelocatedSection, relocations};
 use crate::generated::mach_base::{Ctx, Result};

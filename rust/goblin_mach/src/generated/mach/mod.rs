@@ -18,6 +18,7 @@ mod opened;
 pub mod readings;
 mod rebases;
 mod relocations;
+pub mod said;
 mod single_value;
 mod subjects;
 pub mod table_places;
@@ -25,6 +26,7 @@ mod weak_binds;
 
 // A file: an image, a fat file, or anything else that holds images.
 mod fat_file;
+pub mod first_bytes;
 #[cfg(feature = "archive")]
 mod images;
 #[cfg(feature = "archive")]
@@ -50,6 +52,7 @@ pub use crate::generated::mach::fat_file::entry::SingleArch;
 pub use crate::generated::mach::fat_file::table::{
     EntryIterator, FatTable, MultiArch, MultiArch64, SingleArch64Iterator, SingleArchIterator,
 };
+pub use crate::generated::mach::first_bytes::Foreign;
 pub use crate::generated::mach::fixups::FixupIterator;
 #[cfg(feature = "archive")]
 pub use crate::generated::mach::images::Images;
@@ -61,8 +64,9 @@ pub use crate::generated::mach::libraries::{
     Library, LibraryAttributes, LibraryIterator, LibraryKind,
 };
 pub use crate::generated::mach::mach::Mach;
-pub use crate::generated::mach::macho::MachO;
+pub use crate::generated::mach::macho::{Function, MachO, SymbolAt};
 pub use crate::generated::mach::rebases::RebaseIterator;
+pub use crate::generated::mach::said::{BuildVersion, Encryption, FilesetEntry};
 pub use crate::generated::mach::subjects::{id_place, library_place, run_path_place};
 pub use crate::generated::mach::view::{LinkView, link_view};
 pub use crate::generated::mach_base::{

@@ -10,8 +10,8 @@ use crate::generated::mach_load::{CommandVariant, LoadCommand};
 use crate::generated::mach_parts::segment::Segment;
 use crate::generated::mach_parts::symbols::Symbols;
 
-// Returns the place `offset` bytes after another, or the last place there is.
-fn place_of(start: usize, offset: u32) -> usize {
+/// Returns the place `offset` bytes after another, or the last place there is.
+pub(crate) fn place_of(start: usize, offset: u32) -> usize {
     start.saturating_add(offset as usize)
 }
 

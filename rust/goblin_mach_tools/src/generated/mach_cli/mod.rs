@@ -22,12 +22,14 @@ mod word;
 mod document;
 mod fields;
 mod image_files;
+mod image_kinds;
 mod image_view;
 mod images_view;
 mod items;
 mod label;
 mod listing;
 mod names;
+mod origins;
 mod refusal;
 mod signing;
 mod sink;
@@ -62,11 +64,10 @@ pub use crate::generated::mach_cli::fields::{
     Field, FieldsForm, Line, Object, Pairs, Value, word_if,
 };
 pub use crate::generated::mach_cli::files::{FileView, Files};
-pub use crate::generated::mach_cli::first_bytes::{
-    Foreign, begins_image, begins_whole_archive, entry_kind, foreign_kind, refused_kind,
-};
+pub use crate::generated::mach_cli::first_bytes::{begins_whole_archive, entry_kind, refused_kind};
 pub use crate::generated::mach_cli::flags::{print_code_flags, print_segment_flags};
 pub use crate::generated::mach_cli::image_files::ImageFiles;
+pub use crate::generated::mach_cli::image_kinds::image_kind;
 pub use crate::generated::mach_cli::image_view::{ImageView, Outcome};
 pub use crate::generated::mach_cli::images_view::ImagesView;
 pub use crate::generated::mach_cli::items::{InForm, ItemList};
@@ -82,6 +83,9 @@ pub use crate::generated::mach_cli::misuse::Misuse;
 pub use crate::generated::mach_cli::named::{Others, names_of};
 pub use crate::generated::mach_cli::names::Names;
 pub use crate::generated::mach_cli::options::{Format, Options, OwnOptions, SharedOnly};
+pub use crate::generated::mach_cli::origins::{
+    library_short_name, ordinal_of, origin_of, provider_name,
+};
 pub use crate::generated::mach_cli::parts::name::PartName;
 pub use crate::generated::mach_cli::parts::selection::{is_for, is_missed};
 pub use crate::generated::mach_cli::parts::shown::{ShownPart, shown_part};

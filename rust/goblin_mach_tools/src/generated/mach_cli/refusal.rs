@@ -3,14 +3,14 @@
 #![forbid(unsafe_code)]
 
 use crate::generated::mach_cli::cpu::Cpu;
-use crate::generated::mach_cli::first_bytes::{Foreign, refused_kind};
+use crate::generated::mach_cli::first_bytes::refused_kind;
 use crate::generated::mach_cli::label::{Label, LabelSuffix};
 use crate::generated::mach_cli::names::Names;
 use crate::shim::io;
 use crate::shim::io::Write;
 use core::fmt;
 use core::fmt::{Display, Formatter};
-use goblin_mach::generated::mach::{Content, Description, Error, describe};
+use goblin_mach::generated::mach::{Content, Description, Error, Foreign, describe};
 
 /// Why nothing is shown of a file or of an image.
 #[derive(Clone, Copy)]

@@ -2,12 +2,13 @@
 //! The records and the entries of a fat file.
 #![forbid(unsafe_code)]
 
-use crate::generated::mach_cli::{Escaped, Foreign, Line, Object, print_cut, refused_kind};
+use crate::generated::mach_cli::{Escaped, Line, Object, print_cut, refused_kind};
 use crate::generated::machfat::listed::{Listed, list_of};
 use crate::generated::machfat::refusal::{Refusal, WriteFailure};
 use crate::generated::machfat::text::{CpuText, EndText, write_record};
 use crate::shim::io;
 use crate::shim::io::Write;
+use goblin_mach::generated::mach::Foreign;
 use goblin_mach::generated::mach_fat_writer::{EntryRecord, EntryRefusal, indexed_entry};
 
 // Returns the kind of a file whose entries are refused, if its first bytes show it.

@@ -4,12 +4,14 @@
 
 use alloc::vec::Vec;
 
-use crate::generated::mach_cli::{Foreign, Outcome, begins_image, most_items, refused_kind};
+use crate::generated::mach_cli::{Outcome, most_items, refused_kind};
 use crate::generated::machfat::archive::{print_archive, print_refused};
 use crate::generated::machfat::commands::reported;
 use crate::generated::machfat::refusal::{Refusal, WriteFailure, refused_by};
 use crate::shim::io;
 use crate::shim::io::{BufWriter, Write};
+use goblin_mach::generated::mach::Foreign;
+use goblin_mach::generated::mach::first_bytes::begins_image;
 use goblin_mach::generated::mach_archive::Archive;
 use goblin_mach::generated::mach_base::Error;
 use goblin_mach::generated::mach_fat_writer::{EntryRecord, EntryRefusal, Form};

@@ -61,7 +61,7 @@ const PROGRAM: Program = Program {
        machfat -h | --help | --version
 CPU: a name, as arm64, or 0xCPUTYPE
 ",
-    version: "machfat 0.2.0\n",
+    version: "machfat 0.3.0\n",
     options: Options {
         has_limit: true,
         has_files: true,

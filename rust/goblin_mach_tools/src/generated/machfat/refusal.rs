@@ -2,12 +2,12 @@
 //! Why the program refuses a file or an entry.
 #![forbid(unsafe_code)]
 
-use crate::generated::mach_cli::{Cpu, Foreign};
+use crate::generated::mach_cli::Cpu;
 use crate::shim::AllocError;
 use crate::shim::io;
 use core::fmt;
 use core::fmt::{Display, Formatter};
-use goblin_mach::generated::mach::{Error, describe};
+use goblin_mach::generated::mach::{Error, Foreign, describe};
 use goblin_mach::generated::mach_fat_writer::EntryRefusal;
 
 /// Why a file has no such list or entry.

@@ -42,7 +42,6 @@ mod kept_fixups;
 mod lists;
 mod members;
 mod memory;
-mod origins;
 mod row;
 mod rows;
 mod section_names;
@@ -68,7 +67,7 @@ const USAGE: &str = "usage: machfixups [--rebases] [--binds] [--weak] [--chains]
 const PROGRAM: Program = Program {
     name: "machfixups",
     usage: USAGE,
-    version: "machfixups 0.2.0\n",
+    version: "machfixups 0.3.0\n",
     options: Options::OF_IMAGES,
     known: &[
         "--arch",

@@ -2,15 +2,13 @@
 //! The rows of the rebases, binds and weak binds of the opcodes and of the fixups of the chains.
 #![forbid(unsafe_code)]
 
-use crate::generated::machfixups::origins::{origin_of, provider_name};
+use crate::generated::mach_cli::{ordinal_of, origin_of, provider_name};
 use crate::generated::machfixups::section_names::{AllStretches, SegmentStretches};
 use crate::generated::machfixups::stored_pointers::{StoredPointers, raw_of};
 use goblin_mach::generated::mach::chained_fixups::{
     ChainedFixups, ChainedImport, Fixup, FixupKind, PointerAuth,
 };
-use goblin_mach::generated::mach::{
-    Binding, Error, Provider, Rebase, RebaseKind, Result, WeakBind,
-};
+use goblin_mach::generated::mach::{Binding, Error, Rebase, RebaseKind, Result, WeakBind};
 
 /// An address.
 #[derive(Clone, Copy)]
@@ -97,17 +95,6 @@ fn target_by_kind<'b>(parts: &'b AllStretches, kind: RebaseKind, target: u64) ->
             segment: None,
             section: None,
         },
-    }
-}
-
-// Returns the ordinal of a provider.
-fn ordinal_of(provider: &Provider<'_>) -> i128 {
-    match provider {
-        Provider::Library { ordinal, .. } => i128::from(*ordinal),
-        Provider::Itself => 0,
-        Provider::MainExecutable => -1,
-        Provider::Flat => -2,
-        Provider::WeakLookup => -3,
     }
 }
 

@@ -6,17 +6,18 @@ use crate::generated::mach_cli::{
     ImageView, InForm, ItemList, Object, Outcome, ShowFailure, print_end_past, print_member,
 };
 use crate::generated::machinfo::counts::{COUNTED, Form, print_counts};
+use crate::generated::machinfo::exports::{ExportList, exports_of};
 use crate::generated::machinfo::list::ImageList;
 use crate::generated::machinfo::members::write_front;
-use crate::generated::machinfo::word::Word;
+use crate::generated::machinfo::word::{Choice, Word};
 use crate::shim::io;
 use crate::shim::io::Write;
 use goblin_mach::generated::mach::MachO;
 
-/// The members of the list that a word selects, or of the summary.
+/// The members of what a call selects, or of the summary.
 #[derive(Clone, Copy)]
 pub struct InfoObjects {
-    pub word: Option<Word>,
+    pub choice: Option<Choice>,
 }
 
 impl ImageView for InfoObjects {
@@ -28,8 +29,9 @@ impl ImageView for InfoObjects {
         left: usize,
         out: &mut O,
     ) -> Result<Outcome, ShowFailure> {
-        match self.word {
-            Some(word) => Ok(write_rows(word, image, left, out)?),
+        match self.choice {
+            Some(Choice::Word(word)) => Ok(write_rows(word, image, left, out)?),
+            Some(Choice::Exports) => write_exports(image, left, out),
             None => Ok(write_summary(image, limit, left, out)?),
         }
     }
@@ -43,12 +45,33 @@ fn write_rows<O: Write>(
     left: usize,
     out: &mut O,
 ) -> io::Result<Outcome> {
-    let mut list = InForm {
-        list: ImageList::of(word, image),
-        form: Object,
+    write_items(word.name(), ImageList::of(word, image), left, out)
+}
+
+// Writes the exports of an image as objects, at most `left` of them, or the fault of its trie.
+fn write_exports<O: Write>(
+    image: &MachO<'_>,
+    left: usize,
+    out: &mut O,
+) -> Result<Outcome, ShowFailure> {
+    let (exports, refusal) = exports_of(image)?;
+    let list = ExportList {
+        refusal,
+        exports: exports.as_slice(),
     };
-    let name = word.name();
-    let past = list.list.items_past();
+    Ok(write_items("exports", list, left, out)?)
+}
+
+// Writes the items of a list as an array of this name, at most `left` of them; whether there are more; and how many more are claimed
+// past the end of the bytes. Returns whether all were written and can be read, and how many more may be written.
+fn write_items<L: ItemList, O: Write>(
+    name: &str,
+    list: L,
+    left: usize,
+    out: &mut O,
+) -> io::Result<Outcome> {
+    let past = list.items_past();
+    let mut list = InForm { list, form: Object };
     let reported = print_member(name, &mut list, left, out)?;
     print_end_past(reported, past, out)
 }

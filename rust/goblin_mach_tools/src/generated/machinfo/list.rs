@@ -15,7 +15,7 @@ use crate::shim::io;
 use crate::shim::io::Write;
 use goblin_mach::generated::mach::slots::{IndirectSymbolIterator, SlotIterator};
 use goblin_mach::generated::mach::{
-    BuildToolIterator, DataInCodeIterator, FunctionStartIterator, LibraryIterator,
+    BindingIterator, BuildToolIterator, DataInCodeIterator, FunctionStartIterator, LibraryIterator,
     LinkerOptionIterator, MachO, RebaseIterator, Result, WeakBindIterator,
 };
 
@@ -34,6 +34,7 @@ pub enum ImageList<'a, 'b> {
     Libraries(LibraryIterator<'a, 'b>),
     Rebases(RebaseIterator<'a, 'b>),
     Weak(WeakBindIterator<'a, 'b>),
+    Imports(BindingIterator<'a, 'b>),
     Part(PartList<'a, 'b>),
     Security(Findings<'a, 'b>),
 }
@@ -81,6 +82,7 @@ impl<'a, 'b> ImageList<'a, 'b> {
             Word::Libraries => ImageList::Libraries(image.libraries()),
             Word::Rebases => ImageList::Rebases(image.rebases()),
             Word::Weak => ImageList::Weak(image.weak_binds()),
+            Word::Imports => ImageList::Imports(image.bindings()),
             Word::Part(part) => ImageList::Part(PartList::of(part, image)),
             Word::Security => ImageList::Security(Findings::of(image)),
         }
@@ -132,6 +134,10 @@ impl<'a, 'b> ItemList for ImageList<'a, 'b> {
             },
             ImageList::Weak(list) => match list.next()? {
                 Ok(bind) => Some(Ok(Row::Weak(bind))),
+                Err(error) => Some(Err(error)),
+            },
+            ImageList::Imports(list) => match list.next()? {
+                Ok(binding) => Some(Ok(Row::Import(binding))),
                 Err(error) => Some(Err(error)),
             },
             ImageList::Part(list) => match list.take_next()? {

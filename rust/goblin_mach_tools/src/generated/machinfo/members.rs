@@ -2,7 +2,9 @@
 //! The members of an image's object that say what it is, before those of its counts.
 #![forbid(unsafe_code)]
 
-use crate::generated::mach_cli::{ListProgress, comma_before, cpu_name, print_member, then};
+use crate::generated::mach_cli::{
+    ListProgress, comma_before, cpu_name, image_kind, print_member, then,
+};
 use crate::generated::machinfo::command_facts::{CommandFacts, Question};
 use crate::generated::machinfo::fact::{FactList, FactObjects};
 use crate::generated::machinfo::segments::{TextOrNull, write_segments};
@@ -11,7 +13,7 @@ use crate::generated::machinfo::state::{State, state_of};
 use crate::generated::machinfo::summary::flag_short_name;
 use crate::shim::io;
 use crate::shim::io::Write;
-use goblin_mach::generated::mach::header::{Header, filetype_to_str};
+use goblin_mach::generated::mach::header::Header;
 use goblin_mach::generated::mach::{Error, MachO, Result, describe};
 use goblin_mach::generated::mach_signature::CodeDirectory;
 use goblin_mach::generated::mach_signature::image::code_directory;
@@ -73,7 +75,7 @@ fn write_header<O: Write>(
 ) -> io::Result<()> {
     let (cputype, cpusubtype) = (header.cputype, header.cpusubtype);
     let cpu = TextOrNull(cpu_name(cputype, cpusubtype % 0x100_0000));
-    let filetype = filetype_to_str(header.filetype);
+    let words = image_kind(header.filetype);
     let name = TextOrNull(name);
     write!(
         out,
@@ -81,7 +83,7 @@ fn write_header<O: Write>(
     )?;
     write!(
         out,
-        "\"entry_point\":{entry},\"filetype\":\"{filetype}\",\"name\":{name},"
+        "\"entry_point\":{entry},\"image_kind\":\"{words}\",\"name\":{name},"
     )
 }
 

@@ -3,7 +3,7 @@
 //!
 //! With a word it prints one list instead, an item a line: load commands, function starts, stubs and pointers, indirect symbols,
 //! data in code, linker options, tools, notes, providers of symbols, libraries, rebases, weak binds, segments, sections,
-//! UUIDs, run paths, the entry point, the header or how it is hardened. Of a fat file it prints that of each entry, or of the
+//! UUIDs, run paths, the entry point, the header, how it is hardened, exports or imports. Of a fat file it prints that of each entry, or of the
 //! entries for one cpu, under a line that says which.
 //!
 //! It prints at most as many rows of a file as `--limit` says, and a line after those of an image that has more. A row that can't
@@ -29,9 +29,11 @@ mod views;
 // The lists of an image: an item is a row, whose fields are shown as a line or as an object of JSON.
 mod command_fields;
 mod commands;
+mod exports;
 mod fields;
 mod hardening;
 mod list;
+mod list_lines;
 mod notes;
 mod part_fields;
 mod parts;
@@ -44,7 +46,7 @@ mod word;
 use crate::generated::mach_cli::{
     Call, ForTerminal, ImageFiles, Misuse, Options, Others, Program, SharedOnly, Titled,
 };
-use crate::generated::machinfo::word::Word;
+use crate::generated::machinfo::word::Choice;
 use crate::shim::io;
 use crate::shim::io::{BufWriter, IsTerminal, Write};
 use json::InfoObjects;
@@ -59,9 +61,9 @@ const PROGRAM: Program = Program {
     usage: "usage: machinfo [--json] [--limit N] [--arch NAME | --cputype 0xN] [--names FILE] [-0] [WORD] FILE..
        machinfo -h | --help | --version
 WORD: commands, starts, slots, indirect, data, options, tools, notes, providers, libraries, rebases, weak,
-      segments, sections, uuid, rpaths, entrypoint, header, security
+      segments, sections, uuid, rpaths, entrypoint, header, security, exports, imports
 ",
-    version: "machinfo 0.2.0\n",
+    version: "machinfo 0.3.0\n",
     options: Options::OF_IMAGES,
     known: &[
         "-0",
@@ -75,7 +77,9 @@ WORD: commands, starts, slots, indirect, data, options, tools, notes, providers,
         "commands",
         "data",
         "entrypoint",
+        "exports",
         "header",
+        "imports",
         "indirect",
         "libraries",
         "notes",
@@ -138,7 +142,7 @@ fn misspelled<'a>(rt: &HostRuntime, arguments: &[&'a str]) -> Option<Misuse<'a>>
     let [first, _, ..] = arguments else {
         return None;
     };
-    if Word::named(first).is_some() || !has_small_letters(first.as_bytes()) {
+    if Choice::named(first).is_some() || !has_small_letters(first.as_bytes()) {
         return None;
     }
     let misuse = Misuse::UnknownWord(first);
@@ -147,9 +151,9 @@ fn misspelled<'a>(rt: &HostRuntime, arguments: &[&'a str]) -> Option<Misuse<'a>>
 }
 
 // Returns the list that the first argument selects, if it does.
-fn selected_by(arguments: &[&str]) -> Option<Word> {
+fn selected_by(arguments: &[&str]) -> Option<Choice> {
     let first = arguments.first()?;
-    Word::named(first)
+    Choice::named(first)
 }
 
 // Returns the arguments that are files: all but a first one that selects a list.
@@ -162,15 +166,15 @@ fn files_named<'a, 'b>(arguments: &'a [&'b str]) -> &'a [&'b str] {
 
 // Returns how a call shows its files: the list that its first argument selects, or else the summary, as lines or as objects.
 fn shown_by(call: &Call<'_, SharedOnly>) -> ImageFiles<InfoLines, InfoObjects> {
-    let word = selected_by(&call.words);
+    let choice = selected_by(&call.words);
     ImageFiles {
         program: PROGRAM,
         cpu: call.cpu,
         limit: call.limit.unwrap_or(DEFAULT_LIMIT),
         is_json: call.format.is_json(),
         has_titles: true,
-        lines: InfoLines { word },
-        objects: InfoObjects { word },
+        lines: InfoLines { choice },
+        objects: InfoObjects { choice },
     }
 }
 

@@ -2,8 +2,8 @@
 //! The lines of the summary for the entry point, the segments and the sections of an image.
 #![forbid(unsafe_code)]
 
-use crate::generated::mach_cli::{Field, FieldsForm, InForm, Line, print_listing};
-use crate::generated::machinfo::list::ImageList;
+use crate::generated::mach_cli::{Field, FieldsForm, Line};
+use crate::generated::machinfo::list_lines::print_in_form;
 use crate::generated::machinfo::word::{Part, Word};
 use crate::shim::io;
 use crate::shim::io::Write;
@@ -61,38 +61,13 @@ impl FieldsForm for SectionLine {
 ///
 /// - for each `bytes : List ℕ`, if `IsImage bytes 0 image`, if `Ok(whole)`: there is `text : List ℕ` with: `AreLinesOfParts limit bytes text whole × Appends (O.contents out.old) (O.contents out.new) text`
 pub fn print_parts<O: Write>(image: &MachO<'_>, limit: usize, out: &mut O) -> io::Result<bool> {
-    let entry = print_part(Part::Entry, EntryLine, "entry: refused", image, 1, out)?;
-    let segments = print_part(
-        Part::Segments,
-        SegmentLine,
-        "segment: refused",
-        image,
-        limit,
-        out,
-    )?;
-    let sections = print_part(
-        Part::Sections,
-        SectionLine,
-        "section: refused",
-        image,
-        limit,
-        out,
-    )?;
-    Ok(entry & segments & sections)
-}
-
-// Prints the rows of a part of an image in a form, up to the limit; a row that can't be read is `refused` and why. Returns whether all
-// were printed and can be read.
-fn print_part<F: FieldsForm, O: Write>(
-    part: Part,
-    form: F,
-    refused: &str,
-    image: &MachO<'_>,
-    limit: usize,
-    out: &mut O,
-) -> io::Result<bool> {
-    let list = ImageList::of(Word::Part(part), image);
-    let mut lines = InForm { list, form };
-    let outcome = print_listing(&mut lines, refused, limit, limit, out)?;
-    Ok(outcome.whole)
+    let word = Word::Part(Part::Entry);
+    let entry = print_in_form(word, EntryLine, "entry: refused", image, 1, 1, out)?;
+    let word = Word::Part(Part::Segments);
+    let refused = "segment: refused";
+    let segments = print_in_form(word, SegmentLine, refused, image, limit, limit, out)?;
+    let word = Word::Part(Part::Sections);
+    let refused = "section: refused";
+    let sections = print_in_form(word, SectionLine, refused, image, limit, limit, out)?;
+    Ok(entry.whole & segments.whole & sections.whole)
 }

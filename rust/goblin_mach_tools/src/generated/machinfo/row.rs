@@ -9,7 +9,7 @@ use crate::generated::machinfo::providers::Provided;
 use crate::generated::machinfo::security::Finding;
 use goblin_mach::generated::mach::load_command::{BuildToolVersion, DataInCodeEntry};
 use goblin_mach::generated::mach::slots::{IndirectSymbol, SymbolSlot};
-use goblin_mach::generated::mach::{Library, Rebase, WeakBind};
+use goblin_mach::generated::mach::{Binding, Library, Rebase, WeakBind};
 
 /// A row of a list.
 #[derive(Clone, Copy)]
@@ -26,6 +26,7 @@ pub enum Row<'a, 'b> {
     Library(Library<'a>),
     Rebase(Rebase),
     Weak(WeakBind<'a>),
+    Import(Binding<'a>),
     Part(PartRow<'a, 'b>),
     Verdict(Finding),
 }

@@ -4,8 +4,8 @@
 
 use crate::generated::mach_cli::{Field, Value};
 use crate::generated::machinfo::hardening::{
-    has_bit, has_canary, has_chained_fixups, has_relative_path, has_restricted, has_writable_code,
-    is_arm64e, may_have_writable_code,
+    allows_debuggers, has_bit, has_canary, has_chained_fixups, has_relative_path, has_restricted,
+    has_writable_code, is_arm64e, may_have_writable_code,
 };
 use crate::generated::machinfo::state::{is_encrypted, state_of};
 use goblin_mach::generated::mach::header::{
@@ -35,10 +35,11 @@ pub enum Verdict {
     HardenedRuntime,
     LibraryValidation,
     Entitlements,
+    GetTaskAllow,
 }
 
 // All verdicts, in order.
-const VERDICTS: [Verdict; 18] = [
+const VERDICTS: [Verdict; 19] = [
     Verdict::Pie,
     Verdict::NoHeapExecution,
     Verdict::StackExecution,
@@ -57,6 +58,7 @@ const VERDICTS: [Verdict; 18] = [
     Verdict::HardenedRuntime,
     Verdict::LibraryValidation,
     Verdict::Entitlements,
+    Verdict::GetTaskAllow,
 ];
 
 impl Verdict {
@@ -90,6 +92,7 @@ impl Verdict {
                 "only libraries of its team or of the system",
             ),
             Verdict::Entitlements => ("entitlements", "entitlements in the signature"),
+            Verdict::GetTaskAllow => ("get-task-allow", "debuggers may attach to it"),
         }
     }
 }
@@ -164,6 +167,14 @@ fn has_entitlements(image: &MachO<'_>) -> Result<bool> {
     }
 }
 
+// Whether the entitlements in the signature of an image let debuggers attach.
+fn gets_task(image: &MachO<'_>) -> Result<bool> {
+    match code_signature(image)? {
+        Some(signature) => Ok(allows_debuggers(signature.entitlements()?)),
+        None => Ok(false),
+    }
+}
+
 // Whether a verdict holds of an image, or why its signature can't be read.
 fn is_so(image: &MachO<'_>, verdict: Verdict) -> Result<bool> {
     let flags = image.header.flags;
@@ -188,6 +199,7 @@ fn is_so(image: &MachO<'_>, verdict: Verdict) -> Result<bool> {
         Verdict::HardenedRuntime => has_code_flag(image, 0x1_0000),
         Verdict::LibraryValidation => has_code_flag(image, 0x2000),
         Verdict::Entitlements => has_entitlements(image),
+        Verdict::GetTaskAllow => gets_task(image),
     }
 }
 

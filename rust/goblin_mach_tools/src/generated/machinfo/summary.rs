@@ -2,13 +2,13 @@
 //! The summary of an image before its counts, but for its signature and its state.
 #![forbid(unsafe_code)]
 
-use crate::generated::mach_cli::{Escaped, cpu_name, print_listing};
+use crate::generated::mach_cli::{Escaped, cpu_name, image_kind, print_listing};
 use crate::generated::machinfo::command_facts::{CommandFacts, Question};
 use crate::generated::machinfo::fact::{FactLines, FactList};
 use crate::shim::io;
 use crate::shim::io::Write;
 use goblin_mach::generated::mach::MachO;
-use goblin_mach::generated::mach::header::{Header, filetype_to_str, flag_to_str};
+use goblin_mach::generated::mach::header::{Header, flag_to_str};
 
 /// Prints the first lines of an image, each list up to the limit. Returns whether all were printed and can be read.
 ///
@@ -55,7 +55,7 @@ fn print_list<O: Write>(
 
 // Prints the kind of the file, and the cpu.
 fn print_kind<O: Write>(header: &Header, out: &mut O) -> io::Result<()> {
-    let kind = filetype_to_str(header.filetype);
+    let kind = image_kind(header.filetype);
     writeln!(out, "kind: {kind}")?;
     print_cpu(header.cputype, header.cpusubtype, out)
 }

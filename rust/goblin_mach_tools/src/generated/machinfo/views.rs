@@ -6,20 +6,21 @@ use crate::generated::mach_cli::{
     ImageView, InForm, Line, Outcome, Pairs, ShowFailure, print_listing,
 };
 use crate::generated::machinfo::counts::{COUNTED, Form, print_counts};
-use crate::generated::machinfo::list::ImageList;
+use crate::generated::machinfo::exports::{ExportList, exports_of};
+use crate::generated::machinfo::list_lines::print_in_form;
 use crate::generated::machinfo::part_lines::print_parts;
 use crate::generated::machinfo::signed::print_signed;
 use crate::generated::machinfo::state::{print_state, state_of};
 use crate::generated::machinfo::summary::{print_front, print_used};
-use crate::generated::machinfo::word::{Part, Word};
+use crate::generated::machinfo::word::{Choice, Part, Word};
 use crate::shim::io;
 use crate::shim::io::Write;
 use goblin_mach::generated::mach::MachO;
 
-/// The lines of the list that a word selects, or of the summary.
+/// The lines of what a call selects, or of the summary.
 #[derive(Clone, Copy)]
 pub struct InfoLines {
-    pub word: Option<Word>,
+    pub choice: Option<Choice>,
 }
 
 impl ImageView for InfoLines {
@@ -31,8 +32,9 @@ impl ImageView for InfoLines {
         left: usize,
         out: &mut O,
     ) -> Result<Outcome, ShowFailure> {
-        match self.word {
-            Some(word) => Ok(print_list(word, image, limit, left, out)?),
+        match self.choice {
+            Some(Choice::Word(word)) => Ok(print_list(word, image, limit, left, out)?),
+            Some(Choice::Exports) => print_exports(image, limit, left, out),
             None => Ok(print_summary(image, limit, left, out)?),
         }
     }
@@ -47,14 +49,27 @@ fn print_list<O: Write>(
     left: usize,
     out: &mut O,
 ) -> io::Result<Outcome> {
-    let list = ImageList::of(word, image);
     if has_names(word) {
-        let mut lines = InForm { list, form: Pairs };
-        print_listing(&mut lines, "refused", limit, left, out)
+        print_in_form(word, Pairs, "refused", image, limit, left, out)
     } else {
-        let mut lines = InForm { list, form: Line };
-        print_listing(&mut lines, "refused", limit, left, out)
+        print_in_form(word, Line, "refused", image, limit, left, out)
     }
+}
+
+// Prints the exports of an image, at most `left` of them, or the fault of its trie.
+fn print_exports<O: Write>(
+    image: &MachO<'_>,
+    limit: usize,
+    left: usize,
+    out: &mut O,
+) -> Result<Outcome, ShowFailure> {
+    let (exports, refusal) = exports_of(image)?;
+    let list = ExportList {
+        refusal,
+        exports: exports.as_slice(),
+    };
+    let mut lines = InForm { list, form: Line };
+    Ok(print_listing(&mut lines, "refused", limit, left, out)?)
 }
 
 // Whether the lines of a word's list have the names of fields.
@@ -72,6 +87,7 @@ fn has_names(word: Word) -> bool {
         Word::Libraries => false,
         Word::Rebases => false,
         Word::Weak => false,
+        Word::Imports => false,
         Word::Part(Part::Header) => true,
         Word::Part(_) => false,
         Word::Security => false,

@@ -2,7 +2,16 @@
 //! The words that select a list.
 #![forbid(unsafe_code)]
 
-/// A list of an image.
+/// What a call shows of an image in place of its summary.
+#[derive(Clone, Copy, PartialEq)]
+pub enum Choice {
+    /// A list that takes no memory.
+    Word(Word),
+    /// Its exports.
+    Exports,
+}
+
+/// A list of an image that takes no memory.
 #[derive(Clone, Copy, PartialEq)]
 pub enum Word {
     /// Its load commands.
@@ -29,6 +38,8 @@ pub enum Word {
     Rebases,
     /// Its weak binds.
     Weak,
+    /// What dyld binds in it.
+    Imports,
     /// A part of it.
     Part(Part),
     /// How it is hardened.
@@ -52,6 +63,20 @@ pub enum Part {
     Header,
 }
 
+impl Choice {
+    /// Returns what this spelling selects, if anything.
+    ///
+    /// # Proved
+    ///
+    /// - `result ≡ choice_named text`
+    pub fn named(text: &str) -> Option<Choice> {
+        match text {
+            "exports" => Some(Choice::Exports),
+            _ => Some(Choice::Word(Word::named(text)?)),
+        }
+    }
+}
+
 impl Word {
     /// Returns the word with this spelling, if there is one.
     ///
@@ -72,6 +97,7 @@ impl Word {
             "libraries" => Some(Word::Libraries),
             "rebases" => Some(Word::Rebases),
             "weak" => Some(Word::Weak),
+            "imports" => Some(Word::Imports),
             "segments" => Some(Word::Part(Part::Segments)),
             "sections" => Some(Word::Part(Part::Sections)),
             "uuid" => Some(Word::Part(Part::Uuid)),
@@ -102,6 +128,7 @@ impl Word {
             Word::Libraries => "libraries",
             Word::Rebases => "rebases",
             Word::Weak => "weak",
+            Word::Imports => "imports",
             Word::Part(Part::Segments) => "segments",
             Word::Part(Part::Sections) => "sections",
             Word::Part(Part::Uuid) => "uuid",

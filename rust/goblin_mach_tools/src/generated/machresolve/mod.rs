@@ -48,7 +48,7 @@ const PROGRAM: Program = Program {
     usage: "usage: machresolve [--arch NAME | --cputype 0xN] [--limit N] PROGRAM LIBRARY..
        machresolve -h | --help | --version
 ",
-    version: "machresolve 0.2.0\n",
+    version: "machresolve 0.3.0\n",
     options: Options {
         has_limit: true,
         has_arch: true,

@@ -2,8 +2,9 @@
 //! The members of an image's object: its signature.
 #![forbid(unsafe_code)]
 
-use crate::generated::mach_cli::{JsonString, ListProgress, Outcome, print_array, print_bytes};
+use crate::generated::mach_cli::{JsonString, Outcome, print_array, print_bytes};
 use crate::generated::machsign::blobs::OtherBlobs;
+use crate::generated::machsign::faults::write_faults;
 use crate::generated::machsign::form::Form;
 use crate::generated::machsign::full_hash::print_hash_of;
 use crate::generated::machsign::kind::Kind;
@@ -14,9 +15,10 @@ use crate::shim::io;
 use crate::shim::io::Write;
 use core::fmt;
 use core::fmt::{Display, Formatter};
+use goblin_mach::generated::mach::segment::Segment;
 use goblin_mach::generated::mach::{Error, MachO, Result, describe};
 use goblin_mach::generated::mach_signature::{
-    CodeDirectory, ExecutableSegment, RuntimeFields, SignatureFault, SignatureFaults, SignedBytes,
+    CodeDirectory, ExecutableSegment, RuntimeFields, SignedBytes,
 };
 
 /// Writes the members of an image: of the blobs and the faults of its signature together the first `left`. Returns whether it has
@@ -24,11 +26,11 @@ use goblin_mach::generated::mach_signature::{
 ///
 /// # Proved
 ///
-/// - if `Ok(outcome)`: `defined.WritesSignatureMembers left (image_signed (bytes_view image) (commands_view image) (segments_view image)) outcome.whole outcome.left (O.contents out.old) (O.contents out.new)`
+/// - if `Ok(outcome)`: `defined.WritesSignatureMembers left (segments_view image) (image_signed (bytes_view image) (commands_view image) (segments_view image)) outcome.whole outcome.left (O.contents out.old) (O.contents out.new)`
 pub fn write_members<O: Write>(image: &MachO<'_>, left: usize, out: &mut O) -> io::Result<Outcome> {
     write!(out, "\"kind\":\"image\",\"signature\":")?;
     match signed_image(image) {
-        Ok(Some(signed)) => write_signed(&signed, left, out),
+        Ok(Some(signed)) => write_signed(&signed, image.segments.as_slice(), left, out),
         Ok(None) => write_unsigned(left, out),
         Err(error) => write_refused(&error, left, out),
     }
@@ -50,6 +52,7 @@ fn write_refused<O: Write>(error: &Error, left: usize, out: &mut O) -> io::Resul
 // Writes the object of a signature that can be read, up to the limit. Returns whether it has no fault and all were written.
 fn write_signed<O: Write>(
     signed: &SignedBytes<'_>,
+    segments: &[Segment<'_>],
     left: usize,
     out: &mut O,
 ) -> io::Result<Outcome> {
@@ -58,7 +61,7 @@ fn write_signed<O: Write>(
     let mut rows = OtherBlobs::of(&signed.signature, Form::Objects);
     let blobs = print_array(&mut rows, left, out)?;
     write_before(&directory, out)?;
-    let faults = write_faults(signed.faults(), blobs.left, out)?;
+    let faults = write_faults(Form::Objects, segments, blobs.left, signed, out)?;
     let more = blobs.more | faults.more;
     write_after(signed, &directory, more, out)?;
     Ok(Outcome {
@@ -231,8 +234,12 @@ fn write_team<O: Write>(directory: &CodeDirectory<'_>, out: &mut O) -> io::Resul
     write_name(directory.team(), out)
 }
 
-// Writes a name that a directory may have.
-fn write_name<O: Write>(
+/// Writes a name that may be there.
+///
+/// # Proved
+///
+/// - if `Ok`: `Appends (O.contents out.old) (O.contents out.new) (json_name (read_as (option_map (λ text. text)) name.entry))`
+pub fn write_name<O: Write>(
     name: goblin_mach::generated::mach_base::Result<Option<&str>>,
     out: &mut O,
 ) -> io::Result<()> {
@@ -247,38 +254,4 @@ fn write_name<O: Write>(
 fn write_string<O: Write>(text: &str, out: &mut O) -> io::Result<()> {
     let text = JsonString(text);
     write!(out, "{text}")
-}
-
-// Writes the words of a fault as a string, after a comma unless it is the first.
-fn write_fault<O: Write>(fault: &SignatureFault, is_first: bool, out: &mut O) -> io::Result<()> {
-    let comma = if is_first { "" } else { "," };
-    write!(out, "{comma}\"{fault}\"")
-}
-
-// Writes the words of each of the first faults, up to a limit.
-fn write_faults<O: Write>(
-    mut faults: SignatureFaults<'_>,
-    limit: usize,
-    out: &mut O,
-) -> io::Result<ListProgress> {
-    let mut left = limit;
-    let mut whole = true;
-    while let Some(fault) = faults.next() {
-        let is_first = whole;
-        whole = false;
-        let Some(rest) = left.checked_sub(1) else {
-            return Ok(ListProgress {
-                left: 0,
-                whole,
-                more: true,
-            });
-        };
-        left = rest;
-        write_fault(&fault, is_first, out)?;
-    }
-    Ok(ListProgress {
-        left,
-        whole,
-        more: false,
-    })
 }

@@ -2,18 +2,18 @@
 //! The lines of a signature.
 #![forbid(unsafe_code)]
 
-use crate::generated::mach_cli::{ListProgress, Outcome, print_cut, print_rows};
+use crate::generated::mach_cli::{Outcome, print_cut, print_rows};
 use crate::generated::machsign::blobs::OtherBlobs;
 use crate::generated::machsign::block::print_directory;
+use crate::generated::machsign::faults::write_faults;
 use crate::generated::machsign::form::Form;
 use crate::generated::machsign::kind::{Cms, Kind, cms_of};
 use crate::generated::machsign::signed::signed_image;
 use crate::shim::io;
 use crate::shim::io::Write;
+use goblin_mach::generated::mach::segment::Segment;
 use goblin_mach::generated::mach::{Error, MachO, describe};
-use goblin_mach::generated::mach_signature::{
-    CodeDirectory, SignatureFault, SignatureFaults, SignedBytes,
-};
+use goblin_mach::generated::mach_signature::{CodeDirectory, SignedBytes};
 
 /// Prints the lines of an image's signature: of its blobs and its faults together the first `left`, and if there are more, a line
 /// that says that `limit` are printed. Returns whether the image has a signature without a fault and all lines were printed, and
@@ -21,7 +21,7 @@ use goblin_mach::generated::mach_signature::{
 ///
 /// # Proved
 ///
-/// - if `Ok(outcome)`: `defined.WritesSignature limit left (image_signed (bytes_view image) (commands_view image) (segments_view image)) outcome.whole outcome.left (O.contents out.old) (O.contents out.new)`
+/// - if `Ok(outcome)`: `defined.WritesSignature limit left (segments_view image) (image_signed (bytes_view image) (commands_view image) (segments_view image)) outcome.whole outcome.left (O.contents out.old) (O.contents out.new)`
 pub fn print_signature<O: Write>(
     image: &MachO<'_>,
     limit: usize,
@@ -29,7 +29,7 @@ pub fn print_signature<O: Write>(
     out: &mut O,
 ) -> io::Result<Outcome> {
     match signed_image(image) {
-        Ok(Some(signed)) => print_signed(&signed, limit, left, out),
+        Ok(Some(signed)) => print_signed(&signed, image.segments.as_slice(), limit, left, out),
         Ok(None) => print_unsigned(left, out),
         Err(error) => print_refused(&error, left, out),
     }
@@ -51,6 +51,7 @@ fn print_refused<O: Write>(error: &Error, left: usize, out: &mut O) -> io::Resul
 // Prints the lines of a signature that can be read, up to the limit. Returns whether it has no fault and all were printed.
 fn print_signed<O: Write>(
     signed: &SignedBytes<'_>,
+    segments: &[Segment<'_>],
     limit: usize,
     left: usize,
     out: &mut O,
@@ -58,7 +59,7 @@ fn print_signed<O: Write>(
     print_front(signed, out)?;
     let mut rows = OtherBlobs::of(&signed.signature, Form::Lines);
     let blobs = print_rows(&mut rows, "", left, out)?;
-    let faults = print_faults(signed.faults(), blobs.left, out)?;
+    let faults = write_faults(Form::Lines, segments, blobs.left, signed, out)?;
     let more = blobs.more | faults.more;
     print_back(signed, limit, more, out)?;
     Ok(Outcome {
@@ -118,36 +119,4 @@ fn print_back<O: Write>(
 fn print_unchecked<O: Write>(cms: Cms, out: &mut O) -> io::Result<()> {
     let why = cms.why_unknown();
     writeln!(out, "not checked: who signed ({why})")
-}
-
-// Prints the line of a fault.
-fn print_fault<O: Write>(fault: &SignatureFault, out: &mut O) -> io::Result<()> {
-    writeln!(out, "fault: {fault}")
-}
-
-// Prints a line for each of the first faults, up to a limit.
-fn print_faults<O: Write>(
-    mut faults: SignatureFaults<'_>,
-    limit: usize,
-    out: &mut O,
-) -> io::Result<ListProgress> {
-    let mut left = limit;
-    let mut whole = true;
-    while let Some(fault) = faults.next() {
-        whole = false;
-        let Some(rest) = left.checked_sub(1) else {
-            return Ok(ListProgress {
-                left: 0,
-                whole,
-                more: true,
-            });
-        };
-        left = rest;
-        print_fault(&fault, out)?;
-    }
-    Ok(ListProgress {
-        left,
-        whole,
-        more: false,
-    })
 }

@@ -51,7 +51,7 @@ const PROGRAM: Program = Program {
     name: "machsyms",
     usage: "usage: machsyms [-AUagjmnoprux] [--raw] [--json] [--limit N] [--arch NAME | --cputype 0xN] \
         [--names FILE [-0]] FILE..\n       machsyms -h | --help | --version\n",
-    version: "machsyms 0.2.0\n",
+    version: "machsyms 0.3.0\n",
     options: Options::OF_IMAGES,
     known: &[
         "--arch",

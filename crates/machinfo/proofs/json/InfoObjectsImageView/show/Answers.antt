@@ -1,8 +1,14 @@
 use Rattle.machinfo.proofs.json.InfoObjectsImageView.show.Goals as goal
 
 -- a word is given
-pub returns-in_ok-write_rows-in-Some-clause-shown : goal.returns-in_ok-write_rows-in-Some-clause-shown
-returns-in_ok-write_rows-in-Some-clause-shown g c = rw c.in-Some.is c.in_ok-write_rows-in-Some.ensures
+pub returns-in_ok-write_rows-in-Some-Word-clause-shown : goal.returns-in_ok-write_rows-in-Some-Word-clause-shown
+returns-in_ok-write_rows-in-Some-Word-clause-shown g c =
+    let is_word = rw c.in-Some-Word.is at c.in-Some-Word.field-0-is in rw (c.in-Some-Word.is, is_word) c.in_ok-write_rows-in-Some-Word.ensures
+
+-- exports are selected
+pub returns-in-Some-Exports-clause-shown : goal.returns-in-Some-Exports-clause-shown
+returns-in-Some-Exports-clause-shown g c =
+    let is_exports = rw c.in-Some-Exports.is at c.in-Some-Exports.field-0-is in rw (c.in-Some-Exports.is, is_exports) c.write_exports.ensures.shown
 
 -- none is given
 pub returns-in_ok-write_summary-in-None-clause-shown : goal.returns-in_ok-write_summary-in-None-clause-shown

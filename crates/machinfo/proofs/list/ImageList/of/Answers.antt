@@ -1,3 +1,4 @@
+use Rattle.goblin_mach.specs.BindingsLeft.{bindings_left}
 use Rattle.goblin_mach.specs.Libraries.{libraries_left}
 use Rattle.goblin_mach.specs.RebasesLeft.{rebases_left}
 use Rattle.mach_parts.specs.SlotViews.{indirect_left}
@@ -8,7 +9,7 @@ use Rattle.machinfo.specs.NumberedCommands.{numbered_commands_left}
 use Rattle.machinfo.specs.NumberedNotes.{notes_numbered_left}
 use Rattle.machinfo.specs.ProvidedSymbols.{provided_left}
 use Rattle.machinfo.proofs.Facts.{command_rows, starts_are, slot_rows, indirect_rows, data_rows, option_rows, tool_rows, note_rows, provider_rows, library_rows}
-use Rattle.machinfo.proofs.Facts.{part_rows, rebase_rows, weak_rows}
+use Rattle.machinfo.proofs.Facts.{import_rows, part_rows, rebase_rows, weak_rows}
 use Rattle.machinfo.specs.Parts.{part_rows_left, part_rows_past}
 use Rattle.machinfo.specs.Security.{findings_left}
 use Rattle.machinfo.proofs.Verdicts.{verdict_rows}
@@ -65,6 +66,10 @@ returns-in-Rebases-clause-rows g c = rw c.in-Rebases.is (λ bytes o p. rebase_ro
 
 pub returns-in-Weak-clause-rows : goal.returns-in-Weak-clause-rows
 returns-in-Weak-clause-rows g c = rw c.in-Weak.is (λ bytes o p. weak_rows c.args.image.now bytes o p (weak_binds_left c.weak_binds.result) c.weak_binds.ensures)
+
+pub returns-in-Imports-clause-rows : goal.returns-in-Imports-clause-rows
+returns-in-Imports-clause-rows g c =
+    rw c.in-Imports.is (λ bytes o p. import_rows c.args.image.now bytes o p (bindings_left c.bindings.result) c.bindings.ensures)
 
 pub returns-in-Part-clause-rows : goal.returns-in-Part-clause-rows
 returns-in-Part-clause-rows g c =

@@ -1,4 +1,4 @@
-use Rattle.goblin_mach.specs.OpenImage.{commands_view}
+use Rattle.goblin_mach.specs.OpenImage.{commands_view, segments_view}
 use Rattle.machsign.proofs.SignedFacts.{held, signed_is, whole_as_signed}
 use Rattle.machsign.proofs.Whole.{lines_unfaulted}
 use Rattle.machsign.proofs.signature_view.SignatureLinesImageView.show.Goals as goal
@@ -11,9 +11,10 @@ returns-clause-shown g c = λ bytes opened.
       record {
         opens = (opened.ctx, commands_view m, opened.opens);
         there = held m bytes opened;
+        segments = segments_view m;
         has_signed = signed_is m bytes opened;
         lines = listed.lines;
-        as_signed = whole_as_signed m bytes opened _ _ (lines_unfaulted _ _ _ _ _ _ listed.lines);
+        as_signed = whole_as_signed m bytes opened _ _ (lines_unfaulted _ _ _ _ _ _ _ listed.lines);
       },
       listed.written,
     )

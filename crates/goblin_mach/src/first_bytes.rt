@@ -1,0 +1,86 @@
+//! What bytes are by how they begin: whether as an image does, and their kind if they aren't Mach-O.
+
+ghost use Rattle.std.specs.Prelude.{◌≡◌};
+ghost use Rattle.goblin_mach.specs.FirstBytes.{foreign_kind, is_image_magic, is_java_class};
+ghost use Rattle.mach_parts.specs.Magic.{magic_at};
+
+use mach_parts::fat::FAT_MAGIC;
+use mach_parts::magic::{parse_magic_and_ctx, peek};
+use std::fmt;
+use std::fmt::{Display, Formatter, Write};
+
+/// Whether bytes begin as an image does.
+pub fn begins_image(bytes: &[u8]) -> bool
+    ensures { result ≡ is_image_magic (magic_at bytes.now 0) }
+{
+    match parse_magic_and_ctx(bytes, 0) {
+        Ok((_, Some(_))) => true,
+        _ => false,
+    }
+}
+
+/// A kind of file that isn't Mach-O.
+#[derive(Clone, Copy)]
+pub enum Foreign {
+    /// No bytes.
+    Empty,
+    /// A program or a library of Linux and other systems (ELF).
+    Elf,
+    /// A Java class, whose magic is that of fat files.
+    JavaClass,
+    /// A program of Windows or DOS.
+    Pe,
+    /// An archive that `ar` writes, as a static library is.
+    Archive,
+    /// LLVM bitcode, bare or in its wrapper.
+    Bitcode,
+}
+
+/// Returns the kind of a file that isn't Mach-O, if its first bytes show it.
+pub fn foreign_kind(bytes: &[u8]) -> Option<Foreign>
+    ensures { result ≡ foreign_kind bytes.now }
+{
+    if bytes.is_empty() {
+        Some(Foreign::Empty)
+    } else if is_java_class(bytes) {
+        Some(Foreign::JavaClass)
+    } else if bytes.starts_with(b"\x7fELF") {
+        Some(Foreign::Elf)
+    } else if bytes.starts_with(b"MZ") {
+        Some(Foreign::Pe)
+    } else if bytes.starts_with(b"!<arch>\n") {
+        Some(Foreign::Archive)
+    } else if bytes.starts_with(b"BC\xc0\xde") || bytes.starts_with(b"\xde\xc0\x17\x0b") {
+        Some(Foreign::Bitcode)
+    } else {
+        None
+    }
+}
+
+// Whether a file with the magic of fat files is a Java class: a version, from 45 on, is in the place of the count.
+fn is_java_class(bytes: &[u8]) -> bool
+    ensures { result ≡ is_java_class bytes.now }
+{
+    match (peek(bytes, 0), peek(bytes, 4)) {
+        (Ok(magic), Ok(count)) => magic == FAT_MAGIC && count > 30,
+        _ => false,
+    }
+}
+
+impl Display for Foreign {
+    ghost use Rattle.std.specs.Prelude.{Some};
+    ghost use Rattle.goblin_mach.specs.FirstBytes.{foreign_words};
+
+    ghost output = { λ kind. Some (foreign_words kind) };
+
+    fn fmt<W: Write>(&self, f: &mut Formatter<W>) -> fmt::Result {
+        match self {
+            Foreign::Empty => write!(f, "not Mach-O: an empty file"),
+            Foreign::Elf => write!(f, "not Mach-O: an ELF file"),
+            Foreign::JavaClass => write!(f, "not Mach-O: a Java class"),
+            Foreign::Pe => write!(f, "not Mach-O: a PE or DOS program"),
+            Foreign::Archive => write!(f, "not Mach-O: an archive"),
+            Foreign::Bitcode => write!(f, "not Mach-O: LLVM bitcode"),
+        }
+    }
+}

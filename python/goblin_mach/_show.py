@@ -1,0 +1,175 @@
+"""What the command `goblin-mach` shows of an image: for each word its facts and its tables."""
+
+from __future__ import annotations
+
+from functools import lru_cache
+from itertools import islice
+from typing import Any, Callable, Dict, Iterable, Iterator, List, NamedTuple, Optional, Tuple
+
+from ._library import escaped
+from ._rows import Rows
+from .errors import Refused
+from .image import Image
+from .items import Export, Section, Symbol
+from .pointers import Binding, Rebase, WeakBind
+
+
+def _flags(**named: bool) -> str:
+    return ",".join(name for name, is_set in named.items() if is_set) or "-"
+
+
+class Table(NamedTuple):
+    """A list: its items, the form of a line, the headings, and what gives the cells of an item."""
+
+    items: Callable[[Image], Iterable[Any]]
+    form: str
+    headings: Tuple[str, ...]
+    cells: Callable[[Image], Callable[[Any], Tuple[object, ...]]]
+
+
+def _of_symbol(image: Image) -> Callable[[Symbol], Tuple[object, ...]]:
+    return lambda s: (hex(s.value), s.section or "-", (s.stab or s.type).name, _flags(external=s.is_external and not s.stab), escaped(s.name))
+
+
+def _of_export(image: Image) -> Callable[[Export], Tuple[object, ...]]:
+    return lambda e: ("-" if e.kind == "re-export" else hex(e.address), e.kind, escaped(e.name),
+                      f"from {escaped(e.library)}: {escaped(e.target or '')}" if e.library is not None else "")
+
+
+def _of_binding(image: Image) -> Callable[[Binding], Tuple[object, ...]]:
+    count = len(image.libraries())
+
+    @lru_cache(maxsize=None)
+    def name_of(ordinal: int) -> str:
+        # (many names may run on to one far end, so no more of each is kept)
+        return escaped(image.libraries()[ordinal - 1].name[:200])
+
+    return lambda b: (hex(b.address), b.addend, _flags(weak=b.is_weak, lazy=b.is_lazy), escaped(b.name),
+                      "from " + (name_of(b.library) if b.provider == "library" and 0 < b.library <= count else b.provider))
+
+
+def _of_rebase(image: Image) -> Callable[[Rebase], Tuple[object, ...]]:
+    return lambda r: (hex(r.address), r.kind, hex(r.target))
+
+
+def _of_weak_bind(image: Image) -> Callable[[WeakBind], Tuple[object, ...]]:
+    return lambda w: ("-" if w.is_strong else hex(w.address), w.addend, _flags(strong=w.is_strong), escaped(w.name))
+
+
+def _of_section(image: Image) -> Callable[[Section], Tuple[object, ...]]:
+    return lambda s: (hex(s.addr), hex(s.size), hex(s.offset), s.type.name, f"{escaped(s.segment)},{escaped(s.name)}")
+
+
+def _of_fault(image: Image) -> Callable[[Any], Tuple[object, ...]]:
+    return lambda fault: (fault["part"], escaped(fault["fault"]))
+
+
+CHECKED: Dict[str, Callable[[Image], Iterable[Any]]] = {
+    "symbols": lambda image: image.symbols().in_bounds(), "sections": Image.sections, "exports": Image.exports, "imports": Image.imports,
+    "weak binds": Image.weak_binds, "rebases": Image.rebases, "fixups": Image.fixups, "function starts": Image.function_starts,
+    "data in code": lambda image: image.data_in_code().in_bounds(), "indirect symbols": lambda image: image.indirect_symbols().in_bounds(),
+    "slots": Image.symbol_slots, "linker options": Image.linker_options, "build tools": Image.build_tools, "notes": Image.notes,
+}
+"""The lists that `audit` reads, as far as the image has bytes, for their first fault."""
+
+
+def _first_fault(image: Image, items: Callable[[Image], Iterable[Any]]) -> Optional[str]:
+    """Why the first item of a list that can't be read can't be, or why the list ends."""
+    try:
+        return next((item.error for item in islice(items(image), len(image.data)) if getattr(item, "error", None)), None)
+    except Refused as why:
+        return str(why)
+
+
+def faults(image: Image) -> Iterator[Dict[str, str]]:
+    """What is wrong with an image: its layout, what isn't as it was signed, and the first fault of each list."""
+    for name, found in (("layout", image.layout_faults()), ("signature", image.signature_faults())):
+        try:
+            for fault in islice(found, len(image.data)):
+                yield {"part": name, "fault": str(fault)}
+        except Refused as why:
+            yield {"part": name, "fault": str(why)}
+    for name, items in CHECKED.items():
+        words = _first_fault(image, items)
+        if words is not None:
+            yield {"part": name, "fault": words}
+
+
+TABLES: Dict[str, Table] = {
+    "symbols": Table(lambda image: image.symbols().in_bounds(), "{:>18} {:>7} {:<8} {:<8} {}", ("value", "section", "type", "flags", "name"), _of_symbol),
+    "exports": Table(Image.exports, "{:>18} {:<9} {} {}", ("address", "kind", "name", ""), _of_export),
+    "imports": Table(Image.imports, "{:>18} {:>6} {:<9} {} {}", ("address", "addend", "flags", "name", ""), _of_binding),
+    "rebases": Table(Image.rebases, "{:>18} {:<10} {}", ("address", "kind", "target"), _of_rebase),
+    "weak_binds": Table(Image.weak_binds, "{:>18} {:>6} {:<9} {}", ("address", "addend", "flags", "name"), _of_weak_bind),
+    "sections": Table(Image.sections, "{:>18} {:>10} {:>10} {:<24} {}", ("address", "size", "offset", "type", "name"), _of_section),
+    "faults": Table(faults, "{:<16} {}", ("part", "fault"), _of_fault),
+    "signature_faults": Table(Image.signature_faults, "{}", ("fault",), lambda image: lambda fault: (fault,)),
+}
+
+
+PAST_END: Dict[str, Callable[[Image], int]] = {
+    "symbols": lambda image: len(image.symbols()) - len(image.symbols().in_bounds()),
+    "sections": lambda image: sum(each.nsects - len(image.sections(each).in_bounds()) for each in image.segments()),
+}
+"""For a table that shows the records within the bytes, how many more the file claims."""
+
+
+def _names(image: Image, rows: Rows[Any]) -> Iterator[str]:
+    """The names of a list, as long as they have no more letters than the image has bytes; then how many there are. Many names may run on to
+    one far end."""
+    left = len(image.data)
+    for first in range(0, len(rows), 16):
+        for each in rows[first:first + 16]:
+            name = each if isinstance(each, str) else each.name
+            left -= len(name)
+            if left < 0:
+                yield f"({len(rows)} in all)"
+                return
+            yield name
+
+
+def _info(image: Image) -> Dict[str, Any]:
+    """What an image is."""
+    return {
+        "arch": image.arch, "file_type": image.file_type.name, "header_flags": " ".join(image.header_flags.names) or None,
+        "uuid": image.uuid, "platform": None if image.platform is None else image.platform.name, "minos": image.minos, "sdk": image.sdk,
+        "tools": [f"{tool.build_tool.name} {tool.version_text}" for tool in image.tools], "source_version": image.source_version,
+        "is_encrypted": None if image.encryption is None else "yes" if image.encryption.is_encrypted else "no", "dylinker": image.dylinker,
+        "name": image.name, "entry": hex(image.entry) if image.entry else None, "load_commands": len(image.commands()),
+        "symbol_count": len(image.symbols()), "libraries": list(_names(image, image.libraries())),
+        "run_paths": list(_names(image, image.run_paths())),
+    }
+
+
+def _signature(image: Image) -> Dict[str, Any]:
+    """How an image is signed."""
+    found = image.signature
+    if found is None:
+        return {"is_signed": "no"}
+    texts = {name: getattr(found, name) if name not in found.errors else f"({found.errors[name]})" for name in ("identifier", "team")}
+    return {"is_signed": "yes", **texts, "signature_flags": " ".join(found.signature_flags.names) or None, "hash": found.hash_kind.name,
+            "cdhash": found.cdhash.hex(), "entitlements": None if found.entitlements is None else found.entitlements.decode("utf-8", "surrogateescape"),
+            "is_as_signed": "yes" if found.is_as_signed() else "no"}
+
+
+FACTS: Dict[str, Callable[[Image], Dict[str, Any]]] = {"info": _info, "signature": _signature}
+"""For each word that has some, the facts of an image by their labels."""
+
+
+class Word(NamedTuple):
+    """A word of the command: what it is about, and its tables."""
+
+    about: str
+    tables: List[str]
+
+
+WORDS: Dict[str, Word] = {
+    "info": Word("what each image is, and its libraries", []),
+    "symbols": Word("the symbol table", ["symbols"]),
+    "exports": Word("what other images may use", ["exports"]),
+    "imports": Word("what dyld binds, and where it is from", ["imports"]),
+    "fixups": Word("all that dyld changes: rebases, imports and weak binds", ["rebases", "imports", "weak_binds"]),
+    "sections": Word("the sections of all segments", ["sections"]),
+    "signature": Word("the code signature, and what differs from what was signed", ["signature_faults"]),
+    "audit": Word("what is wrong with an image; the status is 1 if something is", ["faults"]),
+}

@@ -1,0 +1,205 @@
+//! Segments, sections, symbols, functions and offsets that are looked up by names, addresses and offsets.
+use goblin_mach::{Function, MachO};
+
+/// A name of 16 bytes, padded with zeros.
+fn padded(name: &str) -> [u8; 16] {
+    let mut bytes = [0; 16];
+    bytes[..name.len()].copy_from_slice(name.as_bytes());
+    bytes
+}
+
+/// A segment's command: its name, [vmaddr, vmsize, fileoff, filesize] and its sections, each with an address and a size.
+fn segment(name: &str, numbers: [u64; 4], sections: &[(&str, &str, u64, u64)]) -> Vec<u8> {
+    let size = 72 + 80 * sections.len() as u32;
+    let mut bytes = [0x19u32, size].map(u32::to_le_bytes).concat();
+    bytes.extend(padded(name));
+    bytes.extend(numbers.map(u64::to_le_bytes).concat());
+    bytes.extend(
+        [7, 7, sections.len() as u32, 0]
+            .map(u32::to_le_bytes)
+            .concat(),
+    );
+    for &(segname, sectname, address, size) in sections {
+        bytes.extend(padded(sectname));
+        bytes.extend(padded(segname));
+        bytes.extend([address, size].map(u64::to_le_bytes).concat());
+        bytes.extend([0; 32]);
+    }
+    bytes
+}
+
+/// A symbol's record.
+fn symbol(name: u32, kind: u8, section: u8, value: u64) -> Vec<u8> {
+    let mut bytes = name.to_le_bytes().to_vec();
+    bytes.extend([kind, section, 0, 0]);
+    bytes.extend(value.to_le_bytes());
+    bytes
+}
+
+const NAMES: &[u8] = b"\0_a\0l_b\0_b\0stab\0_data\0";
+
+/// An image of two segments with two sections each, seven symbols and three function starts. It claims `count` symbols.
+fn image(count: u32) -> Vec<u8> {
+    let symbols = [
+        symbol(1, 0x0f, 1, 0x1100),
+        symbol(4, 0x0e, 1, 0x1110),
+        symbol(8, 0x0f, 1, 0x1110),
+        symbol(11, 0x24, 1, 0x1118),
+        symbol(16, 0x0f, 3, 0x1118),
+        symbol(1, 0x03, 1, 0x1112),
+        symbol(0xffff, 0x0f, 1, 0x1119),
+    ]
+    .concat();
+    let text = [
+        ("__TEXT", "__text", 0x1100, 0x40),
+        ("__TEXT", "__const", 0x1140, 0x20),
+    ];
+    let data = [
+        ("__DATA", "__data", 0x3000, 0x10),
+        ("__DATA", "__text", 0x3010, 0x10),
+    ];
+    let commands = 2 * (72 + 160) + 24 + 16;
+    let starts = 32 + commands;
+    let symoff = starts + 8;
+    let stroff = symoff + symbols.len() as u32;
+    let mut bytes = [0xfeed_facf, 0x0100_0007, 3, 2, 4, commands, 0, 0]
+        .map(u32::to_le_bytes)
+        .concat();
+    bytes.extend(segment("__TEXT", [0x1000, 0x1000, 0, 0x300], &text));
+    bytes.extend(segment("__DATA", [0x3000, 0x18, 0x300, 0x20], &data));
+    let symtab = [2, 24, symoff, count, stroff, NAMES.len() as u32];
+    bytes.extend(symtab.map(u32::to_le_bytes).concat());
+    bytes.extend([0x26, 16, starts, 8].map(u32::to_le_bytes).concat());
+    bytes.extend([0x80, 0x02, 0x10, 0x40, 0, 0, 0, 0]);
+    bytes.extend(symbols);
+    bytes.extend(NAMES);
+    bytes.resize(0x320, 0);
+    bytes
+}
+
+#[test]
+fn segments_and_sections_by_name() {
+    let bytes = image(7);
+    let image = MachO::parse(&bytes, 0).unwrap();
+    assert_eq!(image.segment_named("__DATA").unwrap().vmaddr, 0x3000);
+    assert!(image.segment_named("__DAT").is_none());
+    assert!(image.segment_named("").is_none());
+    let found = |segment, section| {
+        let found = image.section_named(segment, section)?;
+        Some((found.segment, found.number, found.section.addr))
+    };
+    assert_eq!(found("__TEXT", "__text"), Some((0, 0, 0x1100)));
+    assert_eq!(found("__DATA", "__text"), Some((1, 1, 0x3010)));
+    assert_eq!(found("__TEXT", "__data"), None);
+    assert_eq!(image.sections().flatten().count(), 4);
+}
+
+#[test]
+fn symbols_by_name() {
+    let bytes = image(7);
+    let image = MachO::parse(&bytes, 0).unwrap();
+    let found = |name| {
+        image
+            .symbol_named(name)
+            .map(|found| (found.0, found.1.n_value))
+    };
+    assert_eq!(found("_a"), Some((0, 0x1100)));
+    assert_eq!(found("_data"), Some((4, 0x1118)));
+    assert_eq!(found("_dat"), None);
+}
+
+#[test]
+fn symbols_at_addresses() {
+    // A count in a file is no work: the records after the end of the bytes aren't visited.
+    for count in [7, u32::MAX] {
+        let bytes = image(count);
+        let image = MachO::parse(&bytes, 0).unwrap();
+        let found = |address| {
+            let found = image.symbol_at(address)?;
+            assert_eq!(found.symbol.n_value + found.distance, address);
+            Some((found.index, found.name, found.distance))
+        };
+        let rows = [
+            ("before all sections", 0x10ff, None),
+            ("its value", 0x1100, Some((0, "_a", 0))),
+            ("before the next", 0x110f, Some((0, "_a", 15))),
+            ("the last of two", 0x1110, Some((2, "_b", 0))),
+            (
+                "no stab, no absolute symbol, no other section",
+                0x113f,
+                Some((2, "_b", 0x2f)),
+            ),
+            ("a section without symbols", 0x1140, None),
+            (
+                "a symbol of another section lies below",
+                0x3008,
+                Some((4, "_data", 0x1ef0)),
+            ),
+            ("past the sections", 0x1160, None),
+        ];
+        for (row, address, want) in rows {
+            assert_eq!(found(address), want, "{row}");
+        }
+    }
+}
+
+#[test]
+fn functions_at_addresses() {
+    let bytes = image(7);
+    let image = MachO::parse(&bytes, 0).unwrap();
+    let function = |start, end| Some(Function { start, end });
+    let rows = [
+        ("before all", 0x10ff, None),
+        ("its start", 0x1100, function(0x1100, 0x1110)),
+        ("its last byte", 0x110f, function(0x1100, 0x1110)),
+        (
+            "to the end of the section",
+            0x113f,
+            function(0x1110, 0x1140),
+        ),
+        ("before the first of its section", 0x114f, None),
+        ("the last", 0x1150, function(0x1150, 0x1160)),
+        ("no section", 0x1160, None),
+        ("a section without functions", 0x3000, None),
+    ];
+    for (row, address, want) in rows {
+        assert_eq!(
+            format!("{:?}", image.function_at(address)),
+            format!("{want:?}"),
+            "{row}"
+        );
+    }
+}
+
+#[test]
+fn offsets_and_addresses() {
+    let bytes = image(7);
+    let image = MachO::parse(&bytes, 0).unwrap();
+    let rows = [
+        ("the first byte", 0, Some(0x1000)),
+        ("the last of the first segment", 0x2ff, Some(0x12ff)),
+        ("the second segment", 0x300, Some(0x3000)),
+        ("its last byte in memory", 0x317, Some(0x3017)),
+        ("in the file, past its memory", 0x318, None),
+        ("past the file", 0x320, None),
+    ];
+    for (row, offset, want) in rows {
+        assert_eq!(image.address_of_offset(offset), want, "{row}");
+        if let Some(address) = want {
+            assert_eq!(image.offset_of_address(address), Some(offset), "{row}");
+        }
+    }
+    for address in [0, 0xfff, 0x1300, 0x1fff, 0x3018, u64::MAX] {
+        assert_eq!(image.offset_of_address(address), None, "{address:#x}");
+    }
+}
+
+#[test]
+fn address_past_64_bits() {
+    let mut bytes = image(7);
+    bytes[32 + 24..32 + 32].copy_from_slice(&(u64::MAX - 1).to_le_bytes());
+    let image = MachO::parse(&bytes, 0).unwrap();
+    assert_eq!(image.address_of_offset(1), Some(u64::MAX));
+    assert_eq!(image.address_of_offset(2), None);
+    assert_eq!(image.offset_of_address(u64::MAX), Some(1));
+}
