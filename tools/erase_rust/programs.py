@@ -20,8 +20,8 @@ PRELUDE = {
 
 MACROS = {"format", "format_args", "writeln"}
 METHODS = set("""
-    alloc arg chars dev eprint eprintln flatten get_index_of ino into_bytes invalid is_file is_terminal monotonic partition_point read_to_end
-    rsplit_once split_at stderr stdin stdout sync_all to_ascii_uppercase utf8_chunks valid wrapping_shl zip
+    alloc arg chars dev eprint eprintln flatten get_index_of ino into_bytes invalid is_file is_terminal monotonic read_to_end
+    rsplit_once split_at stderr stdin stdout sync_all to_ascii_uppercase utf8_chunks valid var wrapping_shl zip
 """.split())
 FUNCTIONS = {"BITS", "from_str_radix"}
 

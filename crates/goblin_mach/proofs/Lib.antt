@@ -22,7 +22,10 @@ pub mod SaidFacts
 pub mod StreamFacts
 pub mod SlotFacts
 pub mod NearestItems
+pub mod MappedItems
+pub mod MappedNearest
 pub mod LookedUpFacts
+pub mod LookUpLaws
 pub mod ListBounds
 pub mod Files
 pub mod FatNumbers

@@ -29,6 +29,8 @@ pub mod SlotFacts
 pub mod NamedParts
 pub mod FileOffsets
 pub mod NearestSymbol
+pub mod MappedSymbols
+pub mod SymbolMaps
 pub mod LookedUpFacts
 pub mod Bounds
 pub mod FatFile

@@ -48,6 +48,10 @@ abbrev pub IsSymbolAt : List SegmentView → List (Result (List ℕ × Nlist) Fa
 IsSymbolAt ss items None a found = found ≡ None
 IsSymbolAt ss items (Some h) a found = IsNearestIn items (section_number ss h) a found
 
+-- what a symbol that was found says: its number, its name, its record, and how far the address is above its value
+abbrev pub found_symbol_view : SymbolAt → ℕ × List ℕ × Nlist × ℕ
+found_symbol_view x = (x.index, x.name.now, x.symbol, x.distance)
+
 -- ---- functions
 
 -- a function begins at an address, by these items

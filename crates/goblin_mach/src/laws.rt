@@ -5,6 +5,7 @@ mod images;
 mod inputs;
 mod layout;
 mod links;
+mod look_ups;
 pub mod rows;
 
 pub use crate::command_iterator::commands_one_by_one;
@@ -81,6 +82,9 @@ pub use crate::laws::layout::claims_of_image;
 pub use crate::laws::layout::layout_faults_of_image;
 pub use crate::laws::layout::one_list_of_layout_faults;
 pub use crate::laws::links::links_of_image;
+pub use crate::laws::look_ups::address_leads_back_to_offset;
+pub use crate::laws::look_ups::offset_leads_back_to_address;
+pub use crate::laws::look_ups::one_symbol_at_address;
 pub use crate::libraries::libraries_by_ordinal;
 pub use crate::libraries::libraries_in_libs;
 pub use crate::macho::look_up::export_by_list_and_paths;

@@ -20,6 +20,7 @@ mod relocations;
 pub mod said;
 mod single_value;
 mod subjects;
+mod symbol_map;
 pub mod table_places;
 mod weak_binds;
 
@@ -58,6 +59,7 @@ pub use crate::macho::{Function, MachO, SymbolAt};
 pub use crate::rebases::RebaseIterator;
 pub use crate::said::{BuildVersion, Encryption, FilesetEntry};
 pub use crate::subjects::{id_place, library_place, run_path_place};
+pub use crate::symbol_map::SymbolMap;
 pub use crate::view::{LinkView, link_view};
 pub use mach_base::{
     BE, Container, Ctx, Description, Endian, Error, Hint, HintData, IntoCtx, LE, Record, Result,

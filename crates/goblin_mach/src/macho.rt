@@ -25,6 +25,7 @@ mod tables;
 
 use crate::fields::Fields;
 pub use crate::macho::nearest::{Function, SymbolAt};
+pub(crate) use crate::macho::nearest::{distance_above, section_number};
 use crate::opened::Opened;
 use crate::relocations::{RelocatedSection, relocations};
 use mach_base::{Ctx, Result};

@@ -4,6 +4,7 @@
 mod chained;
 mod dyld;
 mod image;
+mod looked_up;
 mod parts;
 
 // Generic readers and writers, at types of their own.

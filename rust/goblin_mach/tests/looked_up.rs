@@ -1,5 +1,5 @@
 //! Segments, sections, symbols, functions and offsets that are looked up by names, addresses and offsets.
-use goblin_mach::{Function, MachO};
+use goblin_mach::{Function, MachO, SymbolMap};
 
 /// A name of 16 bytes, padded with zeros.
 fn padded(name: &str) -> [u8; 16] {
@@ -48,8 +48,13 @@ fn image(count: u32) -> Vec<u8> {
         symbol(16, 0x0f, 3, 0x1118),
         symbol(1, 0x03, 1, 0x1112),
         symbol(0xffff, 0x0f, 1, 0x1119),
-    ]
-    .concat();
+    ];
+    image_of(&symbols, count)
+}
+
+/// The same image with other symbols.
+fn image_of(symbols: &[Vec<u8>], count: u32) -> Vec<u8> {
+    let symbols = symbols.concat();
     let text = [
         ("__TEXT", "__text", 0x1100, 0x40),
         ("__TEXT", "__const", 0x1140, 0x20),
@@ -73,7 +78,7 @@ fn image(count: u32) -> Vec<u8> {
     bytes.extend([0x80, 0x02, 0x10, 0x40, 0, 0, 0, 0]);
     bytes.extend(symbols);
     bytes.extend(NAMES);
-    bytes.resize(0x320, 0);
+    bytes.resize(bytes.len().max(0x320), 0);
     bytes
 }
 
@@ -139,6 +144,106 @@ fn symbols_at_addresses() {
         ];
         for (row, address, want) in rows {
             assert_eq!(found(address), want, "{row}");
+        }
+    }
+}
+
+/// Numbers that look random: the same in each run.
+struct Numbers(u64);
+
+impl Numbers {
+    /// The next number below a limit.
+    fn below(&mut self, limit: u64) -> u64 {
+        self.0 = self
+            .0
+            .wrapping_mul(6364136223846793005)
+            .wrapping_add(1442695040888963407);
+        (self.0 >> 33) % limit
+    }
+}
+
+/// The sections of the image above, by their numbers: the address and the size.
+const SECTIONS: [(u8, u64, u64); 4] = [
+    (1, 0x1100, 0x40),
+    (2, 0x1140, 0x20),
+    (3, 0x3000, 0x10),
+    (4, 0x3010, 0x10),
+];
+
+/// A symbol's name, kind, section and value.
+type Row = (u32, u8, u8, u64);
+
+/// The index of the symbol of a section that is nearest below an address, and the distance.
+fn nearest_by_hand(rows: &[Row], n_sect: usize, address: u64) -> Option<(usize, u64)> {
+    let mut best: Option<(usize, u64)> = None;
+    for (index, &(name, kind, section, value)) in rows.iter().enumerate() {
+        let is_defined = name != 0xffff && kind & 0xee == 0x0e;
+        if !is_defined || usize::from(section) != n_sect || value > address {
+            continue;
+        }
+        if best.is_none_or(|(_, distance)| address - value <= distance) {
+            best = Some((index, address - value));
+        }
+    }
+    best
+}
+
+#[test]
+fn a_map_finds_the_symbols() {
+    // Many symbols of one value, of each section, of sections that aren't there, entries for a debugger, names that can't be read.
+    for (many, spread) in [
+        (0, 1),
+        (1, 1),
+        (2, 1),
+        (300, 8),
+        (4000, 0x40),
+        (4000, 0x2400),
+    ] {
+        let mut numbers = Numbers(many);
+        let mut any_of = |choice: &[u32]| choice[numbers.below(choice.len() as u64) as usize];
+        let mut rows: Vec<Row> = Vec::new();
+        for _ in 0..many {
+            let kind = any_of(&[0x0e, 0x0f, 0x1e, 0x0f, 0x24, 0x2e, 0x03, 0x01]);
+            let section = any_of(&[1, 2, 3, 4, 0, 255]);
+            rows.push((any_of(&[1, 4, 8, 0xffff]), kind as u8, section as u8, 0));
+        }
+        for row in &mut rows {
+            row.3 = 0x10f8 + numbers.below(spread);
+        }
+        let records: Vec<_> = rows
+            .iter()
+            .map(|row| symbol(row.0, row.1, row.2, row.3))
+            .collect();
+        let bytes = image_of(&records, u32::MAX);
+        let image = MachO::parse(&bytes, 0).unwrap();
+        let map = SymbolMap::new(&image).unwrap();
+        let defined = rows
+            .iter()
+            .filter(|row| row.0 != 0xffff && row.1 & 0xee == 0x0e);
+        // Names and padding after the records are read as symbols, too; none of those is defined.
+        assert_eq!(map.len(), defined.count());
+        assert_eq!(map.is_empty(), map.len() == 0);
+        for address in (0x10f0..0x1170).chain(0x2ff0..0x3030).chain([0, u64::MAX]) {
+            let of = |at: goblin_mach::SymbolAt<'_>| (at.index, at.distance);
+            let holds =
+                |section: &&(u8, u64, u64)| section.1 <= address && address - section.1 < section.2;
+            let section = SECTIONS.iter().find(holds);
+            let want =
+                section.and_then(|section| nearest_by_hand(&rows, section.0.into(), address));
+            assert_eq!(map.symbol_at(address).map(of), want, "{many} {address:#x}");
+            assert_eq!(
+                image.symbol_at(address).map(of),
+                want,
+                "{many} {address:#x}"
+            );
+            for n_sect in [0, 1, 255, 256, usize::MAX] {
+                let want = nearest_by_hand(&rows, n_sect, address);
+                assert_eq!(
+                    map.symbol_in_section(n_sect, address).map(of),
+                    want,
+                    "{n_sect} {address:#x}"
+                );
+            }
         }
     }
 }

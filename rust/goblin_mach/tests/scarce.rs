@@ -7,7 +7,7 @@ mod samples;
 use goblin_mach::exports::ExportInfo;
 use goblin_mach::write::{FatEntry, Form, create, fat_order};
 use goblin_mach::{
-    AllocError, Error, LinkView, Mach, MachO, MultiArch, SingleArch, layout, link_view,
+    AllocError, Error, LinkView, Mach, MachO, MultiArch, SingleArch, SymbolMap, layout, link_view,
 };
 use samples::{FILE_A, FILE_B, FILE_C};
 use std::alloc::{GlobalAlloc, Layout, System};
@@ -72,6 +72,7 @@ fn work(bytes: &[u8]) -> Result<usize, Error> {
         count += unless_memory(image.imports())?.map_or(0, |all| all.len());
         count += unless_memory(image.relocations())?.map_or(0, |all| all.len());
         count += layout::layout_faults(&image)?.len();
+        count += SymbolMap::new(&image)?.len();
         let mut walk = image.walk_exports()?;
         while let Some(item) = walk.next() {
             count += usize::from(unless_memory(item)?.is_ok());

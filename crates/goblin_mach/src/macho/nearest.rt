@@ -45,7 +45,7 @@ pub struct Function {
 }
 
 // Returns the number by which symbols name a section: counted from 1 over all segments.
-fn section_number(segments: &[Segment<'_>], section: &NumberedSection) -> usize
+pub(crate) fn section_number(segments: &[Segment<'_>], section: &NumberedSection) -> usize
     ensures { result ≡ section_number (map segment_view segments.now) section.now }
 {
     let mut number = section.number as usize + 1;
@@ -60,7 +60,7 @@ fn section_number(segments: &[Segment<'_>], section: &NumberedSection) -> usize
 
 // Returns how far an address is above a symbol, if the symbol is defined in the section with this number, is no debugging entry,
 // and lies at or below the address.
-fn distance_above(symbol: &Nlist, section: usize, address: u64) -> Option<u64>
+pub(crate) fn distance_above(symbol: &Nlist, section: usize, address: u64) -> Option<u64>
     ensures { result ≡ (if is_below section address symbol.now then Some (address - symbol.now.n_value) else None) }
 {
     if symbol.get_type() != N_SECT || symbol.is_stab() || symbol.n_sect != section {

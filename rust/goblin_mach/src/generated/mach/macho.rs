@@ -17,6 +17,7 @@ mod tables;
 
 use crate::generated::mach::fields::Fields;
 pub use crate::generated::mach::macho::nearest::{Function, SymbolAt};
+pub(crate) use crate::generated::mach::macho::nearest::{distance_above, section_number};
 use crate::generated::mach::opened::Opened;
 use crate::generated::mach::relocations::{RelocatedSection, relocations};
 use crate::generated::mach_base::{Ctx, Result};

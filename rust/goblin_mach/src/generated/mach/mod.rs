@@ -21,6 +21,7 @@ mod relocations;
 pub mod said;
 mod single_value;
 mod subjects;
+mod symbol_map;
 pub mod table_places;
 mod weak_binds;
 
@@ -68,6 +69,7 @@ pub use crate::generated::mach::macho::{Function, MachO, SymbolAt};
 pub use crate::generated::mach::rebases::RebaseIterator;
 pub use crate::generated::mach::said::{BuildVersion, Encryption, FilesetEntry};
 pub use crate::generated::mach::subjects::{id_place, library_place, run_path_place};
+pub use crate::generated::mach::symbol_map::SymbolMap;
 pub use crate::generated::mach::view::{LinkView, link_view};
 pub use crate::generated::mach_base::{
     BE, Container, Ctx, Description, Endian, Error, Hint, HintData, IntoCtx, LE, Record, Result,

@@ -31,7 +31,7 @@ pub struct Function {
 }
 
 // Returns the number by which symbols name a section: counted from 1 over all segments.
-fn section_number(segments: &[Segment<'_>], section: &NumberedSection) -> usize {
+pub(crate) fn section_number(segments: &[Segment<'_>], section: &NumberedSection) -> usize {
     let mut number = section.number as usize + 1;
     for (index, segment) in segments.iter().enumerate() {
         if index >= section.segment {
@@ -44,7 +44,7 @@ fn section_number(segments: &[Segment<'_>], section: &NumberedSection) -> usize 
 
 // Returns how far an address is above a symbol, if the symbol is defined in the section with this number, is no debugging entry,
 // and lies at or below the address.
-fn distance_above(symbol: &Nlist, section: usize, address: u64) -> Option<u64> {
+pub(crate) fn distance_above(symbol: &Nlist, section: usize, address: u64) -> Option<u64> {
     if symbol.get_type() != N_SECT || symbol.is_stab() || symbol.n_sect != section {
         return None;
     }

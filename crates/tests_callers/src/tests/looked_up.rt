@@ -1,0 +1,135 @@
+//! Small callers of what is looked up in an image, and of what single commands say: each states its answer by a fact about the
+//! bytes, and cites the law that gives it.
+
+ghost use Rattle.std.specs.Prelude.{◌≡◌, ℕ, List, option_map};
+ghost use Rattle.mach_parts.specs.Segment.{segment_view};
+ghost use Rattle.goblin_mach.specs.LookedUpFacts.{HasSegmentNamed, HasSectionNamed, HasSymbolNamed, HasFunctionAt, HasAddressOf, HasOffsetOf};
+ghost use Rattle.goblin_mach.specs.NearestSymbol.{found_symbol_view};
+ghost use Rattle.goblin_mach.specs.OpenImage.{IsImage};
+ghost use Rattle.goblin_mach.specs.Said.{build_version_said};
+ghost use Rattle.goblin_mach.specs.SaidFacts.{HasUuid, HasBuildVersions, HasSourceVersion, HasEncryption, HasDylinker};
+ghost use Rattle.goblin_mach.specs.SaidLeft.{said_left, said_text};
+
+use crate::tests::same::same;
+use goblin_mach::said::BuildVersionIterator;
+use goblin_mach::segment::{NumberedSection, Segment};
+use goblin_mach::symbols::Nlist;
+use goblin_mach::{Encryption, Function, MachO, Result, SymbolAt, SymbolMap, laws};
+use mach_samples::files::FILE_B;
+use std::test::Fail;
+
+// Each of these returns what the bytes say in which the image was opened.
+fn uuid(image: &MachO<'_>) -> Option<[u8; 16]>
+    ensures { (bytes : List ℕ) (o : ℕ) → IsImage bytes o image.now → HasUuid bytes o result }
+{
+    laws::uuid_of_image(image);
+    image.uuid()
+}
+
+fn build_versions<'b>(image: &'b MachO<'_>) -> BuildVersionIterator<'b>
+    ensures { (bytes : List ℕ) (o : ℕ) → IsImage bytes o image.now → HasBuildVersions bytes o (said_left (λ s. build_version_said s.cputype) result) }
+{
+    laws::build_versions_of_image(image);
+    image.build_versions()
+}
+
+fn source_version(image: &MachO<'_>) -> Option<u64>
+    ensures { (bytes : List ℕ) (o : ℕ) → IsImage bytes o image.now → HasSourceVersion bytes o result }
+{
+    laws::source_version_of_image(image);
+    image.source_version()
+}
+
+fn encryption(image: &MachO<'_>) -> Option<Encryption>
+    ensures { (bytes : List ℕ) (o : ℕ) → IsImage bytes o image.now → HasEncryption bytes o result }
+{
+    laws::encryption_of_image(image);
+    image.encryption()
+}
+
+fn dylinker<'a>(image: &MachO<'a>) -> Option<Result<&'a str>>
+    ensures { (bytes : List ℕ) (o : ℕ) → IsImage bytes o image.now → HasDylinker bytes o (option_map said_text result) }
+{
+    laws::dylinker_of_image(image);
+    image.dylinker()
+}
+
+fn segment_named<'a, 'b>(image: &'b MachO<'a>, name: &str) -> Option<&'b Segment<'a>>
+    ensures { (bytes : List ℕ) (o : ℕ) → IsImage bytes o image.now → HasSegmentNamed bytes o name.now (option_map (λ s. segment_view s.now) result) }
+{
+    laws::named_segment_of_image(image);
+    image.segment_named(name)
+}
+
+fn section_named(image: &MachO<'_>, segment: &str, section: &str) -> Option<NumberedSection>
+    ensures { (bytes : List ℕ) (o : ℕ) → IsImage bytes o image.now → HasSectionNamed bytes o segment.now section.now result }
+{
+    laws::named_section_of_image(image);
+    image.section_named(segment, section)
+}
+
+fn symbol_named(image: &MachO<'_>, name: &str) -> Option<(usize, Nlist)>
+    ensures { (bytes : List ℕ) (o : ℕ) → IsImage bytes o image.now → HasSymbolNamed bytes o name.now result }
+{
+    laws::named_symbol_of_image(image);
+    image.symbol_named(name)
+}
+
+fn function_at(image: &MachO<'_>, address: u64) -> Option<Function>
+    ensures { (bytes : List ℕ) (o : ℕ) → IsImage bytes o image.now → HasFunctionAt bytes o address result }
+{
+    laws::function_at_of_image(image);
+    image.function_at(address)
+}
+
+fn address_of(image: &MachO<'_>, offset: u64) -> Option<u64>
+    ensures { (bytes : List ℕ) (o : ℕ) → IsImage bytes o image.now → HasAddressOf bytes o offset result }
+{
+    laws::address_of_image(image);
+    image.address_of_offset(offset)
+}
+
+fn offset_of(image: &MachO<'_>, address: u64) -> Option<u64>
+    ensures { (bytes : List ℕ) (o : ℕ) → IsImage bytes o image.now → HasOffsetOf bytes o address result }
+{
+    laws::offset_of_image(image);
+    image.offset_of_address(address)
+}
+
+// Returns what a map and its image find at an address, which is the same.
+fn found_twice<'a>(
+    map: &SymbolMap<'a, '_>,
+    address: u64,
+) -> (Option<SymbolAt<'a>>, Option<SymbolAt<'a>>)
+    ensures { option_map found_symbol_view result.0 ≡ option_map found_symbol_view result.1 }
+{
+    laws::one_symbol_at_address();
+    (map.symbol_at(address), map.image().symbol_at(address))
+}
+
+#[test]
+fn looked_up(rt: HostRuntime) -> std::result::Result<(), Fail> {
+    let image = MachO::parse(rt.alloc(), &FILE_B, 0)?;
+    assert!(rt; segment_named(&image, "__TEXT").is_some());
+    assert!(rt; segment_named(&image, "__text").is_none());
+    assert!(rt; section_named(&image, "__TEXT", "__text").is_some());
+    assert!(rt; matches!(symbol_named(&image, "_main"), Some((0, _))));
+    same(&rt, address_of(&image, 0x138), Some(0x100000138));
+    same(&rt, offset_of(&image, 0x100000138), Some(0x138));
+    assert!(rt; function_at(&image, 0x100000138).is_none());
+    let map = SymbolMap::new(rt.alloc(), &image)?;
+    let (found, other) = found_twice(&map, 0x100000138);
+    assert!(rt; found.is_none() && other.is_none());
+    Ok(())
+}
+
+#[test]
+fn said(rt: HostRuntime) -> std::result::Result<(), Fail> {
+    let image = MachO::parse(rt.alloc(), &FILE_B, 0)?;
+    assert!(rt; uuid(&image).is_none());
+    assert!(rt; build_versions(&image).next().is_none());
+    same(&rt, source_version(&image), None);
+    assert!(rt; encryption(&image).is_none());
+    assert!(rt; dylinker(&image).is_none());
+    Ok(())
+}
