@@ -2,13 +2,13 @@
 use Rattle.std.proofs.Common.{◌≡◌, ◌+◌, ◌∙◌, ℕ, List, ◌∷◌, Bool, true, false, Option, Some, None, drop, refl, sym, ap, subst, length, get_or, string_bytes}
 use Rattle.std.specs.Prelude.{◌<◌, ⊤}
 use Rattle.std.proofs.lemmas.List.{drop_more}
-use Rattle.std.specs.Str.Parse.{digits_value}
 use Rattle.mach_cli.specs.Calls.{ParsedCall, IsCputype, TakesOwn, TakesDashed, TakesJoined, TakesValue, AddsWord, AddsWords, AreUntaken, Selects}
 use Rattle.mach_cli.specs.Calls.{joined_in, kind_at, of_arch, of_number, TakesWord}
 use Rattle.mach_cli.specs.CallWords.{word_text}
 use Rattle.mach_cli.specs.Cpus.{ArchRow}
 use Rattle.mach_cli.specs.declared.call.Kind.{Kind}
 use Rattle.mach_cli.specs.declared.call.Kind.TheVariants as kinds
+use Rattle.mach_cli.specs.declared.color.Color.{Color}
 use Rattle.mach_cli.specs.declared.options.Format.{Format}
 use Rattle.mach_cli.specs.declared.options.Options.{Options}
 use Rattle.mach_cli.specs.declared.call.Untaken.{Untaken}
@@ -27,24 +27,24 @@ GoesOn taken options None false old words new = Selects taken options None old w
 
 -- ---- an argument extends a call in one way only
 
-row_or : ArchRow → Option ArchRow → ArchRow
-row_or row None = row
-row_or row (Some x) = x
+some_or : {T : Type 0} → T → Option T → T
+some_or x None = x
+some_or x (Some y) = y
 
-some-one : (x y : ArchRow) → Some x ≡ Some y → x ≡ y
-unfolding row_or
-some-one x y same = ap (λ (o : Option ArchRow). row_or x o) same
+some-one : {T : Type 0} (x y : T) → Some x ≡ Some y → x ≡ y
+unfolding some_or
+some-one x y same = ap (λ o. some_or x o) same
 
 pub number-one : (word : List ℕ) (m n : ℕ) → IsCputype word m → IsCputype word n → m ≡ n
-number-one word m n a b =
-    let same : a.0 ≡ b.0 = ap (drop 2) (sym a.1 ∙ b.1) in
-    a.4 ∙ ap (digits_value 16) same ∙ sym b.4
+number-one word m n a b = some-one m n (sym a ∙ b)
 
 pub takes-one : {O : Type 0} (option : Valued) (word : List ℕ) (old x y : ParsedCall O) → TakesValue option word old x → TakesValue option word old y → x ≡ y
 takes-one valued.Limit word old x y a b = a.2 ∙ ap (λ (n : ℕ). record old { limit = Some n }) (a.1.2 ∙ sym b.1.2) ∙ sym b.2
 takes-one valued.Arch word old x y a b = a.2 ∙ ap (λ (row : ArchRow). record old { cpu = of_arch row }) (some-one a.0 b.0 (sym a.1 ∙ b.1)) ∙ sym b.2
 takes-one valued.Cputype word old x y a b =
     a.2 ∙ ap (λ (n : ℕ). record old { cpu = of_number n }) (number-one word a.0 b.0 a.1 b.1) ∙ sym b.2
+takes-one valued.Address word old x y a b = a.2 ∙ ap (λ (n : ℕ). record old { address = Some n }) (some-one a.0 b.0 (sym a.1 ∙ b.1)) ∙ sym b.2
+takes-one valued.Color word old x y a b = a.2 ∙ ap (λ (color : Color). record old { color = color }) (some-one a.0 b.0 (sym a.1 ∙ b.1)) ∙ sym b.2
 takes-one valued.Names word old x y a b = a ∙ sym b
 
 pub adds-one : {O : Type 0} (options : Options) (word : Word) (old x y : ParsedCall O) → AddsWord options word old x → AddsWord options word old y → x ≡ y

@@ -17,5 +17,8 @@ mod TitleKept
 mod CallsRead
 mod Formed
 pub mod FieldLines
-mod Cputypes
+mod HexWords
 mod ShortNames
+mod Changes
+pub mod PartLists
+mod Painting

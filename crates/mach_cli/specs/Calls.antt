@@ -1,9 +1,12 @@
 -- What the arguments of a call request.
 use Rattle.std.specs.Prelude.{◌≡◌, ◌==◌, ◌||◌, ◌&&◌, ◌<◌, ◌≤◌, ◌^◌, ℕ, List, [], ◌∷◌, ◌++◌, codes, map, length, Bool, true, false, bytes_eq}
-use Rattle.std.specs.Prelude.{⊤, take, drop, if◌then◌else◌, Option, Some, None, get_or, string_bytes}
+use Rattle.std.specs.Prelude.{⊤, take, drop, if◌then◌else◌, Option, Some, None, get_or, nat_le, nat_lt, string_bytes}
+use Rattle.std.specs.Char.{digit_value}
+use Rattle.std.specs.List.{list_all}
 use Rattle.std.specs.Borrow.{Bor}
 use Rattle.std.specs.Str.Parse.{IsNumeral, digits_value, without_leading_plus}
 use Rattle.mach_base.specs.Text.{texts}
+use Rattle.mach_cli.specs.Colors.{color_named}
 use Rattle.mach_cli.specs.Cpus.{ArchRow, arch_named, arch_row_of, arch_rows}
 use Rattle.mach_cli.specs.CallWords.{word_text}
 use Rattle.mach_cli.specs.declared.call.Call.{Call}
@@ -15,6 +18,8 @@ use Rattle.mach_cli.specs.declared.call.Untaken.{Untaken}
 use Rattle.mach_cli.specs.declared.call.Untaken.TheVariants.{Misuse, Memory}
 use Rattle.mach_cli.specs.declared.call.Valued.{Valued}
 use Rattle.mach_cli.specs.declared.call.Valued.TheVariants as valued
+use Rattle.mach_cli.specs.declared.color.Color.{Color}
+use Rattle.mach_cli.specs.declared.color.Color.TheVariants as colors
 use Rattle.mach_cli.specs.declared.options.Format.{Format}
 use Rattle.mach_cli.specs.declared.options.Format.TheVariants as formats
 use Rattle.mach_cli.specs.declared.options.Options.{Options}
@@ -44,12 +49,15 @@ abbrev pub is_json : Format → Bool
 is_json formats.Json = true
 is_json other = false
 
--- what arguments request: the number after `--limit`, the selected cpu, the form of the output, the program's own options, the
--- other arguments, the lists after `--names`, whether names in these end with NUL, and the arguments that aren't text
+-- what arguments request: the number after `--limit`, the selected cpu, the address after `--at`, the form of the output, when it is
+-- coloured, the program's own options, the other arguments, the lists after `--names`, whether names in these end with NUL, and the
+-- arguments that aren't text
 pub record ParsedCall (O : Type 0) : Type 0 where
   pub limit : Option ℕ
   pub cpu : CpuSaid
+  pub address : Option ℕ
   pub format : Format
+  pub color : Color
   pub own : O
   pub words : List (List ℕ)
   pub lists : List (List ℕ)
@@ -63,7 +71,9 @@ abbrev pub call_view : {A O : Type 0} → Call A O → ParsedCall O
 call_view c = record {
   limit = c.limit;
   cpu = cpu_said c.cpu;
+  address = c.address;
   format = c.format;
+  color = c.color;
   own = c.own;
   words = texts c.words.items;
   lists = texts c.others.lists.items;
@@ -73,24 +83,58 @@ call_view c = record {
 
 -- before the first argument, with these options of the program's own
 abbrev pub empty_call : {O : Type 0} → O → ParsedCall O
-empty_call own =
-    record { limit = None; cpu = any_cpu; format = formats.Text; own = own; words = []; lists = []; ends_with_nul = false; no_texts = [] }
+empty_call own = record {
+  limit = None;
+  cpu = any_cpu;
+  address = None;
+  format = formats.Text;
+  color = colors.Auto;
+  own = own;
+  words = [];
+  lists = [];
+  ends_with_nul = false;
+  no_texts = [];
+}
 
 -- The argument is a number of digits, perhaps after a plus, that fits 64 bits.
 abbrev pub IsLimit : List ℕ → ℕ → Type 0
 IsLimit word number = IsNumeral 10 (without_leading_plus word) × (digits_value 10 (without_leading_plus word) < 2 ^ 64)
     × (number ≡ digits_value 10 (without_leading_plus word))
 
+-- what follows an option and `=` in an argument, if the program has that option
+abbrev pub value_after : (has : Bool) → (option word : List ℕ) → Option (List ℕ)
+value_after has option word = if has && bytes_eq (take (length option) word) option then Some (drop (length option) word) else None
+
+-- whether these are 1 to `most` hexadecimal digits, and nothing else
+abbrev pub are_hex_digits : (most : ℕ) → List ℕ → Bool
+are_hex_digits most digits = nat_lt 0 (length digits) && nat_le (length digits) most && list_all (λ c. nat_lt (digit_value c) 16) digits
+
+-- their number, if they are
+abbrev pub hex_value : (most : ℕ) → Option (List ℕ) → Option ℕ
+hex_value most None = None
+hex_value most (Some digits) = if are_hex_digits most digits then Some (digits_value 16 digits) else None
+
+-- the number that an argument gives: `0x`, and 1 to `most` hexadecimal digits
+abbrev pub hex_word : (most : ℕ) → List ℕ → Option ℕ
+hex_word most word = hex_value most (value_after true (codes "0x") word)
+
+-- the address that an argument gives: `0x`, and 1 to 16 hexadecimal digits
+abbrev pub word_address : List ℕ → Option ℕ
+word_address word = hex_word 16 word
+
 -- The argument is the number of a cpu: `0x`, and 1 to 8 hexadecimal digits.
 abbrev pub IsCputype : List ℕ → ℕ → Type 0
-IsCputype word number = (digits : List ℕ) × (word ≡ codes "0x" ++ digits) × IsNumeral 16 digits × (length digits ≤ 8) × (number ≡ digits_value 16 digits)
+IsCputype word number = hex_word 8 word ≡ Some number
 
--- What an option and its value add to a call: the number of lines, the cpu of a name or a number, or one more list.
+-- What an option and its value add to a call: the number of lines, the cpu of a name or a number, an address, when output is
+-- coloured, or one more list.
 abbrev pub TakesValue : {O : Type 0} → Valued → List ℕ → (old new : ParsedCall O) → Type 0
 TakesValue valued.Limit word old new = (number : ℕ) × IsLimit word number × (new ≡ record old { limit = Some number })
 TakesValue valued.Arch word old new =
     (row : ArchRow) × (arch_named arch_rows word ≡ Some row) × (new ≡ record old { cpu = of_arch row })
 TakesValue valued.Cputype word old new = (number : ℕ) × IsCputype word number × (new ≡ record old { cpu = of_number number })
+TakesValue valued.Address word old new = (number : ℕ) × (word_address word ≡ Some number) × (new ≡ record old { address = Some number })
+TakesValue valued.Color word old new = (color : Color) × (color_named word ≡ Some color) × (new ≡ record old { color = color })
 TakesValue valued.Names word old new = new ≡ record old { lists = old.lists ++ word ∷ [] }
 
 -- the kind of an argument that is no option's value and comes before `--`
@@ -105,6 +149,8 @@ word_kind options word =
     else if bytes_eq word (codes "--limit") && options.has_limit then kinds.Valued valued.Limit
     else if bytes_eq word (codes "--arch") && options.has_arch then kinds.Valued valued.Arch
     else if bytes_eq word (codes "--cputype") && options.has_cputype then kinds.Valued valued.Cputype
+    else if bytes_eq word (codes "--at") && options.has_address then kinds.Valued valued.Address
+    else if bytes_eq word (codes "--color") then kinds.Valued valued.Color
     else if bytes_eq word (codes "--names") && options.has_files then kinds.Valued valued.Names
     else if bytes_eq word (codes "-") then kinds.Other
     else if get_or word 0 0 == 0x2d then kinds.Own
@@ -135,10 +181,6 @@ AddsWords {O} options old (word ∷ words) new = (next : ParsedCall O) × AddsWo
 abbrev pub TakesOwn : {O : Type 0} → (taken : O → List ℕ → O × Bool) → List ℕ → (old new : ParsedCall O) → Type 0
 TakesOwn {O} taken word old new = (own : O) × (taken old.own word ≡ (own, true)) × (new ≡ record old { own = own })
 
--- what follows an option and `=` in an argument, if the program has that option
-abbrev pub value_after : (has : Bool) → (option word : List ℕ) → Option (List ℕ)
-value_after has option word = if has && bytes_eq (take (length option) word) option then Some (drop (length option) word) else None
-
 abbrev pub joined_or : Valued → Option (List ℕ) → Option (Valued × List ℕ) → Option (Valued × List ℕ)
 joined_or option None other = other
 joined_or option (Some value) other = Some (option, value)
@@ -149,7 +191,9 @@ joined_in options word =
     joined_or valued.Limit (value_after options.has_limit (codes "--limit=") word)
     (joined_or valued.Arch (value_after options.has_arch (codes "--arch=") word)
     (joined_or valued.Cputype (value_after options.has_cputype (codes "--cputype=") word)
-    (joined_or valued.Names (value_after options.has_files (codes "--names=") word) None)))
+    (joined_or valued.Address (value_after options.has_address (codes "--at=") word)
+    (joined_or valued.Color (value_after true (codes "--color=") word)
+    (joined_or valued.Names (value_after options.has_files (codes "--names=") word) None)))))
 
 abbrev pub joined_view : Valued × Bor (List ℕ) → Valued × List ℕ
 joined_view (option, value) = (option, value.now)

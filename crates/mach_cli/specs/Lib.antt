@@ -37,3 +37,7 @@ pub mod CallWords
 pub mod Calls
 pub mod Listed
 pub mod Titles
+pub mod Stretches
+pub mod AllStretches
+pub mod Colors
+pub mod Painted

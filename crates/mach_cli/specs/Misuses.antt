@@ -3,12 +3,14 @@ use Rattle.std.specs.Prelude.{ℕ, List, ◌++◌, codes}
 use Rattle.mach_cli.specs.CallWords.{no_text_words}
 use Rattle.mach_cli.specs.Escapes.{escaped_text}
 use Rattle.mach_cli.specs.declared.misuse.Misuse.{Misuse}
-use Rattle.mach_cli.specs.declared.misuse.Misuse.TheVariants.{UnknownOption, UnknownWord, NoNumber, NoCpu, Missing, NoText}
+use Rattle.mach_cli.specs.declared.misuse.Misuse.TheVariants.{UnknownOption, UnknownWord, NoNumber, NoCpu, NoAddress, NoColor, Missing, NoText}
 
 abbrev pub misuse_words : Misuse → List ℕ
 misuse_words (UnknownOption word) = codes "unknown option '" ++ (escaped_text word.now ++ codes "'")
 misuse_words (UnknownWord word) = codes "unknown word '" ++ (escaped_text word.now ++ codes "'")
 misuse_words (NoNumber word) = codes "'" ++ (escaped_text word.now ++ codes "' is not a number")
 misuse_words (NoCpu word) = codes "'" ++ (escaped_text word.now ++ codes "' is not a cpu")
+misuse_words (NoAddress word) = codes "'" ++ (escaped_text word.now ++ codes "' is not an address")
+misuse_words (NoColor word) = codes "'" ++ (escaped_text word.now ++ codes "' is not auto, always or never")
 misuse_words (Missing what) = codes "no " ++ (what.now ++ codes " is given")
 misuse_words (NoText word) = no_text_words word.what.now word.number word.bytes.now

@@ -1,12 +1,14 @@
 //! The arguments of a call.
 
-ghost use Rattle.std.specs.Prelude.{◌≡◌, ℕ, None, option_map, IfErr, IfNone, IfOk, IfSome, OnOk};
+ghost use Rattle.std.specs.Prelude.{◌≡◌, None, option_map, IfErr, IfOk, OnOk};
 ghost use Rattle.mach_dyld.specs.Exports.{text_in};
-ghost use Rattle.mach_cli.specs.Calls.{call_view, empty_call, kind_at, word_kind, AddsWord, AreUntaken, Selects, IsCputype, IsRequest, TakesValue};
+ghost use Rattle.mach_cli.specs.Calls.{call_view, empty_call, kind_at, word_kind, AddsWord, AreUntaken, Selects, IsRequest, TakesValue};
 ghost use Rattle.mach_cli.specs.Calls.{joined_in, joined_view, value_after, TakesDashed, TakesOwn, TakesWord};
 ghost use Rattle.mach_cli.specs.CallWords.{word_text};
 
+use crate::color::Color;
 use crate::cpu::{Arch, Cpu};
+use crate::hexadecimal::{address_in, cputype_in};
 use crate::misuse::Misuse;
 use crate::named::Others;
 use crate::options::{Format, Options, OwnOptions};
@@ -20,8 +22,12 @@ pub struct Call<'a, A: Allocator, O> {
     pub limit: Option<usize>,
     /// The cpu after `--arch` or `--cputype`; any, if neither is given.
     pub cpu: Cpu,
+    /// The address after `--at`, if it is given.
+    pub address: Option<u64>,
     /// The form that the last of `--quiet` and `--json` selects; text, if neither is given.
     pub format: Format,
+    /// When its output is coloured: the value of `--color`; `auto` if it isn't given.
+    pub color: Color,
     /// The program's own options.
     pub own: O,
     /// All other arguments that are text, in order.
@@ -49,6 +55,8 @@ enum Valued {
     Limit,
     Arch,
     Cputype,
+    Address,
+    Color,
     Names,
 }
 
@@ -94,6 +102,8 @@ fn kind_of(word: &str, options: Options) -> Kind
         "--limit" if options.has_limit => Kind::Valued(Valued::Limit),
         "--arch" if options.has_arch => Kind::Valued(Valued::Arch),
         "--cputype" if options.has_cputype => Kind::Valued(Valued::Cputype),
+        "--at" if options.has_address => Kind::Valued(Valued::Address),
+        "--color" => Kind::Valued(Valued::Color),
         "--names" if options.has_files => Kind::Valued(Valued::Names),
         "-" => Kind::Other,
         _ if word.starts_with('-') => Kind::Own,
@@ -119,6 +129,8 @@ impl Valued {
             Valued::Limit => "number after --limit",
             Valued::Arch => "NAME after --arch",
             Valued::Cputype => "0xN after --cputype",
+            Valued::Address => "ADDRESS after --at",
+            Valued::Color => "WHEN after --color",
             Valued::Names => "FILE after --names",
         }
     }
@@ -144,20 +156,14 @@ fn joined<'a>(word: &'a str, options: Options) -> Option<(Valued, &'a str)>
     if let Some(value) = value_after(word, "--cputype=", options.has_cputype) {
         return Some((Valued::Cputype, value));
     }
+    if let Some(value) = value_after(word, "--at=", options.has_address) {
+        return Some((Valued::Address, value));
+    }
+    if let Some(value) = value_after(word, "--color=", true) {
+        return Some((Valued::Color, value));
+    }
     let value = value_after(word, "--names=", options.has_files)?;
     Some((Valued::Names, value))
-}
-
-/// Returns the cpu number in an argument: `0x`, and 1 to 8 hexadecimal digits.
-pub fn cputype_in(word: &str) -> Option<u32>
-    ensures value { IfSome result (λ number. IsCputype word.now number) }
-    ensures none { IfNone result ((number : ℕ) → IsCputype word.now number → ⊥) }
-{
-    let digits = word.strip_prefix("0x")?;
-    if digits.len() > 8 || digits.starts_with('+') {
-        return None;
-    }
-    u32::from_str_radix(digits, 16).ok()
 }
 
 impl<'a, A: Allocator, O: OwnOptions> Call<'a, A, O> {
@@ -178,6 +184,14 @@ impl<'a, A: Allocator, O: OwnOptions> Call<'a, A, O> {
             Valued::Cputype => match cputype_in(word) {
                 Some(number) => self.cpu = Cpu::Number(number),
                 None => return Err(Untaken::Misuse(Misuse::NoCpu(word))),
+            },
+            Valued::Address => match address_in(word) {
+                Some(address) => self.address = Some(address),
+                None => return Err(Untaken::Misuse(Misuse::NoAddress(word))),
+            },
+            Valued::Color => match Color::named(word) {
+                Some(color) => self.color = color,
+                None => return Err(Untaken::Misuse(Misuse::NoColor(word))),
             },
             Valued::Names => {
                 if self.others.lists.push(word).is_err() {
@@ -268,7 +282,9 @@ pub fn understand<'a, A: Allocator + Clone, O: OwnOptions>(
     let call = Call {
         limit: None,
         cpu: Cpu::Any,
+        address: None,
         format: Format::Text,
+        color: Color::Auto,
         own,
         words: Vec::new(alloc.clone()?),
         others: Others {

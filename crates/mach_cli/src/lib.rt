@@ -6,10 +6,12 @@
 // The arguments of a call, and what a program says about itself.
 mod bounds;
 mod call;
+mod color;
 mod complaint;
 mod cpu;
 mod failure;
 mod first_bytes;
+mod hexadecimal;
 mod misuse;
 mod named;
 mod options;
@@ -48,12 +50,19 @@ mod escaped;
 mod flags;
 pub mod laws;
 
+// The names of the segment and of the section that hold an address.
+mod memory;
+mod section_names;
+mod stretches;
+
 // Terminals.
+mod painted;
 mod progress;
 mod terminal;
 
 pub use crate::bounds::most_items;
-pub use crate::call::{Call, cputype_in};
+pub use crate::call::Call;
+pub use crate::color::Color;
 pub use crate::complaint::{Complaint, Trouble};
 pub use crate::cpu::{Arch, Cpu, cpu_name};
 pub use crate::directory_name::print_name;
@@ -64,6 +73,7 @@ pub use crate::fields::{Field, FieldsForm, Line, Object, Pairs, Value, word_if};
 pub use crate::files::{FileView, Files};
 pub use crate::first_bytes::{begins_whole_archive, entry_kind, refused_kind};
 pub use crate::flags::{print_code_flags, print_segment_flags};
+pub use crate::hexadecimal::{address_in, cputype_in};
 pub use crate::image_files::ImageFiles;
 pub use crate::image_kinds::image_kind;
 pub use crate::image_view::{ImageView, Outcome};
@@ -82,6 +92,7 @@ pub use crate::named::{Others, names_of};
 pub use crate::names::Names;
 pub use crate::options::{Format, Options, OwnOptions, SharedOnly};
 pub use crate::origins::{library_short_name, ordinal_of, origin_of, provider_name};
+pub use crate::painted::Painted;
 pub use crate::parts::name::PartName;
 pub use crate::parts::selection::{is_for, is_missed};
 pub use crate::parts::shown::{ShownPart, shown_part};
@@ -89,6 +100,7 @@ pub use crate::parts::{Parts, parts_of};
 pub use crate::program::Program;
 pub use crate::progress::Progress;
 pub use crate::refusal::{Refusal, complain, refusal_of};
+pub use crate::section_names::{AllStretches, SegmentStretches};
 pub use crate::signing::{diverse_by, diversity_by, has_auth, key_by, rebase_type};
 pub use crate::sink::{Json, Sink, Text};
 pub use crate::terminal::ForTerminal;

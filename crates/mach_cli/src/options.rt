@@ -38,6 +38,8 @@ pub struct Options {
     pub has_json: bool,
     /// `--quiet`.
     pub has_quiet: bool,
+    /// `--at`.
+    pub has_address: bool,
 }
 
 impl Options {
@@ -49,6 +51,7 @@ impl Options {
         has_files: false,
         has_json: false,
         has_quiet: false,
+        has_address: false,
     };
 
     /// The options of a program that shows the images of files.
@@ -59,6 +62,7 @@ impl Options {
         has_files: true,
         has_json: true,
         has_quiet: false,
+        has_address: false,
     };
 }
 

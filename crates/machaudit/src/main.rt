@@ -24,7 +24,7 @@ mod text;
 use crate::audits::Audits;
 use crate::options::{DEFAULT_LIMIT, Options};
 use crate::output::NAME;
-use mach_cli::{Call, Files, ForTerminal, Misuse, Program, SharedOnly, Titled};
+use mach_cli::{Call, Files, ForTerminal, Misuse, Painted, Program, SharedOnly, Titled};
 use std::alloc::{AllocError, Global};
 use std::io;
 use std::io::{BufWriter, IsTerminal};
@@ -32,7 +32,7 @@ use std::process::ExitCode;
 
 const PROGRAM: Program = Program {
     name: NAME,
-    usage: "usage: machaudit [--quiet | --json] [--limit N] [--arch NAME | --cputype 0xN] [--names FILE] [-0] FILE..
+    usage: "usage: machaudit [--quiet | --json] [--limit N] [--arch NAME | --cputype 0xN] [--names FILE] [-0] [--color WHEN] FILE..
        machaudit -h | --help | --version
 ",
     version: "machaudit 0.3.0\n",
@@ -42,6 +42,7 @@ const PROGRAM: Program = Program {
     },
     known: &[
         "--arch",
+        "--color",
         "--cputype",
         "--help",
         "--json",
@@ -82,7 +83,8 @@ fn audit_files(rt: &HostRuntime, call: &Call<'_, Global, SharedOnly>) -> Result<
         },
         only,
     };
-    let output = ForTerminal::new(io::writer(rt), rt.stdout().is_terminal());
+    let painted = Painted::new(io::writer(rt), call.color.is_for(rt, call.format));
+    let output = ForTerminal::new(painted, rt.stdout().is_terminal());
     let Ok(mut lines) = BufWriter::new(rt.alloc(), Titled::new(rt.alloc(), output)) else {
         return Err(PROGRAM.out_of_memory(rt));
     };

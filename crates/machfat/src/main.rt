@@ -39,7 +39,7 @@ ghost use Rattle.mach_fat_writer.specs.declared.form.Form.TheVariants.{Bits32, B
 
 use arguments::{WIDE, Width};
 use commands::{NAME, run_extract};
-use mach_cli::{Call, Cpu, Files, Misuse, Options, Others, Program, Titled};
+use mach_cli::{Call, Cpu, Files, Misuse, Options, Others, Painted, Program, Titled};
 use mach_fat_writer::Form;
 use made::{one_file, run_create, run_remove, run_replace};
 use new_file::is_same_file;
@@ -55,14 +55,14 @@ const DEFAULT_LIMIT: usize = 10_000_000;
 
 const PROGRAM: Program = Program {
     name: NAME,
-    usage: "usage: machfat list [--json] [--limit N] [--names FILE] [-0] FILE..
+    usage: "usage: machfat list [--json] [--limit N] [--names FILE] [-0] [--color WHEN] FILE..
        machfat extract FILE INDEX|CPU OUT
        machfat thin FILE CPU OUT
-       machfat members [--limit N] [--names FILE] [-0] FILE..
+       machfat members [--limit N] [--names FILE] [-0] [--color WHEN] FILE..
        machfat create [--fat64] OUT FILE..
        machfat replace FILE NEW OUT
        machfat remove FILE INDEX OUT
-       machfat verify [--limit N] [--names FILE] [-0] FILE..
+       machfat verify [--limit N] [--names FILE] [-0] [--color WHEN] FILE..
        machfat -h | --help | --version
 CPU: a name, as arm64, or 0xCPUTYPE
 ",
@@ -82,6 +82,7 @@ CPU: a name, as arm64, or 0xCPUTYPE
         "replace",
         "remove",
         "verify",
+        "--color",
         "--help",
         "--json",
         "--limit",
@@ -119,6 +120,7 @@ fn start(rt: &HostRuntime) -> Result<u8, u8> {
             },
             given,
             &call.others,
+            call.color.is_for(rt, call.format),
         ),
         _ => match misplaced(&call, word) {
             Some(misuse) => Err(FOR_WRITES.bad_usage(rt, misuse)),
@@ -171,17 +173,19 @@ fn write_file(rt: &HostRuntime, word: &str, form: Form, given: &[&str]) -> Resul
     }
 }
 
-// Shows files in order, and returns the worst status.
+// Shows files in order, painted or not, and returns the worst status.
 fn show_files(
     rt: &HostRuntime,
     selected: Selected,
     files: &[&str],
     others: &Others<'_, Global>,
+    is_painted: bool,
 ) -> Result<u8, u8> {
     if files.is_empty() && others.is_empty() {
         return Err(PROGRAM.bad_usage(rt, Misuse::Missing("FILE")));
     }
-    let output = Titled::new(rt.alloc(), io::writer(rt));
+    let painted = Painted::new(io::writer(rt), is_painted);
+    let output = Titled::new(rt.alloc(), painted);
     let Ok(mut out) = BufWriter::new(rt.alloc(), output) else {
         return Err(PROGRAM.out_of_memory(rt));
     };

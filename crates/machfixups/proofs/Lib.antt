@@ -1,4 +1,2 @@
 mod Facts
-mod Changes
-mod PartLists
 mod KeptFixups

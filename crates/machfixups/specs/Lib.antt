@@ -1,5 +1,3 @@
-pub mod Stretches
-pub mod AllStretches
 pub mod StoredPointers
 pub mod Lists
 pub mod KeptFixups

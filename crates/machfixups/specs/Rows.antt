@@ -22,7 +22,7 @@ use Rattle.mach_dyld.specs.declared.rebases.RebaseKind.TheVariants.{Pointer, Tex
 use Rattle.machfixups.specs.Lists.{PointerLists}
 use Rattle.mach_cli.specs.Origins.{ordinal_of, origin_of, provider_name}
 use Rattle.machfixups.specs.StoredPointers.{PointerSource, raw_of}
-use Rattle.machfixups.specs.AllStretches.{SegmentStretches, part_with, section_with, stretch_name}
+use Rattle.mach_cli.specs.AllStretches.{SegmentStretches, part_with, section_with, stretch_name}
 use Rattle.machfixups.specs.KeptFixups.{kept_fixups, kinds_in_lines, kinds_in_objects}
 use Rattle.machfixups.specs.declared.kept_fixups.KindsOfLists.{KindsOfLists}
 use Rattle.machfixups.specs.declared.kept_fixups.ShownKinds.{ShownKinds}

@@ -5,9 +5,8 @@ ghost use Rattle.machfixups.specs.ImageLines.{image_pointer_lines};
 use crate::headed::Headed;
 use crate::lists::ImageRows;
 use crate::rows::Selection;
-use crate::section_names::AllStretches;
 use goblin_mach::MachO;
-use mach_cli::{ImageView, InForm, Line, Outcome, ShowFailure, print_listing};
+use mach_cli::{AllStretches, ImageView, InForm, Line, Outcome, ShowFailure, print_listing};
 use std::alloc::Allocator;
 use std::io::Write;
 

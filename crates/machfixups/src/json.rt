@@ -5,9 +5,8 @@ ghost use Rattle.machfixups.specs.JsonImages.{image_pointer_members};
 use crate::lists::ImageRows;
 use crate::members::write_members;
 use crate::rows::Selection;
-use crate::section_names::AllStretches;
 use goblin_mach::MachO;
-use mach_cli::{ImageView, Outcome, ShowFailure};
+use mach_cli::{AllStretches, ImageView, Outcome, ShowFailure};
 use std::alloc::Allocator;
 use std::io::Write;
 

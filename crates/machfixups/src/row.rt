@@ -10,18 +10,17 @@ ghost use Rattle.mach_chained.specs.PointerViews.{kind_view};
 ghost use Rattle.mach_parts.specs.PointerSigning.{auth_option_view};
 ghost use Rattle.mach_chained.specs.Views.{import_view};
 ghost use Rattle.mach_chained.specs.WalkViews.{fixup_view, fixup_read};
-ghost use Rattle.machfixups.specs.AllStretches.{part_with, part_view, parts_view};
+ghost use Rattle.mach_cli.specs.AllStretches.{part_with, part_view, parts_view};
 ghost use Rattle.machfixups.specs.Rows.{place_by_address, place_in, target_by_kind, bind_of_binding, row_by_address, row_by_segment};
 ghost use Rattle.machfixups.specs.Rows.{import_in, action_of, bind_of_import};
 ghost use Rattle.machfixups.specs.Rows.{row_for_binding, row_for_rebase, row_for_weak, row_for_fixup, place_view, bind_view, action_view, row_view};
 ghost use Rattle.machfixups.specs.Rows.{row_of_fixup, row_read, fixups_table_view};
 ghost use Rattle.machfixups.specs.StoredPointers.{source_option_view};
 
-use crate::section_names::{AllStretches, SegmentStretches};
 use crate::stored_pointers::{StoredPointers, raw_of};
 use goblin_mach::chained_fixups::{ChainedFixups, ChainedImport, Fixup, FixupKind, PointerAuth};
 use goblin_mach::{Binding, Error, Rebase, RebaseKind, Result, WeakBind};
-use mach_cli::{ordinal_of, origin_of, provider_name};
+use mach_cli::{AllStretches, SegmentStretches, ordinal_of, origin_of, provider_name};
 use std::alloc::Allocator;
 
 /// An address.

@@ -2,17 +2,17 @@
 
 ghost use Rattle.std.specs.Prelude.{◌≡◌};
 ghost use Rattle.std.specs.Iterator.{YieldsFirstBy};
-ghost use Rattle.machfixups.specs.AllStretches.{parts_view};
+ghost use Rattle.mach_cli.specs.AllStretches.{parts_view};
 ghost use Rattle.machfixups.specs.KeptFixups.{kinds_in_lines, kinds_in_objects};
 ghost use Rattle.machfixups.specs.Rows.{row_read, shown_picks};
 ghost use Rattle.machfixups.specs.RowsLeft.{rows_left, rows_of_items};
 
 use crate::kept_fixups::{KeptFixups, KindsOfLists, ShownKinds};
 use crate::row::{Row, binding_row, fixup_row, rebase_row, weak_row};
-use crate::section_names::AllStretches;
 use crate::stored_pointers::StoredPointers;
 use goblin_mach::chained_fixups::ChainedFixups;
 use goblin_mach::{OpcodeBindingIterator, OpcodeRebaseIterator, Result, WeakBindIterator};
+use mach_cli::AllStretches;
 use std::alloc::Allocator;
 
 /// Which lists are selected.

@@ -51,7 +51,7 @@ mod word;
 use crate::word::Choice;
 use json::InfoObjects;
 use mach_cli::{
-    Call, ForTerminal, ImageFiles, Misuse, Options, Others, Program, SharedOnly, Titled,
+    Call, ForTerminal, ImageFiles, Misuse, Options, Others, Painted, Program, SharedOnly, Titled,
 };
 use std::alloc::Global;
 use std::io;
@@ -64,7 +64,7 @@ const DEFAULT_LIMIT: usize = 10_000_000;
 
 const PROGRAM: Program = Program {
     name: "machinfo",
-    usage: "usage: machinfo [--json] [--limit N] [--arch NAME | --cputype 0xN] [--names FILE] [-0] [WORD] FILE..
+    usage: "usage: machinfo [--json] [--limit N] [--arch NAME | --cputype 0xN] [--names FILE] [-0] [--color WHEN] [WORD] FILE..
        machinfo -h | --help | --version
 WORD: commands, starts, slots, indirect, data, options, tools, notes, providers, libraries, rebases, weak,
       segments, sections, uuid, rpaths, entrypoint, header, security, exports, imports
@@ -74,6 +74,7 @@ WORD: commands, starts, slots, indirect, data, options, tools, notes, providers,
     known: &[
         "-0",
         "--arch",
+        "--color",
         "--cputype",
         "--help",
         "--json",
@@ -126,7 +127,8 @@ fn answer(rt: &HostRuntime, call: &Call<'_, Global, SharedOnly>) -> Result<u8, u
     if let Some(misuse) = misspelled(rt, &call.words) {
         return Err(PROGRAM.bad_usage(rt, misuse));
     }
-    let output = ForTerminal::new(io::writer(rt), rt.stdout().is_terminal());
+    let painted = Painted::new(io::writer(rt), call.color.is_for(rt, call.format));
+    let output = ForTerminal::new(painted, rt.stdout().is_terminal());
     let Ok(mut out) = BufWriter::new(rt.alloc(), Titled::new(rt.alloc(), output)) else {
         return Err(PROGRAM.out_of_memory(rt));
     };

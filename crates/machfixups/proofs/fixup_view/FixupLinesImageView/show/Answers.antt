@@ -1,6 +1,6 @@
 use Rattle.std.proofs.Common.{List, subst}
 use Rattle.goblin_mach.specs.OpenImage.{commands_view}
-use Rattle.machfixups.specs.AllStretches.{SegmentStretches, parts_view}
+use Rattle.mach_cli.specs.AllStretches.{SegmentStretches, parts_view}
 use Rattle.machfixups.specs.ImageLines.{ArePointerLines}
 use Rattle.machfixups.specs.KeptFixups.{kinds_in_lines}
 use Rattle.machfixups.specs.Rows.{PointerRows, line_rows, readable_table, rows_shown}
