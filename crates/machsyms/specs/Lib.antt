@@ -11,3 +11,6 @@ pub mod JsonSymbols
 pub mod Listed
 pub mod ShortNames
 pub mod SymbolWords
+pub mod AddressFound
+pub mod AddressLines
+pub mod AddressObjects
