@@ -1,4 +1,7 @@
 pub mod Written
+pub mod Expressions
+pub mod Plain
+pub mod Printed
 pub mod Rows
 pub mod Slots
 pub mod ListProgress

@@ -16,6 +16,7 @@ use Rattle.mach_signature.specs.Chosen.{directory_of}
 use Rattle.mach_signature.specs.Directories.{Directory, cdhash_of, code_limit_of, identifier_of, page_count_of, team_of}
 use Rattle.mach_signature.specs.DirectoryViews.{directory_view}
 use Rattle.mach_signature.specs.SignedFacts.{HoldsAsSigned}
+use Rattle.mach_signature.specs.SuperBlob.{SuperBlob}
 use Rattle.mach_signature.specs.declared.directory.CodeDirectory.{CodeDirectory}
 use Rattle.mach_signature.specs.declared.records.ExecutableSegment.{ExecutableSegment}
 use Rattle.mach_signature.specs.declared.records.RuntimeFields.{RuntimeFields}
@@ -25,6 +26,7 @@ use Rattle.machsign.specs.Faults.{ReportsFaults}
 use Rattle.machsign.specs.ImageLines.{HasSigned, is_there_cut}
 use Rattle.machsign.specs.JsonNames.{json_name}
 use Rattle.machsign.specs.Kinds.{has_cms, has_hardened_runtime, has_library_validation, is_ad_hoc, is_linker_signed, kind_of}
+use Rattle.machsign.specs.RequirementLines.{requirements_object}
 use Rattle.machsign.specs.Signatures.{blobs_counted, is_cut, is_unfaulted_whole, limited_count}
 use Rattle.machsign.specs.Pages.{shown_faults}
 use Rattle.machsign.specs.Special.{slots_array}
@@ -71,9 +73,14 @@ covered_members more limit power pages =
 abbrev pub pages_members : (more : Bool) → Directory → List ℕ
 pages_members more d = covered_members more (code_limit_of d) d.head.page_size (page_count_of d)
 
-abbrev pub running_members : (platform : ℕ) → Option RuntimeFields → List ℕ
-running_members platform runtime =
-    codes ",\"platform\":" ++ (decimal platform ++ (codes ",\"runtime\":" ++ (runtime_object runtime ++ codes ",\"special_slots\":")))
+abbrev pub platform_member : (platform : ℕ) → List ℕ
+platform_member platform = codes ",\"platform\":" ++ (decimal platform ++ codes ",\"requirements\":")
+
+abbrev pub runtime_member : Option RuntimeFields → List ℕ
+runtime_member runtime = codes ",\"runtime\":" ++ (runtime_object runtime ++ codes ",\"special_slots\":")
+
+abbrev pub running_members : SuperBlob → (platform : ℕ) → Option RuntimeFields → List ℕ
+running_members s platform runtime = platform_member platform ++ (requirements_object s ++ runtime_member runtime)
 
 abbrev pub special_members : SignedImage → Directory → List ℕ
 special_members x d = slots_array x d ++ codes ",\"team\":"
@@ -88,7 +95,7 @@ naming_members d = team_text d ++ (codes ",\"version\":" ++ (decimal d.head.vers
 abbrev pub directory_members : SignedImage → (more : Bool) → Directory → List ℕ
 directory_members x more d =
     (kind_members (kind_of x d) d.head.hash_type ++ (identifier_text d ++ (origin_members (kind_of x d) ++ pages_members more d)))
-    ++ (running_members d.head.platform d.runtime ++ (special_members x d ++ naming_members d))
+    ++ (running_members x.signature d.head.platform d.runtime ++ (special_members x d ++ naming_members d))
 
 -- the members before the faults
 abbrev pub cdhash_members : Directory → List ℕ

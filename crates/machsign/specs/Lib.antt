@@ -1,3 +1,7 @@
+pub mod Requirements
+pub mod RequirementViews
+pub mod RequirementTexts
+pub mod RequirementLines
 pub mod Arguments
 pub mod Texts
 pub mod Special

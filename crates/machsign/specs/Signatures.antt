@@ -14,11 +14,14 @@ use Rattle.machsign.specs.Blocks.{slot_directory_lines}
 use Rattle.machsign.specs.Faults.{has_none, ReportsFaults}
 use Rattle.machsign.specs.Kinds.{cms_of, kind_line, kind_of, unchecked_line}
 use Rattle.machsign.specs.Pages.{shown_faults}
+use Rattle.machsign.specs.RequirementLines.{requirement_lines}
 use Rattle.machsign.specs.declared.form.Form.TheVariants.{Lines}
 
--- the line of its kind, and the lines of its directories, in the order of the index; if none is used, there is no such line
+-- the line of its kind, the lines of its directories, in the order of the index, and those of its requirements; if no directory is
+-- used, there is no such line
 abbrev pub directories_front : SignedImage → Result Directory Fault → List ℕ
-directories_front x (Ok d) = kind_line (kind_of x d) ++ flat_map (slot_directory_lines x) (directories_of x.signature)
+directories_front x (Ok d) =
+    kind_line (kind_of x d) ++ (flat_map (slot_directory_lines x) (directories_of x.signature) ++ requirement_lines x.signature)
 directories_front x (Err f) = []
 
 abbrev pub front_lines : SignedImage → List ℕ

@@ -21,6 +21,7 @@ use crate::faults::write_faults;
 use crate::form::Form;
 use crate::full_hash::print_hash_of;
 use crate::kind::Kind;
+use crate::requirement_lines::write_requirements;
 use crate::signed::signed_image;
 use crate::special::{MOST_SLOTS, SpecialSlots};
 use crate::text::RuntimeText;
@@ -167,7 +168,7 @@ fn write_fields<O: Write>(
     write_identifier(directory, out)?;
     write_origin(kind, out)?;
     write_pages(directory, more, out)?;
-    write_running(directory, out)?;
+    write_running(signed, directory, out)?;
     write_special(signed, directory, out)?;
     write_naming(directory, out)
 }
@@ -208,17 +209,33 @@ fn write_pages<O: Write>(directory: &CodeDirectory<'_>, more: bool, out: &mut O)
     )
 }
 
-// Writes the platform and the runtime, and the name of the member after them.
-fn write_running<O: Write>(directory: &CodeDirectory<'_>, out: &mut O) -> io::Result<()>
+// Writes the platform, the requirements and the runtime, and the name of the member after them.
+fn write_running<O: Write>(
+    signed: &SignedBytes<'_>,
+    directory: &CodeDirectory<'_>,
+    out: &mut O,
+) -> io::Result<()>
     ensures { OnOk result (Appends (O.contents out.old) (O.contents out.new)
-        (defined.running_members directory.now.head.platform directory.now.runtime)) }
+        (defined.running_members (signature_view signed.now.signature) directory.now.head.platform directory.now.runtime)) }
 {
-    let platform = directory.head.platform;
-    let runtime = RuntimeObject(directory.runtime);
-    write!(
-        out,
-        ",\"platform\":{platform},\"runtime\":{runtime},\"special_slots\":"
-    )
+    write_platform(directory.head.platform, out)?;
+    write_requirements(&signed.signature, out)?;
+    write_runtime(directory.runtime, out)
+}
+
+// Writes the platform, and the name of the member after it.
+fn write_platform<O: Write>(platform: u8, out: &mut O) -> io::Result<()>
+    ensures { OnOk result (Appends (O.contents out.old) (O.contents out.new) (defined.platform_member platform)) }
+{
+    write!(out, ",\"platform\":{platform},\"requirements\":")
+}
+
+// Writes the runtime, and the name of the member after it.
+fn write_runtime<O: Write>(runtime: Option<RuntimeFields>, out: &mut O) -> io::Result<()>
+    ensures { OnOk result (Appends (O.contents out.old) (O.contents out.new) (defined.runtime_member runtime)) }
+{
+    let runtime = RuntimeObject(runtime);
+    write!(out, ",\"runtime\":{runtime},\"special_slots\":")
 }
 
 // The version of a runtime as a string; null if the directory has none.

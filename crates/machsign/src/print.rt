@@ -19,6 +19,7 @@ use crate::block::print_directory;
 use crate::faults::write_faults;
 use crate::form::Form;
 use crate::kind::{Cms, Kind, cms_of};
+use crate::requirement_lines::print_requirements;
 use crate::signed::signed_image;
 use goblin_mach::segment::Segment;
 use goblin_mach::{Error, MachO, describe};
@@ -90,14 +91,15 @@ fn print_signed<O: Write>(
     })
 }
 
-// Prints the kind of a signature and the lines of its directories, if one of them is used.
+// Prints the kind of a signature, the lines of its directories and those of its requirements, if a directory is used.
 fn print_front<O: Write>(signed: &SignedBytes<'_>, out: &mut O) -> io::Result<()>
     ensures { OnOk result (Appends (O.contents out.old) (O.contents out.new) (defined.front_lines (signed_view signed.now))) }
 {
     match signed.signature.directory() {
         Ok(directory) => {
             print_kind(Kind::of(signed, &directory), out)?;
-            print_each_directory(signed, out)
+            print_each_directory(signed, out)?;
+            print_requirements(&signed.signature, out)
         }
         Err(_) => Ok(()),
     }

@@ -1,0 +1,6 @@
+use Rattle.std.proofs.lemmas.Result.{on_ok_weaker}
+use Rattle.mach_base.proofs.Written.{Appends-both}
+use Rattle.machsign.proofs.requirement_lines.write_types.Goals as goal
+
+pub returns : goal.returns
+returns g c = on_ok_weaker c.write.result (λ last. Appends-both _ _ _ _ _ c.in_ok-write_members.ensures last) c.write.ensures.bytes
