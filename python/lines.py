@@ -1,9 +1,9 @@
-"""`python3 python/lines.py WORD FILE` prints a list of each image of a file, in the lines of c/gm_test.c, with which c/check compares
-them."""
+"""`python3 python/lines.py FOLDER FILE WORD..` writes lists of each image of a file, in the lines of c/gm_test.c, with which c/check compares
+them: those of a WORD to the file of that name in FOLDER."""
 
 from __future__ import annotations
 
-import io
+import os
 import sys
 from itertools import islice
 from typing import Callable, Dict, Iterator, List, Optional
@@ -177,29 +177,28 @@ WHOLE: Dict[str, Callable[[File], Iterator[str]]] = {"members": _members, "archi
 """For each word, what is printed for a file."""
 
 
-def main(words: List[str]) -> int:
-    """Prints the lines of each image; returns the status."""
-    word, path = words
-    status = 0
+def _lines_of(file: File, word: str) -> Iterator[str]:
+    """The lines of a list, of each image that has it."""
+    if word in WHOLE:
+        yield from WHOLE[word](file)
+        return
+    if word == "layout":
+        yield from map(str, file.container_faults())
+    for image in file:
+        try:
+            yield from islice(LINES[word](image), len(image.data))
+        except Refused as why:
+            print(why, file=sys.stderr)
+
+
+def main(words: List[str]) -> None:
+    """Writes the lists of a file."""
+    folder, path, *lists = words
     with goblin_mach.open(path) as file:
-        if word in WHOLE:
-            for line in WHOLE[word](file):
-                print(line)
-            return status
-        if word == "layout":
-            for fault in file.container_faults():
-                print(fault)
-        for image in file:
-            try:
-                for line in islice(LINES[word](image), len(image.data)):
-                    print(line)
-            except Refused as why:
-                print(why, file=sys.stderr)
-                status = 1
-    return status
+        for word in lists:
+            with open(os.path.join(folder, word), "w", encoding="utf-8", errors="surrogateescape") as out:
+                out.writelines(f"{line}\n" for line in _lines_of(file, word))
 
 
 if __name__ == "__main__":
-    if isinstance(sys.stdout, io.TextIOWrapper):
-        sys.stdout.reconfigure(encoding="utf-8", errors="surrogateescape")
-    sys.exit(main(sys.argv[1:]))
+    main(sys.argv[1:])

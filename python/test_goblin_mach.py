@@ -215,6 +215,7 @@ class Closed(Case):
                for name in ("uuid", "platform", "minos", "sdk", "tools", "source_version", "encryption", "dylinker")},
             "build_versions": one.build_versions, "dyld_environment": one.dyld_environment, "fileset_entries": one.fileset_entries,
             "symbol": lambda: [one.symbol("_a")], "symbol_at": lambda: [one.symbol_at(0)], "function_at": lambda: [one.function_at(0)],
+            "symbol_map": lambda: [one.symbol_map()],
             "address_of_offset": lambda: [one.address_of_offset(0)], "offset_of_address": lambda: [one.offset_of_address(0)],
             "signature": lambda: [one.signature], "signature_faults": one.signature_faults,
             "symbol_provider": lambda: [one.symbol_provider(goblin_mach.Symbol("_a", 0, 0, 1, 0, None))],

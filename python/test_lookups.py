@@ -135,6 +135,8 @@ class LookUps(unittest.TestCase):
             self.assertEqual(image.function_at(address), function_at(image, address), hex(address))
             self.assertEqual(image.offset_of_address(address), offset_of_address(image, address), hex(address))
             self.assertEqual(image.address_of_offset(address), address_of_offset(image, address), hex(address))
+        by_map = image.symbol_map()
+        self.assertEqual([by_map.at(address) for address in addresses(image)], [image.symbol_at(address) for address in addresses(image)])
         for name in {each.name for each in image.segments()}:
             wanted = next(each for each in image.segments() if each.name == name) if is_text(name) else None
             self.assertEqual(image.segment(name), wanted)
@@ -157,6 +159,7 @@ class LookUps(unittest.TestCase):
         self.assertEqual((found.name, found.value, found.index, found.distance, image.symbol(b"_nothing")), ("_answer", 0x280, 0, 0, None))
         self.assertEqual((image.symbol_at(0x287).name, image.symbol_at(0x287).distance), ("_answer", 7))
         self.assertEqual((image.symbol_at(0x27F), image.symbol_at(0x288)), (None, None))
+        self.assertEqual((len(image.symbol_map()), image.symbol_map().at(0x284), image.symbol_map().at(0x288)), (1, image.symbol_at(0x284), None))
         self.assertEqual((image.function_at(0x283), image.function_at(0x283).size), (goblin_mach.Function(0x280, 0x288), 8))
         self.assertEqual((image.address_of_offset(0x4010), image.offset_of_address(0x4010), image.address_of_offset(0x9000)), (0x4010, 0x4010, None))
         self.assertEqual(json.loads(found.json())["symbol"]["name"], "_answer")

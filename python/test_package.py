@@ -18,6 +18,7 @@ import unittest
 
 import goblin_mach
 import test_goblin_mach as made
+import test_values as values
 from goblin_mach import _arch, _library, _structs
 
 PACKAGE = os.path.dirname(os.path.abspath(goblin_mach.__file__))
@@ -183,6 +184,34 @@ class Lists(made.Case):
                     with self.assertRaises(IndexError):
                         lists()[number]
         self.assertEqual([each.ordinal for each in image.libraries()[999:1002]], [1000, 1001, 1002])
+
+    def test_that_begin_anew_at_each_call_have_few_calls(self):
+        """A call of such a list reads what is before its first item, so 20,000 items need few calls, also at an index and in a slice."""
+        count = 20000
+        image = goblin_mach.Image(made.image(*(library(b"/%d" % k) for k in range(count))))
+        kind = image.libraries()._kind
+        calls = []
+        counting = types.SimpleNamespace(**{name: getattr(kind, name) for name in ("array", "each", "grows", "items")})
+        counting.call = lambda *given: calls.append(given) or kind.call(*given)
+        rows = image.libraries()
+        rows._kind = counting
+        self.assertEqual([each.name for each in rows], [f"/{k}" for k in range(count)])
+        self.assertLess(len(calls), 10)
+        calls.clear()
+        self.assertEqual((rows[count - 1].ordinal, len(rows[count // 2:])), (count, count // 2))
+        self.assertLess(len(calls), 10)
+        for lists in (image.commands, image.segments, image.run_paths, image.ids, image.linker_options, image.build_tools, image.build_versions,
+                      image.dyld_environment, image.fileset_entries, image.notes, image.sections):
+            self.assertTrue(lists()._kind.grows, lists.__name__)
+
+    def test_of_errors_alone(self):
+        names = ("symbols", "data_in_code", "indirect_symbols", "linker_options", "build_tools", "notes", "sections")
+        for path in values.SAMPLES:
+            for _, image in goblin_mach.open(path).images():
+                for name in names if image.error is None else ():
+                    rows = getattr(image, name)()
+                    rows = rows.in_bounds() if rows._table else rows
+                    self.assertEqual(list(rows.errors()), [each.error for each in rows], name)
 
     def test_of_sections_and_relocations(self):
         raw = b"".join(struct.pack("<16s16s2Q8I", b"s%d" % k, b"__A", 0, 0, 0, 0, 0, 3, 0, 0, 0, 0) for k in range(5))

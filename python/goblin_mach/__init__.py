@@ -35,6 +35,7 @@ from .items import (
 )
 from .pointers import Binding, Fixup, Import, Rebase, WeakBind
 from .signature import Signature, SignatureFault
+from .symbol_map import SymbolMap
 from .symbol_enums import (
     RELOCATION_TYPES, Arm64Relocation, ArmRelocation, ExportFlags, ExportKind, GenericRelocation, PowerPcRelocation, ReferenceType, RelocationType,
     Stab, SymbolDescription, SymbolType, X86_64Relocation,
@@ -51,7 +52,7 @@ __all__ = [
     "Export", "Owner", "LayoutFault",
     "WeakBind", "Rebase", "Signature", "SignatureFault",
     "FunctionStart", "DataInCode", "IndirectSymbol", "SymbolSlot", "SymbolProvider", "NumberedSection", "LinkerOption", "BuildTool", "Note",
-    "Item", "BuildVersion", "CommandText", "Encryption", "FilesetEntry", "FoundSymbol", "Function",
+    "Item", "BuildVersion", "CommandText", "Encryption", "FilesetEntry", "FoundSymbol", "Function", "SymbolMap",
     "Mode", "STRICT", "LOSSY", "ErrorCode", "ERRORS", "NO_MEMORY", "BATCH", "FIXUPS", "PROVIDERS", "REBASES", "KINDS", "INDIRECT", "SLOTS", "EXPORTS",
     "CpuType", "CpuSubtype", "CPU_SUBTYPES", "X86Subtype", "X86_64Subtype", "ArmSubtype", "Arm64Subtype", "Arm64_32Subtype", "PowerPcSubtype",
     "FileType", "HeaderFlags", "LoadCommand", "Protection", "SegmentFlags", "SectionType", "SectionAttributes", "Platform", "Tool", "DataKind",

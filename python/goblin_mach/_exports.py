@@ -4,7 +4,8 @@ from __future__ import annotations
 
 import ctypes
 from ctypes import byref, c_char, sizeof
-from typing import Any, Callable, Iterator, List, Optional, Tuple
+from itertools import repeat
+from typing import Any, Callable, Iterator, Optional, Tuple
 
 from . import _structs as s
 from ._library import lib, refused
@@ -49,13 +50,11 @@ def _longer(old: ctypes.Array[c_char], count: int) -> ctypes.Array[c_char]:
     return new
 
 
-def exports(live: Callable[[], Held], numbers: Any, libraries: Callable[[], List[str]]) -> Iterator[Export]:
-    """All exports, in the order of the trie. `libraries` are the names of the libraries by their ordinals."""
-    held, room, error = live(), _Room(), s.gm_error()
-    life, view, known, new = held.life, held.view, None, tuple.__new__
-    while True:
-        life.check()
-        code = lib.gm_exports(held.at, held.len, numbers, byref(room.walk), byref(room.numbers()), byref(room.batch), None, byref(error))
+def exports(live: Callable[[], Held], numbers: Any, libraries: Callable[[], Callable[[int], str]]) -> Iterator[Export]:
+    """All exports, in the order of the trie. `libraries` returns what gives the name of a library by its ordinal."""
+    held, known, new = live(), None, tuple.__new__
+    life, view = held.life, held.view
+    for room in _batches(held, numbers):
         names = bytes(memoryview(room.names)[:room.batch.names_len])
         rows = memoryview(room.out)[:room.batch.count * _ROW.size]
         for name, name_len, library, target, address, resolver, flags, _, target_len, kind, _ in _ROW.iter_unpack(rows):
@@ -63,10 +62,25 @@ def exports(live: Callable[[], Held], numbers: Any, libraries: Callable[[], List
             if kind == REEXPORT:
                 if known is None:
                     known = libraries()
-                brought, there = known[library], text(view[target:target + target_len]) or words
+                brought, there = known(library), text(view[target:target + target_len]) or words
             yield new(Export, (words, EXPORTS[kind], address, resolver, flags, brought, there))
             if life.closed:
                 life.check()
+
+
+def errors(live: Callable[[], Held], numbers: Any) -> Iterator[None]:
+    """None for each export, of which nothing is built. A fault of the trie raises `Refused`, as by `exports`."""
+    for room in _batches(live(), numbers):
+        yield from repeat(None, room.batch.count)
+
+
+def _batches(held: Held, numbers: Any) -> Iterator[_Room]:
+    """The buffers of a walk after each call. A fault of the trie raises `Refused` after the batch before it."""
+    room, error = _Room(), s.gm_error()
+    while True:
+        held.life.check()
+        code = lib.gm_exports(held.at, held.len, numbers, byref(room.walk), byref(room.numbers()), byref(room.batch), None, byref(error))
+        yield room
         if code:
             raise refused(error)
         if room.batch.end == END:

@@ -133,9 +133,18 @@ def refused(error: s.gm_error) -> Refused:
     return Refused(error.code, error.text.decode("utf-8", "replace"))
 
 
+def bits64(number: int) -> int:
+    """A number as C takes it. One of more than 64 bits would be cut, and is refused."""
+    if not 0 <= number < 1 << 64:
+        raise ValueError(f"{number:#x} is no number of 64 bits")
+    return number
+
+
 def escaped(name: Union[str, bytes]) -> str:
     """A name as the programs print it, so that it can't forge output and fits on a line: a backslash is twice there, and each byte of a
     control character, of a mark that changes the direction of text, and of what isn't UTF-8 is \\xNN."""
+    if isinstance(name, str) and name.isascii() and name.isprintable() and "\\" not in name:
+        return name
     raw = name.encode("utf-8", "surrogateescape") if isinstance(name, str) else name
     room = ctypes.create_string_buffer(4 * len(raw) + 1)
     lib.gm_text(ctypes.cast(room, c_char_p), len(room), raw, len(raw))

@@ -31,6 +31,10 @@ _error: Callable[[int], Optional[str]] = ERRORS.get
 _ESCAPED = "surrogateescape"
 
 
+def as_written(held: Held, raws: Raws, first: int) -> List[Tuple[Any, ...]]:
+    return list(raws)
+
+
 def _told(number: int) -> Optional[int]:
     """A number of a member's header, or None if its field is no number (GM_NO_NUMBER)."""
     return None if number == (1 << 64) - 1 else number
@@ -255,23 +259,27 @@ def signature_faults(held: Held, raws: Raws, first: int) -> List[SignatureFault]
 FAT_ENTRIES = Kind(lib.gm_fat_entries64, s.gm_fat_entry64, fat_entries)
 ARCHIVE_MEMBERS = Kind(lib.gm_archive_members, s.gm_archive_member, members, grows=True)
 ARCHIVE_SYMBOLS = Kind(lib.gm_archive_symbols, s.gm_archive_symbol, archive_symbols, grows=True)
-COMMANDS = Kind(lib.gm_commands, s.gm_command, commands)
-SEGMENTS = Kind(lib.gm_segments, s.gm_segment, segments)
+COMMAND_ROWS = Kind(lib.gm_commands, s.gm_command, as_written, grows=True)
+LIBRARY_ROWS = Kind(lib.gm_libraries, s.gm_library, as_written, grows=True)
+RUN_PATH_ROWS = Kind(lib.gm_run_paths, s.gm_run_path, as_written, grows=True)
+SYMBOL_ROWS = Kind(lib.gm_symbols, s.gm_symbol, as_written)
+COMMANDS = Kind(lib.gm_commands, s.gm_command, commands, grows=True)
+SEGMENTS = Kind(lib.gm_segments, s.gm_segment, segments, grows=True)
 SECTIONS = Kind(lib.gm_sections, s.gm_section, sections)
 ALL_SECTIONS = Kind(lib.gm_all_sections, s.gm_numbered_section, all_sections, grows=True)
 RELOCATIONS = Kind(lib.gm_relocations, s.gm_relocation, relocations)
 SYMBOLS = Kind(lib.gm_symbols, s.gm_symbol, symbols)
-LIBRARIES = Kind(lib.gm_libraries, s.gm_library, libraries)
-RUN_PATHS = Kind(lib.gm_run_paths, s.gm_run_path, run_paths)
-IDS = Kind(lib.gm_ids, s.gm_id, ids)
+LIBRARIES = Kind(lib.gm_libraries, s.gm_library, libraries, grows=True)
+RUN_PATHS = Kind(lib.gm_run_paths, s.gm_run_path, run_paths, grows=True)
+IDS = Kind(lib.gm_ids, s.gm_id, ids, grows=True)
 DATA_IN_CODE = Kind(lib.gm_data_in_code, s.gm_data_in_code_entry, data_in_code)
 INDIRECT_SYMBOLS = Kind(lib.gm_indirect_symbols, s.gm_indirect_symbol, indirect_symbols)
-LINKER_OPTIONS = Kind(lib.gm_linker_options, s.gm_linker_option, linker_options)
-BUILD_TOOLS = Kind(lib.gm_build_tools, s.gm_build_tool, build_tools)
-BUILD_VERSIONS = Kind(lib.gm_build_versions, s.gm_build_version, build_versions)
-DYLD_ENVIRONMENT = Kind(lib.gm_dyld_environment, s.gm_command_text, command_texts)
-FILESET_ENTRIES = Kind(lib.gm_fileset_entries, s.gm_fileset_entry, fileset_entries)
-NOTES = Kind(lib.gm_notes, s.gm_note, notes)
+LINKER_OPTIONS = Kind(lib.gm_linker_options, s.gm_linker_option, linker_options, grows=True)
+BUILD_TOOLS = Kind(lib.gm_build_tools, s.gm_build_tool, build_tools, grows=True)
+BUILD_VERSIONS = Kind(lib.gm_build_versions, s.gm_build_version, build_versions, grows=True)
+DYLD_ENVIRONMENT = Kind(lib.gm_dyld_environment, s.gm_command_text, command_texts, grows=True)
+FILESET_ENTRIES = Kind(lib.gm_fileset_entries, s.gm_fileset_entry, fileset_entries, grows=True)
+NOTES = Kind(lib.gm_notes, s.gm_note, notes, grows=True)
 SLOTS_BY_NUMBER = Kind(lib.gm_slots, s.gm_slot, slots)
 FUNCTION_STARTS_BEHIND = Kind(lib.gm_function_starts, s.gm_function_start, function_starts)
 FIXUPS_BEHIND = Kind(lib.gm_fixups, s.gm_fixup, fixups)

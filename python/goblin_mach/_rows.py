@@ -8,8 +8,8 @@ from typing import Any, Callable, Generic, Iterable, Iterator, List, Optional, S
 
 from ._library import refused
 from ._memory import Held
-from ._structs import gm_error, unpacker
-from .errors import Refused
+from ._structs import code_unpacker, gm_error, unpacker
+from .errors import ERRORS, Refused
 
 T = TypeVar("T")
 BATCH = 1000
@@ -22,14 +22,24 @@ Table = Callable[[], Tuple[int, int, int]]
 """A table as in the file: the offset of its records, the size of one, and how many the file claims."""
 
 
+def errors_of(held: Held, raws: Iterable[Tuple[Any, ...]], first: int) -> List[Optional[str]]:
+    return [ERRORS.get(code) for code, in raws]
+
+
 class Kind(Generic[T]):
     """A kind of list: the call that writes its rows, the struct of a row, and what builds items from rows."""
 
-    __slots__ = ("call", "decode", "grows", "row")
+    __slots__ = ("call", "decode", "grows", "row", "struct")
 
     def __init__(self, call: Callable[..., Any], row: Type[ctypes.Structure], decode: Decode[T], grows: bool = False) -> None:
         self.call, self.decode, self.grows = call, decode, grows  # batches grow if a call reads what is before its first item
-        self.row: struct.Struct = unpacker(row)
+        self.struct, self.row = row, unpacker(row)
+
+    def errors(self) -> Kind[Optional[str]]:
+        """The same list, with the error of each item alone, or None: nothing else of an item is built."""
+        made: Kind[Optional[str]] = Kind(self.call, self.struct, errors_of, self.grows)
+        made.row = code_unpacker(self.struct)
+        return made
 
     def array(self, count: int) -> ctypes.Array[ctypes.c_char]:
         """Room for `count` rows."""
@@ -38,6 +48,13 @@ class Kind(Generic[T]):
     def items(self, held: Held, array: ctypes.Array[ctypes.c_char], count: int, first: int) -> List[T]:
         """The items of the first `count` rows of an array, whose indices begin with `first`."""
         return self.decode(held, self.row.iter_unpack(memoryview(array)[:count * self.row.size]), first)
+
+    def each(self, held: Held, array: ctypes.Array[ctypes.c_char], count: int, first: int) -> Iterator[T]:
+        """The items of the first `count` rows of an array, of which at most 1,000 are built at a time."""
+        rows = memoryview(array)[:count * self.row.size]
+        for start in range(0, count, BATCH):
+            part = rows[start * self.row.size:(start + BATCH) * self.row.size]
+            yield from self.decode(held, self.row.iter_unpack(part), first + start)
 
     def items_of(self, held: Held, row: ctypes.Structure) -> List[T]:
         """The item of one row, in a list."""
@@ -65,6 +82,10 @@ class Rows(Generic[T]):
         end = min(count, len(range(start, held.len, size)))
         return Rows(self._kind, self._live, self._given, lambda: end, None, end)
 
+    def errors(self) -> Rows[Optional[str]]:
+        """The `error` of each item, as a list of its own: nothing else of the items is built, no name and no data."""
+        return Rows(self._kind.errors(), self._live, self._given, self._length, self._table, self._end)
+
     def _items(self, first: int, end: Optional[int]) -> Iterator[T]:
         """The items from an index on, up to `end` if it is given, in batches."""
         kind, held = self._kind, self._live()
@@ -75,16 +96,17 @@ class Rows(Generic[T]):
         while cap > 0:
             life.check()
             count = kind.call(held.at, held.len, *self._given, first, array, cap)
-            for item in kind.items(held, array, count, first):
+            for item in kind.each(held, array, count, first):
                 yield item
                 if life.closed:
                     life.check()
             if count < cap:
                 return
             first += count
+            room = 2 * cap if kind.grows else cap
+            cap = room if end is None else min(room, end - first)
             if kind.grows:
-                cap, array = 2 * cap, kind.array(2 * cap)
-            cap = cap if end is None else min(cap, end - first)
+                array = kind.array(max(cap, 0))
 
     def __iter__(self) -> Iterator[T]:
         return self._walk
@@ -162,7 +184,7 @@ def in_growing_batches(kind: Kind[T], live: Callable[[], Held], given: Sequence[
         array, count, error = kind.array(cap), ctypes.c_uint64(), gm_error()
         if kind.call(held.at, held.len, *given, first, array, cap, ctypes.byref(count), None, ctypes.byref(error)):
             raise refused(error)
-        for item in kind.items(held, array, count.value, first):
+        for item in kind.each(held, array, count.value, first):
             yield item
             if life.closed:
                 life.check()

@@ -7,6 +7,7 @@ from itertools import islice
 from typing import Any, Callable, Dict, Iterable, Iterator, List, NamedTuple, Optional, Tuple
 
 from ._library import escaped
+from ._memory import text
 from ._rows import Rows
 from .errors import Refused
 from .image import Image
@@ -37,12 +38,12 @@ def _of_export(image: Image) -> Callable[[Export], Tuple[object, ...]]:
 
 
 def _of_binding(image: Image) -> Callable[[Binding], Tuple[object, ...]]:
-    count = len(image.libraries())
+    count, library = len(image.libraries()), image._library_names()
 
     @lru_cache(maxsize=None)
     def name_of(ordinal: int) -> str:
         # (many names may run on to one far end, so no more of each is kept)
-        return escaped(image.libraries()[ordinal - 1].name[:200])
+        return escaped(library(ordinal)[:200])
 
     return lambda b: (hex(b.address), b.addend, _flags(weak=b.is_weak, lazy=b.is_lazy), escaped(b.name),
                       "from " + (name_of(b.library) if b.provider == "library" and 0 < b.library <= count else b.provider))
@@ -64,19 +65,10 @@ def _of_fault(image: Image) -> Callable[[Any], Tuple[object, ...]]:
     return lambda fault: (fault["part"], escaped(fault["fault"]))
 
 
-CHECKED: Dict[str, Callable[[Image], Iterable[Any]]] = {
-    "symbols": lambda image: image.symbols().in_bounds(), "sections": Image.sections, "exports": Image.exports, "imports": Image.imports,
-    "weak binds": Image.weak_binds, "rebases": Image.rebases, "fixups": Image.fixups, "function starts": Image.function_starts,
-    "data in code": lambda image: image.data_in_code().in_bounds(), "indirect symbols": lambda image: image.indirect_symbols().in_bounds(),
-    "slots": Image.symbol_slots, "linker options": Image.linker_options, "build tools": Image.build_tools, "notes": Image.notes,
-}
-"""The lists that `audit` reads, as far as the image has bytes, for their first fault."""
-
-
-def _first_fault(image: Image, items: Callable[[Image], Iterable[Any]]) -> Optional[str]:
-    """Why the first item of a list that can't be read can't be, or why the list ends."""
+def _first_fault(image: Image, errors: Callable[[], Iterator[Optional[str]]]) -> Optional[str]:
+    """Why the first item of a list that can't be read can't be, or why the list ends. It has no more items than the image has bytes."""
     try:
-        return next((item.error for item in islice(items(image), len(image.data)) if getattr(item, "error", None)), None)
+        return next(filter(None, islice(errors(), len(image.data))), None)
     except Refused as why:
         return str(why)
 
@@ -89,8 +81,8 @@ def faults(image: Image) -> Iterator[Dict[str, str]]:
                 yield {"part": name, "fault": str(fault)}
         except Refused as why:
             yield {"part": name, "fault": str(why)}
-    for name, items in CHECKED.items():
-        words = _first_fault(image, items)
+    for name, errors in image._list_errors().items():
+        words = _first_fault(image, errors)
         if words is not None:
             yield {"part": name, "fault": words}
 
@@ -114,18 +106,17 @@ PAST_END: Dict[str, Callable[[Image], int]] = {
 """For a table that shows the records within the bytes, how many more the file claims."""
 
 
-def _names(image: Image, rows: Rows[Any]) -> Iterator[str]:
-    """The names of a list, as long as they have no more letters than the image has bytes; then how many there are. Many names may run on to
-    one far end."""
+def _names(image: Image, rows: Rows[Tuple[Any, ...]]) -> Iterator[str]:
+    """The names in rows that begin with the place and the length of one, as long as they have no more letters than the image has bytes;
+    then how many there are. Many names may run on to one far end."""
     left = len(image.data)
-    for first in range(0, len(rows), 16):
-        for each in rows[first:first + 16]:
-            name = each if isinstance(each, str) else each.name
-            left -= len(name)
-            if left < 0:
-                yield f"({len(rows)} in all)"
-                return
-            yield name
+    for place, size, *_ in rows:
+        name = text(image.data[place:place + size])
+        left -= len(name)
+        if left < 0:
+            yield f"({len(rows)} in all)"
+            return
+        yield name
 
 
 def _info(image: Image) -> Dict[str, Any]:
@@ -136,8 +127,8 @@ def _info(image: Image) -> Dict[str, Any]:
         "tools": [f"{tool.build_tool.name} {tool.version_text}" for tool in image.tools], "source_version": image.source_version,
         "is_encrypted": None if image.encryption is None else "yes" if image.encryption.is_encrypted else "no", "dylinker": image.dylinker,
         "name": image.name, "entry": hex(image.entry) if image.entry else None, "load_commands": len(image.commands()),
-        "symbol_count": len(image.symbols()), "libraries": list(_names(image, image.libraries())),
-        "run_paths": list(_names(image, image.run_paths())),
+        "symbol_count": len(image.symbols()), "libraries": list(_names(image, image._library_rows())),
+        "run_paths": list(_names(image, image._run_path_rows())),
     }
 
 

@@ -273,6 +273,17 @@ def _codes(kind: Any) -> str:
     return str(kind._type_)
 
 
+def code_unpacker(row: Type[ctypes.Structure]) -> struct.Struct:
+    """A function that unpacks rows of this type from bytes, each as its `code` alone."""
+    place, size = _place_of_code(row), ctypes.sizeof(row)
+    return struct.Struct(f"={place}xI{size - place - 4}x")
+
+
+def _place_of_code(row: Any) -> int:
+    """The offset of the field `code` in a row, or in the row that it begins with."""
+    return int(row.code.offset) if hasattr(row, "code") else _place_of_code(row._fields_[0][1])
+
+
 def unpacker(row: Type[ctypes.Structure]) -> struct.Struct:
     """A function that unpacks rows of this type from bytes, each as a tuple of its fields: many times as fast as ctypes."""
     end = {4: "0I", 8: "0Q"}[ctypes.alignment(row)]

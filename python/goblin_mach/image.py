@@ -6,15 +6,16 @@ import ctypes
 import json
 import struct
 import uuid
+from array import array
 from typing import TYPE_CHECKING, Any, Callable, Dict, Iterator, List, Optional, Tuple, TypeVar, Union
 
 from . import _exports, _lists
 from . import signature as _signature
 from . import _structs as s
 from ._arch import arch_name
-from ._library import lib, refused
+from ._library import bits64, lib, refused
 from ._memory import Held, bytes_of
-from ._rows import Rows, in_growing_batches, rows_behind
+from ._rows import Kind, Rows, in_growing_batches, rows_behind
 from .enums import CpuSubtype, CpuType, ErrorCode, FileType, HeaderFlags, LoadCommand, Mode, Platform, cpu_subtype
 from .errors import ERRORS, Refused, again, code_of
 from .items import (
@@ -23,19 +24,13 @@ from .items import (
 )
 from .pointers import Binding, Fixup, Import, Rebase, WeakBind
 from .signature import Signature, SignatureFault
+from .symbol_map import SymbolMap
 
 if TYPE_CHECKING:
     from _typeshed import ReadableBuffer
 
 
 F = TypeVar("F", bound="ctypes._CData")
-
-
-def _bits64(number: int) -> int:
-    """A number as C takes it. One of more than 64 bits would be cut, and is refused."""
-    if not 0 <= number < 1 << 64:
-        raise ValueError(f"{number:#x} is no number of 64 bits")
-    return number
 
 
 class Image:
@@ -175,6 +170,12 @@ class Image:
         return Rows(_lists.SYMBOLS, self._live, (self._pointer,),
                     table=lambda: (int(numbers.symbols_at), 16 if self.is_64 else 12, int(numbers.symbols)))
 
+    def _symbol_rows(self) -> Rows[Tuple[Any, ...]]:
+        """The rows of `symbols()` within the bytes, as C writes them: their names are places."""
+        numbers = self._numbers
+        return Rows(_lists.SYMBOL_ROWS, self._live, (self._pointer,),
+                    table=lambda: (int(numbers.symbols_at), 16 if self.is_64 else 12, int(numbers.symbols))).in_bounds()
+
     def libraries(self) -> Rows[Library]:
         """The libraries that it loads: number k has ordinal k + 1."""
         return Rows(_lists.LIBRARIES, self._live, (self._pointer,), lambda: int(self._numbers.libraries))
@@ -211,9 +212,9 @@ class Image:
         """The table of the last command of a number: at one place it gives the offset of the records, and next to it how many units they
         are."""
         start = count = 0
-        for each in self.commands():
-            if each.cmd == command:
-                start, count = struct.unpack_from("<2I" if self.is_little_endian else ">2I", self.data, each.offset + place)
+        for offset, _, cmd, _ in Rows(_lists.COMMAND_ROWS, self._live, (self._pointer,)):
+            if cmd == command:
+                start, count = struct.unpack_from("<2I" if self.is_little_endian else ">2I", self.data, offset + place)
         return start, size, count // unit
 
     def symbol_slots(self) -> Iterator[SymbolSlot]:
@@ -222,7 +223,7 @@ class Image:
 
     def slot_at(self, address: int) -> Optional[SymbolSlot]:
         """The stub or pointer that holds an address, or None. One that can't be read raises `Refused`."""
-        found = self._looked_up(lib.gm_slot_at, s.gm_slot(), _bits64(address))
+        found = self._looked_up(lib.gm_slot_at, s.gm_slot(), bits64(address))
         return _lists.SLOTS_BY_NUMBER.items_of(self._live(), found)[0] if found.kind else None
 
     def symbol_provider(self, symbol: Symbol) -> Optional[SymbolProvider]:
@@ -235,12 +236,12 @@ class Image:
 
     def section_at(self, address: int) -> Optional[NumberedSection]:
         """The first section that holds an address, or None."""
-        return self._section(lib.gm_section_at, _bits64(address))
+        return self._section(lib.gm_section_at, bits64(address))
 
     def section_of(self, number: int) -> Optional[NumberedSection]:
         """The section of a symbol's number `section`, counted from 1 over all segments, or None. One that isn't in the bytes raises
         `Refused`."""
-        return self._section(lib.gm_section_of, _bits64(number))
+        return self._section(lib.gm_section_of, bits64(number))
 
     def _section(self, call: Callable[..., Any], *by: Any) -> Optional[NumberedSection]:
         return _lists.numbered_section(self._looked_up(call, s.gm_found_section(), *by))
@@ -265,21 +266,26 @@ class Image:
     def symbol_at(self, address: int) -> Optional[FoundSymbol]:
         """The symbol that names an address, or None: of those that are defined in the section which holds the address, at or below it, the
         one of the greatest value, and of several the last."""
-        return _lists.found_symbol(self._live(), self._looked_up(lib.gm_symbol_at, s.gm_found_symbol(), _bits64(address)))
+        return _lists.found_symbol(self._live(), self._looked_up(lib.gm_symbol_at, s.gm_found_symbol(), bits64(address)))
+
+    def symbol_map(self) -> SymbolMap:
+        """An index for many addresses, whose `at(address)` answers as `symbol_at`. It is built from all symbols, at each call anew."""
+        self._live()
+        return SymbolMap(self)
 
     def function_at(self, address: int) -> Optional[Function]:
         """The function that holds an address, by the starts of functions, or None. It ends at the next start, or with its section."""
-        found = self._looked_up(lib.gm_function_at, s.gm_found_function(), _bits64(address))
+        found = self._looked_up(lib.gm_function_at, s.gm_found_function(), bits64(address))
         return Function(found.start, found.end) if found.is_found else None
 
     def address_of_offset(self, offset: int) -> Optional[int]:
         """The address in memory of the byte at an offset after the image's first byte, or None if no segment has it."""
-        found = self._said(lib.gm_address_of_offset, ctypes.c_uint64(), _bits64(offset))
+        found = self._said(lib.gm_address_of_offset, ctypes.c_uint64(), bits64(offset))
         return None if found is None else found.value
 
     def offset_of_address(self, address: int) -> Optional[int]:
         """The offset after the image's first byte of what is at an address in memory, or None if the file doesn't have it."""
-        found = self._said(lib.gm_offset_of_address, ctypes.c_uint64(), _bits64(address))
+        found = self._said(lib.gm_offset_of_address, ctypes.c_uint64(), bits64(address))
         return None if found is None else found.value
 
     @property
@@ -382,8 +388,46 @@ class Image:
         """All exports, in the order of the trie. A fault of the trie raises `Refused` after the exports before it."""
         return _exports.exports(self._live, self._pointer, self._library_names)
 
-    def _library_names(self) -> List[str]:
-        return [self.name or "self", *(library.name for library in self.libraries())]
+    def _library_names(self) -> Callable[[int], str]:
+        """What gives the name of the library with an ordinal, and of the image itself for 0. It keeps where the names are, not the names:
+        many may run on to one far end."""
+        held, own, places = self._live(), self.name or "self", array("Q")
+        for place, size, *_ in self._library_rows():
+            places.extend((place, size))
+        return lambda ordinal: held.text(*places[2 * ordinal - 2:2 * ordinal]) if ordinal else own
+
+    def _library_rows(self) -> Rows[Tuple[Any, ...]]:
+        """The rows of `libraries()` as C writes them; each begins with the place and the length of the name."""
+        return Rows(_lists.LIBRARY_ROWS, self._live, (self._pointer,), lambda: int(self._numbers.libraries))
+
+    def _run_path_rows(self) -> Rows[Tuple[Any, ...]]:
+        """The same of `run_paths()`."""
+        return Rows(_lists.RUN_PATH_ROWS, self._live, (self._pointer,), lambda: int(self._numbers.run_paths))
+
+    def _errors_after(self, kind: Kind[Any], cursor: ctypes.Structure) -> Iterator[Optional[str]]:
+        """The `error` of each item of a list that goes on from a cursor, which begins as zeros."""
+        return rows_behind(kind.errors(), self._live, self._pointer, cursor)
+
+    def _list_errors(self) -> Dict[str, Callable[[], Iterator[Optional[str]]]]:
+        """For each list that may have items which can't be read, by its name, what gives the `error` of each. A list of records ends with
+        the bytes."""
+        after, given = self._errors_after, (self._pointer,)
+        return {
+            "symbols": lambda: self.symbols().in_bounds().errors(),
+            "sections": lambda: self.sections().errors(),
+            "exports": lambda: _exports.errors(self._live, self._pointer),
+            "imports": lambda: after(_lists.BINDINGS_BEHIND, s.gm_binding_cursor()),
+            "weak binds": lambda: after(_lists.WEAK_BINDS_BEHIND, s.gm_bind_cursor()),
+            "rebases": lambda: after(_lists.REBASES_BEHIND, s.gm_rebase_cursor()),
+            "fixups": lambda: after(_lists.FIXUPS_BEHIND, s.gm_fixup_cursor()),
+            "function starts": lambda: after(_lists.FUNCTION_STARTS_BEHIND, s.gm_start_cursor()),
+            "data in code": lambda: self.data_in_code().in_bounds().errors(),
+            "indirect symbols": lambda: self.indirect_symbols().in_bounds().errors(),
+            "slots": lambda: in_growing_batches(_lists.SLOTS_BY_NUMBER.errors(), self._live, given),
+            "linker options": lambda: self.linker_options().errors(),
+            "build tools": lambda: self.build_tools().errors(),
+            "notes": lambda: self.notes().errors(),
+        }
 
     def find_export(self, name: str) -> Optional[Export]:
         """The export of a name from the image, or None."""
