@@ -5,7 +5,9 @@
 use crate::shim::TryGrow;
 use alloc::vec::Vec;
 
+use crate::generated::mach_cli::color::Color;
 use crate::generated::mach_cli::cpu::{Arch, Cpu};
+use crate::generated::mach_cli::hexadecimal::{address_in, cputype_in};
 use crate::generated::mach_cli::misuse::Misuse;
 use crate::generated::mach_cli::named::Others;
 use crate::generated::mach_cli::options::{Format, Options, OwnOptions};
@@ -18,8 +20,12 @@ pub struct Call<'a, O> {
     pub limit: Option<usize>,
     /// The cpu after `--arch` or `--cputype`; any, if neither is given.
     pub cpu: Cpu,
+    /// The address after `--at`, if it is given.
+    pub address: Option<u64>,
     /// The form that the last of `--quiet` and `--json` selects; text, if neither is given.
     pub format: Format,
+    /// When its output is coloured: the value of `--color`; `auto` if it isn't given.
+    pub color: Color,
     /// The program's own options.
     pub own: O,
     /// All other arguments that are text, in order.
@@ -46,6 +52,8 @@ enum Valued {
     Limit,
     Arch,
     Cputype,
+    Address,
+    Color,
     Names,
 }
 
@@ -89,6 +97,8 @@ fn kind_of(word: &str, options: Options) -> Kind {
         "--limit" if options.has_limit => Kind::Valued(Valued::Limit),
         "--arch" if options.has_arch => Kind::Valued(Valued::Arch),
         "--cputype" if options.has_cputype => Kind::Valued(Valued::Cputype),
+        "--at" if options.has_address => Kind::Valued(Valued::Address),
+        "--color" => Kind::Valued(Valued::Color),
         "--names" if options.has_files => Kind::Valued(Valued::Names),
         "-" => Kind::Other,
         _ if word.starts_with('-') => Kind::Own,
@@ -112,6 +122,8 @@ impl Valued {
             Valued::Limit => "number after --limit",
             Valued::Arch => "NAME after --arch",
             Valued::Cputype => "0xN after --cputype",
+            Valued::Address => "ADDRESS after --at",
+            Valued::Color => "WHEN after --color",
             Valued::Names => "FILE after --names",
         }
     }
@@ -133,22 +145,14 @@ fn joined<'a>(word: &'a str, options: Options) -> Option<(Valued, &'a str)> {
     if let Some(value) = value_after(word, "--cputype=", options.has_cputype) {
         return Some((Valued::Cputype, value));
     }
+    if let Some(value) = value_after(word, "--at=", options.has_address) {
+        return Some((Valued::Address, value));
+    }
+    if let Some(value) = value_after(word, "--color=", true) {
+        return Some((Valued::Color, value));
+    }
     let value = value_after(word, "--names=", options.has_files)?;
     Some((Valued::Names, value))
-}
-
-/// Returns the cpu number in an argument: `0x`, and 1 to 8 hexadecimal digits.
-///
-/// # Proved
-///
-/// - *value*: if `Some(number)`: `IsCputype word number`
-/// - *none*: if `None`: for each `number : ℕ`, if `IsCputype word number`, `⊥`
-pub fn cputype_in(word: &str) -> Option<u32> {
-    let digits = word.strip_prefix("0x")?;
-    if digits.len() > 8 || digits.starts_with('+') {
-        return None;
-    }
-    u32::from_str_radix(digits, 16).ok()
 }
 
 impl<'a, O: OwnOptions> Call<'a, O> {
@@ -166,6 +170,14 @@ impl<'a, O: OwnOptions> Call<'a, O> {
             Valued::Cputype => match cputype_in(word) {
                 Some(number) => self.cpu = Cpu::Number(number),
                 None => return Err(Untaken::Misuse(Misuse::NoCpu(word))),
+            },
+            Valued::Address => match address_in(word) {
+                Some(address) => self.address = Some(address),
+                None => return Err(Untaken::Misuse(Misuse::NoAddress(word))),
+            },
+            Valued::Color => match Color::named(word) {
+                Some(color) => self.color = color,
+                None => return Err(Untaken::Misuse(Misuse::NoColor(word))),
             },
             Valued::Names => {
                 if self.others.lists.try_push(word).is_err() {
@@ -243,7 +255,9 @@ pub fn understand<'a, O: OwnOptions>(
     let call = Call {
         limit: None,
         cpu: Cpu::Any,
+        address: None,
         format: Format::Text,
+        color: Color::Auto,
         own,
         words: Vec::new(),
         others: Others {

@@ -20,6 +20,10 @@ pub enum Misuse<'a> {
     NoNumber(&'a str),
     /// What should be a cpu isn't a known one.
     NoCpu(&'a str),
+    /// What should be an address isn't one.
+    NoAddress(&'a str),
+    /// What should say when output is coloured doesn't.
+    NoColor(&'a str),
     /// An argument is missing: this one.
     Missing(&'static str),
     /// An argument isn't text.
@@ -33,6 +37,10 @@ impl Display for Misuse<'_> {
             Misuse::UnknownWord(word) => write!(f, "unknown word '{}'", Escaped(word)),
             Misuse::NoNumber(word) => write!(f, "'{}' is not a number", Escaped(word)),
             Misuse::NoCpu(word) => write!(f, "'{}' is not a cpu", Escaped(word)),
+            Misuse::NoAddress(word) => write!(f, "'{}' is not an address", Escaped(word)),
+            Misuse::NoColor(word) => {
+                write!(f, "'{}' is not auto, always or never", Escaped(word))
+            }
             Misuse::NoText(word) => write!(f, "{word}"),
             Misuse::Missing(what) => write!(f, "no {what} is given"),
         }

@@ -7,10 +7,12 @@
 // The arguments of a call, and what a program says about itself.
 mod bounds;
 mod call;
+mod color;
 mod complaint;
 mod cpu;
 mod failure;
 mod first_bytes;
+mod hexadecimal;
 mod misuse;
 mod named;
 mod options;
@@ -48,12 +50,19 @@ mod directory_name;
 mod escaped;
 mod flags;
 
+// The names of the segment and of the section that hold an address.
+mod memory;
+mod section_names;
+mod stretches;
+
 // Terminals.
+mod painted;
 mod progress;
 mod terminal;
 
 pub use crate::generated::mach_cli::bounds::most_items;
-pub use crate::generated::mach_cli::call::{Call, cputype_in};
+pub use crate::generated::mach_cli::call::Call;
+pub use crate::generated::mach_cli::color::Color;
 pub use crate::generated::mach_cli::complaint::{Complaint, Trouble};
 pub use crate::generated::mach_cli::cpu::{Arch, Cpu, cpu_name};
 pub use crate::generated::mach_cli::directory_name::print_name;
@@ -66,6 +75,7 @@ pub use crate::generated::mach_cli::fields::{
 pub use crate::generated::mach_cli::files::{FileView, Files};
 pub use crate::generated::mach_cli::first_bytes::{begins_whole_archive, entry_kind, refused_kind};
 pub use crate::generated::mach_cli::flags::{print_code_flags, print_segment_flags};
+pub use crate::generated::mach_cli::hexadecimal::{address_in, cputype_in};
 pub use crate::generated::mach_cli::image_files::ImageFiles;
 pub use crate::generated::mach_cli::image_kinds::image_kind;
 pub use crate::generated::mach_cli::image_view::{ImageView, Outcome};
@@ -86,6 +96,7 @@ pub use crate::generated::mach_cli::options::{Format, Options, OwnOptions, Share
 pub use crate::generated::mach_cli::origins::{
     library_short_name, ordinal_of, origin_of, provider_name,
 };
+pub use crate::generated::mach_cli::painted::Painted;
 pub use crate::generated::mach_cli::parts::name::PartName;
 pub use crate::generated::mach_cli::parts::selection::{is_for, is_missed};
 pub use crate::generated::mach_cli::parts::shown::{ShownPart, shown_part};
@@ -93,6 +104,7 @@ pub use crate::generated::mach_cli::parts::{Parts, parts_of};
 pub use crate::generated::mach_cli::program::Program;
 pub use crate::generated::mach_cli::progress::Progress;
 pub use crate::generated::mach_cli::refusal::{Refusal, complain, refusal_of};
+pub use crate::generated::mach_cli::section_names::{AllStretches, SegmentStretches};
 pub use crate::generated::mach_cli::signing::{
     diverse_by, diversity_by, has_auth, key_by, rebase_type,
 };

@@ -39,6 +39,8 @@ pub struct Options {
     pub has_json: bool,
     /// `--quiet`.
     pub has_quiet: bool,
+    /// `--at`.
+    pub has_address: bool,
 }
 
 impl Options {
@@ -50,6 +52,7 @@ impl Options {
         has_files: false,
         has_json: false,
         has_quiet: false,
+        has_address: false,
     };
 
     /// The options of a program that shows the images of files.
@@ -60,6 +63,7 @@ impl Options {
         has_files: true,
         has_json: true,
         has_quiet: false,
+        has_address: false,
     };
 }
 

@@ -26,7 +26,9 @@ mod output;
 mod signature_text;
 mod text;
 
-use crate::generated::mach_cli::{Call, Files, ForTerminal, Misuse, Program, SharedOnly, Titled};
+use crate::generated::mach_cli::{
+    Call, Files, ForTerminal, Misuse, Painted, Program, SharedOnly, Titled,
+};
 use crate::generated::machaudit::audits::Audits;
 use crate::generated::machaudit::options::{DEFAULT_LIMIT, Options};
 use crate::generated::machaudit::output::NAME;
@@ -37,7 +39,7 @@ use std::process::ExitCode;
 
 const PROGRAM: Program = Program {
     name: NAME,
-    usage: "usage: machaudit [--quiet | --json] [--limit N] [--arch NAME | --cputype 0xN] [--names FILE] [-0] FILE..
+    usage: "usage: machaudit [--quiet | --json] [--limit N] [--arch NAME | --cputype 0xN] [--names FILE] [-0] [--color WHEN] FILE..
        machaudit -h | --help | --version
 ",
     version: "machaudit 0.3.0\n",
@@ -47,6 +49,7 @@ const PROGRAM: Program = Program {
     },
     known: &[
         "--arch",
+        "--color",
         "--cputype",
         "--help",
         "--json",
@@ -87,7 +90,8 @@ fn audit_files(rt: &HostRuntime, call: &Call<'_, SharedOnly>) -> Result<u8, u8> 
         },
         only,
     };
-    let output = ForTerminal::new(io::writer(rt), rt.stdout().is_terminal());
+    let painted = Painted::new(io::writer(rt), call.color.is_for(rt, call.format));
+    let output = ForTerminal::new(painted, rt.stdout().is_terminal());
     let Ok(mut lines) = BufWriter::new(Titled::new(output)) else {
         return Err(PROGRAM.out_of_memory(rt));
     };

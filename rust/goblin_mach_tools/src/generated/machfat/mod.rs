@@ -32,7 +32,9 @@ mod verify;
 // The list of an archive: a line for each member, and one for each symbol of its index.
 mod archive;
 
-use crate::generated::mach_cli::{Call, Cpu, Files, Misuse, Options, Others, Program, Titled};
+use crate::generated::mach_cli::{
+    Call, Cpu, Files, Misuse, Options, Others, Painted, Program, Titled,
+};
 use crate::shim::AllocError;
 use crate::shim::io;
 use crate::shim::io::{BufWriter, Write};
@@ -50,14 +52,14 @@ const DEFAULT_LIMIT: usize = 10_000_000;
 
 const PROGRAM: Program = Program {
     name: NAME,
-    usage: "usage: machfat list [--json] [--limit N] [--names FILE] [-0] FILE..
+    usage: "usage: machfat list [--json] [--limit N] [--names FILE] [-0] [--color WHEN] FILE..
        machfat extract FILE INDEX|CPU OUT
        machfat thin FILE CPU OUT
-       machfat members [--limit N] [--names FILE] [-0] FILE..
+       machfat members [--limit N] [--names FILE] [-0] [--color WHEN] FILE..
        machfat create [--fat64] OUT FILE..
        machfat replace FILE NEW OUT
        machfat remove FILE INDEX OUT
-       machfat verify [--limit N] [--names FILE] [-0] FILE..
+       machfat verify [--limit N] [--names FILE] [-0] [--color WHEN] FILE..
        machfat -h | --help | --version
 CPU: a name, as arm64, or 0xCPUTYPE
 ",
@@ -77,6 +79,7 @@ CPU: a name, as arm64, or 0xCPUTYPE
         "replace",
         "remove",
         "verify",
+        "--color",
         "--help",
         "--json",
         "--limit",
@@ -114,6 +117,7 @@ fn start(rt: &HostRuntime) -> Result<u8, u8> {
             },
             given,
             &call.others,
+            call.color.is_for(rt, call.format),
         ),
         _ => match misplaced(&call, word) {
             Some(misuse) => Err(FOR_WRITES.bad_usage(rt, misuse)),
@@ -166,17 +170,19 @@ fn write_file(rt: &HostRuntime, word: &str, form: Form, given: &[&str]) -> Resul
     }
 }
 
-// Shows files in order, and returns the worst status.
+// Shows files in order, painted or not, and returns the worst status.
 fn show_files(
     rt: &HostRuntime,
     selected: Selected,
     files: &[&str],
     others: &Others<'_>,
+    is_painted: bool,
 ) -> Result<u8, u8> {
     if files.is_empty() && others.is_empty() {
         return Err(PROGRAM.bad_usage(rt, Misuse::Missing("FILE")));
     }
-    let output = Titled::new(io::writer(rt));
+    let painted = Painted::new(io::writer(rt), is_painted);
+    let output = Titled::new(painted);
     let Ok(mut out) = BufWriter::new(output) else {
         return Err(PROGRAM.out_of_memory(rt));
     };

@@ -2,11 +2,12 @@
 //! What the program prints of an image.
 #![forbid(unsafe_code)]
 
-use crate::generated::mach_cli::{ImageView, InForm, Line, Outcome, ShowFailure, print_listing};
+use crate::generated::mach_cli::{
+    AllStretches, ImageView, InForm, Line, Outcome, ShowFailure, print_listing,
+};
 use crate::generated::machfixups::headed::Headed;
 use crate::generated::machfixups::lists::ImageRows;
 use crate::generated::machfixups::rows::Selection;
-use crate::generated::machfixups::section_names::AllStretches;
 use crate::shim::io::Write;
 use goblin_mach::generated::mach::MachO;
 

@@ -2,11 +2,10 @@
 //! What the program writes of an image as JSON.
 #![forbid(unsafe_code)]
 
-use crate::generated::mach_cli::{ImageView, Outcome, ShowFailure};
+use crate::generated::mach_cli::{AllStretches, ImageView, Outcome, ShowFailure};
 use crate::generated::machfixups::lists::ImageRows;
 use crate::generated::machfixups::members::write_members;
 use crate::generated::machfixups::rows::Selection;
-use crate::generated::machfixups::section_names::AllStretches;
 use crate::shim::io::Write;
 use goblin_mach::generated::mach::MachO;
 

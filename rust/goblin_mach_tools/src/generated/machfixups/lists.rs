@@ -2,12 +2,11 @@
 //! The lists of an image's rebases, binds and fixups, of which a line or an object has the fields of each row.
 #![forbid(unsafe_code)]
 
-use crate::generated::mach_cli::{FieldsForm, ItemList};
+use crate::generated::mach_cli::{AllStretches, FieldsForm, ItemList};
 use crate::generated::machfixups::fields::write_row;
 use crate::generated::machfixups::kept_fixups::{KeptFixups, KindsOfLists};
 use crate::generated::machfixups::row::Row;
 use crate::generated::machfixups::rows::{Items, Rows, Selection};
-use crate::generated::machfixups::section_names::AllStretches;
 use crate::generated::machfixups::stored_pointers::StoredPointers;
 use crate::shim::io;
 use crate::shim::io::Write;

@@ -41,15 +41,12 @@ mod json;
 mod kept_fixups;
 mod lists;
 mod members;
-mod memory;
 mod row;
 mod rows;
-mod section_names;
 mod stored_pointers;
-mod stretches;
 
 use crate::generated::mach_cli::{
-    Call, ForTerminal, ImageFiles, Misuse, Options, Others, Program, Titled,
+    Call, ForTerminal, ImageFiles, Misuse, Options, Others, Painted, Program, Titled,
 };
 use crate::shim::io;
 use crate::shim::io::{BufWriter, IsTerminal, Write};
@@ -62,7 +59,7 @@ use std::process::ExitCode;
 const DEFAULT_LIMIT: usize = 10_000_000;
 
 const USAGE: &str = "usage: machfixups [--rebases] [--binds] [--weak] [--chains] [--json] [--limit N] \
-    [--arch NAME | --cputype 0xN] [--names FILE [-0]] FILE..\n       machfixups -h | --help | --version\n";
+    [--arch NAME | --cputype 0xN] [--names FILE [-0]] [--color WHEN] FILE..\n       machfixups -h | --help | --version\n";
 
 const PROGRAM: Program = Program {
     name: "machfixups",
@@ -73,6 +70,7 @@ const PROGRAM: Program = Program {
         "--arch",
         "--binds",
         "--chains",
+        "--color",
         "--cputype",
         "--help",
         "--json",
@@ -103,7 +101,8 @@ fn show_files(rt: &HostRuntime, call: &Call<'_, Selection>) -> Result<u8, u8> {
     if files.is_empty() && others.is_empty() {
         return Err(PROGRAM.bad_usage(rt, Misuse::Missing("FILE")));
     }
-    let output = ForTerminal::new(io::writer(rt), rt.stdout().is_terminal());
+    let painted = Painted::new(io::writer(rt), call.color.is_for(rt, call.format));
+    let output = ForTerminal::new(painted, rt.stdout().is_terminal());
     let Ok(mut out) = BufWriter::new(Titled::new(output)) else {
         return Err(PROGRAM.out_of_memory(rt));
     };

@@ -2,8 +2,9 @@
 //! The rows of the rebases, binds and weak binds of the opcodes and of the fixups of the chains.
 #![forbid(unsafe_code)]
 
-use crate::generated::mach_cli::{ordinal_of, origin_of, provider_name};
-use crate::generated::machfixups::section_names::{AllStretches, SegmentStretches};
+use crate::generated::mach_cli::{
+    AllStretches, SegmentStretches, ordinal_of, origin_of, provider_name,
+};
 use crate::generated::machfixups::stored_pointers::{StoredPointers, raw_of};
 use goblin_mach::generated::mach::chained_fixups::{
     ChainedFixups, ChainedImport, Fixup, FixupKind, PointerAuth,

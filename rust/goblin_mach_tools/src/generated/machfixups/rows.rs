@@ -2,9 +2,9 @@
 //! The lists of an image's rebases, binds and fixups, as rows.
 #![forbid(unsafe_code)]
 
+use crate::generated::mach_cli::AllStretches;
 use crate::generated::machfixups::kept_fixups::{KeptFixups, KindsOfLists, ShownKinds};
 use crate::generated::machfixups::row::{Row, binding_row, fixup_row, rebase_row, weak_row};
-use crate::generated::machfixups::section_names::AllStretches;
 use crate::generated::machfixups::stored_pointers::StoredPointers;
 use goblin_mach::generated::mach::chained_fixups::ChainedFixups;
 use goblin_mach::generated::mach::{

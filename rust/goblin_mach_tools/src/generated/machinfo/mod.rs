@@ -44,7 +44,7 @@ mod security;
 mod word;
 
 use crate::generated::mach_cli::{
-    Call, ForTerminal, ImageFiles, Misuse, Options, Others, Program, SharedOnly, Titled,
+    Call, ForTerminal, ImageFiles, Misuse, Options, Others, Painted, Program, SharedOnly, Titled,
 };
 use crate::generated::machinfo::word::Choice;
 use crate::shim::io;
@@ -58,7 +58,7 @@ const DEFAULT_LIMIT: usize = 10_000_000;
 
 const PROGRAM: Program = Program {
     name: "machinfo",
-    usage: "usage: machinfo [--json] [--limit N] [--arch NAME | --cputype 0xN] [--names FILE] [-0] [WORD] FILE..
+    usage: "usage: machinfo [--json] [--limit N] [--arch NAME | --cputype 0xN] [--names FILE] [-0] [--color WHEN] [WORD] FILE..
        machinfo -h | --help | --version
 WORD: commands, starts, slots, indirect, data, options, tools, notes, providers, libraries, rebases, weak,
       segments, sections, uuid, rpaths, entrypoint, header, security, exports, imports
@@ -68,6 +68,7 @@ WORD: commands, starts, slots, indirect, data, options, tools, notes, providers,
     known: &[
         "-0",
         "--arch",
+        "--color",
         "--cputype",
         "--help",
         "--json",
@@ -120,7 +121,8 @@ fn answer(rt: &HostRuntime, call: &Call<'_, SharedOnly>) -> Result<u8, u8> {
     if let Some(misuse) = misspelled(rt, &call.words) {
         return Err(PROGRAM.bad_usage(rt, misuse));
     }
-    let output = ForTerminal::new(io::writer(rt), rt.stdout().is_terminal());
+    let painted = Painted::new(io::writer(rt), call.color.is_for(rt, call.format));
+    let output = ForTerminal::new(painted, rt.stdout().is_terminal());
     let Ok(mut out) = BufWriter::new(Titled::new(output)) else {
         return Err(PROGRAM.out_of_memory(rt));
     };

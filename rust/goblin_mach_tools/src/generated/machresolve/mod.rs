@@ -34,7 +34,7 @@ mod refusal;
 mod report;
 
 use crate::generated::mach_cli::{
-    Cpu, ForTerminal, Misuse, Options, Program, Progress, SharedOnly,
+    Color, Cpu, ForTerminal, Format, Misuse, Options, Painted, Program, Progress, SharedOnly,
 };
 use crate::generated::machresolve::arguments::{DEFAULT_LIMIT, selected_cpu};
 use crate::generated::machresolve::inputs::Given;
@@ -45,7 +45,7 @@ use std::process::ExitCode;
 
 const PROGRAM: Program = Program {
     name: NAME,
-    usage: "usage: machresolve [--arch NAME | --cputype 0xN] [--limit N] PROGRAM LIBRARY..
+    usage: "usage: machresolve [--arch NAME | --cputype 0xN] [--limit N] [--color WHEN] PROGRAM LIBRARY..
        machresolve -h | --help | --version
 ",
     version: "machresolve 0.3.0\n",
@@ -55,7 +55,14 @@ const PROGRAM: Program = Program {
         has_cputype: true,
         ..Options::NONE
     },
-    known: &["--arch", "--cputype", "--help", "--limit", "--version"],
+    known: &[
+        "--arch",
+        "--color",
+        "--cputype",
+        "--help",
+        "--limit",
+        "--version",
+    ],
 };
 
 pub fn main(rt: HostRuntime) -> ExitCode {
@@ -71,7 +78,9 @@ fn start(rt: &HostRuntime) -> Result<u8, u8> {
     let (wanted, limit) = (selected_cpu(call.cpu), call.limit.unwrap_or(DEFAULT_LIMIT));
     match call.words.as_slice() {
         [] => Err(PROGRAM.bad_usage(rt, Misuse::Missing("PROGRAM"))),
-        [program, libraries @ ..] => resolve_files(rt, wanted, limit, program, libraries),
+        [program, libraries @ ..] => {
+            resolve_files(rt, wanted, limit, call.color, program, libraries)
+        }
     }
 }
 
@@ -86,6 +95,7 @@ fn resolve_files(
     rt: &HostRuntime,
     wanted: Option<Cpu>,
     limit: usize,
+    color: Color,
     program: &str,
     libraries: &[&str],
 ) -> Result<u8, u8> {
@@ -110,7 +120,8 @@ fn resolve_files(
             return Err(PROGRAM.out_of_memory(rt));
         }
     }
-    let output = ForTerminal::new(io::writer(rt), rt.stdout().is_terminal());
+    let painted = Painted::new(io::writer(rt), color.is_for(rt, Format::Text));
+    let output = ForTerminal::new(painted, rt.stdout().is_terminal());
     let Ok(mut out) = BufWriter::new(output) else {
         return Err(PROGRAM.out_of_memory(rt));
     };

@@ -8,6 +8,7 @@ use crate::generated::machsign::faults::write_faults;
 use crate::generated::machsign::form::Form;
 use crate::generated::machsign::full_hash::print_hash_of;
 use crate::generated::machsign::kind::Kind;
+use crate::generated::machsign::requirement_lines::write_requirements;
 use crate::generated::machsign::signed::signed_image;
 use crate::generated::machsign::special::{MOST_SLOTS, SpecialSlots};
 use crate::generated::machsign::text::RuntimeText;
@@ -131,7 +132,7 @@ fn write_fields<O: Write>(
     write_identifier(directory, out)?;
     write_origin(kind, out)?;
     write_pages(directory, more, out)?;
-    write_running(directory, out)?;
+    write_running(signed, directory, out)?;
     write_special(signed, directory, out)?;
     write_naming(directory, out)
 }
@@ -166,14 +167,26 @@ fn write_pages<O: Write>(directory: &CodeDirectory<'_>, more: bool, out: &mut O)
     )
 }
 
-// Writes the platform and the runtime, and the name of the member after them.
-fn write_running<O: Write>(directory: &CodeDirectory<'_>, out: &mut O) -> io::Result<()> {
-    let platform = directory.head.platform;
-    let runtime = RuntimeObject(directory.runtime);
-    write!(
-        out,
-        ",\"platform\":{platform},\"runtime\":{runtime},\"special_slots\":"
-    )
+// Writes the platform, the requirements and the runtime, and the name of the member after them.
+fn write_running<O: Write>(
+    signed: &SignedBytes<'_>,
+    directory: &CodeDirectory<'_>,
+    out: &mut O,
+) -> io::Result<()> {
+    write_platform(directory.head.platform, out)?;
+    write_requirements(&signed.signature, out)?;
+    write_runtime(directory.runtime, out)
+}
+
+// Writes the platform, and the name of the member after it.
+fn write_platform<O: Write>(platform: u8, out: &mut O) -> io::Result<()> {
+    write!(out, ",\"platform\":{platform},\"requirements\":")
+}
+
+// Writes the runtime, and the name of the member after it.
+fn write_runtime<O: Write>(runtime: Option<RuntimeFields>, out: &mut O) -> io::Result<()> {
+    let runtime = RuntimeObject(runtime);
+    write!(out, ",\"runtime\":{runtime},\"special_slots\":")
 }
 
 // The version of a runtime as a string; null if the directory has none.

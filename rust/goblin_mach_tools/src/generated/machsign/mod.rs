@@ -22,13 +22,17 @@ mod kind;
 mod members;
 mod page;
 mod print;
+mod requirement;
+mod requirement_lines;
+mod requirement_print;
+mod requirement_text;
 mod signature_view;
 mod signed;
 mod special;
 mod text;
 
 use crate::generated::mach_cli::{
-    Call, Cpu, ForTerminal, ImageFiles, Misuse, Options, Others, Program, Titled,
+    Call, Cpu, ForTerminal, ImageFiles, Misuse, Options, Others, Painted, Program, Titled,
 };
 use crate::shim::io;
 use crate::shim::io::{BufWriter, IsTerminal, Write};
@@ -40,13 +44,14 @@ use std::process::ExitCode;
 
 const PROGRAM: Program = Program {
     name: NAME,
-    usage: "usage: machsign [--json] [--limit N] [--arch NAME | --cputype 0xN] [--names FILE] [-0] FILE..\n\
+    usage: "usage: machsign [--json] [--limit N] [--arch NAME | --cputype 0xN] [--names FILE] [-0] [--color WHEN] FILE..\n\
         \x20      machsign --entitlements [--arch NAME | --cputype 0xN] FILE\n       machsign -h | --help | --version\n",
     version: "machsign 0.3.0\n",
     options: Options::OF_IMAGES,
     known: &[
         "-0",
         "--arch",
+        "--color",
         "--cputype",
         "--entitlements",
         "--help",
@@ -79,7 +84,8 @@ fn answer(rt: &HostRuntime, call: &Call<'_, Entitlements>) -> Result<u8, u8> {
     if files.is_empty() && others.is_empty() {
         return Err(PROGRAM.bad_usage(rt, Misuse::Missing("FILE")));
     }
-    let output = ForTerminal::new(io::writer(rt), rt.stdout().is_terminal());
+    let painted = Painted::new(io::writer(rt), call.color.is_for(rt, call.format));
+    let output = ForTerminal::new(painted, rt.stdout().is_terminal());
     let Ok(mut out) = BufWriter::new(Titled::new(output)) else {
         return Err(PROGRAM.out_of_memory(rt));
     };

@@ -8,6 +8,7 @@ use crate::generated::machsign::block::print_directory;
 use crate::generated::machsign::faults::write_faults;
 use crate::generated::machsign::form::Form;
 use crate::generated::machsign::kind::{Cms, Kind, cms_of};
+use crate::generated::machsign::requirement_lines::print_requirements;
 use crate::generated::machsign::signed::signed_image;
 use crate::shim::io;
 use crate::shim::io::Write;
@@ -68,12 +69,13 @@ fn print_signed<O: Write>(
     })
 }
 
-// Prints the kind of a signature and the lines of its directories, if one of them is used.
+// Prints the kind of a signature, the lines of its directories and those of its requirements, if a directory is used.
 fn print_front<O: Write>(signed: &SignedBytes<'_>, out: &mut O) -> io::Result<()> {
     match signed.signature.directory() {
         Ok(directory) => {
             print_kind(Kind::of(signed, &directory), out)?;
-            print_each_directory(signed, out)
+            print_each_directory(signed, out)?;
+            print_requirements(&signed.signature, out)
         }
         Err(_) => Ok(()),
     }

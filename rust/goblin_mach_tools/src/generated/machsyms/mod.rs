@@ -2,7 +2,7 @@
 //! Prints the symbols of a Mach-O file, a line each, as `nm -a -p` does: the value, a letter for what the symbol is, and its
 //! name. Of a fat file it prints those of each entry, or of the entries for one cpu, under a line that says which. Options of
 //! `nm` select some of the symbols, another order, or another form of lines. With `--json` it writes one object for each file
-//! instead, on a line.
+//! instead, on a line. With `--at` it prints what each image has at an address: the section, the nearest symbol and the function.
 //!
 //! Its lines differ from those of `llvm-nm`:
 //! - Each symbol has a line, and one whose record or name can't be read has a line with the error. `llvm-nm` prints `bad string
@@ -37,11 +37,15 @@ mod text;
 // The words of `nm -m` for a symbol.
 mod nm;
 
+// What an image has at an address.
+mod address;
+
 use crate::generated::mach_cli::{
-    Call, ForTerminal, ImageFiles, Misuse, Options, Others, Program, Titled,
+    Call, ForTerminal, ImageFiles, Misuse, Options, Others, Painted, Program, Titled,
 };
 use crate::shim::io;
 use crate::shim::io::{BufWriter, IsTerminal, Write};
+use address::view::{AddressLinesOf, AddressObjectsOf};
 use arguments::{SymbolOptions, names_files};
 use json::SymbolObjectsOf;
 use std::process::ExitCode;
@@ -50,11 +54,17 @@ use symbol_view::SymbolLinesOf;
 const PROGRAM: Program = Program {
     name: "machsyms",
     usage: "usage: machsyms [-AUagjmnoprux] [--raw] [--json] [--limit N] [--arch NAME | --cputype 0xN] \
-        [--names FILE [-0]] FILE..\n       machsyms -h | --help | --version\n",
+        [--names FILE [-0]] [--color WHEN] FILE..\n       machsyms --at ADDRESS [-A] [--raw] [--json] [--arch NAME | --cputype 0xN] \
+        [--names FILE [-0]] [--color WHEN] FILE..\n       machsyms -h | --help | --version\n",
     version: "machsyms 0.3.0\n",
-    options: Options::OF_IMAGES,
+    options: Options {
+        has_address: true,
+        ..Options::OF_IMAGES
+    },
     known: &[
         "--arch",
+        "--at",
+        "--color",
         "--cputype",
         "--debug-syms",
         "--defined-only",
@@ -94,11 +104,15 @@ fn show_files(rt: &HostRuntime, call: &Call<'_, SymbolOptions>) -> Result<u8, u8
     if files.is_empty() && others.is_empty() {
         return Err(PROGRAM.bad_usage(rt, Misuse::Missing("FILE")));
     }
-    let output = ForTerminal::new(io::writer(rt), rt.stdout().is_terminal());
+    let painted = Painted::new(io::writer(rt), call.color.is_for(rt, call.format));
+    let output = ForTerminal::new(painted, rt.stdout().is_terminal());
     let Ok(mut out) = BufWriter::new(Titled::new(output)) else {
         return Err(PROGRAM.out_of_memory(rt));
     };
-    show(rt, &shown_by(call), files, others, &mut out)
+    match call.address {
+        Some(address) => show_at(rt, &shown_at(call, address), files, others, &mut out),
+        None => show(rt, &shown_by(call), files, others, &mut out),
+    }
 }
 
 // Returns how a call shows its files: the symbols that letters select, as lines or as objects.
@@ -115,10 +129,55 @@ fn shown_by(call: &Call<'_, SymbolOptions>) -> ImageFiles<SymbolLinesOf, SymbolO
     }
 }
 
+// Returns how a call shows its files by an address: what each image has there, as a line or as an object.
+fn shown_at(
+    call: &Call<'_, SymbolOptions>,
+    address: u64,
+) -> ImageFiles<AddressLinesOf, AddressObjectsOf> {
+    let ImageFiles {
+        program,
+        cpu,
+        limit,
+        is_json,
+        has_titles,
+        lines: SymbolLinesOf { letters, is_raw },
+        ..
+    } = shown_by(call);
+    ImageFiles {
+        program,
+        cpu,
+        limit,
+        is_json,
+        has_titles,
+        lines: AddressLinesOf {
+            address,
+            letters,
+            is_raw,
+        },
+        objects: AddressObjectsOf { address },
+    }
+}
+
 // Shows files in order, and returns the worst status.
 fn show<W: Write>(
     rt: &HostRuntime,
     shown: &ImageFiles<SymbolLinesOf, SymbolObjectsOf>,
+    files: &[&str],
+    others: &Others<'_>,
+    out: &mut BufWriter<Titled<W>>,
+) -> Result<u8, u8> {
+    let call = shown.files();
+    if shown.is_json {
+        call.show(rt, &shown.as_json(), files, others, out)
+    } else {
+        call.show(rt, &shown.as_text(), files, others, out)
+    }
+}
+
+// Shows what the images of files have at an address, in order, and returns the worst status.
+fn show_at<W: Write>(
+    rt: &HostRuntime,
+    shown: &ImageFiles<AddressLinesOf, AddressObjectsOf>,
     files: &[&str],
     others: &Others<'_>,
     out: &mut BufWriter<Titled<W>>,
