@@ -1,12 +1,10 @@
 """Tests of archives, fat files of 64 bits and written fat files. The expected values are computed by the rules of the format."""
 
-import io
 import itertools
 import os
 import struct
 import sys
 import unittest
-from contextlib import redirect_stdout
 
 import goblin_mach
 import test_goblin_mach as made
@@ -187,12 +185,11 @@ class AllFour(made.Case):
                 call()
 
     def test_lines(self):
-        path = self.path(symdef())
-        for word, wanted in (("members", "112 172 2 0 0 0 420 0 0 x.o\n"), ("archive_symbols", "112 0 _a\n112 0 _b\n"), ("entries", "")):
-            said = io.StringIO()
-            with redirect_stdout(said):
-                self.assertEqual(lines.main([word, path]), 0)
-            self.assertEqual(said.getvalue(), wanted)
+        rows = {"members": "112 172 2 0 0 0 420 0 0 x.o\n", "archive_symbols": "112 0 _a\n112 0 _b\n", "entries": ""}
+        lines.main([self.room, self.path(symdef()), *rows])
+        for word, wanted in rows.items():
+            with open(os.path.join(self.room, word), encoding="utf-8") as written:
+                self.assertEqual(written.read(), wanted)
 
 
 def library_of(cpu, kind):
