@@ -27,6 +27,7 @@ pub mod MappedNearest
 pub mod LookedUpFacts
 pub mod LookUpLaws
 pub mod ListBounds
+pub mod SectionBounds
 pub mod Files
 pub mod FatNumbers
 pub mod FatMagics

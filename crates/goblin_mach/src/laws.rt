@@ -75,6 +75,7 @@ pub use crate::laws::images::commands_fit_the_bytes;
 pub use crate::laws::images::lossy_agrees;
 pub use crate::laws::images::new_header_recognised;
 pub use crate::laws::images::one_chain;
+pub use crate::laws::images::sections_fit_the_bytes;
 pub use crate::laws::images::segments_lie_in_the_bytes;
 pub use crate::laws::images::strict_opens_lossily;
 pub use crate::laws::inputs::inputs_are_machs;

@@ -1,5 +1,5 @@
 -- What the rules read of an image (`mach-o/loader.h`): its bytes, its header and its commands, and what follows from them.
-use Rattle.std.specs.Prelude.{◌==◌, ℕ, ◌+◌, ◌-◌, ◌/◌, ◌&&◌, ◌||◌, not, Bool, List, [], length, map}
+use Rattle.std.specs.Prelude.{◌==◌, ℕ, ◌+◌, ◌-◌, ◌&&◌, ◌||◌, not, Bool, List, [], length, map}
 use Rattle.std.specs.Prelude.{min, nat_lt, option_map, filter_map, flat_map, Option, Some, None, Result, Ok}
 use Rattle.std.specs.Prelude.{if◌then◌else◌}
 use Rattle.std.specs.List.{last_or}
@@ -12,7 +12,7 @@ use Rattle.mach_load.specs.Subjects.{segment_command_by}
 use Rattle.mach_load.specs.Variants.{command_of}
 use Rattle.mach_parts.specs.Header.{header_size, header_in}
 use Rattle.mach_base.specs.Items.{items_from}
-use Rattle.mach_parts.specs.Section.{command_size, section_place, section_size}
+use Rattle.mach_parts.specs.Section.{own_sections, section_place}
 use Rattle.mach_parts.specs.SectionRecord.{in_front, section_record_at}
 use Rattle.mach_parts.specs.Segment.{widened}
 use Rattle.mach_parts.specs.declared.header.Header.{Header}
@@ -106,15 +106,14 @@ placed_section_at ctx bytes s k =
     section_record_at ctx.container ctx.le bytes (section_place ctx.container s.place k)
     >>= (λ found. Ok (record { segment = s; number = k + 1; section = found }))
 
--- How many of the sections that a segment states have their record in its own command. So no two segments share a record,
--- and an image has at most as many sections as its bytes have records. (A `cmdsize` that doesn't match `nsects` is a fault:
--- CommandCount.)
-abbrev pub own_sections : Container → PlacedSegment → ℕ
-own_sections container s = min s.command.nsects ((s.command.cmdsize - command_size container) / section_size container)
+-- How many of the sections that a segment states have their record in its own command. (A `cmdsize` that doesn't match `nsects`
+-- is a fault: CommandCount.)
+abbrev pub sections_in_command : Container → PlacedSegment → ℕ
+sections_in_command container s = own_sections container s.command.cmdsize s.command.nsects
 
 -- the sections of a segment from number k on: those of its command that lie in the bytes
 abbrev pub sections_from : Ctx → List ℕ → PlacedSegment → ℕ → List PlacedSection
-sections_from ctx bytes s k = in_front (items_from (placed_section_at ctx bytes s) k (own_sections ctx.container s - k))
+sections_from ctx bytes s k = in_front (items_from (placed_section_at ctx bytes s) k (sections_in_command ctx.container s - k))
 
 -- those of a segment, if there is one
 abbrev pub open_sections : Ctx → List ℕ → Option PlacedSegment → ℕ → List PlacedSection

@@ -8,13 +8,10 @@ ghost use Rattle.mach_layout.specs.Laid as defined;
 ghost use Rattle.mach_layout.specs.PartsLeft.{placed_segments_left, placed_sections_left, TakesSection};
 
 use crate::rules::Items;
-use mach_base::{Container, Ctx, Result};
+use mach_base::{Ctx, Result};
 use mach_load::{CommandVariant, LoadCommand};
-use mach_parts::segment::{place_of, section_at};
-use mach_records::{
-    SIZEOF_SECTION_32, SIZEOF_SECTION_64, SIZEOF_SEGMENT_COMMAND_32, SIZEOF_SEGMENT_COMMAND_64,
-    Section64, SegmentCommand32, SegmentCommand64,
-};
+use mach_parts::segment::{own_sections, place_of, section_at};
+use mach_records::{Section64, SegmentCommand32, SegmentCommand64};
 use std::slice::Iter;
 
 /// A segment's command in its 64-bit form, and its place.
@@ -178,18 +175,6 @@ impl<'a, 'b> SectionIterator<'a, 'b> {
     }
 }
 
-// Returns how many of the sections that a segment states have their record in its own command.
-fn own_sections(width: Container, segment: &PlacedSegment) -> u32
-    ensures { result ≡ defined.own_sections width segment.now }
-{
-    let (head, each) = match width {
-        Container::Little => (SIZEOF_SEGMENT_COMMAND_32, SIZEOF_SECTION_32),
-        Container::Big => (SIZEOF_SEGMENT_COMMAND_64, SIZEOF_SECTION_64),
-    };
-    let room = segment.command.cmdsize.saturating_sub(head as u32) / each as u32;
-    segment.command.nsects.min(room)
-}
-
 /// Returns the next section of a segment after the first `taken`, if there is one.
 pub(crate) fn take_section(
     bytes: &[u8],
@@ -201,7 +186,8 @@ pub(crate) fn take_section(
     ensures few { IfSome result (λ _. taken + 1 < 2 ^ 32) }
 {
     let segment = segment?;
-    if taken >= own_sections(ctx.container, &segment) {
+    let command = &segment.command;
+    if taken >= own_sections(ctx.container, command.cmdsize, command.nsects) {
         return None;
     }
     placed_section_at(bytes, ctx, segment, taken).ok()

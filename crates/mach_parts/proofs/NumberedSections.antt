@@ -10,7 +10,7 @@ use Rattle.mach_base.specs.declared.error.Error.{Error}
 use Rattle.mach_base.specs.Items.{items_from}
 use Rattle.mach_base.proofs.ItemLists.{items_from-first, length-items_from, slice_get-items}
 use Rattle.mach_parts.specs.NumberedLeft.{numbered_after, readable_after}
-use Rattle.mach_parts.specs.SectionRecord.{in_front, numbered_section, numbered_from, numbered_in, readable_in}
+use Rattle.mach_parts.specs.SectionRecord.{held_from, in_front, numbered_section, numbered_from, numbered_in, readable_in, sections_held}
 use Rattle.mach_parts.specs.Segment.{SegmentView, segment_view}
 use Rattle.mach_parts.specs.declared.segment.Segment.{Segment}
 use Rattle.mach_parts.specs.declared.segment.numbered.NumberedSection.{NumberedSection}
@@ -54,7 +54,7 @@ module _ (segments : List Segment) (i : ℕ) (d : Segment) (inside : i < length 
   opened : (k : ℕ) → numbered_after i k rest ≡ numbered_from i here k ++ numbered_in (i + 1) others
   opened k = ap (λ (xs : List Segment). numbered_after i k (map segment_view xs)) (drop_more segments i d inside)
 
-  readable_opened : (k : ℕ) → readable_after i k rest ≡ in_front (numbered_from i here k) ++ readable_in (i + 1) others
+  readable_opened : (k : ℕ) → readable_after i k rest ≡ in_front (held_from i here k) ++ readable_in (i + 1) others
   readable_opened k = ap (λ (xs : List Segment). readable_after i k (map segment_view xs)) (drop_more segments i d inside)
 
   pub next_section : (k : ℕ) → k < here.command.nsects → numbered_after i k rest ≡ numbered_section i here k ∷ numbered_after i (k + 1) rest
@@ -70,14 +70,14 @@ module _ (segments : List Segment) (i : ℕ) (d : Segment) (inside : i < length 
       ∙ (ap (λ (items : List (Result NumberedSection Fault)). items ++ numbered_in (i + 1) others) (none_from i here k past)
       ∙ in_as_after (i + 1) others)
 
-  pub next_readable : (k : ℕ) (found : NumberedSection) → in_front (numbered_from i here k) ≡ found ∷ in_front (numbered_from i here (k + 1))
+  pub next_readable : (k : ℕ) (found : NumberedSection) → in_front (held_from i here k) ≡ found ∷ in_front (held_from i here (k + 1))
       → readable_after i k rest ≡ found ∷ readable_after i (k + 1) rest
   next_readable k found first =
       readable_opened k
       ∙ (ap (λ (items : List NumberedSection). items ++ readable_in (i + 1) others) first
       ∙ ap (λ (items : List NumberedSection). found ∷ items) (sym (readable_opened (k + 1))))
 
-  pub next_readable_segment : (k : ℕ) → in_front (numbered_from i here k) ≡ [] → readable_after i k rest ≡ readable_after (i + 1) 0 others
+  pub next_readable_segment : (k : ℕ) → in_front (held_from i here k) ≡ [] → readable_after i k rest ≡ readable_after (i + 1) 0 others
   next_readable_segment k none =
       readable_opened k
       ∙ (ap (λ (items : List NumberedSection). items ++ readable_in (i + 1) others) none ∙ readable_as_after (i + 1) others)
@@ -116,15 +116,17 @@ nothing_readable segments i k past = ap (λ (xs : List Segment). readable_after 
 
 -- the result of reading the next section says whether it is there
 module _ (n : ℕ) (s : SegmentView) (k : ℕ) where
-  from_here : k < s.command.nsects
-      → in_front (numbered_from n s k) ≡ in_front (numbered_section n s k ∷ numbered_from n s (k + 1))
-  from_here few = ap (λ (items : List (Result NumberedSection Fault)). in_front items) (items_from-first (numbered_section n s) k s.command.nsects few)
+  from_here : k < sections_held s
+      → in_front (held_from n s k) ≡ in_front (numbered_section n s k ∷ held_from n s (k + 1))
+  from_here few = ap (λ (items : List (Result NumberedSection Fault)). in_front items) (items_from-first (numbered_section n s) k (sections_held s) few)
 
-  pub taken_or_over : (answer : Result NumberedSection Error) → k < s.command.nsects → Reads (λ x. x) answer (numbered_section n s k)
-      → MatchOption (result_ok answer) (in_front (numbered_from n s k) ≡ [])
-      (λ found. in_front (numbered_from n s k) ≡ found ∷ in_front (numbered_from n s (k + 1)))
+  pub taken_or_over : (answer : Result NumberedSection Error) → k < sections_held s → Reads (λ x. x) answer (numbered_section n s k)
+      → MatchOption (result_ok answer) (in_front (held_from n s k) ≡ [])
+      (λ found. in_front (held_from n s k) ≡ found ∷ in_front (held_from n s (k + 1)))
   taken_or_over (Ok found) few reads = from_here few ∙ rw reads refl
   taken_or_over (Err e) few reads = from_here few ∙ rw reads refl
 
-  pub over : s.command.nsects ≤ k → in_front (numbered_from n s k) ≡ []
-  over past = ap (λ (items : List (Result NumberedSection Fault)). in_front items) (none_from n s k past)
+  pub over : sections_held s ≤ k → in_front (held_from n s k) ≡ []
+  over past =
+      let none : sections_held s - k ≡ 0 = omega arith in
+      ap (λ (count : ℕ). in_front (items_from (numbered_section n s) k count)) none

@@ -4,7 +4,7 @@ use Rattle.mach_base.specs.declared.error.Error.{Error}
 use Rattle.mach_base.specs.Fault.{Fault}
 use Rattle.mach_base.specs.Items.{read_as}
 use Rattle.mach_parts.specs.Segment.{SegmentView, segment_view}
-use Rattle.mach_parts.specs.SectionRecord.{in_front, numbered_from, numbered_in, readable_in}
+use Rattle.mach_parts.specs.SectionRecord.{held_from, in_front, numbered_from, numbered_in, readable_in}
 use Rattle.mach_parts.specs.declared.segment.numbered.NumberedSection.{NumberedSection}
 use Rattle.mach_parts.specs.declared.segment.numbered.NumberedSections.{NumberedSections}
 use Rattle.mach_parts.specs.declared.segment.readable.ReadableSections.{ReadableSections}
@@ -20,7 +20,7 @@ numbered_after n k (s ∷ ss) = numbered_from n s k ++ numbered_in (n + 1) ss
 
 abbrev pub readable_after : ℕ → ℕ → List SegmentView → List NumberedSection
 readable_after n k [] = []
-readable_after n k (s ∷ ss) = in_front (numbered_from n s k) ++ readable_in (n + 1) ss
+readable_after n k (s ∷ ss) = in_front (held_from n s k) ++ readable_in (n + 1) ss
 
 -- the remaining sections of an iterator
 abbrev pub numbered_left : NumberedSections → List (Result NumberedSection Fault)

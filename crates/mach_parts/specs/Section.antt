@@ -1,5 +1,5 @@
 -- Sections of either width, and their data (`mach-o/loader.h`, struct section and section_64).
-use Rattle.std.specs.Prelude.{◌==◌, ℕ, ◌+◌, ◌*◌, ◌%◌, ◌^◌, bit_and, Bool, ◌||◌, List, [], replicate, Result, Ok, if◌then◌else◌}
+use Rattle.std.specs.Prelude.{◌==◌, ℕ, ◌+◌, ◌-◌, ◌*◌, ◌/◌, ◌%◌, ◌^◌, min, bit_and, Bool, ◌||◌, List, [], replicate, Result, Ok, if◌then◌else◌}
 use Rattle.std.specs.Result.{result_unwrap_or}
 use Rattle.mach_base.specs.declared.context.Endian.{Endian}
 use Rattle.mach_base.specs.declared.context.Container.{Container}
@@ -137,6 +137,11 @@ section_data file s = if is_zero_fill s.flags then [] else result_unwrap_or (sli
 abbrev pub command_size : Container → ℕ
 command_size Little = 56
 command_size Big = 72
+
+-- How many of `nsects` sections have their record in their segment's command of `cmdsize` bytes. So no two commands of an image
+-- share a record, and an image has at most as many of these sections as its bytes have records.
+abbrev pub own_sections : Container → (cmdsize : ℕ) → (nsects : ℕ) → ℕ
+own_sections container cmdsize nsects = min nsects ((cmdsize - command_size container) / section_size container)
 
 -- the place of section k of the command at an offset
 abbrev pub section_place : Container → ℕ → ℕ → ℕ

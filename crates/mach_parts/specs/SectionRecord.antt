@@ -12,7 +12,7 @@ use Rattle.mach_base.specs.Record.{record_at}
 use Rattle.mach_records.specs.Segments.{section32_fields, section32_of_values, section64_fields, section64_of_values}
 use Rattle.mach_records.specs.declared.segments.Section32.{Section32}
 use Rattle.mach_records.specs.declared.segments.Section64.{Section64}
-use Rattle.mach_parts.specs.Section.{section_place}
+use Rattle.mach_parts.specs.Section.{own_sections, section_place}
 use Rattle.mach_parts.specs.Segment.{SegmentView}
 use Rattle.mach_parts.specs.declared.segment.numbered.NumberedSection.{NumberedSection}
 
@@ -64,12 +64,20 @@ numbered_in n (s ∷ ss) = numbered_from n s 0 ++ numbered_in (n + 1) ss
 abbrev pub numbered_sections : List SegmentView → List (Result NumberedSection Fault)
 numbered_sections ss = numbered_in 0 ss
 
+-- how many sections of a segment have their record in its command
+abbrev pub sections_held : SegmentView → ℕ
+sections_held s = own_sections s.ctx.container s.command.cmdsize s.command.nsects
+
+-- these sections from number k on
+abbrev pub held_from : ℕ → SegmentView → ℕ → List (Result NumberedSection Fault)
+held_from n s k = items_from (numbered_section n s) k (sections_held s - k)
+
 -- for each segment the sections before the first that does not lie in the bytes; no later one does
 abbrev pub readable_in : ℕ → List SegmentView → List NumberedSection
 readable_in n [] = []
-readable_in n (s ∷ ss) = in_front (numbered_from n s 0) ++ readable_in (n + 1) ss
+readable_in n (s ∷ ss) = in_front (held_from n s 0) ++ readable_in (n + 1) ss
 
--- all sections of an image's segments that are in the bytes
+-- all sections of an image's segments that are in their segment's command and in the bytes
 abbrev pub readable_sections : List SegmentView → List NumberedSection
 readable_sections ss = readable_in 0 ss
 

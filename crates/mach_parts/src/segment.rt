@@ -24,7 +24,7 @@ pub use crate::segment::numbered::{
 pub use crate::segment::readable::{ReadableSections, section_holding};
 pub use crate::segment::relocations::RelocationIterator;
 pub use crate::segment::section::{Section, SectionData};
-pub use crate::segment::sections::{SectionIterator, place_of};
+pub use crate::segment::sections::{SectionIterator, own_sections, place_of};
 use mach_base::{Container, Ctx, Result, bytes_at, read_text};
 use mach_records::{LC_SEGMENT, LC_SEGMENT_64, SegmentCommand32, SegmentCommand64};
 use std::alloc::{Allocator, Global};
@@ -196,6 +196,15 @@ impl<'a> Segment<'a> {
         ensures { IsTrue result ↔ (seg_offset < self.now.vmsize) }
     {
         seg_offset < self.vmsize
+    }
+
+    ghost use Rattle.mach_parts.specs.SectionRecord.{sections_held};
+
+    /// Returns how many of the segment's sections have their record in its command. It is `nsects` unless the command is too small.
+    pub fn sections_held(&self) -> u32
+        ensures { result ≡ sections_held (segment_view self.now) }
+    {
+        own_sections(self.ctx.container, self.cmdsize, self.nsects)
     }
 
     ghost use Rattle.std.specs.Prelude.{map};

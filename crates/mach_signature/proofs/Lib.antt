@@ -2,7 +2,6 @@ pub mod CodePromise
 pub mod Four
 pub mod NumberedLists
 pub mod Promise
-pub mod Searched
 pub mod SpecialPromise
 pub mod ReportedNone
 pub mod AsSigned

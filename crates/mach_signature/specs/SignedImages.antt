@@ -1,6 +1,6 @@
 -- The signature of an image (`mach-o/loader.h`, LC_CODE_SIGNATURE), the section that it seals as its Info.plist, and the promise that the
 -- image is as it was signed.
-use Rattle.std.specs.Prelude.{◌≡◌, ℕ, List, [], ◌∷◌, find, take, length, codes, Bool, true, false, if◌then◌else◌}
+use Rattle.std.specs.Prelude.{◌≡◌, ℕ, List, [], ◌∷◌, find, codes, Bool, true, false, if◌then◌else◌}
 use Rattle.std.specs.Prelude.{Option, Some, None, option_map, Result, Ok, Err}
 use Rattle.std.specs.Result.{result_ok}
 use Rattle.std.specs.Str.{bytes_eq}
@@ -68,9 +68,9 @@ abbrev pub plist_bytes : List ℕ → Option NumberedSection → Option (List �
 plist_bytes bytes None = None
 plist_bytes bytes (Some n) = result_ok (slice_at n.section.size bytes n.section.offset)
 
--- the section of an image: the first among those in the bytes; no more sections are looked at than there are bytes
+-- the section of an image: the first among those in their segment's command and in the bytes
 abbrev pub plist_of : List ℕ → List SegmentView → Option (List ℕ)
-plist_of bytes segments = plist_bytes bytes (find is_info_plist (take (length bytes) (readable_sections segments)))
+plist_of bytes segments = plist_bytes bytes (find is_info_plist (readable_sections segments))
 
 -- ---- the faults of an image
 

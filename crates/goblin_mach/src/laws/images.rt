@@ -7,7 +7,7 @@ ghost use Rattle.mach_base.specs.Number.{room_at};
 ghost use Rattle.mach_load.specs.Command.{Command};
 ghost use Rattle.mach_parts.specs.Header.{header_size};
 ghost use Rattle.goblin_mach.specs.Chain.{IsChain};
-ghost use Rattle.goblin_mach.specs.Bounds.{CommandsFit, SegmentsLieInBytes};
+ghost use Rattle.goblin_mach.specs.Bounds.{CommandsFit, SectionsFit, SegmentsLieInBytes};
 ghost use Rattle.goblin_mach.specs.Image.{Opens, LossyOpens};
 ghost use Rattle.goblin_mach.specs.OpenImage.{IsImage, IsLossyImage, SameFields};
 
@@ -53,6 +53,13 @@ pub fn lossy_agrees<A: Allocator, B: Allocator>(
 #[tactic(auto, using(crate::proofs::ListBounds::commands_fit_lem))]
 pub fn commands_fit_the_bytes()
     ensures { CommandsFit }
+{}
+
+/// It has at most one section in its segment's command for each section's record that the bytes have room for. So what goes over
+/// these sections, as the look-ups by address do, is linear in the bytes.
+#[tactic(auto, using(crate::proofs::SectionBounds::sections_fit_lem))]
+pub fn sections_fit_the_bytes()
+    ensures { SectionsFit }
 {}
 
 /// The data of each of its segments lie in the bytes. So its chains have at most one fixup for each four bytes (`fixups_are_few`).

@@ -1,15 +1,16 @@
-//! The sections whose records lie in the bytes, and the section that holds an address.
+//! The sections whose records lie in their segment's command and in the bytes, and the section that holds an address.
 
 ghost use Rattle.std.specs.Prelude.{◌≡◌, ◌∷◌, ◌+◌, ◌<◌, ◌^◌, [], MatchOption, IfSome, map};
 ghost use Rattle.mach_parts.specs.Segment.{segment_view};
-ghost use Rattle.mach_parts.specs.SectionRecord.{in_front, numbered_from, readable_sections, section_holding};
+ghost use Rattle.mach_parts.specs.SectionRecord.{held_from, in_front, readable_sections, section_holding};
 ghost use Rattle.mach_parts.specs.NumberedLeft.{readable_left};
 
 use crate::segment::Segment;
 use crate::segment::numbered::NumberedSection;
 
-/// An iterator over the sections of an image's segments, in order. From each segment it
-/// takes those before the first that does not lie in the bytes. It allocates no memory.
+/// An iterator over the sections of an image's segments, in order. Of each segment it returns those whose record lies in the
+/// segment's command, up to the first that isn't in the bytes. So segments can't claim the same record, and all of them together
+/// have at most as many sections as the bytes have records. It allocates no memory.
 #[derive(Clone, Copy)]
 pub struct ReadableSections<'a, 'b> {
     segments: &'b [Segment<'a>],
@@ -33,11 +34,11 @@ impl<'a, 'b> ReadableSections<'a, 'b> {
 
 // Reads the next section of a segment after the first `taken`, if there is one.
 fn take_numbered(segment: &Segment<'_>, n: usize, taken: u32) -> Option<NumberedSection>
-    ensures more { MatchOption result (in_front (numbered_from n (segment_view segment.now) taken) ≡ [])
-        (λ found. in_front (numbered_from n (segment_view segment.now) taken) ≡ found ∷ in_front (numbered_from n (segment_view segment.now) (taken + 1))) }
+    ensures more { MatchOption result (in_front (held_from n (segment_view segment.now) taken) ≡ [])
+        (λ found. in_front (held_from n (segment_view segment.now) taken) ≡ found ∷ in_front (held_from n (segment_view segment.now) (taken + 1))) }
     ensures few { IfSome result (λ _. taken + 1 < 2 ^ 32) }
 {
-    if taken >= segment.nsects {
+    if taken >= segment.sections_held() {
         return None;
     }
     segment.numbered(n, taken).ok()
@@ -68,7 +69,7 @@ impl<'a, 'b> Iterator for ReadableSections<'a, 'b> {
     }
 }
 
-/// Finds the first section that holds an address, among the sections that lie in the bytes.
+/// Finds the first section that holds an address, among those in their segment's command and in the bytes.
 pub fn section_holding(segments: &[Segment<'_>], address: u64) -> Option<NumberedSection>
     ensures { result ≡ section_holding (map segment_view segments.now) address }
 {

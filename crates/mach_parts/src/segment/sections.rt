@@ -2,11 +2,14 @@
 
 ghost use Rattle.std.specs.Prelude.{◌≡◌, ◌<◌, ◌^◌};
 ghost use Rattle.mach_base.specs.Answer.{Reads};
-ghost use Rattle.mach_parts.specs.Section.{section_place, section_with_data};
+ghost use Rattle.mach_parts.specs.Section.{own_sections, section_place, section_with_data};
 
 use crate::segment::conversions::command_len;
 use crate::segment::section::{Section, SectionData};
-use mach_base::{Ctx, Result, SizeWith, records_in_bounds};
+use mach_base::{Container, Ctx, Result, SizeWith, records_in_bounds};
+use mach_records::{
+    SIZEOF_SECTION_32, SIZEOF_SECTION_64, SIZEOF_SEGMENT_COMMAND_32, SIZEOF_SEGMENT_COMMAND_64,
+};
 
 /// An iterator over the sections of a segment with their data. It has exactly as many items
 /// as the segment claims. Each is the section at its own place, or the error of that read.
@@ -25,6 +28,18 @@ pub fn place_of(ctx: Ctx, offset: usize, number: u32) -> usize
 {
     let following = command_len(ctx.container) + number as usize * Section::size_with(&ctx);
     offset.saturating_add(following)
+}
+
+/// Returns how many of `nsects` sections have their record in their segment's command of `cmdsize` bytes.
+pub fn own_sections(width: Container, cmdsize: u32, nsects: u32) -> u32
+    ensures { result ≡ own_sections width cmdsize nsects }
+{
+    let (head, each) = match width {
+        Container::Little => (SIZEOF_SEGMENT_COMMAND_32, SIZEOF_SECTION_32),
+        Container::Big => (SIZEOF_SEGMENT_COMMAND_64, SIZEOF_SECTION_64),
+    };
+    let room = cmdsize.saturating_sub(head as u32) / each as u32;
+    nsects.min(room)
 }
 
 // Reads the section at `place`, with its data.
