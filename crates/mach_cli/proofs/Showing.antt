@@ -121,22 +121,22 @@ memory_words_of (archive_member m) = refl
 memory_words_of no_member = refl
 
 -- an item that isn't shown, by the words of its refusal
-pub refused_item : (k : SinkTexts) (names : List ℕ) (lines : ImageLines) (left : ℕ) (label : LabelView) (content : Result ContentView Fault) (e : Error)
+pub refused_item : (k : SinkTexts) (names name : List ℕ) (lines : ImageLines) (left : ℕ) (label : LabelView) (content : Result ContentView Fault) (e : Error)
     (words : List ℕ) → ErrorMeets (FaultOfItem content) e → words ≡ item_words content e
-    → ShowsItem k names lines left label content (record {
-      text = k.image_front label ++ k.refused_image label words;
+    → ShowsItem k names name lines left label content (record {
+      text = k.image_front name label ++ k.refused_image label words;
       message = label_complaint names label words;
       whole = false;
       left = left;
     })
-refused_item k names lines left label content e words occurs is =
+refused_item k names name lines left label content e words occurs is =
     let refused : List ℕ → Shown = λ ws. record {
-      text = k.image_front label ++ k.refused_image label ws;
+      text = k.image_front name label ++ k.refused_image label ws;
       message = label_complaint names label ws;
       whole = false;
       left = left;
     } in
-    subst (λ (ws : List ℕ). ShowsItem k names lines left label content (refused ws)) (sym is) (no_image content e occurs)
+    subst (λ (ws : List ℕ). ShowsItem k names name lines left label content (refused ws)) (sym is) (no_image content e occurs)
 
 -- a fault of opening is one of the item
 pub item_fault : (content : ContentView) → IsMemberOrFile content → (f : Fault) → ImageFault (content_bytes content) 0 f → FaultOfItem (Ok content) f
@@ -161,30 +161,30 @@ both_three a b c =
     ∙ ap (λ (whole : Bool). shown_with ((a.text ++ b.text) ++ c.text) ((a.message ++ b.message) ++ c.message) whole c.left)
     (and_three a.whole b.whole c.whole)
 
-module _ (k : SinkTexts) (names : List ℕ) (lines : ImageLines) (cpu : Cpu) (limit : ℕ) (all : List ItemView) where
+module _ (k : SinkTexts) (names name : List ℕ) (lines : ImageLines) (cpu : Cpu) (limit : ℕ) (all : List ItemView) where
   -- What is shown of those left completes what is shown of all.
   abbrev pub Follows : (is_first : Bool) → (left : ℕ) → List ItemView → (before : Shown) → Type 0
   Follows is_first left rest before =
-      (later : Shown) → ShowsItems k names lines cpu is_first left rest later → ShowsItems k names lines cpu true limit all (both before later)
+      (later : Shown) → ShowsItems k names name lines cpu is_first left rest later → ShowsItems k names name lines cpu true limit all (both before later)
 
   pub item_shown : (is_first : Bool) (left : ℕ) (here : List ItemView) (x : ItemView) (rest : List ItemView) (before shown : Shown) → here ≡ x ∷ rest
       → Follows is_first left here before → is_part_for cpu x.place ≡ true
-      → ShowsItem k names lines left (label_of x.place x.content) x.content shown
+      → ShowsItem k names name lines left (label_of x.place x.content) x.content shown
       → Follows false shown.left rest (both before (separated k is_first shown))
   item_shown is_first left here x rest before shown is follows selected one later more =
       let last = separated k is_first shown in
-      subst (ShowsItems k names lines cpu true limit all) (both_three before last later)
-      (follows (both last later) (subst (λ (xs : List ItemView). ShowsItems k names lines cpu is_first left xs (both last later)) (sym is)
+      subst (ShowsItems k names name lines cpu true limit all) (both_three before last later)
+      (follows (both last later) (subst (λ (xs : List ItemView). ShowsItems k names name lines cpu is_first left xs (both last later)) (sym is)
       (selected_item is_first left x rest shown later selected one more)))
 
   pub item_passed : (is_first : Bool) (left : ℕ) (here : List ItemView) (x : ItemView) (rest : List ItemView) (before : Shown) → here ≡ x ∷ rest
       → Follows is_first left here before → is_part_for cpu x.place ≡ false → Follows is_first left rest before
   item_passed is_first left here x rest before is follows other later more =
-      follows later (subst (λ (xs : List ItemView). ShowsItems k names lines cpu is_first left xs later) (sym is)
+      follows later (subst (λ (xs : List ItemView). ShowsItems k names name lines cpu is_first left xs later) (sym is)
       (other_item is_first left x rest later other more))
 
   pub items_shown : (is_first : Bool) (left : ℕ) (here : List ItemView) (before : Shown) → here ≡ [] → Follows is_first left here before
-      → ShowsItems k names lines cpu true limit all (both before (nothing left))
+      → ShowsItems k names name lines cpu true limit all (both before (nothing left))
   items_shown is_first left here before is follows =
-      follows (nothing left) (subst (λ (xs : List ItemView). ShowsItems k names lines cpu is_first left xs (nothing left)) (sym is)
+      follows (nothing left) (subst (λ (xs : List ItemView). ShowsItems k names name lines cpu is_first left xs (nothing left)) (sym is)
       (no_items is_first left))

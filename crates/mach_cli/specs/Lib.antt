@@ -2,9 +2,11 @@ pub mod Complaints
 pub mod Cpus
 pub mod Failures
 pub mod Foreigners
+pub mod FirstMagic
 pub mod InOrder
 pub mod Kinds
 pub mod Labels
+pub mod NmHeadings
 pub mod Held
 pub mod Lines
 pub mod Listings
@@ -41,3 +43,7 @@ pub mod Stretches
 pub mod AllStretches
 pub mod Colors
 pub mod Painted
+pub mod NamesShown
+pub mod AddressFound
+pub mod AddressLines
+pub mod AddressObjects

@@ -72,20 +72,20 @@ IsMemberOrFile (whole_file bytes) = Unit {0}
 IsMemberOrFile (archive_member m) = Unit {0}
 IsMemberOrFile no_member = ⊥
 
--- What is shown of an item, under its label: what the program prints of the image, or why it isn't shown, a fault that it has or
--- that memory ran out; or that it is an archive without members.
-pub data ShowsItem (k : SinkTexts) (names : List ℕ) (lines : ImageLines) (left : ℕ) (label : LabelView) : Result ContentView Fault → Shown → Type 0 where
+-- What is shown of an item of a file of this name, under its label: what the program prints of the image, or why it isn't shown, a
+-- fault that it has or that memory ran out; or that it is an archive without members.
+pub data ShowsItem (k : SinkTexts) (names name : List ℕ) (lines : ImageLines) (left : ℕ) (label : LabelView) : Result ContentView Fault → Shown → Type 0 where
   an_image : (content : ContentView) (text : List ℕ) (whole : Bool) (rest : ℕ) → lines left (content_bytes content) text whole rest
-      → ShowsItem k names lines left label (Ok content)
-      (record { text = k.image_front label ++ (text ++ k.image_end); message = []; whole = whole; left = rest })
-  no_image : (content : Result ContentView Fault) (e : Error) → ErrorMeets (FaultOfItem content) e → ShowsItem k names lines left label content (record {
-    text = k.image_front label ++ k.refused_image label (item_words content e);
+      → ShowsItem k names name lines left label (Ok content)
+      (record { text = k.image_front name label ++ (text ++ k.image_end); message = []; whole = whole; left = rest })
+  no_image : (content : Result ContentView Fault) (e : Error) → ErrorMeets (FaultOfItem content) e → ShowsItem k names name lines left label content (record {
+    text = k.image_front name label ++ k.refused_image label (item_words content e);
     message = label_complaint names label (item_words content e);
     whole = false;
     left = left;
   })
-  an_archive : ShowsItem k names lines left label (Ok no_member)
-      (record { text = k.image_front label ++ k.archive; message = []; whole = true; left = left })
+  an_archive : ShowsItem k names name lines left label (Ok no_member)
+      (record { text = k.image_front name label ++ k.archive; message = []; whole = true; left = left })
 
 -- a separator before what isn't the first
 abbrev pub separated : SinkTexts → (is_first : Bool) → Shown → Shown
@@ -98,13 +98,14 @@ separated k is_first shown = record {
 
 -- What is shown of these items, in order: each whose cpu is selected, and nothing of the others. An item has no more lines than
 -- those before it left.
-pub data ShowsItems (k : SinkTexts) (names : List ℕ) (lines : ImageLines) (cpu : Cpu) : (is_first : Bool) → (left : ℕ) → List ItemView → Shown → Type 0 where
-  no_items : (is_first : Bool) (left : ℕ) → ShowsItems k names lines cpu is_first left [] (nothing left)
+pub data ShowsItems (k : SinkTexts) (names name : List ℕ) (lines : ImageLines) (cpu : Cpu)
+    : (is_first : Bool) → (left : ℕ) → List ItemView → Shown → Type 0 where
+  no_items : (is_first : Bool) (left : ℕ) → ShowsItems k names name lines cpu is_first left [] (nothing left)
   selected_item : (is_first : Bool) (left : ℕ) (x : ItemView) (xs : List ItemView) (shown later : Shown) → is_part_for cpu x.place ≡ true
-      → ShowsItem k names lines left (label_of x.place x.content) x.content shown → ShowsItems k names lines cpu false shown.left xs later
-      → ShowsItems k names lines cpu is_first left (x ∷ xs) (both (separated k is_first shown) later)
+      → ShowsItem k names name lines left (label_of x.place x.content) x.content shown → ShowsItems k names name lines cpu false shown.left xs later
+      → ShowsItems k names name lines cpu is_first left (x ∷ xs) (both (separated k is_first shown) later)
   other_item : (is_first : Bool) (left : ℕ) (x : ItemView) (xs : List ItemView) (later : Shown) → is_part_for cpu x.place ≡ false
-      → ShowsItems k names lines cpu is_first left xs later → ShowsItems k names lines cpu is_first left (x ∷ xs) later
+      → ShowsItems k names name lines cpu is_first left xs later → ShowsItems k names name lines cpu is_first left (x ∷ xs) later
 
 -- a file of a kind with what is shown of its images
 abbrev pub whole_of : SinkTexts → (kind name : List ℕ) → Shown → Shown
@@ -122,11 +123,11 @@ refused_for k names name words left = record { text = k.refused_file name words;
 -- What is shown of a file: its one image, if its cpu is selected; of a fat file the selected items; or why it is refused, a fault
 -- that it has, or that memory ran out. The limit is that of all its images together.
 pub data ShowsFile (k : SinkTexts) (names : List ℕ) (lines : ImageLines) (cpu : Cpu) (name : List ℕ) (limit : ℕ) (bytes : List ℕ) : Shown → Type 0 where
-  one_image : (shown : Shown) → IsTaken cpu bytes true → ShowsItem k names lines limit unlabelled (Ok (whole_file bytes)) shown
+  one_image : (shown : Shown) → IsTaken cpu bytes true → ShowsItem k names name lines limit unlabelled (Ok (whole_file bytes)) shown
       → ShowsFile k names lines cpu name limit bytes (whole_of k (codes "image") name shown)
   other_image : IsTaken cpu bytes false → ShowsFile k names lines cpu name limit bytes (refused_for k names name (other_words cpu) limit)
   fat_file : (file : FatFile) (archs : List FatArch) (shown : Shown) → IsFatTable bytes file archs → misses cpu archs ≡ false
-      → ShowsItems k names lines cpu true limit (items_in bytes) shown
+      → ShowsItems k names name lines cpu true limit (items_in bytes) shown
       → ShowsFile k names lines cpu name limit bytes (whole_of k (codes "fat file") name shown)
   no_entry : (file : FatFile) (archs : List FatArch) → IsFatTable bytes file archs → misses cpu archs ≡ true
       → ShowsFile k names lines cpu name limit bytes (refused_for k names name (no_entry_words cpu) limit)

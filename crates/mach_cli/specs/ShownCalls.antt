@@ -10,19 +10,22 @@ use Rattle.mach_base.specs.Fault.{Fault}
 use Rattle.mach_base.specs.declared.error.Error.{Error}
 use Rattle.goblin_mach.specs.Items.{ItemView}
 use Rattle.mach_cli.specs.Bounds.{most_items}
+use Rattle.mach_cli.specs.FirstMagic.{begins_fat}
 use Rattle.mach_cli.specs.InOrder.{InOrder}
 use Rattle.mach_cli.specs.Listed.{are_several, listed_names, name_end}
+use Rattle.mach_cli.specs.Labels.{LabelView, label_of, unlabelled}
 use Rattle.mach_cli.specs.Names.{names_text}
 use Rattle.mach_cli.specs.PartsOf.{parts_in}
 use Rattle.mach_cli.specs.FileTitles.{IsUnreadStatus, title_text}
 use Rattle.mach_cli.specs.Selected.{are_missed, is_part_for}
 use Rattle.mach_cli.specs.Shown.{ImageLines, Shown, ShowsFile}
 use Rattle.mach_cli.specs.ShownParts.{PartShown, shown_in, shows_file, shows_nothing, shows_within}
-use Rattle.mach_cli.specs.Sinks.{SinkTexts, json_texts, text_texts}
+use Rattle.mach_cli.specs.Sinks.{SinkTexts, json_texts, nm_texts, text_texts}
 use Rattle.mach_cli.specs.Statuses.{status_by}
 use Rattle.mach_cli.specs.Titles.{IsUnder, titled_contents}
 use Rattle.mach_cli.specs.declared.cpu.Cpu.{Cpu}
 use Rattle.mach_cli.specs.declared.files.Files.{Files}
+use Rattle.mach_cli.specs.declared.files.Running.{Running}
 use Rattle.mach_cli.specs.declared.named.Others.{Others}
 use Rattle.mach_cli.specs.declared.image_files.ImageFiles.{ImageFiles}
 use Rattle.mach_cli.specs.declared.titled.Titled.{Titled}
@@ -40,34 +43,55 @@ pub record ShowsImages {W B : Type 0} (k : SinkTexts) (program : List ℕ) (cpu 
   pub written : Appends (writer_contents contents old) (writer_contents contents new) shown.text
   pub flushed : writer_buffer new ≡ []
 
--- How a call shows files, whether these may be several, and what the program shows of each.
+-- How a call shows files, whether these may be several, whether titles are those of `llvm-nm`, and what the program shows of each.
 pub record Manner (W B : Type 0) : Type 1 where
   pub call : Files
   pub are_several : Bool
+  pub is_nm : Bool
   pub shows : Showing (BufWriter (Titled W) B)
 
-abbrev pub manner_of : {W B : Type 0} → Files → (are_several : Bool) → Showing (BufWriter (Titled W) B) → Manner W B
-manner_of call are_several shows = record { call = call; are_several = are_several; shows = shows }
+abbrev pub manner_of : {W B : Type 0} → Files → (are_several is_nm : Bool) → Showing (BufWriter (Titled W) B) → Manner W B
+manner_of call are_several is_nm shows = record { call = call; are_several = are_several; is_nm = is_nm; shows = shows }
+
+abbrev pub manner_in : {W B : Type 0} → Running → Showing (BufWriter (Titled W) B) → Manner W B
+manner_in call shows = manner_of call.files call.are_several call.is_nm shows
+
+-- What is shown of a file: the file itself, under its name and without a label; or a part of it, under its own name.
+pub record NamedPart : Type 0 where
+  pub file : List ℕ
+  pub name : List ℕ
+  pub label : LabelView
+
+abbrev pub file_itself : (file : List ℕ) → NamedPart
+file_itself file = record { file = file; name = file; label = unlabelled }
+
+-- Whether bytes have a title. If titles are those of `llvm-nm`, a fat file of 32 bits has none: the headings of its entries name it.
+abbrev pub have_title : Files → (is_nm is_titled : Bool) → (bytes : List ℕ) → Bool
+have_title call is_nm is_titled bytes = (is_titled && call.has_titles) && not (is_nm && begins_fat bytes)
 
 -- Bytes are shown under a name, with a title if they may have one; or nothing is shown, since memory ran out for the title.
-pub data ShowsTitled {W B : Type 0} (m : Manner W B) (is_titled : Bool) (name bytes : List ℕ) (old new : BufWriter (Titled W) B) : (status : ℕ) → Type 0 where
-  under_title : (between : BufWriter (Titled W) B) (status : ℕ) → IsUnder (title_text (is_titled && m.call.has_titles) name) old between
-      → m.shows name bytes between new status → ShowsTitled m is_titled name bytes old new status
-  without_title : (is_titled && m.call.has_titles) ≡ true → new ≡ old → ShowsTitled m is_titled name bytes old new 1
+pub data ShowsTitled {W B : Type 0} (m : Manner W B) (is_titled : Bool) (p : NamedPart) (bytes : List ℕ) (old new : BufWriter (Titled W) B)
+    : (status : ℕ) → Type 0 where
+  under_title : (between : BufWriter (Titled W) B) (status : ℕ)
+      → IsUnder (title_text (have_title m.call m.is_nm is_titled bytes) m.is_nm p.file p.name p.label) old between
+      → m.shows p.name bytes between new status → ShowsTitled m is_titled p bytes old new status
+  without_title : have_title m.call m.is_nm is_titled bytes ≡ true → new ≡ old → ShowsTitled m is_titled p bytes old new 1
 
--- What is shown of a part of a file: nothing of an archive without members, the file itself, or what is within it under its own
--- name; or nothing, since it can't be read or memory ran out.
-pub data ShowsContent {W B : Type 0} (m : Manner W B) (file : List ℕ) (old new : BufWriter (Titled W) B) : Result PartShown Fault → (status : ℕ) → Type 0 where
-  empty_archive : new ≡ old → ShowsContent m file old new (Ok shows_nothing) 0
-  the_file : (bytes : List ℕ) (status : ℕ) → ShowsTitled m m.are_several file bytes old new status → ShowsContent m file old new (Ok (shows_file bytes)) status
-  within_it : (name bytes : List ℕ) (status : ℕ) → ShowsTitled m true name bytes old new status
-      → ShowsContent m file old new (Ok (shows_within name bytes)) status
-  refused_part : (part : Result PartShown Fault) (e : Error) → FailsAs e part → new ≡ old → ShowsContent m file old new part 1
+-- What is shown of a part of a file with this label: nothing of an archive without members, the file itself, or what is within it
+-- under its own name; or nothing, since it can't be read or memory ran out.
+pub data ShowsContent {W B : Type 0} (m : Manner W B) (file : List ℕ) (label : LabelView) (old new : BufWriter (Titled W) B)
+    : Result PartShown Fault → (status : ℕ) → Type 0 where
+  empty_archive : new ≡ old → ShowsContent m file label old new (Ok shows_nothing) 0
+  the_file : (bytes : List ℕ) (status : ℕ) → ShowsTitled m m.are_several (file_itself file) bytes old new status
+      → ShowsContent m file label old new (Ok (shows_file bytes)) status
+  within_it : (name bytes : List ℕ) (status : ℕ) → ShowsTitled m true (record { file = file; name = name; label = label }) bytes old new status
+      → ShowsContent m file label old new (Ok (shows_within name bytes)) status
+  refused_part : (part : Result PartShown Fault) (e : Error) → FailsAs e part → new ≡ old → ShowsContent m file label old new part 1
 
 -- A part whose cpu isn't selected is passed over.
 pub data ShowsPart {W B : Type 0} (m : Manner W B) (file : List ℕ) (x : ItemView) (old new : BufWriter (Titled W) B) : (status : ℕ) → Type 0 where
-  selected_part : (status : ℕ) → is_part_for m.call.cpu x.place ≡ true → ShowsContent m file old new (shown_in file x.place.entry x.content) status
-      → ShowsPart m file x old new status
+  selected_part : (status : ℕ) → is_part_for m.call.cpu x.place ≡ true
+      → ShowsContent m file (label_of x.place x.content) old new (shown_in file x.place.entry x.content) status → ShowsPart m file x old new status
   other_part : is_part_for m.call.cpu x.place ≡ false → new ≡ old → ShowsPart m file x old new 0
 
 -- What is shown of the bytes of a file: each of its parts, in order; or nothing, if none is selected; or the file as a whole, if
@@ -76,7 +100,8 @@ pub data ShowsBytes {W B : Type 0} (m : Manner W B) (file bytes : List ℕ) (old
   in_parts : (status : ℕ) → m.call.has_parts ≡ true → are_missed m.call.cpu (parts_in bytes) ≡ false
       → InOrder (ShowsPart m file) (parts_in bytes) old new status → ShowsBytes m file bytes old new status
   none_selected : m.call.has_parts ≡ true → are_missed m.call.cpu (parts_in bytes) ≡ true → new ≡ old → ShowsBytes m file bytes old new 1
-  undivided : (status : ℕ) → m.call.has_parts ≡ false → ShowsTitled m m.are_several file bytes old new status → ShowsBytes m file bytes old new status
+  undivided : (status : ℕ) → m.call.has_parts ≡ false → ShowsTitled m m.are_several (file_itself file) bytes old new status
+      → ShowsBytes m file bytes old new status
 
 -- What is shown of a file of a name: of some bytes, those that are read; or nothing, since they can't be read.
 pub data ShowsNamed {W B : Type 0} (m : Manner W B) (file : List ℕ) (old new : BufWriter (Titled W) B) : (status : ℕ) → Type 0 where
@@ -110,21 +135,37 @@ pub record ShowsCall {W B X : Type 0} (m : Manner W B) (files lists : List (Bor 
   pub is_worst : worst ≡ max (max (no_text_status no_texts) of_files) of_lists
 
 -- The same by the arguments of a call: its words that are files, and the others.
+abbrev pub ShowsFilesBy : {W B A : Type 0} → (is_nm : Bool) → Files → Showing (BufWriter (Titled W) B) → (files : List (Bor (List ℕ))) → Others A
+    → (old new : BufWriter (Titled W) B) → (worst : ℕ) → Type 0
+ShowsFilesBy is_nm call shows files o old new worst =
+    ShowsCall (manner_of call (are_several (length files) o.lists.items o.no_texts.items) is_nm shows) files o.lists.items (name_end o.ends_with_nul)
+    o.no_texts.items old new worst
+
 abbrev pub ShowsFiles : {W B A : Type 0} → Files → Showing (BufWriter (Titled W) B) → (files : List (Bor (List ℕ))) → Others A
     → (old new : BufWriter (Titled W) B) → (worst : ℕ) → Type 0
-ShowsFiles call shows files o old new worst =
-    ShowsCall (manner_of call (are_several (length files) o.lists.items o.no_texts.items) shows) files o.lists.items (name_end o.ends_with_nul) o.no_texts.items
-    old new worst
+ShowsFiles call shows = ShowsFilesBy false call shows
 
 -- How the files of a call are shown whose images are: part by part, without titles if objects are shown.
 abbrev pub files_of : {T J : Type 0} → ImageFiles T J → Files
 files_of s = record { program = s.program; cpu = s.cpu; has_titles = s.has_titles && not s.is_json; has_parts = true }
 
--- What a call shows whose images are shown: their lines as text, or their objects as JSON.
+-- What a call shows whose images are shown, put together by a sink.
+abbrev pub ShowsBy : {T J W B A : Type 0} → SinkTexts → (is_nm : Bool) → ImageFiles T J → (program : List ℕ)
+    → (lines : (file : List ℕ) → (limit : ℕ) → ImageLines) → (contents : W → Option (List ℕ)) → (files : List (Bor (List ℕ))) → Others A
+    → (old new : BufWriter (Titled W) B) → (worst : ℕ) → Type 0
+ShowsBy k is_nm s program lines contents = ShowsFilesBy is_nm (files_of s) (ShowsImages k program s.cpu s.limit lines (titled_contents contents))
+
+-- their lines as text
 abbrev pub ShowsText : {T J W B A : Type 0} → ImageFiles T J → (program : List ℕ) → (lines : (file : List ℕ) → (limit : ℕ) → ImageLines)
     → (contents : W → Option (List ℕ)) → (files : List (Bor (List ℕ))) → Others A → (old new : BufWriter (Titled W) B) → (worst : ℕ) → Type 0
-ShowsText s program lines contents = ShowsFiles (files_of s) (ShowsImages text_texts program s.cpu s.limit lines (titled_contents contents))
+ShowsText s program lines contents = ShowsBy text_texts false s program lines contents
 
+-- their lines as text, under the headings of `llvm-nm`
+abbrev pub ShowsNm : {T J W B A : Type 0} → ImageFiles T J → (program : List ℕ) → (lines : (file : List ℕ) → (limit : ℕ) → ImageLines)
+    → (contents : W → Option (List ℕ)) → (files : List (Bor (List ℕ))) → Others A → (old new : BufWriter (Titled W) B) → (worst : ℕ) → Type 0
+ShowsNm s program lines contents = ShowsBy nm_texts true s program lines contents
+
+-- their objects as JSON
 abbrev pub ShowsJson : {T J W B A : Type 0} → ImageFiles T J → (program : List ℕ) → (objects : (file : List ℕ) → (limit : ℕ) → ImageLines)
     → (contents : W → Option (List ℕ)) → (files : List (Bor (List ℕ))) → Others A → (old new : BufWriter (Titled W) B) → (worst : ℕ) → Type 0
-ShowsJson s program objects contents = ShowsFiles (files_of s) (ShowsImages json_texts program s.cpu s.limit objects (titled_contents contents))
+ShowsJson s program objects contents = ShowsBy json_texts false s program objects contents

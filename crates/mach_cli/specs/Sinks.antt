@@ -3,6 +3,7 @@ use Rattle.std.specs.Prelude.{ℕ, List, [], ◌++◌, codes}
 use Rattle.mach_cli.specs.JsonArrays.{error_end}
 use Rattle.mach_cli.specs.JsonText.{json_string}
 use Rattle.mach_cli.specs.Labels.{LabelView, unlabelled, of_entry, of_member, label_line, object_front}
+use Rattle.mach_cli.specs.NmHeadings.{nm_heading}
 
 pub record SinkTexts : Type 0 where
   -- before the images of a file, and after them, by the kind and the name of the file
@@ -12,8 +13,8 @@ pub record SinkTexts : Type 0 where
   pub refused_file : (name words : List ℕ) → List ℕ
   -- between two images
   pub separator : List ℕ
-  -- before what a program shows of an image, and after it
-  pub image_front : LabelView → List ℕ
+  -- before what a program shows of an image of a file of this name, and after it
+  pub image_front : (name : List ℕ) → LabelView → List ℕ
   pub image_end : List ℕ
   -- in place of that and its end: that it is an archive, which has no member; or why it isn't shown
   pub archive : List ℕ
@@ -32,11 +33,15 @@ text_texts = record {
   file_end = λ kind name. [];
   refused_file = λ name words. [];
   separator = [];
-  image_front = label_line;
+  image_front = λ name. label_line;
   image_end = [];
   archive = codes "archive\n";
   refused_image = refused_text;
 }
+
+-- The same with the headings of `llvm-nm`, which have the file's name.
+abbrev pub nm_texts : SinkTexts
+nm_texts = record text_texts { image_front = nm_heading }
 
 -- what follows the objects of the images of a file
 abbrev pub document_end : (kind name : List ℕ) → List ℕ
@@ -54,7 +59,7 @@ json_texts = record {
   file_end = document_end;
   refused_file = refusal_object;
   separator = codes ",";
-  image_front = object_front;
+  image_front = λ name. object_front;
   image_end = codes "}";
   archive = codes "\"kind\":\"archive\"}";
   refused_image = λ label words. error_end words;

@@ -204,7 +204,7 @@ impl<V: ImageView, K: Sink> Document<'_, V, K> {
         err: &mut E,
     ) -> io::Result<bool>
         ensures { let d = self.now in let file = d.names.file.now in IfOk result (λ whole. (shown : Shown)
-            × ShowsItems K.texts (names_text d.names.program.now file) (V.lines d.view.now file d.limit)
+            × ShowsItems K.texts (names_text d.names.program.now file) file (V.lines d.view.now file d.limit)
             d.cpu true d.limit (input_items_left images.entry) shown
             × (shown.whole ≡ whole) × Writes shown (O.contents out.old) (O.contents out.new) (E.contents err.old) (E.contents err.new)) }
     {
@@ -245,14 +245,14 @@ impl<V: ImageView, K: Sink> Document<'_, V, K> {
         err: &mut E,
     ) -> io::Result<Outcome>
         ensures { let d = self.now in let file = d.names.file.now in let x = input_item_read item.entry in IfOk result (λ outcome. (shown : Shown)
-            × ShowsItem K.texts (names_text d.names.program.now file) (V.lines d.view.now file d.limit) left (label_of x.place x.content) x.content shown
+            × ShowsItem K.texts (names_text d.names.program.now file) file (V.lines d.view.now file d.limit) left (label_of x.place x.content) x.content shown
             × (shown.whole ≡ outcome.whole) × (shown.left ≡ outcome.left)
             × Writes shown (O.contents out.old) (O.contents out.new) (E.contents err.old) (E.contents err.new)) }
     {
         let label = Label::of(&item);
         match item.content {
             Ok(Content::NoMember) => {
-                self.sink.begin_image(label, out)?;
+                self.sink.begin_image(self.names.file, label, out)?;
                 self.sink.end_archive(out)?;
                 Ok(Outcome { whole: true, left })
             }
@@ -280,7 +280,7 @@ impl<V: ImageView, K: Sink> Document<'_, V, K> {
         err: &mut E,
     ) -> io::Result<Outcome>
         ensures { let d = self.now in let file = d.names.file.now in IsMemberOrFile (content_view content.entry) → IfOk result (λ outcome. (shown : Shown)
-            × ShowsItem K.texts (names_text d.names.program.now file) (V.lines d.view.now file d.limit) left (label_view label.entry)
+            × ShowsItem K.texts (names_text d.names.program.now file) file (V.lines d.view.now file d.limit) left (label_view label.entry)
             (Ok (content_view content.entry)) shown
             × (shown.whole ≡ outcome.whole) × (shown.left ≡ outcome.left)
             × Writes shown (O.contents out.old) (O.contents out.new) (E.contents err.old) (E.contents err.new)) }
@@ -306,11 +306,11 @@ impl<V: ImageView, K: Sink> Document<'_, V, K> {
     ) -> io::Result<Outcome>
         ensures { let d = self.now in let file = d.names.file.now in (content : ContentView) → IsImage (content_bytes content) 0 image.now
             → IfOk result (λ outcome. (shown : Shown)
-            × ShowsItem K.texts (names_text d.names.program.now file) (V.lines d.view.now file d.limit) left (label_view label.entry) (Ok content) shown
+            × ShowsItem K.texts (names_text d.names.program.now file) file (V.lines d.view.now file d.limit) left (label_view label.entry) (Ok content) shown
             × (shown.whole ≡ outcome.whole) × (shown.left ≡ outcome.left)
             × Writes shown (O.contents out.old) (O.contents out.new) (E.contents err.old) (E.contents err.new)) }
     {
-        self.sink.begin_image(label, out)?;
+        self.sink.begin_image(self.names.file, label, out)?;
         match self
             .view
             .show(alloc, self.names.file, image, self.limit, left, out)
@@ -335,10 +335,10 @@ impl<V: ImageView, K: Sink> Document<'_, V, K> {
     ) -> io::Result<Outcome>
         ensures { let d = self.now in let words = refusal_reason refusal.entry in let label = label_view label.entry in
             IfOk result (λ outcome. (outcome.whole ≡ false) × (outcome.left ≡ left)
-            × Appends (O.contents out.old) (O.contents out.new) (K.texts.image_front label ++ K.texts.refused_image label words)
+            × Appends (O.contents out.old) (O.contents out.new) (K.texts.image_front d.names.file.now label ++ K.texts.refused_image label words)
             × Appends (E.contents err.old) (E.contents err.new) (label_complaint (names_text d.names.program.now d.names.file.now) label words)) }
     {
-        self.sink.begin_image(label, out)?;
+        self.sink.begin_image(self.names.file, label, out)?;
         self.end_refused(label, refusal, left, out, err)
     }
 

@@ -1,15 +1,17 @@
 //! The files of a call: each is shown part by part.
 
-ghost use Rattle.std.specs.Prelude.{◌≡◌, ◌≤◌, Bool, Ok, max, IfErr, IfOk};
+ghost use Rattle.std.specs.Prelude.{◌≡◌, ◌≤◌, Bool, Ok, max, true, IfErr, IfOk};
 ghost use Rattle.goblin_mach.specs.ItemsLeft.{input_item_read};
+ghost use Rattle.mach_cli.specs.Labels.{label_of, label_view};
 ghost use Rattle.mach_cli.specs.PartsOf.{parts_in};
 ghost use Rattle.mach_cli.specs.InOrder.{InOrder};
-ghost use Rattle.mach_cli.specs.ShownCalls.{manner_of, ShowsBytes, ShowsContent, ShowsFiles, ShowsList, ShowsListed, ShowsNamed, ShowsPart, ShowsTitled};
-ghost use Rattle.mach_cli.specs.ShownCalls.{no_text_status};
+ghost use Rattle.mach_cli.specs.ShownCalls.{manner_in, ShowsBytes, ShowsContent, ShowsFiles, ShowsFilesBy, ShowsList, ShowsListed, ShowsNamed, ShowsPart};
+ghost use Rattle.mach_cli.specs.ShownCalls.{file_itself, have_title, no_text_status, ShowsTitled};
 ghost use Rattle.mach_cli.specs.ShownParts.{shown_in, shown_part_view};
 ghost use Rattle.mach_cli.specs.Statuses.{IsStatus, IsUnwritten};
 
 use crate::cpu::Cpu;
+use crate::first_bytes::begins_fat;
 use crate::label::Label;
 use crate::named::{Others, names_of};
 use crate::names::Names;
@@ -19,7 +21,8 @@ use crate::parts::shown::{ShownPart, shown_part};
 use crate::program::Program;
 use crate::progress::Progress;
 use crate::refusal::{Refusal, complain};
-use crate::titled::{Titled, put_title, title_of};
+use crate::title::{Title, title_of};
+use crate::titled::{Titled, put_title};
 use crate::word::NoText;
 use goblin_mach::InputItem;
 use mach_base::describe;
@@ -61,6 +64,8 @@ struct Running {
     files: Files,
     // Whether there may be several files.
     are_several: bool,
+    // Whether titles are those of `llvm-nm`.
+    is_nm: bool,
 }
 
 // Returns the status of a file that is shown. After a failed write nothing else is shown: its status is an error.
@@ -96,9 +101,42 @@ impl Files {
         ensures shown { IfOk result (λ worst. ShowsFiles self.now (S.shows shows.now) files.now others.now out.old out.new worst) }
         ensures unwritten { IfErr result (λ status. IsUnwritten status) }
     {
+        self.show_by(rt, false, shows, files, others, out)
+    }
+
+    /// Shows files as `show` does, with the titles of `llvm-nm`: those of the entries of a fat file have the file's name and the cpu,
+    /// and a fat file of 32 bits has none, since the headings of its entries name it.
+    pub fn show_as_nm<S: FileView<BufWriter<Titled<W>, B>>, W: Write + Drop, B: Allocator>(
+        &self,
+        rt: &HostRuntime,
+        shows: &S,
+        files: &[&str],
+        others: &Others<'_, Global>,
+        out: &mut BufWriter<Titled<W>, B>,
+    ) -> Result<u8, u8>
+        ensures shown { IfOk result (λ worst. ShowsFilesBy true self.now (S.shows shows.now) files.now others.now out.old out.new worst) }
+        ensures unwritten { IfErr result (λ status. IsUnwritten status) }
+    {
+        self.show_by(rt, true, shows, files, others, out)
+    }
+
+    // Shows files in order, then those named in other ways, and returns the worst status.
+    fn show_by<S: FileView<BufWriter<Titled<W>, B>>, W: Write + Drop, B: Allocator>(
+        &self,
+        rt: &HostRuntime,
+        is_nm: bool,
+        shows: &S,
+        files: &[&str],
+        others: &Others<'_, Global>,
+        out: &mut BufWriter<Titled<W>, B>,
+    ) -> Result<u8, u8>
+        ensures shown { IfOk result (λ worst. ShowsFilesBy is_nm self.now (S.shows shows.now) files.now others.now out.old out.new worst) }
+        ensures unwritten { IfErr result (λ status. IsUnwritten status) }
+    {
         let call = Running {
             files: *self,
             are_several: others.are_several(files.len()),
+            is_nm,
         };
         let mut progress = Progress::new(rt, rt.stderr().is_terminal());
         let of_words = call.refuse_words(rt, others.no_texts.as_slice());
@@ -119,8 +157,7 @@ impl Running {
         files: &[&str],
         out: &mut BufWriter<Titled<W>, B>,
     ) -> Result<u8, u8>
-        ensures shown { IfOk result (λ worst. InOrder (λ file. ShowsNamed (manner_of self.now.files self.now.are_several (S.shows shows.now))
-            file.now) files.now
+        ensures shown { IfOk result (λ worst. InOrder (λ file. ShowsNamed (manner_in self.now (S.shows shows.now)) file.now) files.now
             out.old out.new worst) }
         ensures unwritten { IfErr result (λ status. IsUnwritten status) }
     {
@@ -142,7 +179,7 @@ impl Running {
         end: u8,
         out: &mut BufWriter<Titled<W>, B>,
     ) -> Result<u8, u8>
-        ensures shown { IfOk result (λ worst. InOrder (λ list. ShowsList (manner_of self.now.files self.now.are_several (S.shows shows.now)) end) lists.now
+        ensures shown { IfOk result (λ worst. InOrder (λ list. ShowsList (manner_in self.now (S.shows shows.now)) end) lists.now
             out.old out.new worst) }
         ensures unwritten { IfErr result (λ status. IsUnwritten status) }
     {
@@ -164,7 +201,7 @@ impl Running {
         end: u8,
         out: &mut BufWriter<Titled<W>, B>,
     ) -> Result<u8, u8>
-        ensures shown { IfOk result (λ status. ShowsList (manner_of self.now.files self.now.are_several (S.shows shows.now)) end out.old out.new status) }
+        ensures shown { IfOk result (λ status. ShowsList (manner_in self.now (S.shows shows.now)) end out.old out.new status) }
         ensures unwritten { IfErr result (λ status. IsUnwritten status) }
     {
         match self.files.program.read(rt, list) {
@@ -184,7 +221,7 @@ impl Running {
         bytes: &[u8],
         out: &mut BufWriter<Titled<W>, B>,
     ) -> Result<u8, u8>
-        ensures shown { IfOk result (λ status. ShowsList (manner_of self.now.files self.now.are_several (S.shows shows.now)) end out.old out.new status) }
+        ensures shown { IfOk result (λ status. ShowsList (manner_in self.now (S.shows shows.now)) end out.old out.new status) }
         ensures unwritten { IfErr result (λ status. IsUnwritten status) }
     {
         match names_of(rt.alloc(), end, bytes) {
@@ -203,7 +240,7 @@ impl Running {
         names: &[&[u8]],
         out: &mut BufWriter<Titled<W>, B>,
     ) -> Result<u8, u8>
-        ensures shown { IfOk result (λ worst. InOrder (λ name. ShowsListed (manner_of self.now.files self.now.are_several (S.shows shows.now))
+        ensures shown { IfOk result (λ worst. InOrder (λ name. ShowsListed (manner_in self.now (S.shows shows.now))
             name.now) names.now
             out.old out.new worst) }
         ensures unwritten { IfErr result (λ status. IsUnwritten status) }
@@ -227,7 +264,7 @@ impl Running {
         name: &[u8],
         out: &mut BufWriter<Titled<W>, B>,
     ) -> Result<u8, u8>
-        ensures shown { IfOk result (λ status. ShowsListed (manner_of self.now.files self.now.are_several (S.shows shows.now))
+        ensures shown { IfOk result (λ status. ShowsListed (manner_in self.now (S.shows shows.now))
             name.now out.old out.new status) }
         ensures unwritten { IfErr result (λ status. IsUnwritten status) }
     {
@@ -249,7 +286,7 @@ impl Running {
         file: &str,
         out: &mut BufWriter<Titled<W>, B>,
     ) -> Result<u8, u8>
-        ensures shown { IfOk result (λ status. ShowsNamed (manner_of self.now.files self.now.are_several (S.shows shows.now)) file.now out.old out.new status) }
+        ensures shown { IfOk result (λ status. ShowsNamed (manner_in self.now (S.shows shows.now)) file.now out.old out.new status) }
         ensures unwritten { IfErr result (λ status. IsUnwritten status) }
     {
         progress.begin(rt, self.files.program.name, file, &mut rt.stderr());
@@ -268,12 +305,12 @@ impl Running {
         bytes: &[u8],
         out: &mut BufWriter<Titled<W>, B>,
     ) -> Result<u8, u8>
-        ensures shown { IfOk result (λ status. ShowsBytes (manner_of self.now.files self.now.are_several (S.shows shows.now))
+        ensures shown { IfOk result (λ status. ShowsBytes (manner_in self.now (S.shows shows.now))
             file.now bytes.now out.old out.new status) }
         ensures unwritten { IfErr result (λ status. IsUnwritten status) }
     {
         if !self.files.has_parts {
-            return self.show_named(rt, shows, file, bytes, self.are_several, out);
+            return self.show_itself(rt, shows, file, bytes, out);
         }
         if is_missed(rt.alloc(), self.files.cpu, bytes) {
             return Ok(self.miss(rt, file));
@@ -290,7 +327,7 @@ impl Running {
         bytes: &[u8],
         out: &mut BufWriter<Titled<W>, B>,
     ) -> Result<u8, u8>
-        ensures shown { IfOk result (λ worst. InOrder (ShowsPart (manner_of self.now.files self.now.are_several (S.shows shows.now))
+        ensures shown { IfOk result (λ worst. InOrder (ShowsPart (manner_in self.now (S.shows shows.now))
             file.now) (parts_in bytes.now) out.old out.new worst) }
         ensures unwritten { IfErr result (λ status. IsUnwritten status) }
     {
@@ -311,7 +348,7 @@ impl Running {
         part: InputItem<'_>,
         out: &mut BufWriter<Titled<W>, B>,
     ) -> Result<u8, u8>
-        ensures shown { IfOk result (λ status. ShowsPart (manner_of self.now.files self.now.are_several (S.shows shows.now))
+        ensures shown { IfOk result (λ status. ShowsPart (manner_in self.now (S.shows shows.now))
             file.now (input_item_read part.entry) out.old out.new status) }
         ensures unwritten { IfErr result (λ status. IsUnwritten status) }
     {
@@ -331,63 +368,100 @@ impl Running {
         out: &mut BufWriter<Titled<W>, B>,
     ) -> Result<u8, u8>
         ensures shown { let x = input_item_read part.entry in IfOk result (λ status.
-            ShowsContent (manner_of self.now.files self.now.are_several (S.shows shows.now))
-            file.now
+            ShowsContent (manner_in self.now (S.shows shows.now))
+            file.now (label_of x.place x.content)
             out.old out.new (shown_in file.now x.place.entry x.content) status) }
         ensures unwritten { IfErr result (λ status. IsUnwritten status) }
     {
         let label = Label::of(&part);
         match shown_part(rt.alloc(), file, part) {
-            Ok(shown) => self.show_content(rt, shows, file, shown, out),
+            Ok(shown) => self.show_content(rt, shows, file, label, shown, out),
             Err(error) => Ok(self.refuse(rt, file, label, Refusal::Fault(describe(&error)))),
         }
     }
 
-    // Shows what is shown of a part of a file, and returns the status.
+    // Shows what is shown of a part of a file, which has this label, and returns the status.
     fn show_content<S: FileView<BufWriter<Titled<W>, B>>, W: Write + Drop, B: Allocator>(
         &self,
         rt: &HostRuntime,
         shows: &S,
         file: &str,
+        label: Label<'_>,
         part: ShownPart<'_>,
         out: &mut BufWriter<Titled<W>, B>,
     ) -> Result<u8, u8>
-        ensures shown { IfOk result (λ status. ShowsContent (manner_of self.now.files self.now.are_several (S.shows shows.now)) file.now
-            out.old out.new (Ok (shown_part_view part.entry)) status) }
+        ensures shown { IfOk result (λ status. ShowsContent (manner_in self.now (S.shows shows.now)) file.now
+            (label_view label.entry) out.old out.new (Ok (shown_part_view part.entry)) status) }
         ensures unwritten { IfErr result (λ status. IsUnwritten status) }
     {
         match part {
             ShownPart::Nothing => Ok(0),
-            ShownPart::Itself(bytes) => {
-                self.show_named(rt, shows, file, bytes, self.are_several, out)
-            }
+            ShownPart::Itself(bytes) => self.show_itself(rt, shows, file, bytes, out),
             ShownPart::Within(name, bytes) => {
-                self.show_named(rt, shows, name.as_str(), bytes, true, out)
+                let title = self.title(file, name.as_str(), label);
+                self.show_named(rt, shows, title, bytes, true, out)
             }
         }
     }
 
-    // Shows bytes under a name, with a title if they may have one, and returns the status.
+    // Shows a file itself, with a title if it may have one, and returns the status.
+    fn show_itself<S: FileView<BufWriter<Titled<W>, B>>, W: Write + Drop, B: Allocator>(
+        &self,
+        rt: &HostRuntime,
+        shows: &S,
+        file: &str,
+        bytes: &[u8],
+        out: &mut BufWriter<Titled<W>, B>,
+    ) -> Result<u8, u8>
+        ensures shown { IfOk result (λ status. ShowsTitled (manner_in self.now (S.shows shows.now))
+            self.now.are_several (file_itself file.now) bytes.now out.old out.new status) }
+        ensures unwritten { IfErr result (λ status. IsUnwritten status) }
+    {
+        let title = self.title(file, file, Label::None);
+        self.show_named(rt, shows, title, bytes, self.are_several, out)
+    }
+
+    // Returns the title of a part with this name and label of a file.
+    fn title<'f, 'a>(&self, file: &'f str, name: &'f str, label: Label<'a>) -> Title<'f, 'a>
+        ensures { result ≡ record { file = file.entry; name = name.entry; label = label.entry; is_nm = self.now.is_nm } }
+    {
+        Title {
+            file,
+            name,
+            label,
+            is_nm: self.is_nm,
+        }
+    }
+
+    // Shows bytes under the name in a title, with the title if they may have one, and returns the status.
     fn show_named<S: FileView<BufWriter<Titled<W>, B>>, W: Write + Drop, B: Allocator>(
         &self,
         rt: &HostRuntime,
         shows: &S,
-        name: &str,
+        title: Title<'_, '_>,
         bytes: &[u8],
         is_titled: bool,
         out: &mut BufWriter<Titled<W>, B>,
     ) -> Result<u8, u8>
-        ensures shown { IfOk result (λ status. ShowsTitled (manner_of self.now.files self.now.are_several (S.shows shows.now))
-            is_titled name.now bytes.now out.old out.new status) }
+        ensures shown { let t = title.entry in t.is_nm ≡ self.now.is_nm → IfOk result (λ status.
+            ShowsTitled (manner_in self.now (S.shows shows.now))
+            is_titled (record { file = t.file.now; name = t.name.now; label = label_view t.label }) bytes.now out.old out.new status) }
         ensures unwritten { IfErr result (λ status. IsUnwritten status) }
     {
-        match title_of(rt.alloc(), is_titled & self.files.has_titles, name) {
-            Ok(title) => {
-                put_title(out, title);
-                unless_unwritten(shows.show(rt, name, bytes, out))
+        match title_of(rt.alloc(), self.has_title(is_titled, bytes), title) {
+            Ok(text) => {
+                put_title(out, text);
+                unless_unwritten(shows.show(rt, title.name, bytes, out))
             }
-            Err(AllocError) => Ok(self.files.program.no_memory_for(rt, name)),
+            Err(AllocError) => Ok(self.files.program.no_memory_for(rt, title.name)),
         }
+    }
+
+    // Whether bytes that may have a title have one.
+    fn has_title(&self, is_titled: bool, bytes: &[u8]) -> bool
+        ensures { result ≡ have_title self.now.files self.now.is_nm is_titled bytes.now }
+    {
+        is_titled & self.files.has_titles & !(self.is_nm & begins_fat(bytes))
     }
 
     // Reports that no part of a file is selected, and returns the status.

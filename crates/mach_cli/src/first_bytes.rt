@@ -1,11 +1,13 @@
 //! What a file is by its first bytes: whether it is divided into parts, what an entry or a member is, and the kind of a refused one.
 
 ghost use Rattle.std.specs.Prelude.{◌≡◌, ◌∷◌, [], MatchOption};
+ghost use Rattle.mach_cli.specs.FirstMagic.{begins_fat};
 ghost use Rattle.mach_cli.specs.Foreigners.{refused_kind};
 ghost use Rattle.mach_cli.specs.PartsOf.{itself, parts_in, IsDivided};
 ghost use Rattle.mach_cli.specs.Kinds.{entry_kind};
 ghost use Rattle.mach_parts.specs.Magic.{begins_archive};
 
+use goblin_mach::fat::FAT_MAGIC;
 use goblin_mach::first_bytes::foreign_kind;
 use goblin_mach::{
     Error, FAT_MAGIC_64, Foreign, Hint, Input, MultiArch64, begins_archive, peek, peek_bytes,
@@ -40,6 +42,16 @@ pub fn divided(alloc: Global, bytes: &[u8]) -> Option<Input<'_>>
             Err(_) => None,
         },
         _ => None,
+    }
+}
+
+/// Whether bytes begin as a fat file of 32 bits does.
+pub(crate) fn begins_fat(bytes: &[u8]) -> bool
+    ensures { result ≡ begins_fat bytes.now }
+{
+    match peek(bytes, 0) {
+        Ok(magic) => magic == FAT_MAGIC,
+        Err(_) => false,
     }
 }
 

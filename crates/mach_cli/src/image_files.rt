@@ -7,7 +7,7 @@ use crate::cpu::Cpu;
 use crate::files::Files;
 use crate::images_view::ImagesView;
 use crate::program::Program;
-use crate::sink::{Json, Text};
+use crate::sink::{Json, NmText, Text};
 
 /// How a call shows the images of its files: the lines of one view as text, or the objects of another as JSON.
 #[derive(Clone, Copy)]
@@ -51,6 +51,19 @@ impl<T: Copy, J: Copy> ImageFiles<T, J> {
             limit: self.limit,
             view: self.lines,
             sink: Text,
+        }
+    }
+
+    /// Returns what is shown of each file as text, under the headings of `llvm-nm`.
+    pub fn as_nm(&self) -> ImagesView<T, NmText>
+        ensures { let s = self.now in result ≡ record { program = s.program; cpu = s.cpu; limit = s.limit; view = s.lines; sink = record {} } }
+    {
+        ImagesView {
+            program: self.program,
+            cpu: self.cpu,
+            limit: self.limit,
+            view: self.lines,
+            sink: NmText,
         }
     }
 

@@ -5,13 +5,13 @@ ghost use Rattle.mach_archive.specs.ArchiveViews.{member_view};
 ghost use Rattle.mach_archive.specs.MemberNames.{member_name};
 ghost use Rattle.goblin_mach.specs.ItemsLeft.{input_item_read};
 ghost use Rattle.mach_dyld.specs.Exports.{text_in};
-ghost use Rattle.mach_cli.specs.Labels.{cpu_string, cpu_suffix, label_line, label_of, label_suffix, label_view, member_text, name_on_line, name_string};
-ghost use Rattle.mach_cli.specs.Labels.{object_front};
+ghost use Rattle.mach_cli.specs.Labels.{cpu_string, cpu_suffix, label_cpu, label_line, label_of, label_suffix, label_view, member_text, name_on_line};
+ghost use Rattle.mach_cli.specs.Labels.{name_string, object_front};
 
 use crate::cpu::entry_cpu_name;
 use crate::escaped::Escaped;
 use crate::json::text::JsonString;
-use goblin_mach::{Content, InputItem};
+use goblin_mach::{Content, EntryCpu, InputItem};
 use mach_archive::Member;
 use std::fmt;
 use std::fmt::{Display, Formatter, Write};
@@ -21,10 +21,10 @@ use std::fmt::{Display, Formatter, Write};
 pub enum Label<'a> {
     /// None, if the image is the whole file.
     None,
-    /// The index of its entry in a fat file, and the name of the cpu, if it has one.
-    Entry(usize, Option<&'static str>),
+    /// The index of its entry in a fat file, and the cpu, if the record can be read.
+    Entry(usize, Option<EntryCpu>),
     /// The same of the entry that is an archive, and the member of this archive.
-    Member(usize, Option<&'static str>, Member<'a>),
+    Member(usize, Option<EntryCpu>, Member<'a>),
 }
 
 impl<'a> Label<'a> {
@@ -32,7 +32,7 @@ impl<'a> Label<'a> {
     pub fn of(item: &InputItem<'a>) -> Label<'a>
         ensures { let x = input_item_read item.now in label_view result ≡ label_of x.place x.content }
     {
-        let cpu = entry_cpu_name(item.place.cpu);
+        let cpu = item.place.cpu;
         match item.place.entry {
             Some(index) => match &item.content {
                 Ok(Content::Member(member)) => Label::Member(index, cpu, *member),
@@ -45,7 +45,7 @@ impl<'a> Label<'a> {
 
 // A member's name on one line, or the offset of its header.
 #[derive(Clone, Copy)]
-struct NameOnLine<'a>(Member<'a>);
+pub(crate) struct NameOnLine<'a>(pub Member<'a>);
 
 impl Display for NameOnLine<'_> {
     ghost output = { λ t. let m = member_view t.0 in Some (name_on_line (member_name m) m.offset) };
@@ -101,13 +101,31 @@ impl Display for LabelLine<'_> {
         match self.0 {
             Label::None => Ok(()),
             Label::Entry(index, cpu) => {
-                let cpu = CpuSuffix(cpu);
+                let cpu = CpuSuffix(entry_cpu_name(cpu));
                 writeln!(f, "arch {index}{cpu}")
             }
             Label::Member(index, cpu, member) => {
                 let text = MemberText(index, member);
-                let cpu = CpuSuffix(cpu);
+                let cpu = CpuSuffix(entry_cpu_name(cpu));
                 writeln!(f, "{text}{cpu}")
+            }
+        }
+    }
+}
+
+// The name of the cpu of the entry that has this label, beside another name.
+#[derive(Clone, Copy)]
+pub(crate) struct LabelCpu<'a>(pub Label<'a>);
+
+impl Display for LabelCpu<'_> {
+    ghost output = { λ t. Some (label_cpu (label_view t.0)) };
+
+    fn fmt<W: Write>(&self, f: &mut Formatter<W>) -> fmt::Result {
+        match self.0 {
+            Label::None => Ok(()),
+            Label::Entry(_, cpu) | Label::Member(_, cpu, _) => {
+                let cpu = CpuSuffix(entry_cpu_name(cpu));
+                write!(f, "{cpu}")
             }
         }
     }
@@ -176,11 +194,11 @@ impl Display for ObjectFront<'_> {
         match self.0 {
             Label::None => write!(f, "{{"),
             Label::Entry(index, cpu) => {
-                let cpu = CpuString(cpu);
+                let cpu = CpuString(entry_cpu_name(cpu));
                 write!(f, "{{\"arch\":{cpu},\"entry\":{index},")
             }
             Label::Member(index, cpu, member) => {
-                let cpu = CpuString(cpu);
+                let cpu = CpuString(entry_cpu_name(cpu));
                 let name = NameString(member);
                 write!(f, "{{\"arch\":{cpu},\"entry\":{index},\"member\":{name},")
             }

@@ -30,10 +30,12 @@ mod items;
 mod label;
 mod listing;
 mod names;
+mod nm_heading;
 mod origins;
 mod refusal;
 mod signing;
 mod sink;
+mod title;
 mod titled;
 mod values;
 
@@ -54,6 +56,10 @@ pub mod laws;
 mod memory;
 mod section_names;
 mod stretches;
+
+// What an image has at an address, as a line and as an object.
+mod address;
+mod name_text;
 
 // Terminals.
 mod painted;
@@ -102,8 +108,13 @@ pub use crate::progress::Progress;
 pub use crate::refusal::{Refusal, complain, refusal_of};
 pub use crate::section_names::{AllStretches, SegmentStretches};
 pub use crate::signing::{diverse_by, diversity_by, has_auth, key_by, rebase_type};
-pub use crate::sink::{Json, Sink, Text};
+pub use crate::sink::{Json, NmText, Sink, Text};
 pub use crate::terminal::ForTerminal;
 pub use crate::titled::Titled;
 pub use crate::values::{SourceVersionText, UuidText, VersionText};
 pub use crate::word::{NoText, Word};
+
+// What an image has at an address, and names as they are printed.
+pub use crate::address::FoundAt;
+pub use crate::address::view::{AddressLinesOf, AddressObjectsOf};
+pub use crate::name_text::{FileText, NameText};

@@ -4,10 +4,11 @@ ghost use Rattle.std.specs.Prelude.{◌≡◌, OnOk};
 ghost use Rattle.std.specs.Io.KnownBytes.{Appends};
 ghost use Rattle.mach_cli.specs.Labels.{label_view};
 ghost use Rattle.mach_cli.specs.Refusals.{refusal_reason};
-ghost use Rattle.mach_cli.specs.Sinks.{json_texts, text_texts};
+ghost use Rattle.mach_cli.specs.Sinks.{json_texts, nm_texts, text_texts};
 
 use crate::json::text::JsonString;
 use crate::label::{Label, LabelLine, ObjectFront};
+use crate::nm_heading::NmHeading;
 use crate::refusal::Refusal;
 use std::io;
 use std::io::Write;
@@ -38,9 +39,9 @@ pub trait Sink: Copy {
     fn separate<O: Write>(&self, out: &mut O) -> io::Result<()>
         ensures { OnOk result (Appends (O.contents out.old) (O.contents out.new) texts.separator) };
 
-    /// Begins an image with this label.
-    fn begin_image<O: Write>(&self, label: Label<'_>, out: &mut O) -> io::Result<()>
-        ensures { OnOk result (Appends (O.contents out.old) (O.contents out.new) (texts.image_front (label_view label.entry))) };
+    /// Begins an image with this label, of a file of this name.
+    fn begin_image<O: Write>(&self, name: &str, label: Label<'_>, out: &mut O) -> io::Result<()>
+        ensures { OnOk result (Appends (O.contents out.old) (O.contents out.new) (texts.image_front name.now (label_view label.entry))) };
 
     /// Ends an image whose output is written.
     fn end_image<O: Write>(&self, out: &mut O) -> io::Result<()>
@@ -89,7 +90,7 @@ impl Sink for Text {
         Ok(())
     }
 
-    fn begin_image<O: Write>(&self, label: Label<'_>, out: &mut O) -> io::Result<()> {
+    fn begin_image<O: Write>(&self, _name: &str, label: Label<'_>, out: &mut O) -> io::Result<()> {
         let line = LabelLine(label);
         write!(out, "{line}")
     }
@@ -112,6 +113,57 @@ impl Sink for Text {
             Label::None => Ok(()),
             Label::Entry(_, _) | Label::Member(_, _, _) => writeln!(out, "refused: {refusal}"),
         }
+    }
+}
+
+/// Text as `llvm-nm` has it: each image of a fat file has a heading with the file's name and the cpu. All else is as in `Text`.
+#[derive(Clone, Copy)]
+pub struct NmText;
+
+impl Sink for NmText {
+    ghost texts = { nm_texts };
+
+    fn begin_file<O: Write>(&self, out: &mut O) -> io::Result<()> {
+        Text.begin_file(out)
+    }
+
+    fn end_file<O: Write>(&self, kind: &str, name: &str, out: &mut O) -> io::Result<()> {
+        Text.end_file(kind, name, out)
+    }
+
+    fn refuse_file<O: Write>(
+        &self,
+        name: &str,
+        refusal: Refusal<'_>,
+        out: &mut O,
+    ) -> io::Result<()> {
+        Text.refuse_file(name, refusal, out)
+    }
+
+    fn separate<O: Write>(&self, out: &mut O) -> io::Result<()> {
+        Text.separate(out)
+    }
+
+    fn begin_image<O: Write>(&self, name: &str, label: Label<'_>, out: &mut O) -> io::Result<()> {
+        let heading = NmHeading { file: name, label };
+        write!(out, "{heading}")
+    }
+
+    fn end_image<O: Write>(&self, out: &mut O) -> io::Result<()> {
+        Text.end_image(out)
+    }
+
+    fn end_archive<O: Write>(&self, out: &mut O) -> io::Result<()> {
+        Text.end_archive(out)
+    }
+
+    fn refuse_image<O: Write>(
+        &self,
+        label: Label<'_>,
+        refusal: Refusal<'_>,
+        out: &mut O,
+    ) -> io::Result<()> {
+        Text.refuse_image(label, refusal, out)
     }
 }
 
@@ -148,7 +200,7 @@ impl Sink for Json {
         write!(out, ",")
     }
 
-    fn begin_image<O: Write>(&self, label: Label<'_>, out: &mut O) -> io::Result<()> {
+    fn begin_image<O: Write>(&self, _name: &str, label: Label<'_>, out: &mut O) -> io::Result<()> {
         let front = ObjectFront(label);
         write!(out, "{front}")
     }

@@ -1,14 +1,12 @@
 //! A writer that writes a title before the next bytes.
 
-ghost use Rattle.std.specs.Prelude.{◌≡◌, ◌≤◌, ◌++◌, [], ℕ, length, take, false, IfOk, IsOk, OnOk};
+ghost use Rattle.std.specs.Prelude.{◌≡◌, ◌≤◌, ◌++◌, [], ℕ, length, take, OnOk};
 ghost use Rattle.std.specs.Io.{WritesAtMost};
 ghost use Rattle.std.specs.Io.Buffered.{writer_buffer, writer_inner};
 ghost use Rattle.std.specs.Io.KnownBytes.{Appends, Keeps, WriteAppends};
-ghost use Rattle.mach_cli.specs.FileTitles.{title_text};
 ghost use Rattle.mach_cli.specs.Titles.{pending_title, titled_contents, titled_inner, IsUnder};
 
-use crate::escaped::Escaped;
-use std::alloc::{AllocError, Allocator, Global};
+use std::alloc::{Allocator, Global};
 use std::io;
 use std::io::{BufWriter, ErrorKind, Write};
 
@@ -84,19 +82,6 @@ impl<W: Write> Write for Titled<W> {
     {
         self.inner.flush()
     }
-}
-
-// Returns the title of a file or a part of this name, if it may have one.
-pub(crate) fn title_of(alloc: Global, is_titled: bool, name: &str) -> Result<Vec<u8>, AllocError>
-    ensures title { IfOk result (λ title. title.items ≡ title_text is_titled name.now) }
-    ensures untitled { is_titled ≡ false → IsOk result }
-{
-    if !is_titled {
-        return Ok(Vec::new(alloc));
-    }
-    let name = Escaped(name);
-    let title = format!(in alloc; "\n{name}:\n")?;
-    Ok(title.into_bytes())
 }
 
 /// Sets the title of what is written next. It replaces the previous title if that isn't written yet.

@@ -19,7 +19,8 @@ use Rattle.mach_parts.specs.declared.segment.section.Section.{Section}
 use Rattle.mach_parts.specs.declared.symbols.nlist.Nlist.{Nlist}
 use Rattle.goblin_mach.specs.ImageFacts.{Facts}
 use Rattle.machsyms.specs.Letters.{letter, letter_at, letter_of, named_sections, section_letter, symbol_letter, type_letter}
-use Rattle.machsyms.specs.Lines.{fields_text, file_text, form_text, kind_text, letter_text, line_text, padded_hex, right, stab_text, value_text}
+use Rattle.mach_cli.specs.NamesShown.{file_text}
+use Rattle.machsyms.specs.Lines.{fields_text, form_text, kind_text, letter_text, line_text, padded_hex, right, stab_text, value_text}
 use Rattle.machsyms.specs.Setting.{SymbolSetting, setting_of, symbol_described}
 use Rattle.machsyms.specs.Stabs.{name_among, stab_name, stab_names}
 use Rattle.machsyms.specs.SymbolWords.{alignment_text, provider_words, kind_words, mark_words}

@@ -113,3 +113,8 @@ selected_by l is_raw file = record l.request {
 abbrev pub selected_of : Option Letters → (is_raw : Bool) → Bor (List ℕ) → Request
 selected_of None is_raw file = record all_symbols { is_raw = is_raw }
 selected_of (Some l) is_raw file = selected_by l is_raw file
+
+-- whether each line has the name of its file before it
+abbrev pub names_files : Option Letters → Bool
+names_files None = false
+names_files (Some l) = l.has_file

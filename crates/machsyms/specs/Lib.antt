@@ -1,4 +1,3 @@
-pub mod ShownNames
 pub mod Letters
 pub mod LetterWords
 pub mod Stabs
@@ -11,6 +10,3 @@ pub mod JsonSymbols
 pub mod Listed
 pub mod ShortNames
 pub mod SymbolWords
-pub mod AddressFound
-pub mod AddressLines
-pub mod AddressObjects

@@ -12,7 +12,7 @@ use Rattle.mach_cli.specs.Listings.{reported_by}
 use Rattle.machsyms.specs.Request.{is_elsewhere, takes}
 use Rattle.machsyms.specs.Letters.{symbol_letter}
 use Rattle.machsyms.specs.Setting.{SymbolSetting, symbol_described}
-use Rattle.machsyms.specs.ShownNames.{name_shown}
+use Rattle.mach_cli.specs.NamesShown.{file_text, name_shown}
 use Rattle.machsyms.specs.Stabs.{stab_name}
 use Rattle.machsyms.specs.declared.selection.Request.{Request}
 use Rattle.machsyms.specs.declared.selection.Form.{Form}
@@ -69,11 +69,6 @@ form_text Letters is_raw w name s = letter_text w.is_64 w.letters (name_shown is
 form_text Words is_raw w name s = words_text is_raw w name s
 form_text Names is_raw w name s = name_shown is_raw name
 form_text Hexadecimal is_raw w name s = value_text w.is_64 (Some s.n_value) ++ codes " " ++ fields_text s ++ codes " " ++ name_shown is_raw name
-
--- the name of the file before a line, if it is selected
-abbrev pub file_text : (is_raw : Bool) → Option (Bor (List ℕ)) → List ℕ
-file_text is_raw None = []
-file_text is_raw (Some file) = name_shown is_raw file.now ++ codes ": "
 
 -- the line of a symbol with its name
 abbrev pub line_text : Request → SymbolSetting → List ℕ × Nlist → List ℕ

@@ -10,7 +10,7 @@ use Rattle.mach_parts.specs.declared.segment.section.Section.{Section}
 use Rattle.mach_parts.specs.Symbols.{type_of}
 use Rattle.mach_parts.specs.declared.symbols.nlist.Nlist.{Nlist}
 use Rattle.machsyms.specs.ShortNames.{short_library_name}
-use Rattle.machsyms.specs.ShownNames.{name_shown}
+use Rattle.mach_cli.specs.NamesShown.{name_or_mark, name_shown}
 use Rattle.machsyms.specs.declared.nm.origin.Origin.{Origin}
 use Rattle.machsyms.specs.declared.nm.origin.Origin.TheVariants.{Unsaid, Executable, Lookup, Library, BadOrdinal}
 
@@ -36,11 +36,6 @@ common_alignment desc = bit_and (desc / 256) 15
 
 abbrev pub alignment_text : ℕ → List ℕ
 alignment_text n = if n == 0 then [] else codes "(alignment 2^" ++ (decimal n ++ codes ") ")
-
--- a name, or a mark if it can't be read
-abbrev pub name_or_mark : Result (List ℕ) Fault → List ℕ
-name_or_mark (Ok name) = name
-name_or_mark (Err f) = codes "?"
 
 -- the names of a section's segment and of the section
 abbrev pub section_text : (is_raw : Bool) → Option Section → List ℕ

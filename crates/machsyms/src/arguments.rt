@@ -172,7 +172,9 @@ pub fn selected_of<'a>(letters: Option<Letters>, is_raw: bool, file: &'a str) ->
 }
 
 /// Whether each line has the name of its file before it.
-pub fn names_files(letters: Option<Letters>) -> bool {
+pub fn names_files(letters: Option<Letters>) -> bool
+    ensures { result ≡ defined.names_files letters }
+{
     match letters {
         Some(letters) => letters.has_file,
         None => false,

@@ -1,5 +1,5 @@
 //! Prints the symbols of a Mach-O file, a line each, as `nm -a -p` does: the value, a letter for what the symbol is, and its
-//! name. Of a fat file it prints those of each entry, or of the entries for one cpu, under a line that says which. Options of
+//! name. Of a fat file it prints those of each entry, or of the entries for one cpu, under the heading that `llvm-nm` has. Options of
 //! `nm` select some of the symbols, another order, or another form of lines. With `--json` it writes one object for each file
 //! instead, on a line. With `--at` it prints what each image has at an address: the section, the nearest symbol and the function.
 //!
@@ -16,13 +16,14 @@
 #![tactic(auto)]
 
 ghost use Rattle.std.specs.Prelude.{◌≡◌, ◌^◌, ◌-◌, codes, false, true, IfOk};
+ghost use Rattle.mach_cli.specs.AddressLines.{AreAddressLines};
+ghost use Rattle.mach_cli.specs.AddressObjects.{AreAddressMembers};
 ghost use Rattle.mach_cli.specs.Bounds.{limit_of};
 ghost use Rattle.mach_cli.specs.Calls.{is_json};
-ghost use Rattle.mach_cli.specs.ShownCalls.{ShowsJson, ShowsText};
-ghost use Rattle.machsyms.specs.AddressLines.{AreAddressLines};
-ghost use Rattle.machsyms.specs.AddressObjects.{AreAddressMembers};
+ghost use Rattle.mach_cli.specs.ShownCalls.{ShowsJson, ShowsNm};
 ghost use Rattle.machsyms.specs.ImageLines.{AreSelectedLines};
 ghost use Rattle.machsyms.specs.JsonSymbols.{AreSelectedMembers};
+ghost use Rattle.machsyms.specs.LetterWords.{names_files};
 
 // Which symbols are selected and shown, and how.
 mod arguments;
@@ -32,7 +33,6 @@ mod letters;
 mod lines;
 mod listed;
 mod members;
-mod names;
 mod order;
 mod print;
 mod selection;
@@ -44,13 +44,12 @@ mod text;
 // The words of `nm -m` for a symbol.
 mod nm;
 
-// What an image has at an address.
-mod address;
-
-use address::view::{AddressLinesOf, AddressObjectsOf};
 use arguments::{SymbolOptions, names_files};
 use json::SymbolObjectsOf;
-use mach_cli::{Call, ForTerminal, ImageFiles, Misuse, Options, Others, Painted, Program, Titled};
+use mach_cli::{
+    AddressLinesOf, AddressObjectsOf, Call, ForTerminal, ImageFiles, Misuse, Options, Others,
+    Painted, Program, Titled,
+};
 use std::alloc::Global;
 use std::io;
 use std::io::{BufWriter, IsTerminal, Write};
@@ -150,7 +149,7 @@ fn shown_at(
     ensures program { result.program.name.now ≡ codes "machsyms" }
     ensures cpu { result.cpu ≡ call.now.cpu }
     ensures form { result.is_json ≡ is_json call.now.format }
-    ensures lines { let o = call.now.own in result.lines ≡ record { address = address; letters = o.letters; is_raw = o.is_raw } }
+    ensures lines { let o = call.now.own in result.lines ≡ record { address = address; has_file = names_files o.letters; is_raw = o.is_raw } }
     ensures objects { result.objects ≡ record { address = address } }
 {
     let ImageFiles {
@@ -170,7 +169,7 @@ fn shown_at(
         has_titles,
         lines: AddressLinesOf {
             address,
-            letters,
+            has_file: names_files(letters),
             is_raw,
         },
         objects: AddressObjectsOf { address },
@@ -186,7 +185,7 @@ fn show<W: Write + Drop>(
     out: &mut BufWriter<Titled<W>>,
 ) -> Result<u8, u8>
     ensures text { let s = shown.now in s.is_json ≡ false
-        → IfOk result (ShowsText s s.program.name.now (AreSelectedLines s.lines.letters s.lines.is_raw) W.contents files.now others.now out.old out.new) }
+        → IfOk result (ShowsNm s s.program.name.now (AreSelectedLines s.lines.letters s.lines.is_raw) W.contents files.now others.now out.old out.new) }
     ensures json { let s = shown.now in s.is_json ≡ true
         → IfOk result (ShowsJson s s.program.name.now (AreSelectedMembers s.objects.letters s.objects.is_raw) W.contents
         files.now others.now out.old out.new) }
@@ -195,7 +194,7 @@ fn show<W: Write + Drop>(
     if shown.is_json {
         call.show(rt, &shown.as_json(), files, others, out)
     } else {
-        call.show(rt, &shown.as_text(), files, others, out)
+        call.show_as_nm(rt, &shown.as_nm(), files, others, out)
     }
 }
 
@@ -208,7 +207,7 @@ fn show_at<W: Write + Drop>(
     out: &mut BufWriter<Titled<W>>,
 ) -> Result<u8, u8>
     ensures text { let s = shown.now in s.is_json ≡ false
-        → IfOk result (ShowsText s s.program.name.now (AreAddressLines s.lines.address s.lines.letters s.lines.is_raw) W.contents
+        → IfOk result (ShowsNm s s.program.name.now (AreAddressLines s.lines.address s.lines.has_file s.lines.is_raw) W.contents
         files.now others.now out.old out.new) }
     ensures json { let s = shown.now in s.is_json ≡ true
         → IfOk result (ShowsJson s s.program.name.now (AreAddressMembers s.objects.address) W.contents files.now others.now out.old out.new) }
@@ -217,6 +216,6 @@ fn show_at<W: Write + Drop>(
     if shown.is_json {
         call.show(rt, &shown.as_json(), files, others, out)
     } else {
-        call.show(rt, &shown.as_text(), files, others, out)
+        call.show_as_nm(rt, &shown.as_nm(), files, others, out)
     }
 }

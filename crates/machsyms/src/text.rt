@@ -1,41 +1,19 @@
 //! A symbol as it is printed.
 
 ghost use Rattle.std.specs.Prelude.{◌≡◌, Some};
-ghost use Rattle.machsyms.specs.Lines.{file_text, form_text, letter_text, value_text, value_shown, kind_text, stab_text};
+ghost use Rattle.machsyms.specs.Lines.{form_text, letter_text, value_text, value_shown, kind_text, stab_text};
 ghost use Rattle.machsyms.specs.Setting.{setting_view};
-ghost use Rattle.machsyms.specs.ShownNames.{name_shown};
+ghost use Rattle.mach_cli.specs.NamesShown.{name_shown};
 
 use crate::letters::symbol_letter;
-use crate::names::NameText;
 use crate::selection::{Form, Request, is_elsewhere};
 use crate::setting::Setting;
 use crate::stabs::stab_name;
 use goblin_mach::symbols::Nlist;
+use mach_cli::{FileText, NameText};
 use std::alloc::Allocator;
 use std::fmt;
 use std::fmt::{Display, Formatter, Write};
-
-/// The name of the file before a line, if it is selected.
-#[derive(Clone, Copy)]
-pub struct FileText<'a> {
-    pub file: Option<&'a str>,
-    pub is_raw: bool,
-}
-
-impl<'a> Display for FileText<'a> {
-    ghost output = { λ t. Some (file_text t.is_raw t.file) };
-
-    fn fmt<W: Write>(&self, f: &mut Formatter<W>) -> fmt::Result {
-        let is_raw = self.is_raw;
-        match self.file {
-            Some(name) => {
-                let name = NameText { name, is_raw };
-                write!(f, "{name}: ")
-            }
-            None => Ok(()),
-        }
-    }
-}
 
 /// A symbol as it is printed, in the selected form.
 #[derive(Drop)]

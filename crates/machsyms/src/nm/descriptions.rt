@@ -2,12 +2,13 @@
 
 ghost use Rattle.std.specs.Prelude.{◌≡◌, Some};
 ghost use Rattle.mach_base.specs.Items.{read_as};
+ghost use Rattle.mach_cli.specs.NamesShown.{name_or_mark};
 ghost use Rattle.machsyms.specs.SymbolWords as defined;
 ghost use Rattle.machsyms.specs.SymbolWords.{alignment_text, kind_words, mark_words, origin_text, section_option_view, section_text, symbol_words};
 
-use crate::names::NameText;
 use crate::nm::origin::{Origin, OriginText};
 use mach_base::Result;
+use mach_cli::NameText;
 use mach_parts::segment::Section;
 use mach_parts::symbols::{
     N_ABS, N_EXT, N_INDR, N_NO_DEAD_STRIP, N_PEXT, N_SECT, N_UNDF, N_WEAK_DEF, N_WEAK_REF, Nlist,
@@ -128,7 +129,7 @@ impl Display for AlignmentText {
 
 // Returns a name, or a mark if it can't be read.
 fn readable(name: Result<&str>) -> &str
-    ensures { result.now ≡ defined.name_or_mark (read_as (λ text. text.now) name.entry) }
+    ensures { result.now ≡ name_or_mark (read_as (λ text. text.now) name.entry) }
 {
     match name {
         Ok(text) => text,

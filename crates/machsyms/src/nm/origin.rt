@@ -5,9 +5,9 @@ ghost use Rattle.mach_base.specs.Items.{read_as};
 ghost use Rattle.mach_parts.specs.Bindings.{provider_view};
 ghost use Rattle.machsyms.specs.SymbolWords.{origin_words, origin_text};
 
-use crate::names::NameText;
 use crate::nm::library::short_name;
 use mach_base::Result;
+use mach_cli::NameText;
 use mach_parts::binding::Provider;
 use mach_parts::symbols::Nlist;
 use std::fmt;

@@ -23,12 +23,12 @@ returns-in-Err g c = λ may.
     IfOk-weaker c.refuse_image.result _ _
     (λ outcome reported. (
       record {
-        text = k.image_front label ++ k.refused_image label words;
+        text = k.image_front d.names.file.now label ++ k.refused_image label words;
         message = label_complaint names label words;
         whole = false;
         left = c.args.left;
       },
-      refused_item k names (g.V.ImageView.lines d.view.now d.names.file.now d.limit) c.args.left label (Ok view) c.in-Err.error words
+      refused_item k names d.names.file.now (g.V.ImageView.lines d.view.now d.names.file.now d.limit) c.args.left label (Ok view) c.in-Err.error words
           (ErrorMeets-in _ (FaultOfItem (Ok view)) c.in-Err.error (item_fault view may) c.in-Err.ensures.refused) c.refusal_of_content-refusal.ensures,
       sym reported.0,
       sym reported.1,

@@ -27,7 +27,7 @@ returns g c = λ bytes table has items.
     let d = c.args.self.now in
     let file = d.names.file.now in
     let some = c.in_ok-whole.ensures in
-    let are = λ (xs : List ItemView). ShowsItems k (names_text d.names.program.now file) (g.V.ImageView.lines d.view.now file d.limit) d.cpu true d.limit
+    let are = λ (xs : List ItemView). ShowsItems k (names_text d.names.program.now file) file (g.V.ImageView.lines d.view.now file d.limit) d.cpu true d.limit
     xs some.0
     in (
       whole_of k (codes "fat file") file some.0,

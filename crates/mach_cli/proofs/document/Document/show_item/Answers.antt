@@ -24,16 +24,17 @@ returns-in_ok-end_archive-in-Ok-NoMember g c =
     let arm = c.in-Ok-NoMember in
     let x = input_item_read c.args.item in
     let label = label_view c.of-label.result in
-    let shown : Shown = record { text = k.image_front label ++ k.archive; message = []; whole = true; left = c.args.left } in
+    let shown : Shown = record { text = k.image_front d.names.file.now label ++ k.archive; message = []; whole = true; left = c.args.left } in
     let is = rw arm.is at arm.field-0-is in
     let here : x.content ≡ Ok no_member = ap (read_as content_view) arm.is ∙ ap (λ (content : Content). Ok (content_view content)) is in (
       shown,
-      subst (λ (content : Result ContentView Fault). ShowsItem k names lines c.args.left (label_of x.place x.content) content shown) (sym here)
-          (subst (λ (l : LabelView). ShowsItem k names lines c.args.left l (Ok no_member) shown) c.of-label.ensures an_archive),
+      subst (λ (content : Result ContentView Fault). ShowsItem k names d.names.file.now lines c.args.left (label_of x.place x.content) content shown) (sym here)
+          (subst (λ (l : LabelView). ShowsItem k names d.names.file.now lines c.args.left l (Ok no_member) shown) c.of-label.ensures an_archive),
       refl,
       refl,
       record {
-        text = Appends-both _ _ _ (k.image_front label) k.archive c.in_ok-begin_image-in-Ok-NoMember.ensures c.in_ok-end_archive-in-Ok-NoMember.ensures;
+        text = Appends-both _ _ _ (k.image_front d.names.file.now label) k.archive c.in_ok-begin_image-in-Ok-NoMember.ensures
+            c.in_ok-end_archive-in-Ok-NoMember.ensures;
         message = Appends-none _;
       },
     )
@@ -50,20 +51,20 @@ returns-in-Err g c =
     let label = label_view c.of-label.result in
     let words = words_of (described c.describe.result) in
     let shown : Shown = record {
-      text = k.image_front label ++ k.refused_image label words;
+      text = k.image_front d.names.file.now label ++ k.refused_image label words;
       message = label_complaint names label words;
       whole = false;
       left = c.args.left;
     } in
     let here : x.content ≡ Err (fault_of e) = ap (read_as content_view) arm.is in
-    let refused = refused_item k names lines c.args.left label (Err (fault_of e)) e words (ErrorMeets-reported (FaultOfItem (Err (fault_of e))) e refl)
-    (ap words_of c.describe.ensures)
+    let refused = refused_item k names d.names.file.now lines c.args.left label (Err (fault_of e)) e words
+    (ErrorMeets-reported (FaultOfItem (Err (fault_of e))) e refl) (ap words_of c.describe.ensures)
     in
     IfOk-weaker c.refuse_image.result _ _
     (λ outcome reported. (
       shown,
-      subst (λ (content : Result ContentView Fault). ShowsItem k names lines c.args.left (label_of x.place x.content) content shown) (sym here)
-          (subst (λ (l : LabelView). ShowsItem k names lines c.args.left l (Err (fault_of e)) shown) c.of-label.ensures refused),
+      subst (λ (content : Result ContentView Fault). ShowsItem k names d.names.file.now lines c.args.left (label_of x.place x.content) content shown) (sym here)
+          (subst (λ (l : LabelView). ShowsItem k names d.names.file.now lines c.args.left l (Err (fault_of e)) shown) c.of-label.ensures refused),
       sym reported.0,
       sym reported.1,
       record { text = reported.2; message = reported.3 },

@@ -17,8 +17,8 @@ items-init g c =
       nothing d.limit,
       refl,
       refl,
-      λ later more. subst (λ (xs : List ItemView). ShowsItems g.K.Sink.texts (names_text d.names.program.now file) (g.V.ImageView.lines d.view.now file d.limit)
-          d.cpu true d.limit xs later) same more,
+      λ later more. subst (λ (xs : List ItemView). ShowsItems g.K.Sink.texts (names_text d.names.program.now file) file
+          (g.V.ImageView.lines d.view.now file d.limit) d.cpu true d.limit xs later) same more,
       record { text = Appends-none _; message = Appends-none _ },
     )
 
@@ -30,7 +30,7 @@ items-preserved-then-not-is_for g c =
       before.0,
       before.1,
       before.2,
-      item_passed g.K.Sink.texts (names_text d.names.program.now file) (g.V.ImageView.lines d.view.now file d.limit) d.cpu d.limit
+      item_passed g.K.Sink.texts (names_text d.names.program.now file) file (g.V.ImageView.lines d.view.now file d.limit) d.cpu d.limit
           (input_items_left c.args.images) c.items.is_first c.items.left (input_items_left c.items.item-iterator) (input_item_read c.in-Some.item)
           (input_items_left c.next.new.self) before.0 c.in-Some.ensures.steps before.3 (sym c.is_for.ensures ∙ c.if-not-is_for.true),
       before.4,
@@ -48,13 +48,13 @@ items-preserved g c =
     let before = c.items.invariant in
     let one = c.in_ok-outcome.ensures in
     let last = separated k c.items.is_first one.0 in
-    let follows = item_shown k names lines d.cpu d.limit all c.items.is_first c.items.left (input_items_left c.items.item-iterator)
+    let follows = item_shown k names file lines d.cpu d.limit all c.items.is_first c.items.left (input_items_left c.items.item-iterator)
     (input_item_read c.in-Some.item) rest before.0 one.0 c.in-Some.ensures.steps before.3 (sym c.is_for.ensures ∙ c.if-not-is_for.false) one.1
     in (
       both before.0 last,
       ap (λ first. first && one.0.whole) before.1 ∙ ap (λ second. c.items.whole && second) one.2,
       one.3,
-      subst (λ (left : ℕ). Follows k names lines d.cpu d.limit all false left rest (both before.0 last)) one.3 follows,
+      subst (λ (left : ℕ). Follows k names file lines d.cpu d.limit all false left rest (both before.0 last)) one.3 follows,
       record {
         text = Appends-both _ _ _ before.0.text last.text before.4.text (Appends-both _ _ _ _ one.0.text c.in_ok-separate.ensures one.4.text);
         message = Appends-both _ _ _ before.0.message one.0.message before.4.message one.4.message;
@@ -67,7 +67,7 @@ returns g c =
     let file = d.names.file.now in
     let before = c.items.invariant in (
       both before.0 (nothing c.items.left),
-      items_shown g.K.Sink.texts (names_text d.names.program.now file) (g.V.ImageView.lines d.view.now file d.limit) d.cpu d.limit
+      items_shown g.K.Sink.texts (names_text d.names.program.now file) file (g.V.ImageView.lines d.view.now file d.limit) d.cpu d.limit
           (input_items_left c.args.images) c.items.is_first c.items.left (input_items_left c.items.item-iterator) before.0 c.in-None.ensures.steps.0 before.3,
       and-true before.0.whole ∙ before.1,
       record {

@@ -1,13 +1,13 @@
 use Rattle.std.proofs.Common.{◌+◌, List, ℕ, drop, sym, subst, arith}
 use Rattle.std.proofs.lemmas.List.{drop_all, drop_more}
 use Rattle.std.specs.Borrow.{Bor}
-use Rattle.mach_cli.specs.ShownCalls.{manner_of, ShowsNamed}
+use Rattle.mach_cli.specs.ShownCalls.{manner_in, ShowsNamed}
 use Rattle.mach_cli.proofs.Orders.{Completes, at_last, one_more}
 use Rattle.mach_cli.proofs.files.Running.show_files.Goals as goal
 
 pub files-preserved : goal.files-preserved
 files-preserved g c =
-    let m = manner_of c.args.self.now.files c.args.self.now.are_several (g.S.FileView.shows c.args.shows.now) in
+    let m = manner_in c.args.self.now (g.S.FileView.shows c.args.shows.now) in
     let P = λ (file : Bor (List ℕ)). ShowsNamed m file.now in
     let all = c.args.files.now in
     let i = c.files.file-index in
@@ -18,7 +18,7 @@ files-preserved g c =
 
 pub returns-clause-shown : goal.returns-clause-shown
 returns-clause-shown g c =
-    let m = manner_of c.args.self.now.files c.args.self.now.are_several (g.S.FileView.shows c.args.shows.now) in
+    let m = manner_in c.args.self.now (g.S.FileView.shows c.args.shows.now) in
     let all = c.args.files.now in
     let i = c.files.file-index in
     at_last (λ (file : Bor (List ℕ)). ShowsNamed m file.now) all c.args.out.now c.files.out (drop i all) c.files.worst

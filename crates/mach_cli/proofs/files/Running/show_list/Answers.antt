@@ -3,13 +3,13 @@ use Rattle.std.proofs.lemmas.Result.{IfOk-weaker}
 use Rattle.std.specs.Borrow.{Bor}
 use Rattle.mach_base.specs.Text.{texts}
 use Rattle.mach_cli.specs.InOrder.{InOrder}
-use Rattle.mach_cli.specs.ShownCalls.{manner_of, ShowsList, ShowsListed, read_list, unread_list}
+use Rattle.mach_cli.specs.ShownCalls.{manner_in, ShowsList, ShowsListed, read_list, unread_list}
 use Rattle.mach_cli.proofs.Orders.{of_views}
 use Rattle.mach_cli.proofs.files.Running.show_list.Goals as goal
 
 pub returns-in-Ok-clause-shown : goal.returns-in-Ok-clause-shown
 returns-in-Ok-clause-shown g c =
-    let m = manner_of c.args.self.now.files c.args.self.now.are_several (g.S.FileView.shows c.args.shows.now) in
+    let m = manner_in c.args.self.now (g.S.FileView.shows c.args.shows.now) in
     let new = c.show_names.new.out in
     let out = c.args.out.now in
     IfOk-weaker c.show_names.result _ _
@@ -21,6 +21,6 @@ returns-in-Ok-clause-shown g c =
 
 pub returns-in-Err-clause-shown : goal.returns-in-Err-clause-shown
 returns-in-Err-clause-shown g c =
-    let m = manner_of c.args.self.now.files c.args.self.now.are_several (g.S.FileView.shows c.args.shows.now) in
+    let m = manner_in c.args.self.now (g.S.FileView.shows c.args.shows.now) in
     let out = c.args.out.now in
     subst (ShowsList m c.args.end out out) (sym c.no_memory_for.ensures) (unread_list 1 (inl refl) refl)

@@ -1,13 +1,13 @@
 use Rattle.std.proofs.Common.{◌+◌, [], List, ℕ, drop, get_or, sym, subst, arith}
 use Rattle.std.proofs.lemmas.List.{drop_all, drop_more}
 use Rattle.std.specs.Borrow.{Bor}
-use Rattle.mach_cli.specs.ShownCalls.{manner_of, ShowsList}
+use Rattle.mach_cli.specs.ShownCalls.{manner_in, ShowsList}
 use Rattle.mach_cli.proofs.Orders.{Completes, at_last, one_more}
 use Rattle.mach_cli.proofs.files.Running.show_lists.Goals as goal
 
 pub lists-preserved : goal.lists-preserved
 lists-preserved g c =
-    let m = manner_of c.args.self.now.files c.args.self.now.are_several (g.S.FileView.shows c.args.shows.now) in
+    let m = manner_in c.args.self.now (g.S.FileView.shows c.args.shows.now) in
     let P = λ (list : Bor (List ℕ)). ShowsList m c.args.end in
     let all = c.args.lists.now in
     let i = c.lists.list-index in
@@ -19,7 +19,7 @@ lists-preserved g c =
 
 pub returns-clause-shown : goal.returns-clause-shown
 returns-clause-shown g c =
-    let m = manner_of c.args.self.now.files c.args.self.now.are_several (g.S.FileView.shows c.args.shows.now) in
+    let m = manner_in c.args.self.now (g.S.FileView.shows c.args.shows.now) in
     let all = c.args.lists.now in
     let i = c.lists.list-index in
     at_last (λ (list : Bor (List ℕ)). ShowsList m c.args.end) all c.args.out.now c.lists.out (drop i all) c.lists.worst

@@ -1,9 +1,9 @@
 use Rattle.std.proofs.Common.{drop}
-use Rattle.mach_cli.specs.ShownCalls.{manner_of, ShowsList}
+use Rattle.mach_cli.specs.ShownCalls.{manner_in, ShowsList}
 use Rattle.mach_cli.proofs.Orders.{Completes}
 use Rattle.mach_cli.proofs.files.Running.show_lists.Given as goal
 
 abbrev pub invariant-lists : goal.invariant-lists
 invariant-lists g l =
-    let m = manner_of l.self.files l.self.are_several (g.S.FileView.shows l.shows) in
+    let m = manner_in l.self (g.S.FileView.shows l.shows) in
     Completes (λ list. ShowsList m l.end) l.lists l.fn.out (drop l.list-index l.lists) l.out l.worst

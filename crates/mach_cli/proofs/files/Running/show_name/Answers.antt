@@ -1,7 +1,7 @@
 use Rattle.std.proofs.Common.{◌∙◌, List, ℕ, refl, sym, subst}
 use Rattle.std.proofs.lemmas.Bool.{eqb-true}
 use Rattle.std.proofs.lemmas.Result.{IfOk-weaker}
-use Rattle.mach_cli.specs.ShownCalls.{manner_of, ShowsListed, ShowsNamed, empty_name, listed_file, no_text}
+use Rattle.mach_cli.specs.ShownCalls.{manner_in, ShowsListed, ShowsNamed, empty_name, listed_file, no_text}
 use Rattle.mach_cli.proofs.files.Running.show_name.Goals as goal
 
 pub returns-then-is_empty-clause-shown : goal.returns-then-is_empty-clause-shown
@@ -9,7 +9,7 @@ returns-then-is_empty-clause-shown g c = empty_name (eqb-true _ _ (sym c.is_empt
 
 pub returns-in-Ok-clause-shown : goal.returns-in-Ok-clause-shown
 returns-in-Ok-clause-shown g c =
-    let m = manner_of c.args.self.now.files c.args.self.now.are_several (g.S.FileView.shows c.args.shows.now) in
+    let m = manner_in c.args.self.now (g.S.FileView.shows c.args.shows.now) in
     IfOk-weaker c.show_file.result _ _
     (λ status shown. listed_file status c.in-Ok.ensures.cases.1
     (subst (λ (name : List ℕ). ShowsNamed m name c.args.out.now c.show_file.new.out status) c.in-Ok.ensures.cases.0 shown))
@@ -17,6 +17,6 @@ returns-in-Ok-clause-shown g c =
 
 pub returns-in-Err-clause-shown : goal.returns-in-Err-clause-shown
 returns-in-Err-clause-shown g c =
-    let m = manner_of c.args.self.now.files c.args.self.now.are_several (g.S.FileView.shows c.args.shows.now) in
+    let m = manner_in c.args.self.now (g.S.FileView.shows c.args.shows.now) in
     let out = c.args.out.now in
     subst (ShowsListed m c.args.name.now out out) (sym c.refuse_name.ensures) (no_text c.in-Err.ensures.cases.0 refl)

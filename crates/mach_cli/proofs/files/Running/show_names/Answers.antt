@@ -1,13 +1,13 @@
 use Rattle.std.proofs.Common.{◌+◌, List, ℕ, drop, sym, subst, arith}
 use Rattle.std.proofs.lemmas.List.{drop_all, drop_more}
 use Rattle.std.specs.Borrow.{Bor}
-use Rattle.mach_cli.specs.ShownCalls.{manner_of, ShowsListed}
+use Rattle.mach_cli.specs.ShownCalls.{manner_in, ShowsListed}
 use Rattle.mach_cli.proofs.Orders.{Completes, at_last, one_more}
 use Rattle.mach_cli.proofs.files.Running.show_names.Goals as goal
 
 pub names-preserved : goal.names-preserved
 names-preserved g c =
-    let m = manner_of c.args.self.now.files c.args.self.now.are_several (g.S.FileView.shows c.args.shows.now) in
+    let m = manner_in c.args.self.now (g.S.FileView.shows c.args.shows.now) in
     let P = λ (name : Bor (List ℕ)). ShowsListed m name.now in
     let all = c.args.names.now in
     let i = c.names.index in
@@ -18,7 +18,7 @@ names-preserved g c =
 
 pub returns-clause-shown : goal.returns-clause-shown
 returns-clause-shown g c =
-    let m = manner_of c.args.self.now.files c.args.self.now.are_several (g.S.FileView.shows c.args.shows.now) in
+    let m = manner_in c.args.self.now (g.S.FileView.shows c.args.shows.now) in
     let all = c.args.names.now in
     let i = c.names.index in
     at_last (λ (name : Bor (List ℕ)). ShowsListed m name.now) all c.args.out.now c.names.out (drop i all) c.names.worst

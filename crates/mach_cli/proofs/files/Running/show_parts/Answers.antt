@@ -3,13 +3,13 @@ use Rattle.goblin_mach.specs.Items.{ItemView}
 use Rattle.goblin_mach.specs.ItemsLeft.{input_item_read}
 use Rattle.mach_cli.specs.InOrder.{InOrder}
 use Rattle.mach_cli.specs.PartsOf.{parts_in, parts_left}
-use Rattle.mach_cli.specs.ShownCalls.{manner_of, ShowsPart}
+use Rattle.mach_cli.specs.ShownCalls.{manner_in, ShowsPart}
 use Rattle.mach_cli.proofs.Orders.{Completes, at_first, at_last, one_more}
 use Rattle.mach_cli.proofs.files.Running.show_parts.Goals as goal
 
 pub parts-init : goal.parts-init
 parts-init g c =
-    let m = manner_of c.args.self.now.files c.args.self.now.are_several (g.S.FileView.shows c.args.shows.now) in
+    let m = manner_in c.args.self.now (g.S.FileView.shows c.args.shows.now) in
     let P = ShowsPart m c.args.file.now in
     let same = ap parts_left c.into_iter-part-iterator.ensures.into_iter_gives ∙ c.parts_of-part-items.ensures in
     λ end status rest. at_first P (parts_in c.args.bytes.now) c.args.out.now end status
@@ -17,7 +17,7 @@ parts-init g c =
 
 pub parts-preserved : goal.parts-preserved
 parts-preserved g c =
-    let m = manner_of c.args.self.now.files c.args.self.now.are_several (g.S.FileView.shows c.args.shows.now) in
+    let m = manner_in c.args.self.now (g.S.FileView.shows c.args.shows.now) in
     let P = ShowsPart m c.args.file.now in
     let all = parts_in c.args.bytes.now in
     let rest = parts_left c.next.new.self in
@@ -28,6 +28,6 @@ parts-preserved g c =
 
 pub returns-clause-shown : goal.returns-clause-shown
 returns-clause-shown g c =
-    let m = manner_of c.args.self.now.files c.args.self.now.are_several (g.S.FileView.shows c.args.shows.now) in
+    let m = manner_in c.args.self.now (g.S.FileView.shows c.args.shows.now) in
     at_last (ShowsPart m c.args.file.now) (parts_in c.args.bytes.now) c.args.out.now c.parts.out (parts_left c.parts.part-iterator) c.parts.worst
     c.in-None.ensures.steps.0 c.parts.invariant

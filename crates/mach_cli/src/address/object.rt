@@ -1,0 +1,138 @@
+//! What an image has at an address, as a member of its object.
+
+ghost use Rattle.std.specs.Prelude.{◌≡◌, option_map, Some};
+ghost use Rattle.std.specs.Result.{result_ok};
+ghost use Rattle.mach_base.specs.Text.{text_at};
+ghost use Rattle.mach_dyld.specs.Exports.{text_in};
+ghost use Rattle.mach_cli.specs.AddressObjects.{at_member, function_members, holder_members, number_or_null, string_or_null};
+
+use crate::address::FoundAt;
+use crate::json::text::JsonString;
+use goblin_mach::segment::NumberedSection;
+use goblin_mach::{Function, read_text};
+use std::fmt;
+use std::fmt::{Display, Formatter, Write};
+
+/// The object of an address, with its name as a member.
+#[derive(Clone, Copy)]
+pub struct AtMember<'t, 'a> {
+    /// The address.
+    pub address: u64,
+    /// What the image has there.
+    pub found: &'t FoundAt<'a>,
+}
+
+impl Display for AtMember<'_, '_> {
+    ghost output = { λ t. Some (at_member t.address t.found.now) };
+
+    fn fmt<W: Write>(&self, f: &mut Formatter<W>) -> fmt::Result {
+        let AtMember { address, found } = *self;
+        let distance = NumberOrNull(found.distance());
+        let function = FunctionMembers(found.function);
+        let holder = HolderMembers(found.section);
+        let symbol = StringOrNull(found.symbol_name());
+        write!(
+            f,
+            "\"at\":{{\"address\":{address},\"distance\":{distance},{function},{holder},\"symbol\":{symbol}}}"
+        )
+    }
+}
+
+// The addresses of a function, if there is one.
+#[derive(Clone, Copy)]
+struct FunctionMembers(Option<Function>);
+
+impl Display for FunctionMembers {
+    ghost output = { λ t. Some (function_members t.0) };
+
+    fn fmt<W: Write>(&self, f: &mut Formatter<W>) -> fmt::Result {
+        match self.0 {
+            Some(Function { start, end }) => {
+                write!(f, "\"function_end\":{end},\"function_start\":{start}")
+            }
+            None => f.write_str("\"function_end\":null,\"function_start\":null"),
+        }
+    }
+}
+
+// The names of a section and of its segment, if there is one.
+#[derive(Clone, Copy)]
+struct HolderMembers(Option<NumberedSection>);
+
+impl Display for HolderMembers {
+    ghost output = { λ t. Some (holder_members t.0) };
+
+    fn fmt<W: Write>(&self, f: &mut Formatter<W>) -> fmt::Result {
+        let Some(holder) = &self.0 else {
+            return f.write_str("\"section\":null,\"segment\":null");
+        };
+        let section = StringOrNull(name_in(&holder.section.sectname));
+        let segment = StringOrNull(name_in(&holder.section.segname));
+        write!(f, "\"section\":{section},\"segment\":{segment}")
+    }
+}
+
+// A number, `null` if there is none.
+#[derive(Clone, Copy)]
+struct NumberOrNull(Option<u64>);
+
+impl Display for NumberOrNull {
+    ghost output = { λ t. Some (number_or_null t.0) };
+
+    fn fmt<W: Write>(&self, f: &mut Formatter<W>) -> fmt::Result {
+        match self.0 {
+            Some(number) => write!(f, "{number}"),
+            None => f.write_str("null"),
+        }
+    }
+}
+
+// A text as a string, `null` if there is none.
+#[derive(Clone, Copy)]
+struct StringOrNull<'a>(Option<&'a str>);
+
+impl Display for StringOrNull<'_> {
+    ghost output = { λ t. Some (string_or_null (text_in t.0)) };
+
+    fn fmt<W: Write>(&self, f: &mut Formatter<W>) -> fmt::Result {
+        match self.0 {
+            Some(text) => {
+                let text = JsonString(text);
+                write!(f, "{text}")
+            }
+            None => f.write_str("null"),
+        }
+    }
+}
+
+// Returns the name with which bytes begin, if it can be read.
+fn name_in(bytes: &[u8]) -> Option<&str>
+    ensures { text_in result ≡ result_ok (text_at bytes.now 0) }
+{
+    match read_text(bytes, 0) {
+        Ok(name) => Some(name),
+        Err(_) => None,
+    }
+}
+
+impl<'a> FoundAt<'a> {
+    // Returns the name of the symbol, if there is one.
+    fn symbol_name(&self) -> Option<&str>
+        ensures { text_in result ≡ option_map (λ s. s.name.now) self.now.symbol }
+    {
+        match &self.symbol {
+            Some(symbol) => Some(symbol.name),
+            None => None,
+        }
+    }
+
+    // Returns how far the address is above the symbol, if there is one.
+    fn distance(&self) -> Option<u64>
+        ensures { result ≡ option_map (λ s. s.distance) self.now.symbol }
+    {
+        match &self.symbol {
+            Some(symbol) => Some(symbol.distance),
+            None => None,
+        }
+    }
+}
