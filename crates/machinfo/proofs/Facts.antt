@@ -1,5 +1,5 @@
 -- The rows of each word, by the image that was opened.
-use Rattle.std.proofs.Common.{◌≡◌, ◌-◌, ℕ, List, Result, length, refl}
+use Rattle.std.proofs.Common.{◌≡◌, ◌-◌, ℕ, List, Result, ap, length, refl, subst}
 use Rattle.mach_base.specs.Items.{items_in_bounds}
 use Rattle.mach_base.specs.Context.{pointer_size}
 use Rattle.mach_base.specs.Fault.{Fault}
@@ -13,6 +13,7 @@ use Rattle.mach_dyld.specs.Rebases.{Rebase}
 use Rattle.mach_dyld.specs.WeakBinds.{WeakBind}
 use Rattle.mach_load.specs.BuildTools.{build_tools_in}
 use Rattle.mach_load.specs.LinkerOptions.{linker_options_in}
+use Rattle.goblin_mach.specs.Facts.{HasBindings, HasSegments}
 use Rattle.goblin_mach.specs.Fixups.{base_view, chained_view}
 use Rattle.goblin_mach.specs.ImageSlots.{indirect_symbols_in, indirect_table_view, symbol_table_view, image_slots}
 use Rattle.goblin_mach.specs.ImageStreams.{AreImageRebases, AreImageWeakBinds, rebase_stream_in, weak_stream_in}
@@ -27,13 +28,17 @@ use Rattle.goblin_mach.proofs.ImageFacts.{bindings_are, entry_point_is, facts_ar
 use Rattle.goblin_mach.proofs.SlotFacts.{indirect_symbols_are, slots_are}
 use Rattle.goblin_mach.proofs.StreamFacts.{rebases_are, weak_binds_are}
 use Rattle.goblin_mach.proofs.TableFacts.{function_starts_are, data_in_code_are, linker_options_are, build_tools_are}
+use Rattle.mach_parts.specs.Segment.{SegmentView}
+use Rattle.mach_cli.specs.AllStretches.{SegmentStretches, parts_of}
+use Rattle.machinfo.specs.CommandRows.{CommandRowView, rows_of_commands}
+use Rattle.machinfo.specs.Imports.{HasImportFields, fields_of_imports}
 use Rattle.machinfo.specs.NumberedCommands.{NumberedCommandView, numbered_commands_from}
 use Rattle.machinfo.specs.NumberedNotes.{NumberedNoteView, numbered_notes_from}
 use Rattle.machinfo.specs.ProvidedSymbols.{ProvidedView, provided_in, symbols_past_in}
-use Rattle.machinfo.specs.Lists.{HasRows, as_rows, commands_there, libraries_there}
+use Rattle.machinfo.specs.Lists.{HasRows, as_rows, command_rows_there, commands_there, libraries_there}
 use Rattle.machinfo.specs.Rows.{command_row, start_row, slot_row, indirect_row, data_row, option_row, tool_row, note_row}
-use Rattle.machinfo.specs.Rows.{provided_row, library_row, rebase_row, weak_row, import_row, part_row}
-use Rattle.machinfo.specs.Parts.{PartRowView, past_of_part, rows_of_part}
+use Rattle.machinfo.specs.Rows.{provided_row, library_row, rebase_row, weak_row, part_row}
+use Rattle.machinfo.specs.Parts.{ArePartRows, PartRowView, past_of_part}
 use Rattle.machinfo.specs.declared.word.Part.{Part}
 use Rattle.machinfo.specs.declared.word.Word.TheVariants as words
 
@@ -64,9 +69,20 @@ module _ {A : Type 0} (m : MachO A) (bytes : List ℕ) (o : ℕ) (p : IsImage by
       → HasRows words.Tools bytes o (as_rows tool_row items) 0
   tool_rows items is = ((items, ((build_tools_are m).strict bytes o p items).1 is, refl), refl)
 
-  pub command_rows : (items : List NumberedCommandView) → items ≡ numbered_commands_from (bytes_view m) 0 (commands_view m)
-      → HasRows words.Commands bytes o (as_rows command_row (commands_there items)) 0
-  command_rows items is =
+  pub command_rows : (items : List CommandRowView)
+      → items ≡ rows_of_commands (ctx_view m).le m.header.cputype (numbered_commands_from (bytes_view m) 0 (commands_view m))
+      → HasRows words.Commands bytes o (as_rows command_row (command_rows_there items)) 0
+  command_rows items is = (
+    items,
+    (facts_are bytes o m (strict-lossy bytes o m p)
+        (λ f. items ≡ rows_of_commands f.ctx.le f.header.cputype (numbered_commands_from f.bytes 0 f.commands))).1 is,
+    refl,
+    refl,
+  )
+
+  pub command_rows_alone : (items : List NumberedCommandView) → items ≡ numbered_commands_from (bytes_view m) 0 (commands_view m)
+      → HasRows words.CommandsAlone bytes o (as_rows command_row (commands_there items)) 0
+  command_rows_alone items is =
       (items, (facts_are bytes o m (strict-lossy bytes o m p) (λ f. items ≡ numbered_commands_from f.bytes 0 f.commands)).1 is, refl, refl)
 
   pub note_rows : (items : List (Result NumberedNoteView Fault)) → items ≡ numbered_notes_from (bytes_view m) 0 (commands_view m)
@@ -96,13 +112,20 @@ module _ {A : Type 0} (m : MachO A) (bytes : List ℕ) (o : ℕ) (p : IsImage by
       → HasRows words.Weak bytes o (as_rows weak_row items) 0
   weak_rows items is = ((items, ((weak_binds_are m).strict bytes o p items).1 is, refl), refl)
 
-  pub import_rows : (items : List (Result Binding Fault))
+  pub import_fields_are : (parts : List SegmentStretches) (segments : List SegmentView) → HasSegments bytes o segments
+      → parts ≡ parts_of (length bytes) segments → (items : List (Result Binding Fault))
       → AreImageBindings (binds_view m) (chained_view m) (pointer_size (ctx_view m).container) (texts m.libs.items) (segments_view m) items
-      → HasRows words.Imports bytes o (as_rows import_row items) 0
-  import_rows items is = ((items, ((bindings_are m).strict bytes o p items).1 is, refl), refl)
+      → o ≡ 0 → HasImportFields bytes (fields_of_imports parts items)
+  import_fields_are parts segments has are items is start = record {
+    segments = segments;
+    has_segments = subst (λ (k : ℕ). HasSegments bytes k segments) start has;
+    items = items;
+    has_items = subst (λ (k : ℕ). HasBindings bytes k items) start (((bindings_are m).strict bytes o p items).1 is);
+    shown = ap (λ (known : List SegmentStretches). fields_of_imports known items) are;
+  }
 
   pub part_rows : (part : Part) (items : List (Result PartRowView Fault)) (past : ℕ)
-      → items ≡ rows_of_part part m.entry (facts_view m) → past ≡ past_of_part part (facts_view m)
+      → ArePartRows part m.entry (facts_view m) items → past ≡ past_of_part part (facts_view m)
       → HasRows (words.Part part) bytes o (as_rows part_row items) past
   part_rows part items past is is_past =
       let point : EntryPoint = record { address = m.entry; old_style = m.old_style_entry } in (
@@ -110,7 +133,7 @@ module _ {A : Type 0} (m : MachO A) (bytes : List ℕ) (o : ℕ) (p : IsImage by
         (
           point,
           ((entry_point_is m).strict bytes o p point).1 refl,
-          (facts_are bytes o m (strict-lossy bytes o m p) (λ f. (items ≡ rows_of_part part m.entry f) × (past ≡ past_of_part part f))).1 (is, is_past),
+          (facts_are bytes o m (strict-lossy bytes o m p) (λ f. ArePartRows part m.entry f items × (past ≡ past_of_part part f))).1 (is, is_past),
         ),
         refl,
       )

@@ -4,5 +4,6 @@ mod Facts
 mod Flags
 mod RowLines
 mod SectionRows
+mod SectionsOfCommands
 mod Some
 mod Verdicts

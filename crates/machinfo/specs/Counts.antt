@@ -11,7 +11,8 @@ use Rattle.machinfo.specs.Lists.{HasRows}
 use Rattle.machinfo.specs.Rows.{RowView}
 use Rattle.machinfo.specs.Words.{spelling_of}
 use Rattle.machinfo.specs.declared.word.Word.{Word}
-use Rattle.machinfo.specs.declared.word.Word.TheVariants.{Commands, Starts, Slots, Indirect, Data, Options, Tools, Notes, Providers, Libraries, Rebases, Weak}
+use Rattle.machinfo.specs.declared.word.Word.TheVariants.{CommandsAlone, Starts, Slots, Indirect, Data, Options}
+use Rattle.machinfo.specs.declared.word.Word.TheVariants.{Tools, Notes, Providers, Libraries, Rebases, Weak}
 use Rattle.machinfo.specs.declared.counts.Form.{Form}
 use Rattle.machinfo.specs.declared.counts.Form.TheVariants.{Lines, Members}
 
@@ -65,4 +66,4 @@ pub data AreCounts (form : Form) (limit : ℕ) (bytes : List ℕ) : List Word �
 
 -- the lists that are counted
 abbrev pub counted_words : List Word
-counted_words = Commands ∷ Starts ∷ Slots ∷ Indirect ∷ Data ∷ Options ∷ Tools ∷ Notes ∷ Providers ∷ Libraries ∷ Rebases ∷ Weak ∷ []
+counted_words = CommandsAlone ∷ Starts ∷ Slots ∷ Indirect ∷ Data ∷ Options ∷ Tools ∷ Notes ∷ Providers ∷ Libraries ∷ Rebases ∷ Weak ∷ []

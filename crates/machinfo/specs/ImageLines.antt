@@ -1,9 +1,11 @@
 -- The lines that the program shows of an image.
-use Rattle.std.specs.Prelude.{◌≡◌, ◌==◌, ◌&&◌, ℕ, List, [], ◌∷◌, ◌++◌, map, Bool, Option, Some, None, Result, codes}
+use Rattle.std.specs.Prelude.{◌≡◌, ◌==◌, ◌&&◌, ℕ, List, [], ◌∷◌, ◌++◌, map, Bool, false, Option, Some, None, Result, codes}
 use Rattle.std.specs.Fmt.{decimal}
 use Rattle.mach_base.specs.Fault.{Fault}
 use Rattle.goblin_mach.specs.Image.{Opens}
 use Rattle.goblin_mach.specs.ImageFacts.{Facts, HasFacts}
+use Rattle.mach_cli.specs.AddressLines.{AreAddressLines}
+use Rattle.mach_cli.specs.AddressObjects.{AreAddressMembers}
 use Rattle.mach_cli.specs.Fields.{FieldView, fields_line, fields_object}
 use Rattle.mach_cli.specs.Listings.{AreFirstLines, reported_by}
 use Rattle.mach_cli.specs.Shown.{ImageLines}
@@ -12,6 +14,7 @@ use Rattle.mach_signature.specs.Directories.{Directory}
 use Rattle.mach_signature.specs.SignedFacts.{HasCodeDirectory}
 use Rattle.machinfo.specs.Counts.{AreCounts, counted_words}
 use Rattle.machinfo.specs.Exports.{HasExportFields}
+use Rattle.machinfo.specs.Imports.{HasImportFields}
 use Rattle.machinfo.specs.Lists.{HasRows}
 use Rattle.machinfo.specs.PartLines.{AreLinesOfParts}
 use Rattle.machinfo.specs.RowFields.{fields_of_rows, lines_form}
@@ -112,14 +115,18 @@ pub record AreImageSummaryMembers (limit left : ℕ) (bytes : List ℕ) (text : 
   pub is_whole : whole ≡ (front_whole && counts_whole)
   pub is_rest : rest ≡ left
 
--- The lines of what is selected, or of the summary.
+-- The lines of what is selected, or of the summary. The line of an address has no name of a file before it.
 abbrev pub AreInfoLines : Option Choice → (file : List ℕ) → (limit : ℕ) → ImageLines
 AreInfoLines (Some (choices.Word word)) file limit = AreImageListLines word limit
 AreInfoLines (Some choices.Exports) file limit = λ left bytes. AreListedLines (HasExportFields bytes) limit left
+AreInfoLines (Some choices.Imports) file limit = λ left bytes. AreListedLines (HasImportFields bytes) limit left
+AreInfoLines (Some (choices.At address)) file limit = AreAddressLines address false false file limit
 AreInfoLines None file limit = AreImageSummaryLines limit
 
 -- The same as members.
 abbrev pub AreInfoMembers : Option Choice → (file : List ℕ) → (limit : ℕ) → ImageLines
 AreInfoMembers (Some (choices.Word word)) file limit = AreImageListMembers word
 AreInfoMembers (Some choices.Exports) file limit = λ left bytes. AreListedMembers (codes "exports") (HasExportFields bytes) left
+AreInfoMembers (Some choices.Imports) file limit = λ left bytes. AreListedMembers (codes "imports") (HasImportFields bytes) left
+AreInfoMembers (Some (choices.At address)) file limit = AreAddressMembers address file limit
 AreInfoMembers None file limit = AreImageSummaryMembers limit

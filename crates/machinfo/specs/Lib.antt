@@ -5,6 +5,9 @@ pub mod Words
 pub mod Platforms
 pub mod CommandFields
 pub mod NumberedCommands
+pub mod ThreadRegisters
+pub mod CommandRows
+pub mod CommandRowFields
 pub mod NumberedNotes
 pub mod ProvidedSymbols
 pub mod SectionRows
@@ -24,4 +27,5 @@ pub mod RowFields
 pub mod FactTexts
 pub mod ListLines
 pub mod Exports
+pub mod Imports
 pub mod PartLines

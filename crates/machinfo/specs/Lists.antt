@@ -7,20 +7,20 @@ use Rattle.mach_parts.specs.SlotViews.{indirect_left}
 use Rattle.mach_parts.specs.SlotsLeft.{slots_left}
 use Rattle.mach_dyld.specs.WeakBindsLeft.{weak_binds_left}
 use Rattle.mach_load.specs.TablesLeft.{starts_left, data_in_code_left, options_left, build_tools_left}
-use Rattle.goblin_mach.specs.BindingsLeft.{bindings_left}
-use Rattle.goblin_mach.specs.Facts.{HasBindings, HasLibrariesByKind}
+use Rattle.goblin_mach.specs.Facts.{HasLibrariesByKind}
 use Rattle.goblin_mach.specs.Libraries.{LibraryView, libraries_left}
 use Rattle.goblin_mach.specs.RebasesLeft.{rebases_left}
 use Rattle.goblin_mach.specs.SlotFacts.{HasIndirectSymbols, HasSymbolSlots}
 use Rattle.goblin_mach.specs.StreamFacts.{HasRebases, HasWeakBinds}
 use Rattle.goblin_mach.specs.TableFacts.{HasFunctionStarts, HasDataInCode, HasLinkerOptions, HasBuildTools}
+use Rattle.machinfo.specs.CommandRows.{CommandRowView, HasCommandRows, command_itself, command_rows_left}
 use Rattle.machinfo.specs.NumberedCommands.{NumberedCommandView, HasNumberedCommands, numbered_commands_left}
 use Rattle.machinfo.specs.NumberedNotes.{HasNumberedNotes, notes_numbered_left}
 use Rattle.goblin_mach.specs.ImageFacts.{OfFacts}
 use Rattle.machinfo.specs.ProvidedSymbols.{HasProvidedSymbols, provided_left, symbols_past_in}
 use Rattle.machinfo.specs.Parts.{HasPart, part_past_name, part_rows_left, part_rows_past, part_name_of}
 use Rattle.machinfo.specs.Rows.{RowView, command_row, start_row, slot_row, indirect_row, data_row, option_row, tool_row, note_row}
-use Rattle.machinfo.specs.Rows.{provided_row, library_row, rebase_row, weak_row, import_row, part_row, verdict_row}
+use Rattle.machinfo.specs.Rows.{provided_row, library_row, rebase_row, weak_row, part_row, verdict_row}
 use Rattle.machinfo.specs.Security.{HasFindings, findings_left}
 use Rattle.machinfo.specs.declared.list.ImageList.{ImageList}
 use Rattle.machinfo.specs.declared.list.ImageList.TheVariants as lists
@@ -39,9 +39,13 @@ AreRowsOf {X} row Has found = (items : List (Result X Fault)) × Has items × (f
 abbrev pub libraries_there : List LibraryView → List (Result LibraryView Fault)
 libraries_there libraries = map (λ l. Ok l) libraries
 
--- commands, as items that can all be read
-abbrev pub commands_there : List NumberedCommandView → List (Result NumberedCommandView Fault)
-commands_there commands = map (λ c. Ok c) commands
+-- rows of commands, as items that can all be read
+abbrev pub command_rows_there : List CommandRowView → List (Result CommandRowView Fault)
+command_rows_there found = map (λ row. Ok row) found
+
+-- commands alone, as such rows
+abbrev pub commands_there : List NumberedCommandView → List (Result CommandRowView Fault)
+commands_there commands = map (λ c. Ok (command_itself c)) commands
 
 -- these are the items of a table whose records begin within the bytes, as rows, and `past` more are claimed
 abbrev pub AreBegunRowsOf : {X : Type 0} → (X → RowView) → (List (Result X Fault) → Type 0) → List (Result RowView Fault) → (past : ℕ) → Type 0
@@ -52,6 +56,8 @@ AreBegunRowsOf {X} row Has found past =
 -- can't be read. Of a table they are the rows that begin within the bytes, and `past` more are claimed.
 abbrev pub HasRows : Word → List ℕ → ℕ → List (Result RowView Fault) → (past : ℕ) → Type 0
 HasRows words.Commands bytes o found past =
+    (items : List CommandRowView) × HasCommandRows bytes o items × (found ≡ as_rows command_row (command_rows_there items)) × (past ≡ 0)
+HasRows words.CommandsAlone bytes o found past =
     (commands : List NumberedCommandView) × HasNumberedCommands bytes o commands × (found ≡ as_rows command_row (commands_there commands)) × (past ≡ 0)
 HasRows words.Starts bytes o found past = AreRowsOf start_row (HasFunctionStarts bytes o) found × (past ≡ 0)
 HasRows words.Slots bytes o found past = AreRowsOf slot_row (HasSymbolSlots bytes o) found × (past ≡ 0)
@@ -66,7 +72,6 @@ HasRows words.Libraries bytes o found past =
     (libraries : List LibraryView) × HasLibrariesByKind bytes o libraries × (found ≡ as_rows library_row (libraries_there libraries)) × (past ≡ 0)
 HasRows words.Rebases bytes o found past = AreRowsOf rebase_row (HasRebases bytes o) found × (past ≡ 0)
 HasRows words.Weak bytes o found past = AreRowsOf weak_row (HasWeakBinds bytes o) found × (past ≡ 0)
-HasRows words.Imports bytes o found past = AreRowsOf import_row (HasBindings bytes o) found × (past ≡ 0)
 HasRows (words.Part part) bytes o found past = AreRowsOf part_row (λ items. HasPart part bytes o items past) found
 HasRows words.Security bytes o found past = AreRowsOf verdict_row (HasFindings bytes o) found × (past ≡ 0)
 
@@ -82,7 +87,8 @@ past_name _ = []
 
 -- the rows that are left of a list
 abbrev pub list_rows_left : {A : Type 0} → ImageList A → List (Result RowView Fault)
-list_rows_left (lists.Commands it) = as_rows command_row (commands_there (numbered_commands_left it))
+list_rows_left (lists.Commands it) = as_rows command_row (command_rows_there (command_rows_left it))
+list_rows_left (lists.CommandsAlone it) = as_rows command_row (commands_there (numbered_commands_left it))
 list_rows_left (lists.Starts it) = as_rows start_row (starts_left it)
 list_rows_left (lists.Slots it) = as_rows slot_row (slots_left it)
 list_rows_left (lists.Indirect it past) = as_rows indirect_row (indirect_left it)
@@ -94,7 +100,6 @@ list_rows_left (lists.Providers it) = as_rows provided_row (provided_left it)
 list_rows_left (lists.Libraries it) = as_rows library_row (libraries_there (libraries_left it))
 list_rows_left (lists.Rebases it) = as_rows rebase_row (rebases_left it)
 list_rows_left (lists.Weak it) = as_rows weak_row (weak_binds_left it)
-list_rows_left (lists.Imports it) = as_rows import_row (bindings_left it)
 list_rows_left (lists.Part it) = as_rows part_row (part_rows_left it)
 list_rows_left (lists.Security it) = as_rows verdict_row (findings_left it)
 

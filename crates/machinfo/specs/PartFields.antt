@@ -1,5 +1,6 @@
 -- What the rows of parts of an image show, field by field: as lines, and as objects of JSON (`mach-o/loader.h`).
-use Rattle.std.specs.Prelude.{◌==◌, ◌&&◌, ◌∷◌, ◌++◌, ℕ, ◌-◌, ◌/◌, ◌%◌, List, [], codes, length, map, bit_and, Bool, not, Option, Some, None, if◌then◌else◌}
+use Rattle.std.specs.Prelude.{◌==◌, ◌&&◌, ◌∷◌, ◌++◌, ℕ, ◌-◌, ◌/◌, ◌%◌, List, []}
+use Rattle.std.specs.Prelude.{codes, length, map, bit_and, Bool, not, Option, Some, None, option_map, if◌then◌else◌}
 use Rattle.std.specs.Result.{result_ok}
 use Rattle.mach_base.specs.Named.{Named, name_or}
 use Rattle.mach_base.specs.Text.{text_at}
@@ -14,10 +15,9 @@ use Rattle.mach_cli.specs.Fields.{text, uuid, wide_field}
 use Rattle.mach_cli.specs.Cpus.{arch_rows, cpu_named}
 use Rattle.mach_cli.specs.ImageKinds.{image_kind}
 use Rattle.machinfo.specs.CommandFields.{if_known}
-use Rattle.machinfo.specs.Parts.{PartRowView, entry_part, header_part, rpath_part, section_part, segment_part, uuid_part}
+use Rattle.machinfo.specs.Parts.{EntryView, PartRowView, entry_part, header_part, rpath_part, section_part, segment_part, uuid_part}
 use Rattle.machinfo.specs.Segments.{rights_text}
 use Rattle.machinfo.specs.HeaderWords.{flag_short_name}
-use Rattle.machinfo.specs.declared.parts.EntryRow.{EntryRow}
 use Rattle.machinfo.specs.declared.parts.UuidRow.{UuidRow}
 use Rattle.machinfo.specs.declared.sections.SectionRow.{SectionRow}
 
@@ -177,12 +177,28 @@ abbrev pub name_of_found : Option NumberedSection → Option (List ℕ)
 name_of_found None = None
 name_of_found (Some found) = name_in_field found.section.sectname
 
--- the address, and the first section that holds it
-abbrev pub entry_part_fields : EntryRow → List FieldView
+-- the name of a symbol
+abbrev pub entry_symbol_name : Option (List ℕ × ℕ) → Option (List ℕ)
+entry_symbol_name symbol = option_map (λ s. s.0) symbol
+
+-- how far an address is above a symbol, if there is one; a line has that only if it is above it
+abbrev pub entry_distance_field : Option (List ℕ × ℕ) → FieldView
+entry_distance_field None = line_field (text []) 0
+entry_distance_field (Some s) = field_of (codes "distance") (hex s.1) (column_if (not (s.1 == 0)) 6)
+
+abbrev pub above_field : Option (List ℕ × ℕ) → FieldView
+above_field None = line_field (text []) 0
+above_field (Some s) = line_field (text (codes "+")) (column_if (not (s.1 == 0)) 5)
+
+-- the address, the first section that holds it, and the symbol with the distance
+abbrev pub entry_part_fields : EntryView → List FieldView
 entry_part_fields row =
     field_of (codes "address") (hex row.address) 1
     ∷ field_of (codes "segment") (optional_text (segment_of_found row.section)) 2
     ∷ field_of (codes "section") (optional_text (name_of_found row.section)) 3
+    ∷ field_of (codes "symbol") (optional_text (entry_symbol_name row.symbol)) 4
+    ∷ above_field row.symbol
+    ∷ entry_distance_field row.symbol
     ∷ []
 
 -- ---- the header (struct mach_header_64)

@@ -1,5 +1,5 @@
 -- The parts of an image that are lists, as rows.
-use Rattle.std.specs.Prelude.{◌≡◌, ◌==◌, ◌∷◌, ℕ, List, [], codes, drop, map, Option, Some, None, option_map, Result, Ok, if◌then◌else◌}
+use Rattle.std.specs.Prelude.{◌≡◌, ◌∷◌, ℕ, List, [], codes, drop, map, Option, Some, None, option_map, Result, Ok}
 use Rattle.std.specs.List.{enumerate_from, filter_map}
 use Rattle.mach_base.specs.declared.error.Error.{Error}
 use Rattle.mach_base.specs.Answer.{◌>>=◌}
@@ -14,10 +14,15 @@ use Rattle.mach_parts.specs.declared.header.Header.{Header}
 use Rattle.goblin_mach.specs.EntryPoint.{EntryPoint}
 use Rattle.goblin_mach.specs.Facts.{HasEntryPoint}
 use Rattle.goblin_mach.specs.ImageFacts.{Facts, OfFacts}
+use Rattle.goblin_mach.specs.NamedParts.{symbols_within}
+use Rattle.goblin_mach.specs.NearestSymbol.{IsSymbolAt}
+use Rattle.goblin_mach.specs.declared.macho.nearest.SymbolAt.{SymbolAt}
+use Rattle.mach_parts.specs.declared.segment.numbered.NumberedSection.{NumberedSection}
 use Rattle.machinfo.specs.FactRows.{uuid_by}
 use Rattle.machinfo.specs.SectionRows.{section_rows_in, sections_counted_left, sections_past}
 use Rattle.machinfo.specs.declared.sections.SectionRow.{SectionRow}
 use Rattle.machinfo.specs.declared.parts.EntryRow.{EntryRow}
+use Rattle.machinfo.specs.declared.parts.EntrySymbol.{EntrySymbol}
 use Rattle.machinfo.specs.declared.parts.NumberedPaths.{NumberedPaths}
 use Rattle.machinfo.specs.declared.parts.NumberedSegments.{NumberedSegments}
 use Rattle.machinfo.specs.declared.parts.PartList.{PartList}
@@ -29,6 +34,13 @@ use Rattle.machinfo.specs.declared.parts.UuidRows.{UuidRows}
 use Rattle.machinfo.specs.declared.word.Part.{Part}
 use Rattle.machinfo.specs.declared.word.Part.TheVariants as parts
 
+-- an entry point: its address, the first section that holds it, and the nearest symbol of that section at or below it: the name, and how
+-- far the address is above it
+pub record EntryView : Type 0 where
+  pub address : ℕ
+  pub section : Option NumberedSection
+  pub symbol : Option (List ℕ × ℕ)
+
 -- a row of a part of an image
 pub data PartRowView : Type 0 where
   -- the number of the segment, and the segment
@@ -37,7 +49,7 @@ pub data PartRowView : Type 0 where
   uuid_part : (uuid : UuidRow) → PartRowView
   -- the number of the path, and the path
   rpath_part : (found : ℕ × List ℕ) → PartRowView
-  entry_part : (entry : EntryRow) → PartRowView
+  entry_part : (entry : EntryView) → PartRowView
   header_part : (header : Header) → PartRowView
 
 -- segments, the first of which has this number
@@ -59,23 +71,34 @@ uuid_parts uuids = map (λ u. Ok (uuid_part u)) uuids
 abbrev pub rpath_rows_from : ℕ → List (List ℕ) → List (Result PartRowView Fault)
 rpath_rows_from n paths = map (λ found. Ok (rpath_part found)) (enumerate_from n paths)
 
--- the entry point, if it is known, and the first section that holds it
-abbrev pub entry_row_of : (entry : ℕ) → List SegmentView → Option EntryRow
-entry_row_of entry segments = if entry == 0 then None else Some (record { address = entry; section = section_holding segments entry })
+-- the name of a symbol that was found, and how far the address is above it
+abbrev pub symbol_seen : Option SymbolAt → Option (List ℕ × ℕ)
+symbol_seen found = option_map (λ x. (x.name.now, x.distance)) found
+
+-- An image has this symbol at an address, as `machinfo at` shows it (IsSymbolAt).
+abbrev pub IsSymbolThere : (address : ℕ) → Facts → Option (List ℕ × ℕ) → Type 0
+IsSymbolThere address f seen =
+    (found : Option SymbolAt) × IsSymbolAt f.segments (symbols_within f.symbols) (section_holding f.segments address) address found
+    × (seen ≡ symbol_seen found)
+
+-- This is where an image begins to run, if that is known.
+abbrev pub IsEntryRow : (entry : ℕ) → Facts → Option EntryView → Type 0
+IsEntryRow entry f None = entry ≡ 0
+IsEntryRow entry f (Some row) = (row.address ≡ entry) × (row.section ≡ section_holding f.segments entry) × IsSymbolThere entry f row.symbol
 
 -- a row, if there is one
 abbrev pub one_row : Option PartRowView → List (Result PartRowView Fault)
 one_row None = []
 one_row (Some row) = Ok row ∷ []
 
--- The rows of a part of an image that begins to run at this address, or 0.
-abbrev pub rows_of_part : Part → (entry : ℕ) → Facts → List (Result PartRowView Fault)
-rows_of_part parts.Segments entry f = segment_rows_from 0 f.segments
-rows_of_part parts.Sections entry f = section_parts (section_rows_in 0 0 f.segments)
-rows_of_part parts.Uuid entry f = uuid_parts (filter_map (uuid_row_by f.header) f.commands)
-rows_of_part parts.Rpaths entry f = rpath_rows_from 0 f.run_paths
-rows_of_part parts.Entry entry f = one_row (option_map entry_part (entry_row_of entry f.segments))
-rows_of_part parts.Header entry f = one_row (Some (header_part f.header))
+-- These are the rows of a part of an image that begins to run at this address, or 0.
+abbrev pub ArePartRows : Part → (entry : ℕ) → Facts → List (Result PartRowView Fault) → Type 0
+ArePartRows parts.Segments entry f items = items ≡ segment_rows_from 0 f.segments
+ArePartRows parts.Sections entry f items = items ≡ section_parts (section_rows_in 0 0 f.segments)
+ArePartRows parts.Uuid entry f items = items ≡ uuid_parts (filter_map (uuid_row_by f.header) f.commands)
+ArePartRows parts.Rpaths entry f items = items ≡ rpath_rows_from 0 f.run_paths
+ArePartRows parts.Entry entry f items = (row : Option EntryView) × IsEntryRow entry f row × (items ≡ one_row (option_map entry_part row))
+ArePartRows parts.Header entry f items = items ≡ one_row (Some (header_part f.header))
 
 -- how many more rows are claimed past the end of the bytes, and their name
 abbrev pub past_of_part : Part → Facts → ℕ
@@ -90,16 +113,22 @@ part_past_name _ = []
 abbrev pub HasPart : Part → List ℕ → ℕ → List (Result PartRowView Fault) → (past : ℕ) → Type 0
 HasPart part bytes o items past =
     (point : EntryPoint) × HasEntryPoint bytes o point
-    × OfFacts bytes o (λ f. (items ≡ rows_of_part part point.address f) × (past ≡ past_of_part part f))
+    × OfFacts bytes o (λ f. ArePartRows part point.address f items × (past ≡ past_of_part part f))
 
 -- ---- what the code's values stand for
+
+abbrev pub entry_symbol_view : EntrySymbol → List ℕ × ℕ
+entry_symbol_view s = (s.name.now, s.distance)
+
+abbrev pub entry_view : EntryRow → EntryView
+entry_view row = record { address = row.address; section = row.section; symbol = option_map entry_symbol_view row.symbol }
 
 abbrev pub part_row_view : PartRow → PartRowView
 part_row_view (rows.Segment number segment) = segment_part (number, segment_view segment.now)
 part_row_view (rows.Section section) = section_part section
 part_row_view (rows.Uuid uuid) = uuid_part uuid
 part_row_view (rows.Rpath number path) = rpath_part (number, path.now)
-part_row_view (rows.Entry entry) = entry_part entry
+part_row_view (rows.Entry entry) = entry_part (entry_view entry)
 part_row_view (rows.Header header) = header_part header
 
 abbrev pub part_row_read : Result PartRow Error → Result PartRowView Fault

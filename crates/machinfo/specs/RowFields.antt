@@ -1,6 +1,5 @@
 -- What the rows of lists show, field by field: as lines, and as objects of JSON.
-use Rattle.std.specs.Prelude.{◌||◌, ℕ, ℤ, pos, List, [], ◌∷◌, codes, length, map, Bool, true, false, not, Option, Some, None, Result, Ok, if◌then◌else◌}
-use Rattle.std.specs.Ordering.{int_eq}
+use Rattle.std.specs.Prelude.{◌||◌, ℕ, List, [], ◌∷◌, codes, length, map, Bool, true, false, not, Result, Ok, if◌then◌else◌}
 use Rattle.mach_base.specs.Answer.{◌>>=◌}
 use Rattle.mach_base.specs.Fault.{Fault}
 use Rattle.mach_records.specs.declared.linkedit.DataInCodeEntry.{DataInCodeEntry}
@@ -19,16 +18,15 @@ use Rattle.goblin_mach.specs.declared.libraries.LibraryKind.{LibraryKind}
 use Rattle.goblin_mach.specs.declared.libraries.LibraryKind.TheVariants.{Lazy}
 use Rattle.mach_cli.specs.Fields.{FieldView, number, named, signed, hex, text, version, flag, flags, field_of, line_field}
 use Rattle.mach_cli.specs.Fields.{fields_line, fields_pairs, object_field}
-use Rattle.mach_cli.specs.Fields.{whether, wide_field}
+use Rattle.mach_cli.specs.Fields.{whether}
 use Rattle.mach_cli.specs.Listings.{reported_by}
-use Rattle.mach_cli.specs.Origins.{ordinal_of, provider_name}
 use Rattle.mach_cli.specs.Signing.{diverse_by, diversity_by, has_auth, key_by, rebase_type}
-use Rattle.machinfo.specs.NumberedCommands.{numbered_command_fields}
+use Rattle.machinfo.specs.CommandRowFields.{command_row_fields}
 use Rattle.machinfo.specs.NumberedNotes.{NumberedNoteView}
 use Rattle.machinfo.specs.PartFields.{column_if, flag_field, part_fields}
 use Rattle.machinfo.specs.ProvidedSymbols.{ProvidedView}
 use Rattle.machinfo.specs.Rows.{RowView, command_row, start_row, slot_row, indirect_row, data_row, option_row, tool_row, note_row}
-use Rattle.machinfo.specs.Rows.{provided_row, library_row, rebase_row, weak_row, import_row, part_row, verdict_row, list_row_view}
+use Rattle.machinfo.specs.Rows.{provided_row, library_row, rebase_row, weak_row, part_row, verdict_row, list_row_view}
 use Rattle.machinfo.specs.Security.{finding_fields}
 use Rattle.machinfo.specs.Lists.{list_rows_left}
 use Rattle.machinfo.specs.Tools.{tool_name}
@@ -178,31 +176,10 @@ abbrev pub weak_row_fields : WeakBind → List FieldView
 weak_row_fields (strong_name name) = strong_row_fields name
 weak_row_fields (weakly_bound b) = binding_fields b
 
--- ---- imports
-
--- from which image a symbol comes: its short name; if there is none, only a line has the field, with the ordinal
-abbrev pub import_from : Option (List ℕ) → (ordinal : ℤ) → FieldView
-import_from (Some name) ordinal = wide_field 20 (field_of (codes "from") (text name) 2)
-import_from None ordinal = line_field (signed ordinal) 2
-
--- The address of the pointer, the image that the symbol comes from, and its name; the addend if it isn't 0; whether the symbol may be
--- missing, and whether it is bound at its first use. An object also has the ordinal and the pointer's file offset.
-abbrev pub import_row_fields : Binding → List FieldView
-import_row_fields b =
-    wide_field 11 (field_of (codes "address") (hex b.address) 1)
-    ∷ field_of (codes "addend") (signed b.addend) (column_if (not (int_eq b.addend (pos 0))) 4)
-    ∷ import_from (provider_name b.provider) (ordinal_of b.provider)
-    ∷ flag_field (codes "is_lazy") b.is_lazy (codes "lazy") 6
-    ∷ flag_field (codes "is_weak") b.is_weak (codes "weak") 5
-    ∷ object_field (codes "library") (signed (ordinal_of b.provider))
-    ∷ field_of (codes "name") (text b.name) 3
-    ∷ object_field (codes "offset") (hex b.offset)
-    ∷ []
-
 -- ---- rows
 
 abbrev pub row_fields : RowView → List FieldView
-row_fields (command_row command) = numbered_command_fields command
+row_fields (command_row row) = command_row_fields row
 row_fields (start_row address) = start_fields address
 row_fields (slot_row slot) = slot_fields slot
 row_fields (indirect_row entry) = indirect_fields entry
@@ -214,7 +191,6 @@ row_fields (provided_row provided) = provided_fields provided
 row_fields (library_row library) = library_fields library
 row_fields (rebase_row rebase) = rebase_row_fields rebase
 row_fields (weak_row bind) = weak_row_fields bind
-row_fields (import_row binding) = import_row_fields binding
 row_fields (part_row row) = part_fields row
 row_fields (verdict_row finding) = finding_fields finding
 
@@ -229,6 +205,7 @@ row_texts found = map (reported_by fields_line) (fields_of_rows found)
 -- the lines of commands and of the header have the names of fields
 abbrev pub has_names : Word → Bool
 has_names words.Commands = true
+has_names words.CommandsAlone = true
 has_names (words.Part parts.Header) = true
 has_names _ = false
 

@@ -2,7 +2,6 @@
 use Rattle.std.specs.Prelude.{ℕ, List}
 use Rattle.mach_records.specs.declared.linkedit.DataInCodeEntry.{DataInCodeEntry}
 use Rattle.mach_records.specs.declared.versions.BuildToolVersion.{BuildToolVersion}
-use Rattle.mach_parts.specs.Bindings.{Binding, binding_view}
 use Rattle.mach_parts.specs.Slots.{Slot}
 use Rattle.mach_parts.specs.SlotViews.{slot_view}
 use Rattle.mach_parts.specs.declared.indirect.IndirectSymbol.{IndirectSymbol}
@@ -11,7 +10,7 @@ use Rattle.mach_dyld.specs.RebasesLeft.{rebase_view}
 use Rattle.mach_dyld.specs.WeakBinds.{WeakBind}
 use Rattle.mach_dyld.specs.WeakBindsLeft.{weak_bind_view}
 use Rattle.goblin_mach.specs.Libraries.{LibraryView, library_view}
-use Rattle.machinfo.specs.NumberedCommands.{NumberedCommandView, numbered_command_view}
+use Rattle.machinfo.specs.CommandRows.{CommandRowView, command_row_view}
 use Rattle.machinfo.specs.NumberedNotes.{NumberedNoteView, numbered_note_view}
 use Rattle.machinfo.specs.ProvidedSymbols.{ProvidedView, provided_view}
 use Rattle.machinfo.specs.Parts.{PartRowView, part_row_view}
@@ -21,7 +20,7 @@ use Rattle.machinfo.specs.declared.row.Row.TheVariants as rows
 
 -- a row of a list
 pub data RowView : Type 0 where
-  command_row : (command : NumberedCommandView) → RowView
+  command_row : (row : CommandRowView) → RowView
   start_row : (address : ℕ) → RowView
   slot_row : (slot : Slot) → RowView
   indirect_row : (entry : IndirectSymbol) → RowView
@@ -35,14 +34,13 @@ pub data RowView : Type 0 where
   library_row : (library : LibraryView) → RowView
   rebase_row : (rebase : Rebase) → RowView
   weak_row : (bind : WeakBind) → RowView
-  import_row : (binding : Binding) → RowView
   part_row : (row : PartRowView) → RowView
   verdict_row : (finding : Finding) → RowView
 
 -- ---- what the code's values stand for
 
 abbrev pub list_row_view : Row → RowView
-list_row_view (rows.Command command) = command_row (numbered_command_view command)
+list_row_view (rows.Command row) = command_row (command_row_view row)
 list_row_view (rows.Start address) = start_row address
 list_row_view (rows.Slot slot) = slot_row (slot_view slot)
 list_row_view (rows.Indirect entry) = indirect_row entry
@@ -54,6 +52,5 @@ list_row_view (rows.Provided provided) = provided_row (provided_view provided)
 list_row_view (rows.Library library) = library_row (library_view library)
 list_row_view (rows.Rebase rebase) = rebase_row (rebase_view rebase)
 list_row_view (rows.Weak bind) = weak_row (weak_bind_view bind)
-list_row_view (rows.Import binding) = import_row (binding_view binding)
 list_row_view (rows.Part row) = part_row (part_row_view row)
 list_row_view (rows.Verdict finding) = verdict_row finding

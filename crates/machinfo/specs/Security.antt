@@ -1,9 +1,8 @@
 -- Verdicts on how an image is hardened: whether each holds of its header, segments, commands, symbols and signature.
-use Rattle.std.specs.Prelude.{◌≡◌, ◌==◌, ◌&&◌, ◌||◌, ℕ, ◌-◌, ◌/◌, ◌%◌, min, List, [], ◌∷◌, ◌++◌, codes, drop, length, map, Bool, true, false, not, nat_eq}
+use Rattle.std.specs.Prelude.{◌≡◌, ◌==◌, ◌&&◌, ◌||◌, ℕ, ◌%◌, List, [], ◌∷◌, ◌++◌, codes, drop, length, map, Bool, true, false, not, nat_eq}
 use Rattle.std.specs.Prelude.{Option, Some, None, Result, Ok, Err}
 use Rattle.std.specs.Borrow.{Bor}
 use Rattle.std.specs.List.{list_any, position_or_len, range_with_len, starts_with}
-use Rattle.mach_base.specs.declared.context.Ctx.{Ctx}
 use Rattle.mach_base.specs.declared.error.Error.{Error}
 use Rattle.mach_base.specs.Answer.{◌>>=◌}
 use Rattle.mach_base.specs.Fault.{Fault}
@@ -12,8 +11,7 @@ use Rattle.mach_base.specs.Number.{place_after}
 use Rattle.mach_dyld.specs.Nodes.{has_bit}
 use Rattle.mach_load.specs.Command.{Command}
 use Rattle.mach_load.specs.Commands.{Kind, dyld_chained_fixups}
-use Rattle.mach_parts.specs.Section.{command_size, section_size}
-use Rattle.mach_parts.specs.SectionRecord.{numbered_section}
+use Rattle.mach_parts.specs.SectionRecord.{numbered_section, sections_held}
 use Rattle.mach_parts.specs.Segment.{SegmentView}
 use Rattle.mach_parts.specs.Symbols.{SymbolTable, is_stab, nlist_at, symbol_place, table_in_bounds, type_of}
 use Rattle.mach_parts.specs.declared.header.Header.{Header}
@@ -92,22 +90,18 @@ is_arm64e h = h.cputype == 0x100000c && h.cpusubtype % 0x1000000 == 2
 abbrev pub is_writable_code : (protection : ℕ) → Bool
 is_writable_code protection = has_bit 2 protection && has_bit 4 protection
 
--- how many sections a segment's command holds: as many as it claims, if it has room for them
-abbrev pub sections_held : Ctx → SegmentView → ℕ
-sections_held ctx s = min s.command.nsects ((s.command.cmdsize - command_size ctx.container) / section_size ctx.container)
-
 -- a section that can be read is named `__restrict`
 abbrev pub is_restrict : Result NumberedSection Fault → Bool
 is_restrict (Ok n) = holds_name (codes "__restrict") n.section.sectname
 is_restrict (Err f) = false
 
--- a segment has such a section
-abbrev pub has_restrict : Ctx → SegmentView → Bool
-has_restrict ctx s = list_any (λ (k : ℕ). is_restrict (numbered_section 0 s k)) (range_with_len 0 (sections_held ctx s))
+-- the command of a segment has such a section
+abbrev pub has_restrict : SegmentView → Bool
+has_restrict s = list_any (λ (k : ℕ). is_restrict (numbered_section 0 s k)) (range_with_len 0 (sections_held s))
 
 -- a segment `__RESTRICT` has such a section (dyld, MachOFile::isRestricted)
-abbrev pub restricts : Ctx → SegmentView → Bool
-restricts ctx s = holds_name (codes "__RESTRICT") s.command.segname && has_restrict ctx s
+abbrev pub restricts : SegmentView → Bool
+restricts s = holds_name (codes "__RESTRICT") s.command.segname && has_restrict s
 
 -- the command that places chained fixups (LC_DYLD_CHAINED_FIXUPS)
 abbrev pub is_chained_kind : Kind → Bool
@@ -218,7 +212,7 @@ is_so f verdicts.PointerAuthentication = Ok (is_arm64e f.header)
 is_so f verdicts.StackCanary = Ok (has_canary f.bytes f.symbols)
 is_so f verdicts.WritableCode = Ok (list_any (λ (s : SegmentView). is_writable_code s.command.initprot) f.segments)
 is_so f verdicts.WritableCodeAllowed = Ok (list_any (λ (s : SegmentView). is_writable_code s.command.maxprot) f.segments)
-is_so f verdicts.Restricted = Ok (list_any (restricts f.ctx) f.segments)
+is_so f verdicts.Restricted = Ok (list_any restricts f.segments)
 is_so f verdicts.ChainedFixups = Ok (list_any is_chained f.commands)
 is_so f verdicts.RelativeRunPaths = Ok (list_any is_relative f.run_paths)
 is_so f verdicts.Encrypted = Ok (list_any is_encrypting f.commands)

@@ -2,13 +2,16 @@
 use Rattle.std.specs.Prelude.{◌≡◌, ◌&&◌, ℕ, List, [], ◌∷◌, codes, Bool, true, Option, Some, None, option_map, bytes_eq, drop, nat_le, if◌then◌else◌}
 use Rattle.std.specs.Borrow.{Bor}
 use Rattle.std.specs.List.{list_all}
+use Rattle.mach_cli.specs.Calls.{word_address}
 use Rattle.mach_cli.specs.declared.misuse.Misuse.{Misuse}
-use Rattle.mach_cli.specs.declared.misuse.Misuse.TheVariants.{UnknownWord}
+use Rattle.mach_cli.specs.declared.misuse.Misuse.TheVariants.{Missing, NoAddress, UnknownWord}
+use Rattle.machinfo.specs.declared.selection.Selection.{Selection}
 use Rattle.machinfo.specs.declared.word.Choice.{Choice}
 use Rattle.machinfo.specs.declared.word.Choice.TheVariants as choices
 use Rattle.machinfo.specs.declared.word.Word.{Word}
-use Rattle.machinfo.specs.declared.word.Word.TheVariants.{Commands, Starts, Slots, Indirect, Data, Options, Tools, Notes, Providers, Libraries, Rebases}
-use Rattle.machinfo.specs.declared.word.Word.TheVariants.{Weak, Imports, Part, Security}
+use Rattle.machinfo.specs.declared.word.Word.TheVariants.{Commands, CommandsAlone, Starts, Slots, Indirect, Data}
+use Rattle.machinfo.specs.declared.word.Word.TheVariants.{Options, Tools, Notes, Providers, Libraries, Rebases}
+use Rattle.machinfo.specs.declared.word.Word.TheVariants.{Weak, Part, Security}
 use Rattle.machinfo.specs.declared.word.Part.TheVariants as parts
 
 -- a word, and how it is spelled
@@ -30,7 +33,6 @@ list_words =
     ∷ record { spelling = codes "libraries"; word = Libraries }
     ∷ record { spelling = codes "rebases"; word = Rebases }
     ∷ record { spelling = codes "weak"; word = Weak }
-    ∷ record { spelling = codes "imports"; word = Imports }
     ∷ record { spelling = codes "segments"; word = Part parts.Segments }
     ∷ record { spelling = codes "sections"; word = Part parts.Sections }
     ∷ record { spelling = codes "uuid"; word = Part parts.Uuid }
@@ -51,6 +53,7 @@ word_named text = word_among list_words text
 -- how a word is spelled
 abbrev pub spelling_of : Word → List ℕ
 spelling_of Commands = codes "commands"
+spelling_of CommandsAlone = codes "commands"
 spelling_of Starts = codes "starts"
 spelling_of Slots = codes "slots"
 spelling_of Indirect = codes "indirect"
@@ -62,7 +65,6 @@ spelling_of Providers = codes "providers"
 spelling_of Libraries = codes "libraries"
 spelling_of Rebases = codes "rebases"
 spelling_of Weak = codes "weak"
-spelling_of Imports = codes "imports"
 spelling_of (Part parts.Segments) = codes "segments"
 spelling_of (Part parts.Sections) = codes "sections"
 spelling_of (Part parts.Uuid) = codes "uuid"
@@ -71,9 +73,11 @@ spelling_of (Part parts.Entry) = codes "entrypoint"
 spelling_of (Part parts.Header) = codes "header"
 spelling_of Security = codes "security"
 
--- what a spelling selects: the exports, or a word's list
+-- what a spelling selects: the exports, the imports, or a word's list
 unfoldable pub choice_named : List ℕ → Option Choice
-choice_named text = if bytes_eq text (codes "exports") then Some choices.Exports else option_map (λ word. choices.Word word) (word_named text)
+choice_named text =
+    if bytes_eq text (codes "exports") then Some choices.Exports
+    else (if bytes_eq text (codes "imports") then Some choices.Imports else option_map (λ word. choices.Word word) (word_named text))
 
 -- ---- the arguments of a call
 
@@ -90,13 +94,44 @@ files_after (Some choice) arguments = drop 1 arguments
 abbrev pub files_named : List (Bor (List ℕ)) → List (Bor (List ℕ))
 files_named arguments = files_after (choice_selected arguments) arguments
 
+-- the word for what images have at an address
+abbrev pub is_word_at : List ℕ → Bool
+is_word_at text = bytes_eq text (codes "at")
+
+-- what an address selects, which the first of these arguments is; the others are files
+abbrev pub selected_after_at : List (Bor (List ℕ)) → Option (Option Choice × List (Bor (List ℕ)))
+selected_after_at [] = None
+selected_after_at (word ∷ files) = option_map (λ address. (Some (choices.At address), files)) (word_address word.now)
+
+-- what arguments without `--at` select
+abbrev pub selected_by_words : List (Bor (List ℕ)) → Option (Option Choice × List (Bor (List ℕ)))
+selected_by_words [] = Some (None, [])
+selected_by_words (first ∷ others) =
+    if is_word_at first.now then selected_after_at others else Some (choice_named first.now, files_named (first ∷ others))
+
+-- What a call with this address after `--at` selects, with its files. There is nothing if `at` has no address after it.
+abbrev pub selected : (address : Option ℕ) → List (Bor (List ℕ)) → Option (Option Choice × List (Bor (List ℕ)))
+selected (Some address) arguments = Some (Some (choices.At address), arguments)
+selected None arguments = selected_by_words arguments
+
+-- This is wrong with the arguments after `at`: there are none, or the first is no address.
+abbrev pub IsNoAddress : List (Bor (List ℕ)) → Misuse → Type 0
+IsNoAddress [] misuse = (what : Bor (List ℕ)) × (what.now ≡ codes "ADDRESS after at") × (misuse ≡ Missing what)
+IsNoAddress (word ∷ files) misuse = (misuse ≡ NoAddress word) × (word_address word.now ≡ None)
+
 -- a small letter (ASCII)
 abbrev pub is_small_letter : ℕ → Bool
 is_small_letter byte = nat_le 0x61 byte && nat_le byte 0x7a
 
--- This is wrong with the arguments: the first, which others follow, is an unknown word of small letters alone.
-abbrev pub IsMisspelled : List (Bor (List ℕ)) → Misuse → Type 0
-IsMisspelled [] misuse = ⊥
-IsMisspelled (first ∷ []) misuse = ⊥
-IsMisspelled (first ∷ next ∷ others) misuse =
-    (misuse ≡ UnknownWord first) × (choice_named first.now ≡ None) × (list_all is_small_letter first.now ≡ true)
+-- This is wrong with a call that selects nothing: the first of its files, which others follow, is an unknown word of small letters
+-- alone.
+abbrev pub IsMisspelled : Option Choice → List (Bor (List ℕ)) → Misuse → Type 0
+IsMisspelled choice [] misuse = ⊥
+IsMisspelled choice (first ∷ []) misuse = ⊥
+IsMisspelled choice (first ∷ next ∷ others) misuse =
+    (misuse ≡ UnknownWord first) × (choice ≡ None) × (list_all is_small_letter first.now ≡ true)
+
+-- ---- what the code's values stand for
+
+abbrev pub selection_view : Selection → Option Choice × List (Bor (List ℕ))
+selection_view s = (s.choice, s.files.now)

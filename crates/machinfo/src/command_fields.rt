@@ -80,8 +80,8 @@ fn command_head(number: usize, command: &LoadCommand) -> [Field<'static>; 5]
     ]
 }
 
-// Returns the bytes of a command.
-fn bytes_of_command<'a>(bytes: &'a [u8], command: &LoadCommand) -> &'a [u8]
+/// Returns the bytes of a command.
+pub fn bytes_of_command<'a>(bytes: &'a [u8], command: &LoadCommand) -> &'a [u8]
     ensures { result.now ≡ bytes_of_command bytes.now (command_of command.now) }
 {
     let rest = &bytes[command.offset.min(bytes.len())..];

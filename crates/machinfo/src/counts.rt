@@ -19,7 +19,7 @@ use std::{fmt, io};
 
 /// The lists that are counted.
 pub const COUNTED: [Word; 12] = [
-    Word::Commands,
+    Word::CommandsAlone,
     Word::Starts,
     Word::Slots,
     Word::Indirect,

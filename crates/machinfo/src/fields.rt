@@ -5,17 +5,16 @@ ghost use Rattle.std.specs.Io.KnownBytes.{Appends};
 ghost use Rattle.mach_parts.specs.Bindings.{binding_view, provider_view};
 ghost use Rattle.mach_parts.specs.SlotViews.{slot_view};
 ghost use Rattle.goblin_mach.specs.Libraries.{library_view};
-ghost use Rattle.mach_dyld.specs.Exports.{text_in};
 ghost use Rattle.mach_dyld.specs.RebasesLeft.{rebase_view};
 ghost use Rattle.mach_cli.specs.Fields.{field_view};
 ghost use Rattle.machinfo.specs.NumberedNotes.{numbered_note_view};
 ghost use Rattle.machinfo.specs.ProvidedSymbols.{provided_view};
 ghost use Rattle.machinfo.specs.PartFields.{column_if, flag_field};
-ghost use Rattle.machinfo.specs.RowFields.{binding_fields, data_fields, fields_shown, import_row_fields, import_from, indirect_fields};
+ghost use Rattle.machinfo.specs.RowFields.{binding_fields, data_fields, fields_shown, indirect_fields};
 ghost use Rattle.machinfo.specs.RowFields.{is_lazy_kind, is_plain, library_fields, note_fields, option_fields, provided_fields, rebase_row_fields};
 ghost use Rattle.machinfo.specs.RowFields.{slot_fields, slot_kind_text, strong_row_fields, tool_fields};
 
-use crate::command_fields::write_command;
+use crate::command_row_fields::write_command_row;
 use crate::notes::NumberedNote;
 use crate::part_fields::write_part;
 use crate::providers::Provided;
@@ -25,10 +24,7 @@ use crate::text::tool_name;
 use goblin_mach::load_command::{BuildToolVersion, DataInCodeEntry};
 use goblin_mach::slots::{IndirectSymbol, SlotKind, SlotSymbol, SymbolSlot};
 use goblin_mach::{Binding, Library, LibraryAttributes, LibraryKind, Provider, Rebase, WeakBind};
-use mach_cli::{
-    Field, FieldsForm, Value, diverse_by, diversity_by, has_auth, key_by, ordinal_of,
-    provider_name, rebase_type,
-};
+use mach_cli::{Field, FieldsForm, Value, diverse_by, diversity_by, has_auth, key_by, rebase_type};
 use std::io;
 use std::io::Write;
 
@@ -37,7 +33,7 @@ pub fn write_fields<F: FieldsForm, O: Write>(row: &Row<'_, '_>, out: &mut O) -> 
     ensures { OnOk result (Appends (O.contents out.old) (O.contents out.new) (F.fields_text (fields_shown row.now))) }
 {
     match *row {
-        Row::Command(command) => write_command::<F, O>(&command, out),
+        Row::Command(row) => write_command_row::<F, O>(&row, out),
         Row::Start(address) => F::write(&[Field::new("address", Value::Hex(address), 1)], out),
         Row::Slot(slot) => write_slot::<F, O>(slot, out),
         Row::Indirect(entry) => write_indirect::<F, O>(entry, out),
@@ -50,7 +46,6 @@ pub fn write_fields<F: FieldsForm, O: Write>(row: &Row<'_, '_>, out: &mut O) -> 
         Row::Rebase(rebase) => F::write(&rebase_fields(rebase), out),
         Row::Weak(WeakBind::Strong { name }) => F::write(&strong_fields(name), out),
         Row::Weak(WeakBind::Bind(binding)) => F::write(&binding_fields(binding), out),
-        Row::Import(binding) => F::write(&import_fields(binding), out),
         Row::Part(part) => write_part::<F, O>(&part, out),
         Row::Verdict(finding) => F::write(&finding_fields(finding), out),
     }
@@ -306,34 +301,5 @@ fn strong_fields<'a>(name: &'a str) -> [Field<'a>; 2]
     [
         flag_field("is_strong", true, "strong", 1),
         Field::new("name", Value::Text(name), 2),
-    ]
-}
-
-// Returns the field for the image that a symbol comes from: its short name; if there is none, only a line has it, with the ordinal.
-fn import_from<'a>(name: Option<&'a str>, ordinal: i128) -> Field<'a>
-    ensures { field_view result ≡ import_from (text_in name.entry) ordinal }
-{
-    match name {
-        Some(name) => Field::new("from", Value::Text(name), 2).wide(20),
-        None => Field::of_line(Value::Signed(ordinal), 2),
-    }
-}
-
-// Returns the fields of what dyld binds: the address, the image that the symbol comes from, its name, the addend and flags; an object
-// also has the ordinal and the file offset.
-fn import_fields<'a>(binding: Binding<'a>) -> [Field<'a>; 8]
-    ensures { map field_view result ≡ import_row_fields (binding_view binding.entry) }
-{
-    let ordinal = ordinal_of(&binding.provider);
-    let addend = i128::from(binding.addend);
-    [
-        Field::new("address", Value::Hex(binding.address), 1).wide(11),
-        Field::new("addend", Value::Signed(addend), column_if(addend != 0, 4)),
-        import_from(provider_name(&binding.provider), ordinal),
-        flag_field("is_lazy", binding.is_lazy, "lazy", 6),
-        flag_field("is_weak", binding.is_weak, "weak", 5),
-        Field::of_object("library", Value::Signed(ordinal)),
-        Field::new("name", Value::Text(binding.name), 3),
-        Field::of_object("offset", Value::Hex(binding.offset)),
     ]
 }

@@ -5,17 +5,20 @@ ghost use Rattle.std.specs.Io.KnownBytes.{Appends};
 ghost use Rattle.goblin_mach.specs.OpenImage.{IsImage};
 ghost use Rattle.mach_cli.specs.Failures.{IfMemory};
 ghost use Rattle.machinfo.specs.Exports.{HasExportFields};
+ghost use Rattle.machinfo.specs.Imports.{HasImportFields};
 ghost use Rattle.machinfo.specs.ImageLines.{AreImageListMembers, AreImageSummaryMembers, AreInfoMembers, AreItemMembers, AreListedMembers};
 ghost use Rattle.machinfo.specs.ImageLines.{counts_end};
 
 use crate::counts::{COUNTED, Form, print_counts};
 use crate::exports::{ExportList, exports_of};
+use crate::imports::ImportList;
 use crate::list::ImageList;
 use crate::members::write_front;
 use crate::word::{Choice, Word};
 use goblin_mach::MachO;
 use mach_cli::{
-    ImageView, InForm, ItemList, Object, Outcome, ShowFailure, print_end_past, print_member,
+    AddressObjectsOf, AllStretches, ImageView, InForm, ItemList, Object, Outcome, ShowFailure,
+    print_end_past, print_member,
 };
 use std::alloc::Allocator;
 use std::io;
@@ -33,7 +36,7 @@ impl ImageView for InfoObjects {
     fn show<A: Allocator + Clone, O: Write>(
         &self,
         alloc: &A,
-        _file: &str,
+        file: &str,
         image: &MachO<'_, A>,
         limit: usize,
         left: usize,
@@ -42,6 +45,10 @@ impl ImageView for InfoObjects {
         match self.choice {
             Some(Choice::Word(word)) => Ok(write_rows(word, image, left, out)?),
             Some(Choice::Exports) => write_exports(alloc, image, left, out),
+            Some(Choice::Imports) => write_imports(alloc, image, left, out),
+            Some(Choice::At(address)) => {
+                AddressObjectsOf { address }.show(alloc, file, image, limit, left, out)
+            }
             None => Ok(write_summary(image, limit, left, out)?),
         }
     }
@@ -79,6 +86,26 @@ fn write_exports<A: Allocator + Clone, O: Write>(
         exports: exports.as_slice(),
     };
     Ok(write_items("exports", list, left, out)?)
+}
+
+// Writes what dyld binds in an image as objects, at most `left` of them.
+fn write_imports<A: Allocator + Clone, O: Write>(
+    alloc: &A,
+    image: &MachO<'_, A>,
+    left: usize,
+    out: &mut O,
+) -> Result<Outcome, ShowFailure>
+    ensures shown { (bytes : List ℕ) → IsImage bytes 0 image.now → IfOk result (λ outcome. (text : List ℕ)
+        × AreListedMembers (codes "imports") (HasImportFields bytes) left text outcome.whole outcome.left
+        × Appends (O.contents out.old) (O.contents out.new) text) }
+    ensures memory { IfErr result (IfMemory (Appends (O.contents out.old) (O.contents out.new) [])) }
+{
+    let parts = AllStretches::of_image(alloc, image)?;
+    let list = ImportList {
+        parts: &parts,
+        bindings: image.bindings(),
+    };
+    Ok(write_items("imports", list, left, out)?)
 }
 
 // Writes the items of a list as an array of this name, at most `left` of them; whether there are more; and how many more are claimed

@@ -8,6 +8,7 @@ ghost use Rattle.goblin_mach.specs.OpenImage.{IsImage};
 ghost use Rattle.machinfo.specs.RowFields.{fields_shown, list_fields_left};
 ghost use Rattle.machinfo.specs.Lists.{HasRows, list_rows_left, list_rows_past, past_name, rows_name_of};
 
+use crate::command_rows::{CommandRow, CommandRows};
 use crate::commands::NumberedCommands;
 use crate::fields::write_fields;
 use crate::notes::NumberedNotes;
@@ -18,7 +19,7 @@ use crate::security::Findings;
 use crate::word::Word;
 use goblin_mach::slots::{IndirectSymbolIterator, SlotIterator};
 use goblin_mach::{
-    BindingIterator, BuildToolIterator, DataInCodeIterator, FunctionStartIterator, LibraryIterator,
+    BuildToolIterator, DataInCodeIterator, FunctionStartIterator, LibraryIterator,
     LinkerOptionIterator, MachO, RebaseIterator, Result, WeakBindIterator,
 };
 use mach_cli::{FieldsForm, ItemList};
@@ -30,7 +31,8 @@ use std::io::Write;
 /// past their end.
 #[derive(Drop)]
 pub enum ImageList<'a, 'b, A: Allocator> {
-    Commands(NumberedCommands<'a, 'b>),
+    Commands(CommandRows<'a, 'b>),
+    CommandsAlone(NumberedCommands<'a, 'b>),
     Starts(FunctionStartIterator<'a>),
     Slots(SlotIterator<'a, 'b>),
     Indirect(IndirectSymbolIterator<'a>, usize),
@@ -42,7 +44,6 @@ pub enum ImageList<'a, 'b, A: Allocator> {
     Libraries(LibraryIterator<'a, 'b>),
     Rebases(RebaseIterator<'a, 'b>),
     Weak(WeakBindIterator<'a, 'b>),
-    Imports(BindingIterator<'a, 'b>),
     Part(PartList<'a, 'b>),
     Security(Findings<'a, 'b, A>),
 }
@@ -76,7 +77,8 @@ impl<'a, 'b, A: Allocator> ImageList<'a, 'b, A> {
         ensures name { rows_name_of result ≡ past_name word }
     {
         match word {
-            Word::Commands => ImageList::Commands(NumberedCommands::of(image)),
+            Word::Commands => ImageList::Commands(CommandRows::of(image)),
+            Word::CommandsAlone => ImageList::CommandsAlone(NumberedCommands::of(image)),
             Word::Starts => ImageList::Starts(image.function_starts()),
             Word::Slots => ImageList::Slots(image.symbol_slots()),
             Word::Indirect => {
@@ -94,7 +96,6 @@ impl<'a, 'b, A: Allocator> ImageList<'a, 'b, A> {
             Word::Libraries => ImageList::Libraries(image.libraries()),
             Word::Rebases => ImageList::Rebases(image.rebases()),
             Word::Weak => ImageList::Weak(image.weak_binds()),
-            Word::Imports => ImageList::Imports(image.bindings()),
             Word::Part(part) => ImageList::Part(PartList::of(part, image)),
             Word::Security => ImageList::Security(Findings::of(image)),
         }
@@ -115,6 +116,10 @@ impl<'a, 'b, A: Allocator> ItemList for ImageList<'a, 'b, A> {
     fn next_item(&mut self) -> Option<Result<Row<'a, 'b>>> {
         match self {
             ImageList::Commands(list) => Some(Ok(Row::Command(list.take_next()?))),
+            ImageList::CommandsAlone(list) => {
+                let command = list.take_next()?;
+                Some(Ok(Row::Command(CommandRow::Itself(command))))
+            }
             ImageList::Starts(list) => match list.next()? {
                 Ok(address) => Some(Ok(Row::Start(address))),
                 Err(error) => Some(Err(error)),
@@ -154,10 +159,6 @@ impl<'a, 'b, A: Allocator> ItemList for ImageList<'a, 'b, A> {
             },
             ImageList::Weak(list) => match list.next()? {
                 Ok(bind) => Some(Ok(Row::Weak(bind))),
-                Err(error) => Some(Err(error)),
-            },
-            ImageList::Imports(list) => match list.next()? {
-                Ok(binding) => Some(Ok(Row::Import(binding))),
                 Err(error) => Some(Err(error)),
             },
             ImageList::Part(list) => match list.take_next()? {

@@ -8,13 +8,17 @@ ghost use Rattle.machinfo.specs.Summary.{flag_text, WritesSome};
 
 use crate::command_facts::{CommandFacts, Question};
 use crate::fact::{FactList, FactObjects};
+use crate::list::ImageList;
 use crate::segments::{TextOrNull, write_segments};
 use crate::signed::{is_ad_hoc, is_readable};
 use crate::state::{State, state_of};
 use crate::summary::flag_short_name;
+use crate::word::{Part, Word};
 use goblin_mach::header::Header;
 use goblin_mach::{Error, MachO, Result, describe};
-use mach_cli::{ListProgress, comma_before, cpu_name, image_kind, print_member, then};
+use mach_cli::{
+    InForm, ListProgress, Object, comma_before, cpu_name, image_kind, print_member, then,
+};
 use mach_signature::CodeDirectory;
 use mach_signature::image::code_directory;
 use std::alloc::Allocator;
@@ -34,13 +38,29 @@ pub fn write_front<A: Allocator, O: Write>(
 {
     write_header(&image.header, image.name, image.entry, out)?;
     write_flags(image.header.flags, out)?;
+    let entry = write_entry(image, out)?;
     let lists = write_lists(image, limit, out)?;
     let signature = write_signature(image, out)?;
     let more = lists.more;
     write!(out, "\"limit_met\":{more},")?;
     let state = state_of(image);
     write_state(state, out)?;
-    Ok(lists.whole & !more & signature & (state.past == 0))
+    Ok(entry.whole & lists.whole & !more & signature & (state.past == 0))
+}
+
+// Writes the row of the entry point, if there is one, as the list of that name.
+fn write_entry<A: Allocator, O: Write>(
+    image: &MachO<'_, A>,
+    out: &mut O,
+) -> io::Result<ListProgress>
+    ensures { OnOk result (WritesSome (O.contents out.old) (O.contents out.new)) }
+{
+    let mut list = InForm {
+        list: ImageList::of(Word::Part(Part::Entry), image),
+        form: Object,
+    };
+    let reported = print_member("entrypoint", &mut list, 1, out)?;
+    Ok(reported)
 }
 
 // Writes the lists of an image.

@@ -1,18 +1,19 @@
 //! What the rows of parts of an image show, field by field: as lines, and as objects of JSON.
 
-ghost use Rattle.std.specs.Prelude.{◌≡◌, map, OnOk};
+ghost use Rattle.std.specs.Prelude.{◌≡◌, map, option_map, OnOk};
 ghost use Rattle.std.specs.Io.KnownBytes.{Appends};
 ghost use Rattle.mach_dyld.specs.Exports.{text_in};
 ghost use Rattle.mach_parts.specs.Segment.{segment_view};
 ghost use Rattle.mach_cli.specs.Fields.{field_view};
-ghost use Rattle.machinfo.specs.Parts.{part_row_view};
-ghost use Rattle.machinfo.specs.PartFields.{entry_part_fields, header_flag, header_flags, header_members, name_of_found};
+ghost use Rattle.machinfo.specs.Parts.{entry_symbol_view, entry_view, part_row_view};
+ghost use Rattle.machinfo.specs.PartFields.{above_field, entry_distance_field, entry_part_fields, header_flag, header_flags, header_members};
+ghost use Rattle.machinfo.specs.PartFields.{name_of_found, entry_symbol_name};
 ghost use Rattle.machinfo.specs.PartFields.{part_fields, rpath_part_fields, section_members, section_type_name, segment_of_found};
 ghost use Rattle.machinfo.specs.PartFields.{segment_part_fields, stub_fields, stubs_in, text_or_dash, uuid_part_fields};
 
 use crate::command_fields::{named, rights, text_from};
 use crate::fields::{column_if, flag_field};
-use crate::parts::{EntryRow, PartRow, UuidRow};
+use crate::parts::{EntryRow, EntrySymbol, PartRow, UuidRow};
 use crate::sections::SectionRow;
 use crate::summary::flag_short_name;
 use goblin_mach::header::{
@@ -50,8 +51,8 @@ pub fn write_part<F: FieldsForm, O: Write>(row: &PartRow<'_, '_>, out: &mut O) -
     }
 }
 
-// Returns a text, `-` if there is none or it is empty.
-fn text_or_dash(text: Option<&str>) -> &str
+/// Returns a text, `-` if there is none or it is empty.
+pub fn text_or_dash(text: Option<&str>) -> &str
     ensures { result.now ≡ text_or_dash (text_in text.entry) }
 {
     let Some(text) = text else {
@@ -88,8 +89,8 @@ fn segment_fields<'a>(number: usize, segment: &'a Segment<'_>) -> [Field<'a>; 17
     ]
 }
 
-// Returns the words for a type of section, none if it has no name.
-fn section_type(number: u32) -> &'static str
+/// Returns the words for a type of section, none if it has no name.
+pub fn section_type(number: u32) -> &'static str
     ensures { result.now ≡ section_type_name number }
 {
     match number {
@@ -224,9 +225,46 @@ fn name_of_found(found: &Option<NumberedSection>) -> Option<&str>
     }
 }
 
+// Returns the name of a symbol.
+fn name_of_symbol<'a>(symbol: Option<EntrySymbol<'a>>) -> Option<&'a str>
+    ensures { text_in result ≡ entry_symbol_name (option_map entry_symbol_view symbol.entry) }
+{
+    match symbol {
+        Some(symbol) => Some(symbol.name),
+        None => None,
+    }
+}
+
+// Returns the field for how far an address is above a symbol; a line has it only if it is above it.
+fn distance_field(symbol: Option<EntrySymbol<'_>>) -> Field<'static>
+    ensures { field_view result ≡ entry_distance_field (option_map entry_symbol_view symbol.entry) }
+{
+    match symbol {
+        Some(symbol) => {
+            let distance = symbol.distance;
+            Field::new(
+                "distance",
+                Value::Hex(distance),
+                column_if(distance != 0, 6),
+            )
+        }
+        None => Field::of_line(Value::Text(""), 0),
+    }
+}
+
+// Returns the sign before the distance.
+fn above_field(symbol: Option<EntrySymbol<'_>>) -> Field<'static>
+    ensures { field_view result ≡ above_field (option_map entry_symbol_view symbol.entry) }
+{
+    match symbol {
+        Some(symbol) => Field::of_line(Value::Text("+"), column_if(symbol.distance != 0, 5)),
+        None => Field::of_line(Value::Text(""), 0),
+    }
+}
+
 // Returns the fields of an entry point.
-fn entry_fields<'a>(row: &'a EntryRow) -> [Field<'a>; 3]
-    ensures { map field_view result ≡ entry_part_fields row.now }
+fn entry_fields<'b>(row: &'b EntryRow<'_>) -> [Field<'b>; 6]
+    ensures { map field_view result ≡ entry_part_fields (entry_view row.now) }
 {
     let segment = segment_of_found(&row.section);
     let name = name_of_found(&row.section);
@@ -234,6 +272,9 @@ fn entry_fields<'a>(row: &'a EntryRow) -> [Field<'a>; 3]
         Field::new("address", Value::Hex(row.address), 1),
         Field::new("segment", Value::OptionalText(segment), 2),
         Field::new("section", Value::OptionalText(name), 3),
+        Field::new("symbol", Value::OptionalText(name_of_symbol(row.symbol)), 4),
+        above_field(row.symbol),
+        distance_field(row.symbol),
     ]
 }
 

@@ -6,9 +6,11 @@ ghost use Rattle.goblin_mach.specs.ImageFacts.{facts_view};
 ghost use Rattle.goblin_mach.specs.OpenImage.{commands_view, segments_view};
 ghost use Rattle.mach_base.specs.Text.{texts};
 ghost use Rattle.std.specs.List.{filter_map};
-ghost use Rattle.machinfo.specs.Parts.{part_name_of, part_past_name, part_row_read, part_rows_left, part_rows_past, past_of_part, rows_of_part};
-ghost use Rattle.machinfo.specs.Parts.{entry_part, entry_row_of, header_part, part_row_view, paths_numbered_left, rpath_rows_from, segment_rows_from};
+ghost use Rattle.machinfo.specs.Parts.{part_name_of, part_past_name, part_row_read, part_rows_left, part_rows_past, past_of_part};
+ghost use Rattle.machinfo.specs.Parts.{ArePartRows, IsEntryRow, IsSymbolThere, entry_symbol_view, entry_view, header_part, one_row, part_row_view};
+ghost use Rattle.machinfo.specs.Parts.{paths_numbered_left, rpath_rows_from, segment_rows_from};
 ghost use Rattle.machinfo.specs.Parts.{segments_numbered_left, uuid_row_by, uuid_rows_left};
+ghost use Rattle.machinfo.specs.declared.word.Part.TheVariants as parts;
 
 use crate::command_facts::uuid_by;
 use crate::sections::{CountedSections, SectionRow, sections_past};
@@ -31,7 +33,7 @@ pub enum PartRow<'a, 'b> {
     /// A run path, and its number.
     Rpath(usize, &'a str),
     /// Where the image begins to run.
-    Entry(EntryRow),
+    Entry(EntryRow<'a>),
     /// The header.
     Header(Header),
 }
@@ -49,11 +51,22 @@ pub struct UuidRow {
 
 /// An entry point.
 #[derive(Clone, Copy)]
-pub struct EntryRow {
+pub struct EntryRow<'a> {
     /// The address.
     pub address: u64,
     /// The first section that holds it, if there is one.
     pub section: Option<NumberedSection>,
+    /// The nearest symbol of that section at or below it, if there is one.
+    pub symbol: Option<EntrySymbol<'a>>,
+}
+
+/// A symbol at or below an address.
+#[derive(Clone, Copy)]
+pub struct EntrySymbol<'a> {
+    /// Its name.
+    pub name: &'a str,
+    /// How far the address is above it.
+    pub distance: u64,
 }
 
 /// The segments from a number on.
@@ -159,16 +172,42 @@ impl<'a, 'b> NumberedPaths<'a, 'b> {
     }
 }
 
-// Returns the row of where an image begins to run, if that is known.
-fn entry_row<'a, 'b, A: Allocator>(image: &'b MachO<'a, A>) -> Option<PartRow<'a, 'b>>
-    ensures { option_map part_row_view result ≡ option_map entry_part (entry_row_of image.now.entry (segments_view image.now)) }
+// Returns the symbol at an address of an image, if there is one.
+fn symbol_at<'a, A: Allocator>(image: &MachO<'a, A>, address: u64) -> Option<EntrySymbol<'a>>
+    ensures { IsSymbolThere address (facts_view image.now) (option_map entry_symbol_view result) }
+{
+    match image.symbol_at(address) {
+        Some(found) => Some(EntrySymbol {
+            name: found.name,
+            distance: found.distance,
+        }),
+        None => None,
+    }
+}
+
+// Returns where an image begins to run, if that is known.
+fn entry_row<'a, A: Allocator>(image: &MachO<'a, A>) -> Option<EntryRow<'a>>
+    ensures { IsEntryRow image.now.entry (facts_view image.now) (option_map entry_view result) }
 {
     let address = image.entry;
     if address == 0 {
         return None;
     }
-    let section = image.section_at(address);
-    Some(PartRow::Entry(EntryRow { address, section }))
+    Some(EntryRow {
+        address,
+        section: image.section_at(address),
+        symbol: symbol_at(image, address),
+    })
+}
+
+// Returns it as a row.
+fn entry_part<'a, 'b, A: Allocator>(image: &'b MachO<'a, A>) -> Option<PartRow<'a, 'b>>
+    ensures { ArePartRows parts.Entry image.now.entry (facts_view image.now) (one_row (option_map part_row_view result)) }
+{
+    match entry_row(image) {
+        Some(row) => Some(PartRow::Entry(row)),
+        None => None,
+    }
 }
 
 // Returns the row of the header.
@@ -191,7 +230,7 @@ pub enum PartList<'a, 'b> {
 impl<'a, 'b> PartList<'a, 'b> {
     /// Returns the rows of a part of an image.
     pub fn of<A: Allocator>(part: Part, image: &'b MachO<'a, A>) -> Self
-        ensures rows { part_rows_left result ≡ rows_of_part part image.now.entry (facts_view image.now) }
+        ensures rows { ArePartRows part image.now.entry (facts_view image.now) (part_rows_left result) }
         ensures past { part_rows_past result ≡ past_of_part part (facts_view image.now) }
         ensures name { part_name_of result ≡ part_past_name part }
     {
@@ -203,7 +242,7 @@ impl<'a, 'b> PartList<'a, 'b> {
             ),
             Part::Uuid => PartList::Uuids(UuidRows::of(image)),
             Part::Rpaths => PartList::Rpaths(NumberedPaths::of(image)),
-            Part::Entry => PartList::One(entry_row(image)),
+            Part::Entry => PartList::One(entry_part(image)),
             Part::Header => PartList::One(header_row(image)),
         }
     }

@@ -10,19 +10,19 @@ ghost use Rattle.machinfo.specs.Rows.{RowView};
 ghost use Rattle.machinfo.specs.PartLines.{part_line};
 ghost use Rattle.machinfo.specs.declared.word.Part.{Part};
 
-use crate::commands::NumberedCommand;
+use crate::command_rows::CommandRow;
 use crate::notes::NumberedNote;
 use crate::parts::PartRow;
 use crate::providers::Provided;
 use crate::security::Finding;
 use goblin_mach::load_command::{BuildToolVersion, DataInCodeEntry};
 use goblin_mach::slots::{IndirectSymbol, SymbolSlot};
-use goblin_mach::{Binding, Library, Rebase, WeakBind};
+use goblin_mach::{Library, Rebase, WeakBind};
 
 /// A row of a list.
 #[derive(Clone, Copy)]
 pub enum Row<'a, 'b> {
-    Command(NumberedCommand<'a, 'b>),
+    Command(CommandRow<'a, 'b>),
     Start(u64),
     Slot(SymbolSlot<'a>),
     Indirect(IndirectSymbol),
@@ -34,7 +34,6 @@ pub enum Row<'a, 'b> {
     Library(Library<'a>),
     Rebase(Rebase),
     Weak(WeakBind<'a>),
-    Import(Binding<'a>),
     Part(PartRow<'a, 'b>),
     Verdict(Finding),
 }

@@ -5,11 +5,13 @@ ghost use Rattle.std.specs.Io.KnownBytes.{Appends};
 ghost use Rattle.goblin_mach.specs.OpenImage.{IsImage};
 ghost use Rattle.mach_cli.specs.Failures.{IfMemory};
 ghost use Rattle.machinfo.specs.Exports.{HasExportFields};
+ghost use Rattle.machinfo.specs.Imports.{HasImportFields};
 ghost use Rattle.machinfo.specs.ImageLines.{AreImageListLines, AreImageSummaryLines, AreInfoLines, AreListedLines};
 ghost use Rattle.machinfo.specs.RowFields.{has_names};
 
 use crate::counts::{COUNTED, Form, print_counts};
 use crate::exports::{ExportList, exports_of};
+use crate::imports::ImportList;
 use crate::list_lines::print_in_form;
 use crate::part_lines::print_parts;
 use crate::signed::print_signed;
@@ -17,7 +19,10 @@ use crate::state::{print_state, state_of};
 use crate::summary::{print_front, print_used};
 use crate::word::{Choice, Part, Word};
 use goblin_mach::MachO;
-use mach_cli::{ImageView, InForm, Line, Outcome, Pairs, ShowFailure, print_listing};
+use mach_cli::{
+    AddressLinesOf, AllStretches, ImageView, InForm, Line, Outcome, Pairs, ShowFailure,
+    print_listing,
+};
 use std::alloc::Allocator;
 use std::io;
 use std::io::Write;
@@ -34,7 +39,7 @@ impl ImageView for InfoLines {
     fn show<A: Allocator + Clone, O: Write>(
         &self,
         alloc: &A,
-        _file: &str,
+        file: &str,
         image: &MachO<'_, A>,
         limit: usize,
         left: usize,
@@ -43,6 +48,15 @@ impl ImageView for InfoLines {
         match self.choice {
             Some(Choice::Word(word)) => Ok(print_list(word, image, limit, left, out)?),
             Some(Choice::Exports) => print_exports(alloc, image, limit, left, out),
+            Some(Choice::Imports) => print_imports(alloc, image, limit, left, out),
+            Some(Choice::At(address)) => {
+                let line = AddressLinesOf {
+                    address,
+                    has_file: false,
+                    is_raw: false,
+                };
+                line.show(alloc, file, image, limit, left, out)
+            }
             None => Ok(print_summary(image, limit, left, out)?),
         }
     }
@@ -88,12 +102,34 @@ fn print_exports<A: Allocator + Clone, O: Write>(
     Ok(print_listing(&mut lines, "refused", limit, left, out)?)
 }
 
+// Prints what dyld binds in an image, at most `left` binds; one that can't be read is a line that says why.
+fn print_imports<A: Allocator + Clone, O: Write>(
+    alloc: &A,
+    image: &MachO<'_, A>,
+    limit: usize,
+    left: usize,
+    out: &mut O,
+) -> Result<Outcome, ShowFailure>
+    ensures shown { (bytes : List ℕ) → IsImage bytes 0 image.now → IfOk result (λ outcome. (text : List ℕ)
+        × AreListedLines (HasImportFields bytes) limit left text outcome.whole outcome.left × Appends (O.contents out.old) (O.contents out.new) text) }
+    ensures memory { IfErr result (IfMemory (Appends (O.contents out.old) (O.contents out.new) [])) }
+{
+    let parts = AllStretches::of_image(alloc, image)?;
+    let list = ImportList {
+        parts: &parts,
+        bindings: image.bindings(),
+    };
+    let mut lines = InForm { list, form: Line };
+    Ok(print_listing(&mut lines, "refused", limit, left, out)?)
+}
+
 // Whether the lines of a word's list have the names of fields.
 fn has_names(word: Word) -> bool
     ensures { result ≡ has_names word }
 {
     match word {
         Word::Commands => true,
+        Word::CommandsAlone => true,
         Word::Starts => false,
         Word::Slots => false,
         Word::Indirect => false,
@@ -105,7 +141,6 @@ fn has_names(word: Word) -> bool
         Word::Libraries => false,
         Word::Rebases => false,
         Word::Weak => false,
-        Word::Imports => false,
         Word::Part(Part::Header) => true,
         Word::Part(_) => false,
         Word::Security => false,

@@ -5,4 +5,5 @@ pub returns : goal.returns
 returns g c =
     some_more c.in_ok-write_header.ensures
     (some_more c.in_ok-write_flags.ensures
-    (some_more c.in_ok-lists.ensures (some_more c.in_ok-signature.ensures (some_more (some _ c.in_ok-write.ensures.bytes) c.in_ok-write_state.ensures))))
+    (some_more c.in_ok-entry.ensures
+    (some_more c.in_ok-lists.ensures (some_more c.in_ok-signature.ensures (some_more (some _ c.in_ok-write.ensures.bytes) c.in_ok-write_state.ensures)))))

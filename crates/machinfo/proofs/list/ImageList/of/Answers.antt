@@ -1,15 +1,16 @@
-use Rattle.goblin_mach.specs.BindingsLeft.{bindings_left}
 use Rattle.goblin_mach.specs.Libraries.{libraries_left}
 use Rattle.goblin_mach.specs.RebasesLeft.{rebases_left}
 use Rattle.mach_parts.specs.SlotViews.{indirect_left}
 use Rattle.mach_parts.specs.SlotsLeft.{slots_left}
 use Rattle.mach_dyld.specs.WeakBindsLeft.{weak_binds_left}
 use Rattle.mach_load.specs.TablesLeft.{starts_left, data_in_code_left, options_left, build_tools_left}
+use Rattle.machinfo.specs.CommandRows.{command_rows_left}
 use Rattle.machinfo.specs.NumberedCommands.{numbered_commands_left}
 use Rattle.machinfo.specs.NumberedNotes.{notes_numbered_left}
 use Rattle.machinfo.specs.ProvidedSymbols.{provided_left}
-use Rattle.machinfo.proofs.Facts.{command_rows, starts_are, slot_rows, indirect_rows, data_rows, option_rows, tool_rows, note_rows, provider_rows, library_rows}
-use Rattle.machinfo.proofs.Facts.{import_rows, part_rows, rebase_rows, weak_rows}
+use Rattle.machinfo.proofs.Facts.{command_rows, command_rows_alone, starts_are, slot_rows, indirect_rows}
+use Rattle.machinfo.proofs.Facts.{data_rows, option_rows, tool_rows, note_rows, provider_rows, library_rows}
+use Rattle.machinfo.proofs.Facts.{part_rows, rebase_rows, weak_rows}
 use Rattle.machinfo.specs.Parts.{part_rows_left, part_rows_past}
 use Rattle.machinfo.specs.Security.{findings_left}
 use Rattle.machinfo.proofs.Verdicts.{verdict_rows}
@@ -18,7 +19,12 @@ use Rattle.machinfo.proofs.list.ImageList.of.Goals as goal
 pub returns-in-Commands-clause-rows : goal.returns-in-Commands-clause-rows
 returns-in-Commands-clause-rows g c =
     rw c.in-Commands.is
-    (λ bytes o p. command_rows c.args.image.now bytes o p (numbered_commands_left c.of.result) c.of.ensures)
+    (λ bytes o p. command_rows c.args.image.now bytes o p (command_rows_left c.of.result) c.of.ensures)
+
+pub returns-in-CommandsAlone-clause-rows : goal.returns-in-CommandsAlone-clause-rows
+returns-in-CommandsAlone-clause-rows g c =
+    rw c.in-CommandsAlone.is
+    (λ bytes o p. command_rows_alone c.args.image.now bytes o p (numbered_commands_left c.of-in-CommandsAlone.result) c.of-in-CommandsAlone.ensures)
 
 pub returns-in-Starts-clause-rows : goal.returns-in-Starts-clause-rows
 returns-in-Starts-clause-rows g c =
@@ -66,10 +72,6 @@ returns-in-Rebases-clause-rows g c = rw c.in-Rebases.is (λ bytes o p. rebase_ro
 
 pub returns-in-Weak-clause-rows : goal.returns-in-Weak-clause-rows
 returns-in-Weak-clause-rows g c = rw c.in-Weak.is (λ bytes o p. weak_rows c.args.image.now bytes o p (weak_binds_left c.weak_binds.result) c.weak_binds.ensures)
-
-pub returns-in-Imports-clause-rows : goal.returns-in-Imports-clause-rows
-returns-in-Imports-clause-rows g c =
-    rw c.in-Imports.is (λ bytes o p. import_rows c.args.image.now bytes o p (bindings_left c.bindings.result) c.bindings.ensures)
 
 pub returns-in-Part-clause-rows : goal.returns-in-Part-clause-rows
 returns-in-Part-clause-rows g c =

@@ -13,3 +13,13 @@ returns-in-Some-Exports-clause-shown g c =
 -- none is given
 pub returns-in_ok-print_summary-in-None-clause-shown : goal.returns-in_ok-print_summary-in-None-clause-shown
 returns-in_ok-print_summary-in-None-clause-shown g c = rw c.in-None.is c.in_ok-print_summary-in-None.ensures
+
+-- imports are selected
+pub returns-in-Some-Imports-clause-shown : goal.returns-in-Some-Imports-clause-shown
+returns-in-Some-Imports-clause-shown g c =
+    let is_imports = rw c.in-Some-Imports.is at c.in-Some-Imports.field-0-is in rw (c.in-Some-Imports.is, is_imports) c.print_imports.ensures.shown
+
+-- an address is given
+pub returns-in-Some-At-clause-shown : goal.returns-in-Some-At-clause-shown
+returns-in-Some-At-clause-shown g c =
+    let is_at = rw c.in-Some-At.is at c.in-Some-At.field-0-is in rw (c.in-Some-At.is, is_at) c.show.ensures.shown
