@@ -12,6 +12,7 @@ use Rattle.mach_cli.specs.AllStretches.{parts_of}
 use Rattle.machfixups.specs.RowFields.{texts_reported}
 use Rattle.machfixups.specs.Rows.{PointerRow, PointerRows, object_rows, readable_table}
 use Rattle.mach_cli.specs.Shown.{ImageLines}
+use Rattle.machfixups.specs.TargetSymbols.{PointerSymbol, HasTargetSymbols}
 use Rattle.machfixups.specs.declared.rows.Selection.{Selection}
 
 -- the objects of a list, with the name of its member
@@ -27,11 +28,11 @@ pointer_members rows =
     ∷ named_objects (codes "chains") rows.chains
     ∷ []
 
--- The text is the members of the image at the start of the bytes, of the selected lists: exactly one object for each rebase of
--- its opcodes, in order, and then of its chains, for each bind of its opcodes and then of its chains, for each row of its weak
--- binds, and for each fixup of its chains. Names are those of its segments, with no more sections than there are bytes, and of
--- its libraries. Of all objects these are the first ones, as many as are left of the limit, and whether there are more. It is
--- whole if there are no more and each can be read. Of the limit `rest` are left after it.
+-- The text is the members of the image at the start of the bytes, of the selected lists: exactly one object for each rebase of its
+-- opcodes, in order, and then of its chains, for each bind of its opcodes and then of its chains, for each row of its weak binds,
+-- and for each fixup of its chains. Names are those of its segments, with no more sections than there are bytes, of its libraries,
+-- and of the symbols at the targets of rebases. Of all objects these are the first ones, as many as are left of the limit, and
+-- whether there are more. It is whole if there are no more and each can be read. Of the limit `rest` are left after it.
 pub record AreImagePointerMembers (selection : Selection) (left : ℕ) (bytes : List ℕ) (text : List ℕ) (whole : Bool) (rest : ℕ) : Type 0 where
   pub opens : Opens bytes 0
   pub segments : List SegmentView
@@ -42,8 +43,10 @@ pub record AreImagePointerMembers (selection : Selection) (left : ℕ) (bytes : 
   pub has_libs : HasLibraries bytes 0 libs
   pub chained : Result (Option Fixups) Fault
   pub has_chained : HasChainedFixups bytes 0 chained
-  pub members : AreListMembers left (pointer_members (object_rows selection (parts_of (length bytes) segments) libs (readable_table chained) lists)) text
-      whole rest
+  pub symbols : ℕ → Option PointerSymbol
+  pub has_symbols : HasTargetSymbols bytes 0 symbols
+  pub members : AreListMembers left (pointer_members (object_rows selection (parts_of (length bytes) segments) symbols libs (readable_table chained) lists))
+      text whole rest
 
 -- the same of an image of any file, for any limit of the file
 abbrev pub image_pointer_members : Selection → (file : List ℕ) → (limit : ℕ) → ImageLines

@@ -2,6 +2,9 @@ pub mod StoredPointers
 pub mod Lists
 pub mod KeptFixups
 pub mod KeptLeft
+pub mod TargetSymbols
+pub mod NameableSections
+pub mod TargetViews
 pub mod Rows
 pub mod PickWords
 pub mod RowsLeft

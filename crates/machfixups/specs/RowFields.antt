@@ -1,18 +1,20 @@
 -- What is shown of rebases, binds and fixups, field by field: the members of an object in their order, each with its column in a
 -- line, and the parts that only a line has.
-use Rattle.std.specs.Prelude.{ℕ, ◌-◌, ℤ, pos, List, [], ◌∷◌, codes, length, map, true, false, ◌||◌, Option, None, Some, Result, Ok, if◌then◌else◌}
+use Rattle.std.specs.Prelude.{ℕ, ◌-◌, ℤ, pos, List, [], ◌∷◌, ◌++◌, codes, length, map, true, false, ◌||◌, Option, None, Some, Result, Ok, if◌then◌else◌}
 use Rattle.std.specs.Ordering.{int_eq}
 use Rattle.std.specs.Str.{chars}
 use Rattle.mach_base.specs.Answer.{◌>>=◌}
 use Rattle.mach_base.specs.Fault.{Fault}
 use Rattle.mach_parts.specs.PointerSigning.{Auth}
 use Rattle.mach_cli.specs.Fields.{FieldView, field_of, flags, hex, line_field, number, object_field, optional_text, signed, text, whether}
-use Rattle.mach_cli.specs.Fields.{wide_field}
-use Rattle.mach_cli.specs.Listings.{reported_by}
+use Rattle.mach_cli.specs.Escapes.{escaped_text}
+use Rattle.mach_cli.specs.Fields.{fields_line, wide_field}
+use Rattle.mach_cli.specs.Listings.{hex_text, reported_by}
 use Rattle.mach_cli.specs.Signing.{diverse_by, diversity_by, has_auth, key_by, rebase_type}
 use Rattle.mach_dyld.specs.declared.rebases.RebaseKind.{RebaseKind}
 use Rattle.mach_dyld.specs.declared.rebases.RebaseKind.TheVariants.{Pointer, TextAbsolute32, TextRelative32}
 use Rattle.machfixups.specs.Rows.{PointerPlace, PointerBind, binds, binds_weakly, rebases, is_value, PointerRow, corrects, is_strong, row_view}
+use Rattle.machfixups.specs.TargetSymbols.{PointerSymbol}
 use Rattle.machfixups.specs.declared.row.Row.{Row}
 
 -- the line above the rows of an image: what their first six columns hold
@@ -78,6 +80,20 @@ abbrev pub raw_field : Option ℕ → FieldView
 raw_field (Some raw) = field_of (codes "raw") (hex raw) 9
 raw_field None = line_field (text []) 0
 
+-- the same for an object alone
+abbrev pub raw_member : Option ℕ → FieldView
+raw_member (Some raw) = object_field (codes "raw") (hex raw)
+raw_member None = line_field (text []) 0
+
+-- how far a target is above its symbol, and the name of that; null if there is none
+abbrev pub distance_field : Option PointerSymbol → FieldView
+distance_field (Some symbol) = object_field (codes "target_distance") (number symbol.distance)
+distance_field None = object_field (codes "target_distance") (optional_text None)
+
+abbrev pub symbol_field : Option PointerSymbol → FieldView
+symbol_field (Some symbol) = object_field (codes "target_symbol") (optional_text (Some symbol.name))
+symbol_field None = object_field (codes "target_symbol") (optional_text None)
+
 abbrev pub bind_fields : PointerPlace → PointerBind → (raw : Option ℕ) → List FieldView
 bind_fields p b raw =
     addend_field b.addend
@@ -113,26 +129,31 @@ weak_fields p b =
     ∷ bind_flags b
     ∷ []
 
-abbrev pub rebase_fields : (place target : PointerPlace) → RebaseKind → Option Auth → (raw : Option ℕ) → List FieldView
-rebase_fields p target kind auth raw =
+-- all that an object has, and what a line has up to the target
+abbrev pub rebase_fields : (place target : PointerPlace) → Option PointerSymbol → RebaseKind → Option Auth → (raw : Option ℕ) → List FieldView
+rebase_fields p target symbol kind auth raw =
     address_field p
     ∷ object_field (codes "diversity") (number (diversity_by auth))
     ∷ whether (codes "is_address_diverse") (diverse_by auth)
     ∷ whether (codes "is_signed") (has_auth auth)
     ∷ object_field (codes "key") (number (key_by auth))
     ∷ kind_field (codes "kind") (codes "rebase")
-    ∷ raw_field raw
+    ∷ raw_member raw
     ∷ section_field p
     ∷ segment_field p
     ∷ field_of (codes "target") (hex target.address) 6
+    ∷ distance_field symbol
     ∷ object_field (codes "target_section") (optional_text target.section)
     ∷ object_field (codes "target_segment") (optional_text target.segment)
+    ∷ symbol_field symbol
     ∷ object_field (codes "type") (text (rebase_type kind))
-    ∷ rebase_word kind
-    ∷ signed_flags auth
     ∷ target_segment target
     ∷ target_section target
     ∷ []
+
+-- what a line has after the symbol at the target
+abbrev pub ending_fields : RebaseKind → Option Auth → (raw : Option ℕ) → List FieldView
+ending_fields kind auth raw = rebase_word kind ∷ signed_flags auth ∷ raw_field raw ∷ []
 
 abbrev pub value_fields : PointerPlace → (value : ℕ) → (raw : Option ℕ) → List FieldView
 value_fields p value raw =
@@ -163,7 +184,7 @@ strong_fields name =
 abbrev pub pointer_fields : PointerRow → List FieldView
 pointer_fields (corrects p (binds b) raw) = bind_fields p b raw
 pointer_fields (corrects p (binds_weakly b) raw) = weak_fields p b
-pointer_fields (corrects p (rebases target kind auth) raw) = rebase_fields p target kind auth raw
+pointer_fields (corrects p (rebases target symbol kind auth) raw) = rebase_fields p target symbol kind auth raw
 pointer_fields (corrects p (is_value value) raw) = value_fields p value raw
 pointer_fields (is_strong name) = strong_fields name
 
@@ -171,10 +192,38 @@ pointer_fields (is_strong name) = strong_fields name
 abbrev pub pointer_row_fields : Row → List FieldView
 pointer_row_fields row = pointer_fields (row_view row)
 
+-- the symbol at a target, after a space, and how far the target is above it
+abbrev pub symbol_text : Option PointerSymbol → List ℕ
+symbol_text (Some symbol) = codes " " ++ (escaped_text symbol.name ++ (codes "+" ++ hex_text symbol.distance))
+symbol_text None = []
+
+-- what a line has after the fields of a row: of a rebase the symbol at the target, and the fields after it
+abbrev pub pointer_ending : PointerRow → List ℕ
+pointer_ending (corrects p (binds b) raw) = []
+pointer_ending (corrects p (binds_weakly b) raw) = []
+pointer_ending (corrects p (rebases target symbol kind auth) raw) = symbol_text symbol ++ fields_line (ending_fields kind auth raw)
+pointer_ending (corrects p (is_value value) raw) = []
+pointer_ending (is_strong name) = []
+
+-- the line of a row, without its end
+abbrev pub pointer_line : PointerRow → List ℕ
+pointer_line row = fields_line (pointer_fields row) ++ pointer_ending row
+
+-- that of a row of the code's
+abbrev pub pointer_row_line : Row → List ℕ
+pointer_row_line row = pointer_line (row_view row)
+
+-- the lines of rows, or their faults
+abbrev pub line_reported : Result PointerRow Fault → Result (List ℕ) Fault
+line_reported row = row >>= (λ r. Ok (pointer_line r))
+
+abbrev pub lines_reported : List (Result PointerRow Fault) → List (Result (List ℕ) Fault)
+lines_reported rows = map line_reported rows
+
 -- the fields of a row, or its fault
 abbrev pub fields_reported : Result PointerRow Fault → Result (List FieldView) Fault
 fields_reported row = row >>= (λ r. Ok (pointer_fields r))
 
--- the texts of rows, or their faults
+-- the texts of rows in a form, or their faults
 abbrev pub texts_reported : (List FieldView → List ℕ) → List (Result PointerRow Fault) → List (Result (List ℕ) Fault)
 texts_reported form rows = map (reported_by form) (map fields_reported rows)

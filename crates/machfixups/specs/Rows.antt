@@ -1,6 +1,6 @@
 -- The rows of the rebases, binds and weak binds of the opcodes and of the fixups of the chains.
 use Rattle.std.specs.Prelude.{ℕ, ℤ, ◌+ℤ◌, List, [], map, ◌++◌, slice_get, Bool, true, false, not, ◌||◌, if◌then◌else◌}
-use Rattle.std.specs.Prelude.{Option, Some, None, option_map, Result, Ok, Err}
+use Rattle.std.specs.Prelude.{Option, Some, None, is_some, option_map, Result, Ok, Err}
 use Rattle.mach_base.specs.Answer.{◌>>=◌}
 use Rattle.mach_base.specs.Fault.{Fault, malformed}
 use Rattle.mach_base.specs.declared.error.Error.{Error}
@@ -22,6 +22,7 @@ use Rattle.mach_dyld.specs.declared.rebases.RebaseKind.TheVariants.{Pointer, Tex
 use Rattle.machfixups.specs.Lists.{PointerLists}
 use Rattle.mach_cli.specs.Origins.{ordinal_of, origin_of, provider_name}
 use Rattle.machfixups.specs.StoredPointers.{PointerSource, raw_of}
+use Rattle.machfixups.specs.TargetSymbols.{PointerSymbol, target_symbol_option_view}
 use Rattle.mach_cli.specs.AllStretches.{SegmentStretches, part_with, section_with, stretch_name}
 use Rattle.machfixups.specs.KeptFixups.{kept_fixups, kinds_in_lines, kinds_in_objects}
 use Rattle.machfixups.specs.declared.kept_fixups.KindsOfLists.{KindsOfLists}
@@ -52,12 +53,12 @@ pub record PointerBind : Type 0 where
   pub is_lazy : Bool
   pub auth : Option Auth
 
--- what is stored: a symbol's address, the address of the definition that all images share, an address that moves with the image,
--- or a number
+-- what is stored: a symbol's address, the address of the definition that all images share, an address that moves with the image
+-- and perhaps the symbol there, or a number
 pub data Action : Type 0 where
   binds : PointerBind → Action
   binds_weakly : PointerBind → Action
-  rebases : (target : PointerPlace) → RebaseKind → Option Auth → Action
+  rebases : (target : PointerPlace) → Option PointerSymbol → RebaseKind → Option Auth → Action
   is_value : ℕ → Action
 
 -- a place and what is stored there, with the pointer of a chain that is shown; or the name of a strong definition of the image's own
@@ -73,6 +74,10 @@ place_in (Some p) address = record { address = address; segment = Some (stretch_
 -- the place of an address in the first segment that holds it, if one does
 abbrev pub place_by_address : List SegmentStretches → ℕ → PointerPlace
 place_by_address parts address = place_in (part_with address parts) address
+
+-- the symbol at a target, if a section holds it
+abbrev pub symbol_there : (symbols : ℕ → Option PointerSymbol) → (target : PointerPlace) → Option PointerSymbol
+symbol_there symbols target = if is_some target.section then symbols target.address else None
 
 -- the row of an address, in the first segment that holds it
 abbrev pub row_by_address : List SegmentStretches → ℕ → Action → PointerRow
@@ -106,9 +111,14 @@ target_by_kind parts Pointer target = place_by_address parts target
 target_by_kind parts TextAbsolute32 target = place_by_address parts target
 target_by_kind parts TextRelative32 target = place_in None target
 
+-- what a rebase stores: the address of a target, with the symbol there
+abbrev pub rebases_to : (symbols : ℕ → Option PointerSymbol) → (target : PointerPlace) → RebaseKind → Option Auth → Action
+rebases_to symbols target kind auth = rebases target (symbol_there symbols target) kind auth
+
 -- the row of a rebase, in its segment
-abbrev pub row_of_rebase : List SegmentStretches → Rebase → PointerRow
-row_of_rebase parts r = row_by_segment parts r.segment r.address (rebases (target_by_kind parts r.kind r.target) r.kind r.auth) None
+abbrev pub row_of_rebase : List SegmentStretches → (symbols : ℕ → Option PointerSymbol) → Rebase → PointerRow
+row_of_rebase parts symbols r =
+    row_by_segment parts r.segment r.address (rebases_to symbols (target_by_kind parts r.kind r.target) r.kind r.auth) None
 
 -- the row of a strong name; or that of a weak bind, in the first segment that holds its address
 abbrev pub row_of_weak : List SegmentStretches → WeakBind → PointerRow
@@ -134,20 +144,22 @@ bind_of_import libs i inline auth = record {
   auth = auth;
 }
 
-abbrev pub action_of : List SegmentStretches → (libs : List (List ℕ)) → Option Fixups → KindOfFixup → Option Auth → Result Action Fault
-action_of parts libs table (rebase target) auth = Ok (rebases (place_by_address parts target) Pointer auth)
-action_of parts libs table (value number) auth = Ok (is_value number)
-action_of parts libs table (bind import inline) auth = import_in table import >>= (λ i. Ok (binds (bind_of_import libs i inline auth)))
+abbrev pub action_of : List SegmentStretches → (symbols : ℕ → Option PointerSymbol) → (libs : List (List ℕ)) → Option Fixups → KindOfFixup → Option Auth
+    → Result Action Fault
+action_of parts symbols libs table (rebase target) auth = Ok (rebases_to symbols (place_by_address parts target) Pointer auth)
+action_of parts symbols libs table (value number) auth = Ok (is_value number)
+action_of parts symbols libs table (bind import inline) auth = import_in table import >>= (λ i. Ok (binds (bind_of_import libs i inline auth)))
 
 -- the row of a fixup, in its segment
-abbrev pub row_of_fixup : List SegmentStretches → (libs : List (List ℕ)) → Option Fixups → Option PointerSource → Fixup → Result PointerRow Fault
-row_of_fixup parts libs table source f =
-    action_of parts libs table f.kind f.auth >>= (λ action. Ok (row_by_segment parts f.segment f.address action (raw_of source table f)))
+abbrev pub row_of_fixup : List SegmentStretches → (symbols : ℕ → Option PointerSymbol) → (libs : List (List ℕ)) → Option Fixups → Option PointerSource
+    → Fixup → Result PointerRow Fault
+row_of_fixup parts symbols libs table source f =
+    action_of parts symbols libs table f.kind f.auth >>= (λ action. Ok (row_by_segment parts f.segment f.address action (raw_of source table f)))
 
 -- ---- all rows
 
-abbrev pub row_for_rebase : List SegmentStretches → Result Rebase Fault → Result PointerRow Fault
-row_for_rebase parts item = item >>= (λ r. Ok (row_of_rebase parts r))
+abbrev pub row_for_rebase : List SegmentStretches → (symbols : ℕ → Option PointerSymbol) → Result Rebase Fault → Result PointerRow Fault
+row_for_rebase parts symbols item = item >>= (λ r. Ok (row_of_rebase parts symbols r))
 
 abbrev pub row_for_weak : List SegmentStretches → Result WeakBind Fault → Result PointerRow Fault
 row_for_weak parts item = item >>= (λ w. Ok (row_of_weak parts w))
@@ -155,9 +167,9 @@ row_for_weak parts item = item >>= (λ w. Ok (row_of_weak parts w))
 abbrev pub row_for_binding : List SegmentStretches → Result Binding Fault → Result PointerRow Fault
 row_for_binding parts item = item >>= (λ b. Ok (row_of_binding parts b))
 
-abbrev pub row_for_fixup : List SegmentStretches → (libs : List (List ℕ)) → Option Fixups → Option PointerSource → Result Fixup Fault
-    → Result PointerRow Fault
-row_for_fixup parts libs table source item = item >>= row_of_fixup parts libs table source
+abbrev pub row_for_fixup : List SegmentStretches → (symbols : ℕ → Option PointerSymbol) → (libs : List (List ℕ)) → Option Fixups → Option PointerSource
+    → Result Fixup Fault → Result PointerRow Fault
+row_for_fixup parts symbols libs table source item = item >>= row_of_fixup parts symbols libs table source
 
 -- the chained fixups, if they can be read
 abbrev pub readable_table : Result (Option Fixups) Fault → Option Fixups
@@ -188,9 +200,9 @@ pub record PointerRows : Type 0 where
   pub chains : List (Result PointerRow Fault)
 
 -- a row, or its fault, for each fixup of the chains that is shown
-abbrev pub chain_rows : List SegmentStretches → (libs : List (List ℕ)) → Option Fixups → Option PointerSource → ShownKinds → List (Result Fixup Fault)
-    → List (Result PointerRow Fault)
-chain_rows parts libs table source kinds fixups = map (row_for_fixup parts libs table source) (kept_fixups kinds fixups)
+abbrev pub chain_rows : List SegmentStretches → (symbols : ℕ → Option PointerSymbol) → (libs : List (List ℕ)) → Option Fixups → Option PointerSource
+    → ShownKinds → List (Result Fixup Fault) → List (Result PointerRow Fault)
+chain_rows parts symbols libs table source kinds fixups = map (row_for_fixup parts symbols libs table source) (kept_fixups kinds fixups)
 
 -- what the pointers of chains are read from, if they are shown
 abbrev pub source_if : Bool → PointerSource → Option PointerSource
@@ -198,22 +210,25 @@ source_if has_raw source = if has_raw then Some source else None
 
 -- A row, or its fault, for each rebase of the opcodes, each of their binds, and each weak bind, of the lists that are shown; and for
 -- each fixup of the chains that a list has, after those of the opcodes, perhaps with its pointer.
-abbrev pub rows_shown : (has_raw : Bool) → (shown : Selection) → KindsOfLists → List SegmentStretches → (libs : List (List ℕ)) → Option Fixups
-    → PointerLists → PointerRows
-rows_shown has_raw shown kinds parts libs table lists = let source = source_if has_raw lists.source in record {
-  rebases = picked shown.rebases (map (row_for_rebase parts) lists.rebases) ++ chain_rows parts libs table source kinds.rebases lists.fixups;
-  binds = picked shown.binds (map (row_for_binding parts) lists.bindings) ++ chain_rows parts libs table source kinds.binds lists.fixups;
+abbrev pub rows_shown : (has_raw : Bool) → (shown : Selection) → KindsOfLists → List SegmentStretches → (symbols : ℕ → Option PointerSymbol)
+    → (libs : List (List ℕ)) → Option Fixups → PointerLists → PointerRows
+rows_shown has_raw shown kinds parts symbols libs table lists = let source = source_if has_raw lists.source in record {
+  rebases = picked shown.rebases (map (row_for_rebase parts symbols) lists.rebases)
+      ++ chain_rows parts symbols libs table source kinds.rebases lists.fixups;
+  binds = picked shown.binds (map (row_for_binding parts) lists.bindings) ++ chain_rows parts symbols libs table source kinds.binds lists.fixups;
   weak = picked shown.weak (map (row_for_weak parts) lists.weak_binds);
-  chains = chain_rows parts libs table source kinds.chains lists.fixups;
+  chains = chain_rows parts symbols libs table source kinds.chains lists.fixups;
 }
 
 -- the rows that have lines, by what is selected; the pointers of chains are shown if the chains are
-abbrev pub line_rows : Selection → List SegmentStretches → (libs : List (List ℕ)) → Option Fixups → PointerLists → PointerRows
-line_rows p parts libs table lists = rows_shown p.chains (shown_picks p) (kinds_in_lines (shown_picks p)) parts libs table lists
+abbrev pub line_rows : Selection → List SegmentStretches → (symbols : ℕ → Option PointerSymbol) → (libs : List (List ℕ)) → Option Fixups → PointerLists
+    → PointerRows
+line_rows p parts symbols libs table lists = rows_shown p.chains (shown_picks p) (kinds_in_lines (shown_picks p)) parts symbols libs table lists
 
 -- the rows that have objects, by what is selected; the pointers of chains are shown
-abbrev pub object_rows : Selection → List SegmentStretches → (libs : List (List ℕ)) → Option Fixups → PointerLists → PointerRows
-object_rows p parts libs table lists = rows_shown true (shown_picks p) (kinds_in_objects (shown_picks p)) parts libs table lists
+abbrev pub object_rows : Selection → List SegmentStretches → (symbols : ℕ → Option PointerSymbol) → (libs : List (List ℕ)) → Option Fixups → PointerLists
+    → PointerRows
+object_rows p parts symbols libs table lists = rows_shown true (shown_picks p) (kinds_in_objects (shown_picks p)) parts symbols libs table lists
 
 -- one list after the other
 abbrev pub rows_in_order : PointerRows → List (Result PointerRow Fault)
@@ -241,7 +256,7 @@ bind_view b = record {
 abbrev pub action_view : declared_action.Action → Action
 action_view (variants.Bind b) = binds (bind_view b)
 action_view (variants.Weak b) = binds_weakly (bind_view b)
-action_view (variants.Rebase target kind auth) = rebases (place_view target) kind (auth_option_view auth)
+action_view (variants.Rebase target symbol kind auth) = rebases (place_view target) (target_symbol_option_view symbol) kind (auth_option_view auth)
 action_view (variants.Value number) = is_value number
 
 abbrev pub row_view : declared.Row → PointerRow

@@ -1,20 +1,26 @@
 //! What is shown of a row, field by field.
 
-ghost use Rattle.std.specs.Prelude.{◌≡◌, ◌-◌, length, map, OnOk};
+ghost use Rattle.std.specs.Prelude.{◌≡◌, ◌-◌, ◌++◌, length, map, OnOk};
 ghost use Rattle.std.specs.Str.{chars};
 ghost use Rattle.std.specs.Io.KnownBytes.{Appends};
 ghost use Rattle.mach_parts.specs.PointerSigning.{auth_option_view};
-ghost use Rattle.mach_cli.specs.Fields.{field_view, value_view};
+ghost use Rattle.mach_cli.specs.Fields.{field_view, fields_line, value_view};
 ghost use Rattle.mach_dyld.specs.Exports.{text_in};
 ghost use Rattle.machfixups.specs.RowFields.{addend_field, address_field, bind_fields, bind_flags, dash_field, from_field, kind_field, name_or_dash};
 ghost use Rattle.machfixups.specs.RowFields.{rebase_fields, rebase_word, section_field, segment_field, signed_flags, strong_fields, value_fields};
-ghost use Rattle.machfixups.specs.RowFields.{pointer_fields, raw_field, target_section, target_segment, weak_fields};
+ghost use Rattle.machfixups.specs.RowFields.{distance_field, ending_fields, pointer_ending, pointer_fields, pointer_line, raw_field, raw_member, symbol_field};
+ghost use Rattle.machfixups.specs.RowFields.{symbol_text, target_section, target_segment, weak_fields};
 ghost use Rattle.machfixups.specs.Rows.{bind_view, place_view, row_view};
+ghost use Rattle.machfixups.specs.TargetSymbols.{target_symbol_option_view};
 
 use crate::row::{Action, Bind, Location, Row};
+use crate::target_symbols::TargetSymbol;
 use goblin_mach::RebaseKind;
 use goblin_mach::chained_fixups::PointerAuth;
-use mach_cli::{Field, FieldsForm, Value, diverse_by, diversity_by, has_auth, key_by, rebase_type};
+use mach_cli::{
+    Escaped, Field, FieldsForm, Line, Value, diverse_by, diversity_by, has_auth, key_by,
+    rebase_type,
+};
 use std::io;
 use std::io::Write;
 
@@ -163,6 +169,36 @@ fn raw_field(raw: Option<u64>) -> Field<'static>
     }
 }
 
+// Returns the same field for an object alone.
+fn raw_member(raw: Option<u64>) -> Field<'static>
+    ensures { field_view result ≡ raw_member raw }
+{
+    match raw {
+        Some(raw) => Field::of_object("raw", Value::Hex(raw)),
+        None => Field::of_line(Value::Text(""), 0),
+    }
+}
+
+// Returns the field for how far a target is above its symbol, null if it has none.
+fn distance_field(symbol: &Option<TargetSymbol<'_>>) -> Field<'static>
+    ensures { field_view result ≡ distance_field (target_symbol_option_view symbol.now) }
+{
+    match symbol {
+        Some(symbol) => Field::of_object("target_distance", Value::Number(symbol.distance)),
+        None => Field::of_object("target_distance", Value::OptionalText(None)),
+    }
+}
+
+// Returns the field for the name of a target's symbol, null if it has none.
+fn symbol_field<'a>(symbol: &Option<TargetSymbol<'a>>) -> Field<'a>
+    ensures { field_view result ≡ symbol_field (target_symbol_option_view symbol.now) }
+{
+    match symbol {
+        Some(symbol) => Field::of_object("target_symbol", Value::OptionalText(Some(symbol.name))),
+        None => Field::of_object("target_symbol", Value::OptionalText(None)),
+    }
+}
+
 // Returns the fields of a bind.
 fn bind_fields<'a>(place: &Location<'a>, bind: &Bind<'a>, raw: Option<u64>) -> [Field<'a>; 16]
     ensures { map field_view result ≡ bind_fields (place_view place.now) (bind_view bind.now) raw }
@@ -207,15 +243,17 @@ fn weak_fields<'a>(place: &Location<'a>, bind: &Bind<'a>) -> [Field<'a>; 11]
     ]
 }
 
-// Returns the fields of a rebase.
+// Returns the fields of a rebase: all that an object has, and those of a line up to the target.
 fn rebase_fields<'a>(
     place: &Location<'a>,
     target: &Location<'a>,
+    symbol: &Option<TargetSymbol<'a>>,
     kind: RebaseKind,
     auth: Option<PointerAuth>,
     raw: Option<u64>,
 ) -> [Field<'a>; 17]
-    ensures { map field_view result ≡ rebase_fields (place_view place.now) (place_view target.now) kind (auth_option_view auth) raw }
+    ensures { map field_view result ≡ rebase_fields (place_view place.now) (place_view target.now) (target_symbol_option_view symbol.now) kind
+        (auth_option_view auth) raw }
 {
     [
         address_field(place),
@@ -224,18 +262,29 @@ fn rebase_fields<'a>(
         Field::whether("is_signed", has_auth(auth)),
         Field::of_object("key", Value::Number(u64::from(key_by(auth)))),
         kind_field("kind", "rebase"),
-        raw_field(raw),
+        raw_member(raw),
         section_field(place),
         segment_field(place),
         Field::new("target", Value::Hex(target.address), 6),
+        distance_field(symbol),
         Field::of_object("target_section", Value::OptionalText(target.section)),
         Field::of_object("target_segment", Value::OptionalText(target.segment)),
+        symbol_field(symbol),
         Field::of_object("type", Value::Text(rebase_type(kind))),
-        rebase_word(kind),
-        signed_flags(auth),
         target_segment(target),
         target_section(target),
     ]
+}
+
+// Returns the fields of a rebase that a line has after the symbol.
+fn ending_fields(
+    kind: RebaseKind,
+    auth: Option<PointerAuth>,
+    raw: Option<u64>,
+) -> [Field<'static>; 3]
+    ensures { map field_view result ≡ ending_fields kind (auth_option_view auth) raw }
+{
+    [rebase_word(kind), signed_flags(auth), raw_field(raw)]
 }
 
 // Returns the fields of a number.
@@ -278,11 +327,73 @@ pub fn write_row<F: FieldsForm, O: Write>(row: &Row<'_, '_>, out: &mut O) -> io:
         Row::At { place, action, raw } => match action {
             Action::Bind(bind) => F::write(&bind_fields(place, bind, *raw), out),
             Action::Weak(bind) => F::write(&weak_fields(place, bind), out),
-            Action::Rebase { target, kind, auth } => {
-                F::write(&rebase_fields(place, target, *kind, *auth, *raw), out)
+            Action::Rebase {
+                target,
+                symbol,
+                kind,
+                auth,
+            } => {
+                let fields = rebase_fields(place, target, symbol, *kind, *auth, *raw);
+                F::write(&fields, out)
             }
             Action::Value(number) => F::write(&value_fields(place, *number, *raw), out),
         },
         Row::Strong(name) => F::write(&strong_fields(name), out),
     }
+}
+
+// Writes the symbol at a target and how far the target is above it, after a space, if there is one.
+fn write_symbol<O: Write>(symbol: &Option<TargetSymbol<'_>>, out: &mut O) -> io::Result<()>
+    ensures { OnOk result (Appends (O.contents out.old) (O.contents out.new) (symbol_text (target_symbol_option_view symbol.now))) }
+{
+    match symbol {
+        Some(symbol) => {
+            let (name, distance) = (Escaped(symbol.name), symbol.distance);
+            write!(out, " {name}+0x{distance:x}")
+        }
+        None => Ok(()),
+    }
+}
+
+// Writes what a line of a rebase has after the target: the symbol there, and the fields after it.
+fn write_rebase_ending<O: Write>(
+    symbol: &Option<TargetSymbol<'_>>,
+    kind: RebaseKind,
+    auth: Option<PointerAuth>,
+    raw: Option<u64>,
+    out: &mut O,
+) -> io::Result<()>
+    ensures { OnOk result (Appends (O.contents out.old) (O.contents out.new) (symbol_text (target_symbol_option_view symbol.now)
+        ++ fields_line (ending_fields kind (auth_option_view auth) raw))) }
+{
+    write_symbol(symbol, out)?;
+    Line::write(&ending_fields(kind, auth, raw), out)
+}
+
+// Writes what a line of a row has after the fields.
+fn write_ending<O: Write>(row: &Row<'_, '_>, out: &mut O) -> io::Result<()>
+    ensures { OnOk result (Appends (O.contents out.old) (O.contents out.new) (pointer_ending (row_view row.now))) }
+{
+    match row {
+        Row::At { action, raw, .. } => match action {
+            Action::Rebase {
+                symbol,
+                kind,
+                auth,
+                ..
+            } => write_rebase_ending(symbol, *kind, *auth, *raw, out),
+            Action::Bind(_) => Ok(()),
+            Action::Weak(_) => Ok(()),
+            Action::Value(_) => Ok(()),
+        },
+        Row::Strong(_) => Ok(()),
+    }
+}
+
+/// Writes the line of a row, without its end.
+pub fn write_line<O: Write>(row: &Row<'_, '_>, out: &mut O) -> io::Result<()>
+    ensures { OnOk result (Appends (O.contents out.old) (O.contents out.new) (pointer_line (row_view row.now))) }
+{
+    write_row::<Line, O>(row, out)?;
+    write_ending(row, out)
 }

@@ -5,8 +5,9 @@ ghost use Rattle.machfixups.specs.ImageLines.{image_pointer_lines};
 use crate::headed::Headed;
 use crate::lists::ImageRows;
 use crate::rows::Selection;
+use crate::target_symbols::TargetSymbols;
 use goblin_mach::MachO;
-use mach_cli::{AllStretches, ImageView, InForm, Line, Outcome, ShowFailure, print_listing};
+use mach_cli::{AllStretches, ImageView, Outcome, ShowFailure, print_listing};
 use std::alloc::Allocator;
 use std::io::Write;
 
@@ -34,15 +35,17 @@ impl ImageView for FixupLines {
     ) -> Result<Outcome, ShowFailure> {
         let parts = AllStretches::of_image(alloc, image)?;
         let shown = self.selection.shown();
+        let symbols = TargetSymbols::of(alloc, image, shown.has_rebases())?;
         let list = ImageRows::of(
             image,
             &parts,
+            &symbols,
             shown,
             shown.kinds_in_lines(),
             self.selection.chains,
         );
         let mut lines = Headed {
-            list: InForm { list, form: Line },
+            list,
             heading: HEADING,
             is_written: false,
         };

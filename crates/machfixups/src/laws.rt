@@ -2,8 +2,7 @@
 
 ghost use Rattle.std.specs.Prelude.{◌++◌, codes};
 ghost use Rattle.mach_cli.specs.Escapes.{IsOneLine};
-ghost use Rattle.mach_cli.specs.Fields.{fields_line};
-ghost use Rattle.machfixups.specs.RowFields.{heading_line, pointer_fields};
+ghost use Rattle.machfixups.specs.RowFields.{heading_line, pointer_line};
 ghost use Rattle.machfixups.specs.Rows.{PointerRow};
 
 /// The heading is one line.
@@ -13,5 +12,5 @@ pub fn a_heading_is_one_line()
 
 /// The line of a row is one line, whatever names the file has.
 pub fn a_row_is_one_line()
-    ensures { (row : PointerRow) → IsOneLine (fields_line (pointer_fields row) ++ codes "\n") }
+    ensures { (row : PointerRow) → IsOneLine (pointer_line row ++ codes "\n") }
 {}

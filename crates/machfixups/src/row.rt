@@ -12,12 +12,15 @@ ghost use Rattle.mach_chained.specs.Views.{import_view};
 ghost use Rattle.mach_chained.specs.WalkViews.{fixup_view, fixup_read};
 ghost use Rattle.mach_cli.specs.AllStretches.{part_with, part_view, parts_view};
 ghost use Rattle.machfixups.specs.Rows.{place_by_address, place_in, target_by_kind, bind_of_binding, row_by_address, row_by_segment};
-ghost use Rattle.machfixups.specs.Rows.{import_in, action_of, bind_of_import};
+ghost use Rattle.machfixups.specs.Rows.{import_in, action_of, bind_of_import, rebases_to, symbol_there};
 ghost use Rattle.machfixups.specs.Rows.{row_for_binding, row_for_rebase, row_for_weak, row_for_fixup, place_view, bind_view, action_view, row_view};
 ghost use Rattle.machfixups.specs.Rows.{row_of_fixup, row_read, fixups_table_view};
 ghost use Rattle.machfixups.specs.StoredPointers.{source_option_view};
+ghost use Rattle.machfixups.specs.TargetSymbols.{target_symbol_option_view};
+ghost use Rattle.machfixups.specs.TargetViews.{symbols_seen};
 
 use crate::stored_pointers::{StoredPointers, raw_of};
+use crate::target_symbols::{TargetSymbol, TargetSymbols};
 use goblin_mach::chained_fixups::{ChainedFixups, ChainedImport, Fixup, FixupKind, PointerAuth};
 use goblin_mach::{Binding, Error, Rebase, RebaseKind, Result, WeakBind};
 use mach_cli::{AllStretches, SegmentStretches, ordinal_of, origin_of, provider_name};
@@ -57,6 +60,8 @@ pub enum Action<'b, 'a> {
     /// An address that moves with the image.
     Rebase {
         target: Location<'b>,
+        /// The symbol at the target, if there is one.
+        symbol: Option<TargetSymbol<'a>>,
         kind: RebaseKind,
         auth: Option<PointerAuth>,
     },
@@ -118,6 +123,37 @@ fn target_by_kind<'b, A: Allocator>(
             segment: None,
             section: None,
         },
+    }
+}
+
+// Returns the symbol at a target, if a section holds it.
+fn symbol_there<'a, A: Allocator>(
+    symbols: &Option<TargetSymbols<'a, '_, A>>,
+    target: &Location<'_>,
+) -> Option<TargetSymbol<'a>>
+    ensures { target_symbol_option_view result ≡ symbol_there (symbols_seen symbols.now) (place_view target.now) }
+{
+    match (symbols, target.section) {
+        (Some(symbols), Some(_)) => symbols.at(target.address),
+        (Some(_), None) => None,
+        (None, _) => None,
+    }
+}
+
+// Returns what a rebase to a target stores, with the symbol there.
+fn rebase_to<'b, 'a, A: Allocator>(
+    symbols: &Option<TargetSymbols<'a, '_, A>>,
+    target: Location<'b>,
+    kind: RebaseKind,
+    auth: Option<PointerAuth>,
+) -> Action<'b, 'a>
+    ensures { action_view result ≡ rebases_to (symbols_seen symbols.now) (place_view target.entry) kind (auth_option_view auth) }
+{
+    Action::Rebase {
+        target,
+        symbol: symbol_there(symbols, &target),
+        kind,
+        auth,
     }
 }
 
@@ -202,20 +238,20 @@ fn bind_of_import<'a>(
 // Returns what a fixup stores.
 fn action_of<'b, 'a, A: Allocator>(
     parts: &'b AllStretches<A>,
+    symbols: &Option<TargetSymbols<'a, '_, A>>,
     libs: &[&'a str],
     table: &Option<ChainedFixups<'a>>,
     fixup: &Fixup,
 ) -> Result<Action<'b, 'a>>
-    ensures { Reads action_view result (action_of (parts_view parts.now) (texts libs.now) (fixups_table_view table.now) (kind_view fixup.now.kind)
-        (auth_option_view fixup.now.auth)) }
+    ensures { Reads action_view result (action_of (parts_view parts.now) (symbols_seen symbols.now) (texts libs.now) (fixups_table_view table.now)
+        (kind_view fixup.now.kind) (auth_option_view fixup.now.auth)) }
 {
     let auth = fixup.auth;
     match fixup.kind {
-        FixupKind::Rebase { target } => Ok(Action::Rebase {
-            target: place_by_address(parts, target),
-            kind: RebaseKind::Pointer,
-            auth,
-        }),
+        FixupKind::Rebase { target } => {
+            let target = place_by_address(parts, target);
+            Ok(rebase_to(symbols, target, RebaseKind::Pointer, auth))
+        }
         FixupKind::Value { value } => Ok(Action::Value(value)),
         FixupKind::Bind { import, addend } => {
             let found = import_in(table, import)?;
@@ -227,15 +263,16 @@ fn action_of<'b, 'a, A: Allocator>(
 // Returns the row of a fixup of the chains, in its segment; an error if the import of a bind can't be read.
 fn row_of_fixup<'b, 'a, A: Allocator>(
     parts: &'b AllStretches<A>,
+    symbols: &Option<TargetSymbols<'a, '_, A>>,
     libs: &[&'a str],
     table: &Option<ChainedFixups<'a>>,
     source: &Option<StoredPointers<'_, '_>>,
     fixup: &Fixup,
 ) -> Result<Row<'b, 'a>>
-    ensures { Reads row_view result (row_of_fixup (parts_view parts.now) (texts libs.now) (fixups_table_view table.now) (source_option_view source.now)
-        (fixup_view fixup.now)) }
+    ensures { Reads row_view result (row_of_fixup (parts_view parts.now) (symbols_seen symbols.now) (texts libs.now) (fixups_table_view table.now)
+        (source_option_view source.now) (fixup_view fixup.now)) }
 {
-    let action = action_of(parts, libs, table, fixup)?;
+    let action = action_of(parts, symbols, libs, table, fixup)?;
     let raw = raw_of(source, table, fixup);
     Ok(row_by_segment(parts, fixup.segment, fixup.address, action, raw))
 }
@@ -243,16 +280,14 @@ fn row_of_fixup<'b, 'a, A: Allocator>(
 /// Returns the row of a rebase of the opcodes; its place is in its own segment.
 pub fn rebase_row<'b, 'a, A: Allocator>(
     parts: &'b AllStretches<A>,
+    symbols: &Option<TargetSymbols<'a, '_, A>>,
     item: Result<Rebase>,
 ) -> Result<Row<'b, 'a>>
-    ensures { row_read result ≡ row_for_rebase (parts_view parts.now) (rebase_read item) }
+    ensures { row_read result ≡ row_for_rebase (parts_view parts.now) (symbols_seen symbols.now) (rebase_read item) }
 {
     let rebase = item?;
-    let action = Action::Rebase {
-        target: target_by_kind(parts, rebase.kind, rebase.target),
-        kind: rebase.kind,
-        auth: rebase.auth,
-    };
+    let target = target_by_kind(parts, rebase.kind, rebase.target);
+    let action = rebase_to(symbols, target, rebase.kind, rebase.auth);
     Ok(row_by_segment(parts, rebase.segment, rebase.address, action, None))
 }
 
@@ -287,16 +322,17 @@ pub fn binding_row<'b, 'a, A: Allocator>(
 /// Returns the row of a fixup of the chains, given the image's libraries.
 pub fn fixup_row<'b, 'a, A: Allocator>(
     parts: &'b AllStretches<A>,
+    symbols: &Option<TargetSymbols<'a, '_, A>>,
     libs: &[&'a str],
     table: &Option<ChainedFixups<'a>>,
     source: &Option<StoredPointers<'_, '_>>,
     item: Result<Fixup>,
 ) -> Result<Row<'b, 'a>>
-    ensures { row_read result ≡ row_for_fixup (parts_view parts.now) (texts libs.now) (fixups_table_view table.now) (source_option_view source.now)
-        (fixup_read item) }
+    ensures { row_read result ≡ row_for_fixup (parts_view parts.now) (symbols_seen symbols.now) (texts libs.now) (fixups_table_view table.now)
+        (source_option_view source.now) (fixup_read item) }
 {
     match item {
-        Ok(fixup) => row_of_fixup(parts, libs, table, source, &fixup),
+        Ok(fixup) => row_of_fixup(parts, symbols, libs, table, source, &fixup),
         Err(error) => Err(error),
     }
 }

@@ -1,15 +1,17 @@
 //! The lists of an image's rebases, binds and fixups, as rows.
 
-ghost use Rattle.std.specs.Prelude.{◌≡◌};
+ghost use Rattle.std.specs.Prelude.{◌≡◌, ◌||◌};
 ghost use Rattle.std.specs.Iterator.{YieldsFirstBy};
 ghost use Rattle.mach_cli.specs.AllStretches.{parts_view};
 ghost use Rattle.machfixups.specs.KeptFixups.{kinds_in_lines, kinds_in_objects};
 ghost use Rattle.machfixups.specs.Rows.{row_read, shown_picks};
 ghost use Rattle.machfixups.specs.RowsLeft.{rows_left, rows_of_items};
+ghost use Rattle.machfixups.specs.TargetViews.{symbols_seen};
 
 use crate::kept_fixups::{KeptFixups, KindsOfLists, ShownKinds};
 use crate::row::{Row, binding_row, fixup_row, rebase_row, weak_row};
 use crate::stored_pointers::StoredPointers;
+use crate::target_symbols::TargetSymbols;
 use goblin_mach::chained_fixups::ChainedFixups;
 use goblin_mach::{OpcodeBindingIterator, OpcodeRebaseIterator, Result, WeakBindIterator};
 use mach_cli::AllStretches;
@@ -44,6 +46,13 @@ impl Selection {
             weak: self.weak || is_all,
             chains: self.chains || is_all,
         }
+    }
+
+    /// Whether one of these lists has rebases.
+    pub fn has_rebases(self) -> bool
+        ensures { result ≡ (self.rebases || self.chains) }
+    {
+        self.rebases || self.chains
     }
 
     /// Returns the lists that have the fixups of the chains, if they are lines and these lists are shown: that of the chains has
@@ -102,13 +111,14 @@ impl<'a, 'b> Items<'a, 'b> {
     fn next_row<'p, A: Allocator>(
         &mut self,
         parts: &'p AllStretches<A>,
+        symbols: &Option<TargetSymbols<'a, '_, A>>,
     ) -> Option<Result<Row<'p, 'a>>>
-        ensures { YieldsFirstBy row_read (rows_of_items (parts_view parts.now)) self.old result self.new }
+        ensures { YieldsFirstBy row_read (rows_of_items (parts_view parts.now) (symbols_seen symbols.now)) self.old result self.new }
     {
         match self {
             Items::Hidden => None,
             Items::Rebases(items) => match items.next() {
-                Some(item) => Some(rebase_row(parts, item)),
+                Some(item) => Some(rebase_row(parts, symbols, item)),
                 None => None,
             },
             Items::Binds(items) => match items.next() {
@@ -128,6 +138,8 @@ impl<'a, 'b> Items<'a, 'b> {
 pub struct Rows<'p, 'a, 'b, A: Allocator> {
     /// The segments that hold its items.
     pub parts: &'p AllStretches<A>,
+    /// The symbols at the targets of its rebases.
+    pub symbols: &'p Option<TargetSymbols<'a, 'b, A>>,
     /// The image's libraries, by ordinal.
     pub libs: &'b [&'a str],
     /// The chained fixups with the imports of its binds.
@@ -148,11 +160,12 @@ impl<'p, 'a, A: Allocator> Iterator for Rows<'p, 'a, '_, A> {
     ghost remaining = { item_count rows_left };
 
     fn next(&mut self) -> Option<Result<Row<'p, 'a>>> {
-        let (parts, libs, table, source) = (self.parts, self.libs, self.table, self.source);
-        match self.items.next_row(parts) {
+        let (parts, symbols) = (self.parts, self.symbols);
+        let (libs, table, source) = (self.libs, self.table, self.source);
+        match self.items.next_row(parts, symbols) {
             Some(row) => Some(row),
             None => match self.fixups.next() {
-                Some(item) => Some(fixup_row(parts, libs, &table, &source, item)),
+                Some(item) => Some(fixup_row(parts, symbols, libs, &table, &source, item)),
                 None => None,
             },
         }

@@ -1,4 +1,4 @@
 use Rattle.machfixups.proofs.fields.write_row.Goals as goal
 
 pub returns-in-Rebase : goal.returns-in-Rebase
-returns-in-Rebase g c = rw (c.in-At.is, c.in-Rebase.is, ← c.rebase_fields.ensures) c.write-in-Rebase.ensures
+returns-in-Rebase g c = rw (c.in-At.is, c.in-Rebase.is, ← c.rebase_fields-fields.ensures) c.write-in-Rebase.ensures

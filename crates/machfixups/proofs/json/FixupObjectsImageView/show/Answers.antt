@@ -1,4 +1,5 @@
-use Rattle.std.proofs.Common.{List, subst, true}
+use Rattle.std.proofs.Common.{ℕ, List, Option, subst, true}
+use Rattle.goblin_mach.proofs.ImageFacts.{strict-lossy}
 use Rattle.goblin_mach.specs.OpenImage.{commands_view}
 use Rattle.mach_cli.specs.JsonArrays.{AreListMembers}
 use Rattle.mach_cli.specs.AllStretches.{SegmentStretches, parts_view}
@@ -6,7 +7,11 @@ use Rattle.machfixups.specs.JsonImages.{pointer_members}
 use Rattle.machfixups.specs.KeptFixups.{kinds_in_objects}
 use Rattle.machfixups.specs.Rows.{PointerRows, object_rows, readable_table, rows_shown}
 use Rattle.machfixups.specs.declared.kept_fixups.KindsOfLists.{KindsOfLists}
+use Rattle.machfixups.specs.TargetSymbols.{PointerSymbol}
+use Rattle.machfixups.specs.TargetViews.{symbols_of_image, symbols_seen}
 use Rattle.machfixups.specs.declared.rows.Selection.{Selection}
+use Rattle.machfixups.proofs.Facts.{has_target_symbols}
+use Rattle.machfixups.proofs.Unseen.{objects_unseen}
 use Rattle.machfixups.proofs.json.FixupObjectsImageView.show.Goals as goal
 
 pub returns-clause-shown : goal.returns-clause-shown
@@ -18,9 +23,14 @@ returns-clause-shown g c = λ bytes opened.
     let over = λ (rows : PointerRows). AreListMembers c.args.left (pointer_members rows) written.text outcome.whole outcome.left in
     let parts = parts_view c.in_ok-parts.parts in
     let table = readable_table listed.4 in
-    let in_kinds = λ (kinds : KindsOfLists). over (rows_shown true c.shown-shown.result kinds parts listed.2 table listed.0) in
-    let by_shown = λ (shown : Selection). over (rows_shown true shown (kinds_in_objects shown) parts listed.2 table listed.0) in
-    let in_parts = λ (parts : List SegmentStretches). over (object_rows c.args.self.now.selection parts listed.2 table listed.0) in (
+    let m = c.args.image.now in
+    let symbols = symbols_of_image m in
+    let seen = symbols_seen c.in_ok-symbols.symbols in
+    let in_kinds = λ (kinds : KindsOfLists). over (rows_shown true c.shown-shown.result kinds parts seen listed.2 table listed.0) in
+    let same = objects_unseen parts seen symbols listed.2 table true c.shown-shown.result listed.0 c.has_rebases.result c.has_rebases.ensures
+    c.in_ok-symbols.ensures in
+    let by_shown = λ (shown : Selection). over (rows_shown true shown (kinds_in_objects shown) parts symbols listed.2 table listed.0) in
+    let in_parts = λ (parts : List SegmentStretches). over (object_rows c.args.self.now.selection parts symbols listed.2 table listed.0) in (
       written.text,
       record {
         opens = (opened.ctx, commands_view c.args.image.now, opened.opens);
@@ -32,8 +42,10 @@ returns-clause-shown g c = λ bytes opened.
         has_libs = listed.3;
         chained = listed.4;
         has_chained = listed.5;
-        members = subst in_parts known.2
-            (subst by_shown c.shown-shown.ensures (subst in_kinds c.kinds_in_objects.ensures (subst over listed.6 written.members)));
+        symbols = symbols;
+        has_symbols = has_target_symbols bytes 0 m (strict-lossy bytes 0 m opened);
+        members = subst in_parts known.2 (subst by_shown c.shown-shown.ensures (subst over same
+            (subst in_kinds c.kinds_in_objects-kinds.ensures (subst over listed.6 written.members))));
       },
       written.written,
     )

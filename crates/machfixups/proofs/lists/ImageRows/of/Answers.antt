@@ -17,6 +17,7 @@ use Rattle.machfixups.specs.Lists.{PointerLists}
 use Rattle.machfixups.specs.StoredPointers.{PointerSource, source_option_view}
 use Rattle.machfixups.specs.Rows.{PointerRow, PointerRows, fixups_table_view, picked, readable_table, source_if}
 use Rattle.machfixups.specs.Rows.{row_for_binding, row_for_fixup, row_for_rebase, row_for_weak}
+use Rattle.machfixups.specs.TargetViews.{symbols_seen}
 use Rattle.machfixups.proofs.Facts.{has_chained_fixups, has_fixups, has_libraries, has_lists, rows_are}
 use Rattle.machfixups.proofs.lists.ImageRows.of.Goals as goal
 
@@ -35,21 +36,22 @@ returns g c = λ bytes o opened.
     let same : (others : List (Result Fixup Fault)) → AreImageFixups (chained_view m) (segments_view m) others → others ≡ fixups = λ others are.
     c.one_list_of_image_fixups.ensures bytes o others fixups (has_fixups bytes o m p others are) (has_fixups bytes o m p fixups c.fixups.ensures) in
     let parts = parts_view c.args.parts.now in
+    let symbols = symbols_seen c.args.symbols.now in
     let shown = c.args.shown in
     let kinds = c.args.kinds in
     let made_by : Option PointerSource → List (List ℕ) → Option Fixups → (rebases binds weak chains : List (Result Fixup Fault)) → PointerRows =
     λ source libs table rebases binds weak chains.
     record {
-      rebases = picked shown.rebases (map (row_for_rebase parts) lists.rebases) ++ map (row_for_fixup parts libs table source) rebases;
-      binds = picked shown.binds (map (row_for_binding parts) lists.bindings) ++ map (row_for_fixup parts libs table source) binds;
-      weak = picked shown.weak (map (row_for_weak parts) lists.weak_binds) ++ map (row_for_fixup parts libs table source) weak;
-      chains = map (row_for_fixup parts libs table source) chains;
+      rebases = picked shown.rebases (map (row_for_rebase parts symbols) lists.rebases) ++ map (row_for_fixup parts symbols libs table source) rebases;
+      binds = picked shown.binds (map (row_for_binding parts) lists.bindings) ++ map (row_for_fixup parts symbols libs table source) binds;
+      weak = picked shown.weak (map (row_for_weak parts) lists.weak_binds) ++ map (row_for_fixup parts symbols libs table source) weak;
+      chains = map (row_for_fixup parts symbols libs table source) chains;
     } in
     let made = made_by (source_if c.args.has_raw lists.source) in
-    let source_held = source_option_view c.of-source.result in
+    let source_held = source_option_view c.of.result in
     let libs = texts m.libs.items in
     let table = readable_table (chained_view m) in
-    let table_held = fixups_table_view c.table_of-table.result in
+    let table_held = fixups_table_view c.table_of.result in
     let rebases = kept_left c.of-of_rebases.result in
     let binds = kept_left c.of-of_binds.result in
     let none = kept_left c.none.result in
@@ -65,12 +67,12 @@ returns g c = λ bytes o opened.
       has_libraries bytes o m p,
       chained_view m,
       has_chained_fixups bytes o m p,
-      rows_are _ (made_by source_held (texts c.as_slice-libs.result.now) table_held rebases binds none chains) c.rows_of.ensures
+      rows_are _ (made_by source_held (texts c.as_slice.result.now) table_held rebases binds none chains) c.rows_of.ensures
           c.rows_of-2.ensures c.rows_of-3.ensures
           c.rows_of-4.ensures
-          ∙ ap (λ (s : Option PointerSource). made_by s (texts c.as_slice-libs.result.now) table_held rebases binds none chains) c.of-source.ensures
-          ∙ ap (λ (ls : List (List ℕ)). made ls table_held rebases binds none chains) (ap texts c.as_slice-libs.ensures.value)
-          ∙ ap (λ (t : Option Fixups). made libs t rebases binds none chains) c.table_of-table.ensures
+          ∙ ap (λ (s : Option PointerSource). made_by s (texts c.as_slice.result.now) table_held rebases binds none chains) c.of.ensures
+          ∙ ap (λ (ls : List (List ℕ)). made ls table_held rebases binds none chains) (ap texts c.as_slice.ensures.value)
+          ∙ ap (λ (t : Option Fixups). made libs t rebases binds none chains) c.table_of.ensures
           ∙ ap (λ (xs : List (Result Fixup Fault)). made libs table xs binds none chains) c.of-of_rebases.ensures
           ∙ ap (λ (xs : List (Result Fixup Fault)). made libs table rebases_kept xs none chains) binds_are
           ∙ ap (λ (xs : List (Result Fixup Fault)). made libs table rebases_kept binds_kept xs chains) c.none.ensures
