@@ -1,5 +1,6 @@
 pub mod Written
 pub mod Expressions
+pub mod ExpressionLaws
 pub mod Plain
 pub mod Printed
 pub mod Rows
@@ -11,3 +12,7 @@ pub mod SignedFacts
 pub mod Opened
 pub mod Feeds
 pub mod Checked
+pub mod Unescaped
+pub mod Gaps
+pub mod EntitlementSteps
+pub mod Entitled

@@ -1,5 +1,5 @@
 -- The signature that an image holds is that of the bytes in which it was opened; so is whether the image is as it was signed.
-use Rattle.std.proofs.Common.{◌≡◌, ◌∙◌, ℕ, List, Bool, false, Option, Result, refl, sym}
+use Rattle.std.proofs.Common.{◌≡◌, ◌∙◌, ℕ, List, Bool, true, false, Option, Result, refl, sym}
 use Rattle.std.specs.Prelude.{◌↔◌, IsTrue}
 use Rattle.mach_base.specs.Fault.{Fault}
 use Rattle.goblin_mach.specs.OpenImage.{IsImage, bytes_view, commands_view, segments_view}
@@ -10,7 +10,7 @@ use Rattle.mach_signature.specs.SignedImages.{image_signature, signature_place_i
 use Rattle.mach_signature.proofs.AsSigned.{as_signed}
 use Rattle.mach_signature.specs.SignedFacts.{HoldsAsSigned}
 use Rattle.machsign.specs.Entitlements.{entitlements_of, HasEntitlements}
-use Rattle.machsign.specs.ImageLines.{image_signed, is_there_cut, HasSigned}
+use Rattle.machsign.specs.ImageLines.{image_signed, is_there_cut, is_there_sound, HasSigned}
 use Rattle.machsign.proofs.Whole.{faults_are_by, is_unfaulted, is_all_reported, and_not, unfaulted_unreported, unreported_unfaulted}
 
 module _ {A : Type 0} (m : MachO A) (bytes : List ℕ) (p : IsImage bytes 0 m) where
@@ -32,11 +32,11 @@ module _ {A : Type 0} (m : MachO A) (bytes : List ℕ) (p : IsImage bytes 0 m) w
 
   -- its text is whole exactly if it is as it was signed, and all is printed
   pub whole_as_signed : (left : ℕ) (whole : Bool) → whole ≡ is_all_reported left held
-      → IsTrue whole ↔ (HoldsAsSigned bytes 0 × (is_there_cut left held ≡ false))
+      → IsTrue whole ↔ (HoldsAsSigned bytes 0 × (is_there_cut left held ≡ false) × (is_there_sound held ≡ true))
   whole_as_signed left whole same =
       let faults = faults_are_by (bytes_view m) (segments_view m) (signature_place_in (commands_view m)) in
       let signed = as_signed (bytes_view m) (commands_view m) (segments_view m) in
-      let parts = and_not (is_unfaulted held) (is_there_cut left held) in (
-        (λ h. let is = parts.0 (sym same ∙ h) in (held_as_signed.1 (signed.0 (faults ∙ unfaulted_unreported held is.0)), is.1)),
-        (λ h. same ∙ parts.1 (unreported_unfaulted held (sym faults ∙ signed.1 (held_as_signed.0 h.0)), h.1)),
+      let parts = and_not (is_unfaulted held) (is_there_cut left held) (is_there_sound held) in (
+        (λ h. let is = parts.0 (sym same ∙ h) in (held_as_signed.1 (signed.0 (faults ∙ unfaulted_unreported held is.0)), is.1, is.2)),
+        (λ h. same ∙ parts.1 (unreported_unfaulted held (sym faults ∙ signed.1 (held_as_signed.0 h.0)), h.1, h.2)),
       )

@@ -8,7 +8,7 @@ use Rattle.mach_signature.specs.AsSigned.{SignedImage, SignatureFaultView, signa
 use Rattle.mach_signature.specs.SuperBlob.{SuperBlob}
 use Rattle.mach_signature.specs.SignedImages.{plist_of, faults_there}
 use Rattle.machsign.specs.Faults.{has_none}
-use Rattle.machsign.specs.ImageLines.{is_there_cut, signed_there}
+use Rattle.machsign.specs.ImageLines.{is_there_cut, is_there_sound, signed_there}
 use Rattle.machsign.specs.JsonSignature.{IsSignatureObject, unsigned_object, unreadable_object, signed_object}
 use Rattle.machsign.specs.Signatures.{AreSignatureLines, unsigned, unreadable, signed}
 
@@ -44,9 +44,9 @@ is_unfaulted (Ok None) = false
 is_unfaulted (Ok (Some x)) = has_none (signature_faults_of x)
 is_unfaulted (Err f) = false
 
--- whether all is printed besides
+-- whether all is printed besides, and the entitlements and the requirements are sound
 abbrev pub is_all_reported : (left : ℕ) → Result (Option SignedImage) Fault → Bool
-is_all_reported left there = is_unfaulted there && not (is_there_cut left there)
+is_all_reported left there = (is_unfaulted there && not (is_there_cut left there)) && is_there_sound there
 
 -- lines and objects are whole exactly then
 pub lines_unfaulted : (limit left : ℕ) (segments : List SegmentView) (there : Result (Option SignedImage) Fault) (text : List ℕ) (whole : Bool) (rest : ℕ)
@@ -61,11 +61,12 @@ object_unfaulted left segments _ _ _ _ unsigned_object = refl
 object_unfaulted left segments _ _ _ _ (unreadable_object e) = refl
 object_unfaulted left segments _ _ _ _ (signed_object x text whole rest is) = is.is_whole
 
--- both of two conditions hold
-pub and_not : (a b : Bool) → IsTrue (a && not b) ↔ (IsTrue a × (b ≡ false))
-and_not true true = ((λ h. absurd (cc)), (λ h. absurd (cc)))
-and_not true false = ((λ h. (refl, refl)), (λ h. refl))
-and_not false b = ((λ h. absurd (cc)), (λ h. absurd (cc)))
+-- three conditions hold
+pub and_not : (a b s : Bool) → IsTrue ((a && not b) && s) ↔ (IsTrue a × (b ≡ false) × (s ≡ true))
+and_not true true s = ((λ h. absurd (cc)), (λ h. absurd (cc)))
+and_not true false true = ((λ h. (refl, refl, refl)), (λ h. refl))
+and_not true false false = ((λ h. absurd (cc)), (λ h. absurd (cc)))
+and_not false b s = ((λ h. absurd (cc)), (λ h. absurd (cc)))
 
 -- an unfaulted signature has an empty list of faults
 pub unfaulted_unreported : (there : Result (Option SignedImage) Fault) → IsTrue (is_unfaulted there) → faults_by there ≡ Ok (Some [])

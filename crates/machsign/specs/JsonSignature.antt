@@ -1,5 +1,5 @@
 -- The members of an image's object: its signature.
-use Rattle.std.specs.Prelude.{◌≡◌, ◌==◌, ◌^◌, ◌-◌, ℕ, List, ◌++◌, codes, Bool, false, if◌then◌else◌, Option, Some, None, Result, Ok, Err, ◌↔◌, IsTrue}
+use Rattle.std.specs.Prelude.{◌≡◌, ◌==◌, ◌^◌, ◌-◌, ℕ, List, ◌++◌, codes, Bool, true, false, if◌then◌else◌, Option, Some, None, Result, Ok, Err, ◌↔◌, IsTrue}
 use Rattle.std.specs.Fmt.{decimal}
 use Rattle.std.specs.Io.KnownBytes.{Appends}
 use Rattle.mach_base.specs.Fault.{Fault, fault_of}
@@ -20,10 +20,12 @@ use Rattle.mach_signature.specs.SuperBlob.{SuperBlob}
 use Rattle.mach_signature.specs.declared.directory.CodeDirectory.{CodeDirectory}
 use Rattle.mach_signature.specs.declared.records.ExecutableSegment.{ExecutableSegment}
 use Rattle.mach_signature.specs.declared.records.RuntimeFields.{RuntimeFields}
+use Rattle.machsign.specs.AgreementTexts.{agreement_object}
 use Rattle.machsign.specs.Blobs.{blobs_array}
 use Rattle.machsign.specs.Blocks.{full_cdhash_of}
+use Rattle.machsign.specs.EntitlementAgreement.{agreement_in}
 use Rattle.machsign.specs.Faults.{ReportsFaults}
-use Rattle.machsign.specs.ImageLines.{HasSigned, is_there_cut}
+use Rattle.machsign.specs.ImageLines.{HasSigned, is_there_cut, is_there_sound}
 use Rattle.machsign.specs.JsonNames.{json_name}
 use Rattle.machsign.specs.Kinds.{has_cms, has_hardened_runtime, has_library_validation, is_ad_hoc, is_linker_signed, kind_of}
 use Rattle.machsign.specs.RequirementLines.{requirements_object}
@@ -31,6 +33,7 @@ use Rattle.machsign.specs.Signatures.{blobs_counted, is_cut, is_unfaulted_whole,
 use Rattle.machsign.specs.Pages.{shown_faults}
 use Rattle.machsign.specs.Special.{slots_array}
 use Rattle.machsign.specs.Texts.{runtime_text}
+use Rattle.machsign.specs.declared.entitlements.agreement.Agreement.{Agreement}
 use Rattle.machsign.specs.declared.form.Form.TheVariants.{Objects}
 use Rattle.machsign.specs.declared.kind.Kind.{Kind}
 
@@ -98,18 +101,20 @@ directory_members x more d =
     ++ (running_members x.signature d.head.platform d.runtime ++ (special_members x d ++ naming_members d))
 
 -- the members before the faults
-abbrev pub cdhash_members : Directory → List ℕ
-cdhash_members d =
+abbrev pub cdhash_members : Option Agreement → Directory → List ℕ
+cdhash_members agreement d =
     codes ",\"cdhash\":\"" ++ (bytes_text (cdhash_of d) ++ (codes "\",\"cdhash_full\":\"" ++ (bytes_text (full_cdhash_of d)
-    ++ (codes "\",\"executable\":" ++ (executable_object d.executable ++ codes ",\"faults\":[")))))
+    ++ (codes "\",\"entitlements_compared\":" ++ (agreement_object agreement
+    ++ (codes ",\"executable\":" ++ (executable_object d.executable ++ codes ",\"faults\":[")))))))
 
 -- ---- the object
 
 -- the members between the blobs and the faults: the hash of the directory that is used and its executable segment, or why none is
--- used
-abbrev pub before_faults : Result CodeDirectory Error → List ℕ
-before_faults (Ok d) = cdhash_members (directory_view d)
-before_faults (Err e) = codes ",\"error\":\"" ++ (words_of e ++ codes "\",\"faults\":[")
+-- used; and whether the entitlements in XML and in DER say the same
+abbrev pub before_faults : Option Agreement → Result CodeDirectory Error → List ℕ
+before_faults agreement (Ok d) = cdhash_members agreement (directory_view d)
+before_faults agreement (Err e) =
+    codes ",\"entitlements_compared\":" ++ (agreement_object agreement ++ (codes ",\"error\":\"" ++ (words_of e ++ codes "\",\"faults\":[")))
 
 -- the members after the faults: the fields of that directory
 abbrev pub after_faults : SignedImage → (more : Bool) → Result CodeDirectory Error → List ℕ
@@ -129,7 +134,8 @@ pub record IsSignedObject (left : ℕ) (segments : List SegmentView) (x : Signed
   pub faults : List ℕ
   pub are_faults : ReportsFaults Objects segments (left - blobs_counted x) (shown_faults x) faults
   pub is_text : text
-      ≡ (codes "{\"blobs\":" ++ blobs_array left x.signature) ++ (before_faults directory ++ (faults ++ after_faults x (is_cut left x) directory))
+      ≡ (codes "{\"blobs\":" ++ blobs_array left x.signature)
+      ++ (before_faults (agreement_in x.signature) directory ++ (faults ++ after_faults x (is_cut left x) directory))
   pub is_whole : whole ≡ is_unfaulted_whole left x
   pub is_rest : rest ≡ left - limited_count x
 
@@ -161,12 +167,12 @@ pub record WritesSignatureMembers (left : ℕ) (segments : List SegmentView) (th
   pub members : AreSignatureMembers left segments there text whole rest
   pub written : Appends old new text
 
--- The text is the members of the image at the start of the bytes. It is whole exactly if the image is as it was signed, and all
--- is written.
+-- The text is the members of the image at the start of the bytes. It is whole exactly if the image is as it was signed, all is
+-- written, its entitlements in XML and in DER say the same, if it has both, and its requirements can be read.
 pub record AreImageSignatureMembers (left : ℕ) (bytes text : List ℕ) (whole : Bool) (rest : ℕ) : Type 0 where
   pub opens : Opens bytes 0
   pub there : Result (Option SignedImage) Fault
   pub segments : List SegmentView
   pub has_signed : HasSigned bytes 0 segments there
   pub members : AreSignatureMembers left segments there text whole rest
-  pub as_signed : IsTrue whole ↔ (HoldsAsSigned bytes 0 × (is_there_cut left there ≡ false))
+  pub as_signed : IsTrue whole ↔ (HoldsAsSigned bytes 0 × (is_there_cut left there ≡ false) × (is_there_sound there ≡ true))

@@ -1,4 +1,5 @@
 pub mod Requirements
+pub mod ExpressionDepths
 pub mod RequirementViews
 pub mod RequirementTexts
 pub mod RequirementLines
@@ -13,6 +14,17 @@ pub mod BlobsLeft
 pub mod JsonNames
 pub mod Pages
 pub mod Faults
+pub mod EntitlementValues
+pub mod EntitlementTexts
+pub mod EntitlementSpans
+pub mod EntitlementXml
+pub mod EntitlementDer
+pub mod EntitlementReads
+pub mod EntitlementViews
+pub mod EntitlementMarks
+pub mod EntitlementItems
+pub mod EntitlementAgreement
+pub mod AgreementTexts
 pub mod Signatures
 pub mod ImageLines
 pub mod Entitlements

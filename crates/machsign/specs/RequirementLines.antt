@@ -1,5 +1,6 @@
 -- The requirements of a signature, by their types (Security, `requirement.h` and `superblob.h`).
-use Rattle.std.specs.Prelude.{ℕ, ◌+◌, ◌*◌, List, [], ◌++◌, codes, length, nat_le, ◌==◌, ◌&&◌, if◌then◌else◌, Option, Some, None, Result, Ok, Err}
+use Rattle.std.specs.Prelude.{ℕ, ◌+◌, ◌*◌, List, [], ◌++◌, codes, length, nat_le, Bool, true, false, ◌==◌, ◌&&◌, if◌then◌else◌, Option, Some, None}
+use Rattle.std.specs.Prelude.{Result, Ok, Err}
 use Rattle.mach_base.specs.Answer.{◌>>=◌}
 use Rattle.mach_base.specs.Fault.{Fault, malformed}
 use Rattle.mach_signature.specs.SuperBlob.{SuperBlob, BlobThere, blob_of}
@@ -24,6 +25,26 @@ index_if_any (Some blob) = requirements_index blob >>= (λ index. Ok (Some index
 -- the index of the requirements of a signature: that of the first blob of slot 2
 unfoldable pub requirements_of : SuperBlob → Result (Option SuperBlob) Fault
 requirements_of s = blob_of s 2 >>= index_if_any
+
+-- what was looked up can be read, or isn't there
+abbrev pub is_readable_blob : Result (Option BlobThere) Fault → Bool
+is_readable_blob (Ok blob) = true
+is_readable_blob (Err f) = false
+
+-- the first requirements of the five types can be read
+abbrev pub has_readable_types : SuperBlob → Bool
+has_readable_types index =
+    is_readable_blob (blob_of index 1) && (is_readable_blob (blob_of index 2) && (is_readable_blob (blob_of index 3)
+    && (is_readable_blob (blob_of index 4) && is_readable_blob (blob_of index 5))))
+
+abbrev pub is_readable_index : Result (Option SuperBlob) Fault → Bool
+is_readable_index (Ok None) = true
+is_readable_index (Ok (Some index)) = has_readable_types index
+is_readable_index (Err f) = false
+
+-- the requirements of a signature can be read, if it has some
+abbrev pub has_readable_requirements : SuperBlob → Bool
+has_readable_requirements s = is_readable_index (requirements_of s)
 
 -- ---- lines
 

@@ -9,12 +9,14 @@ use Rattle.mach_signature.specs.AsSigned.{SignedImage, signature_faults_of}
 use Rattle.mach_signature.specs.Chosen.{directories_of, directory_of}
 use Rattle.mach_signature.specs.Directories.{Directory}
 use Rattle.mach_cli.specs.Listings.{cut_line}
+use Rattle.machsign.specs.AgreementTexts.{agreement_line}
 use Rattle.machsign.specs.Blobs.{blobs_lines, other_blobs_of}
 use Rattle.machsign.specs.Blocks.{slot_directory_lines}
+use Rattle.machsign.specs.EntitlementAgreement.{agreement_in, is_agreed}
 use Rattle.machsign.specs.Faults.{has_none, ReportsFaults}
 use Rattle.machsign.specs.Kinds.{cms_of, kind_line, kind_of, unchecked_line}
 use Rattle.machsign.specs.Pages.{shown_faults}
-use Rattle.machsign.specs.RequirementLines.{requirement_lines}
+use Rattle.machsign.specs.RequirementLines.{has_readable_requirements, requirement_lines}
 use Rattle.machsign.specs.declared.form.Form.TheVariants.{Lines}
 
 -- the line of its kind, the lines of its directories, in the order of the index, and those of its requirements; if no directory is
@@ -27,9 +29,10 @@ directories_front x (Err f) = []
 abbrev pub front_lines : SignedImage → List ℕ
 front_lines x = directories_front x (directory_of x.signature)
 
--- the line that says that there is more than the limit, if so, and the line of what isn't checked
+-- the line of whether the entitlements say the same, the line that says that there is more than the limit, if so, and the line of
+-- what isn't checked
 abbrev pub back_lines : SignedImage → (limit : ℕ) → (more : Bool) → List ℕ
-back_lines x limit more = cut_line limit more ++ unchecked_line (cms_of x)
+back_lines x limit more = agreement_line (agreement_in x.signature) ++ (cut_line limit more ++ unchecked_line (cms_of x))
 
 -- how many blobs that are no directories a signature has, and how many of its faults are shown
 abbrev pub blobs_counted : SignedImage → ℕ
@@ -42,13 +45,18 @@ limited_count x = blobs_counted x + length (shown_faults x)
 abbrev pub is_cut : (left : ℕ) → SignedImage → Bool
 is_cut left x = nat_lt left (limited_count x)
 
+-- whether the entitlements say the same if they are there in XML and in DER, and the requirements can be read
+abbrev pub has_sound_parts : SignedImage → Bool
+has_sound_parts x = is_agreed (agreement_in x.signature) && has_readable_requirements x.signature
+
 -- whether there is no fault, and all is printed
 abbrev pub is_unfaulted_whole : (left : ℕ) → SignedImage → Bool
-is_unfaulted_whole left x = has_none (signature_faults_of x) && not (is_cut left x)
+is_unfaulted_whole left x = (has_none (signature_faults_of x) && not (is_cut left x)) && has_sound_parts x
 
 -- The text is the lines of its kind and of the directories, of the other blobs, and of all that differs from what was signed. Of blobs and faults
--- together these are the first ones, no more than `left`, and a line follows if there are more. The last line says what isn't
--- checked. It is whole if there is no fault, and all is printed.
+-- together these are the first ones, no more than `left`. A line says whether the entitlements in XML and in DER say the same, one
+-- follows if there are more blobs and faults, and the last says what isn't checked. It is whole if there is no fault, and all is
+-- printed.
 pub record AreSignedLines (limit left : ℕ) (segments : List SegmentView) (x : SignedImage) (text : List ℕ) (whole : Bool) (rest : ℕ) : Type 0 where
   pub faults : List ℕ
   pub are_faults : ReportsFaults Lines segments (left - blobs_counted x) (shown_faults x) faults

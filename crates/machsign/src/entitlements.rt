@@ -18,6 +18,15 @@ ghost use Rattle.goblin_mach.specs.ItemsLeft.{input_item_read};
 ghost use Rattle.machsign.specs.Entitlements.{entitlements_of, HasEntitlements, EntitlesContent, EntitlesItem, EntitlesItems, IsSelectedImage};
 ghost use Rattle.machsign.specs.Entitlements.{RefusesItem, EntitlementFault, SaysWhyNone};
 
+pub mod agreement;
+mod compare;
+mod der;
+mod digits;
+mod front;
+mod parts;
+mod spelling;
+mod xml;
+
 use goblin_mach::{Content, EntryCpu, Error, Input, InputItem, MachO, Result};
 use mach_cli::output::failed;
 use mach_cli::{Cpu, Label, Names, Refusal, complain, refusal_of};

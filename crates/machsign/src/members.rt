@@ -17,12 +17,13 @@ ghost use Rattle.machsign.specs.JsonSignature as defined;
 ghost use Rattle.machsign.specs.Texts.{runtime_text};
 
 use crate::blobs::OtherBlobs;
+use crate::entitlements::agreement::{Agreement, AgreementObject, agreement_in};
 use crate::faults::write_faults;
 use crate::form::Form;
 use crate::full_hash::print_hash_of;
 use crate::kind::Kind;
 use crate::requirement_lines::write_requirements;
-use crate::signed::signed_image;
+use crate::signed::{has_sound_parts, signed_image};
 use crate::special::{MOST_SLOTS, SpecialSlots};
 use crate::text::RuntimeText;
 use goblin_mach::segment::Segment;
@@ -86,39 +87,57 @@ fn write_signed<O: Write>(
     write!(out, "{{\"blobs\":")?;
     let mut rows = OtherBlobs::of(&signed.signature, Form::Objects);
     let blobs = print_array(&mut rows, left, out)?;
-    write_before(&directory, out)?;
+    write_before(agreement_in(&signed.signature), &directory, out)?;
     let faults = write_faults(Form::Objects, segments, blobs.left, signed, out)?;
     let more = blobs.more | faults.more;
     write_after(signed, &directory, more, out)?;
     Ok(Outcome {
-        whole: faults.whole & !more,
+        whole: faults.whole & !more & has_sound_parts(signed),
         left: faults.left,
     })
 }
 
-// Writes the members between the blobs and the faults: those of the directory that is used, or why none is.
-fn write_before<O: Write>(directory: &Result<CodeDirectory<'_>>, out: &mut O) -> io::Result<()>
-    ensures { OnOk result (Appends (O.contents out.old) (O.contents out.new) (defined.before_faults directory.now)) }
+// Writes the members between the blobs and the faults: those of the directory that is used, or why none is, and whether the
+// entitlements say the same.
+fn write_before<O: Write>(
+    agreement: Option<Agreement>,
+    directory: &Result<CodeDirectory<'_>>,
+    out: &mut O,
+) -> io::Result<()>
+    ensures { OnOk result (Appends (O.contents out.old) (O.contents out.new) (defined.before_faults agreement directory.now)) }
 {
     match directory {
-        Ok(directory) => write_cdhash(directory, out),
+        Ok(directory) => write_cdhash(agreement, directory, out),
         Err(error) => {
+            let compared = AgreementObject(agreement);
             let words = describe(error);
-            write!(out, ",\"error\":\"{words}\",\"faults\":[")
+            write!(
+                out,
+                ",\"entitlements_compared\":{compared},\"error\":\"{words}\",\"faults\":["
+            )
         }
     }
 }
 
-// Writes the hash of a directory, cut to 20 bytes and whole, its executable segment, and the start of the faults.
-fn write_cdhash<O: Write>(directory: &CodeDirectory<'_>, out: &mut O) -> io::Result<()>
-    ensures { OnOk result (Appends (O.contents out.old) (O.contents out.new) (defined.cdhash_members (directory_view directory.now))) }
+// Writes the hash of a directory, cut to 20 bytes and whole, whether the entitlements say the same, the executable segment, and
+// the start of the faults.
+fn write_cdhash<O: Write>(
+    agreement: Option<Agreement>,
+    directory: &CodeDirectory<'_>,
+    out: &mut O,
+) -> io::Result<()>
+    ensures { OnOk result (Appends (O.contents out.old) (O.contents out.new) (defined.cdhash_members agreement (directory_view directory.now))) }
 {
     write!(out, ",\"cdhash\":\"")?;
     print_bytes(&directory.cdhash(), out)?;
     write!(out, "\",\"cdhash_full\":\"")?;
     print_hash_of(directory.hash, directory.bytes, out)?;
+    let compared = AgreementObject(agreement);
     let executable = ExecutableObject(directory.executable);
-    write!(out, "\",\"executable\":{executable},\"faults\":[")
+    write!(
+        out,
+        "\",\"entitlements_compared\":{compared},\"executable\":{executable},\"faults\":["
+    )
 }
 
 // An executable segment; null if the version has none.

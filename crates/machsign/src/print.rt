@@ -16,11 +16,12 @@ ghost use Rattle.machsign.specs.Signatures as defined;
 
 use crate::blobs::OtherBlobs;
 use crate::block::print_directory;
+use crate::entitlements::agreement::{agreement_in, print_agreement};
 use crate::faults::write_faults;
 use crate::form::Form;
 use crate::kind::{Cms, Kind, cms_of};
 use crate::requirement_lines::print_requirements;
-use crate::signed::signed_image;
+use crate::signed::{has_sound_parts, signed_image};
 use goblin_mach::segment::Segment;
 use goblin_mach::{Error, MachO, describe};
 use mach_cli::{Outcome, print_cut, print_rows};
@@ -86,7 +87,7 @@ fn print_signed<O: Write>(
     let more = blobs.more | faults.more;
     print_back(signed, limit, more, out)?;
     Ok(Outcome {
-        whole: faults.whole & !more,
+        whole: faults.whole & !more & has_sound_parts(signed),
         left: faults.left,
     })
 }
@@ -138,7 +139,7 @@ fn print_found<O: Write>(
     }
 }
 
-// Prints whether there are more lines than the limit, and what isn't checked.
+// Prints whether the entitlements say the same, whether there are more lines than the limit, and what isn't checked.
 fn print_back<O: Write>(
     signed: &SignedBytes<'_>,
     limit: usize,
@@ -147,6 +148,7 @@ fn print_back<O: Write>(
 ) -> io::Result<()>
     ensures { OnOk result (Appends (O.contents out.old) (O.contents out.new) (defined.back_lines (signed_view signed.now) limit more)) }
 {
+    print_agreement(agreement_in(&signed.signature), out)?;
     print_cut(limit, more, out)?;
     print_unchecked(cms_of(signed), out)
 }

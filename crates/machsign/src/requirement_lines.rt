@@ -1,6 +1,6 @@
 //! The requirements of a signature, by their types.
 
-ghost use Rattle.std.specs.Prelude.{◌++◌, ◌≤◌, ◌+◌, ◌*◌, length, codes, OnOk};
+ghost use Rattle.std.specs.Prelude.{◌≡◌, ◌++◌, ◌≤◌, ◌+◌, ◌*◌, length, codes, OnOk};
 ghost use Rattle.std.specs.Io.KnownBytes.{Appends};
 ghost use Rattle.std.specs.Option.{option_map};
 ghost use Rattle.mach_base.specs.Answer.{Reads};
@@ -37,6 +37,35 @@ fn requirements_of<'a>(signature: &CodeSignature<'a>) -> Result<Option<CodeSigna
     match signature.blob(2)? {
         Some(blob) => Ok(Some(requirements_index(blob)?)),
         None => Ok(None),
+    }
+}
+
+// Whether what was looked up can be read, or isn't there.
+fn is_readable_blob(found: &Result<Option<Blob<'_>>>) -> bool
+    ensures { result ≡ defined.is_readable_blob (read_as (option_map blob_view) found.now) }
+{
+    found.is_ok()
+}
+
+// Whether the first requirements of the five types can be read.
+fn has_readable_types(index: &CodeSignature<'_>) -> bool
+    ensures { result ≡ defined.has_readable_types (signature_view index.now) }
+{
+    is_readable_blob(&index.blob(1))
+        && is_readable_blob(&index.blob(2))
+        && is_readable_blob(&index.blob(3))
+        && is_readable_blob(&index.blob(4))
+        && is_readable_blob(&index.blob(5))
+}
+
+/// Whether the requirements of a signature can be read, if it has some.
+pub fn has_readable_requirements(signature: &CodeSignature<'_>) -> bool
+    ensures { result ≡ defined.has_readable_requirements (signature_view signature.now) }
+{
+    match requirements_of(signature) {
+        Ok(Some(index)) => has_readable_types(&index),
+        Ok(None) => true,
+        Err(_) => false,
     }
 }
 

@@ -6,11 +6,21 @@ ghost use Rattle.mach_base.specs.Answer.{Reads};
 ghost use Rattle.goblin_mach.specs.OpenImage.{bytes_view, commands_view, segments_view};
 ghost use Rattle.mach_signature.specs.FaultViews.{signed_view};
 ghost use Rattle.machsign.specs.ImageLines.{image_signed};
+ghost use Rattle.machsign.specs.Signatures.{has_sound_parts};
 
+use crate::entitlements::agreement::{agreement_in, is_agreed};
+use crate::requirement_lines::has_readable_requirements;
 use goblin_mach::{MachO, Result};
 use mach_signature::image::{image_plist, signature_place};
 use mach_signature::{SignedBytes, code_signature};
 use std::alloc::Allocator;
+
+/// Whether the entitlements of a signature say the same, if it has them in XML and in DER, and its requirements can be read.
+pub fn has_sound_parts(signed: &SignedBytes<'_>) -> bool
+    ensures { result ≡ has_sound_parts (signed_view signed.now) }
+{
+    is_agreed(agreement_in(&signed.signature)) && has_readable_requirements(&signed.signature)
+}
 
 /// Returns the signature of an image, if it has one, with the bytes of the image.
 pub fn signed_image<'a, A: Allocator>(image: &MachO<'a, A>) -> Result<Option<SignedBytes<'a>>>

@@ -8,6 +8,7 @@ use Rattle.machsign.specs.Faults.{ReportsFaults}
 use Rattle.machsign.specs.Pages.{shown_faults}
 use Rattle.machsign.specs.Signatures.{back_lines, front_lines, is_cut}
 use Rattle.machsign.specs.declared.form.Form.TheVariants.{Lines}
+use Rattle.machsign.proofs.Entitled.{both_same}
 use Rattle.machsign.proofs.Limited.{blobs_written}
 use Rattle.machsign.proofs.ListProgress.{counted}
 use Rattle.machsign.proofs.Written.{four}
@@ -34,7 +35,7 @@ returns g c =
         faults = reported.text;
         are_faults = subst (λ (n : ℕ). ReportsFaults Lines segments n seen reported.text) rows.1 reported.reports;
         is_text = refl;
-        is_whole = count.1;
+        is_whole = both_same _ _ _ _ count.1 c.has_sound_parts.ensures;
         is_rest = count.2;
       };
       written = four _ _ _ _ _ (front_lines x) (blobs_lines left x.signature) reported.text (back_lines x limit (is_cut left x))

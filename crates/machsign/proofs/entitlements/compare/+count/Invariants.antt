@@ -1,0 +1,4 @@
+use Rattle.machsign.proofs.entitlements.compare.+count.Given as goal
+
+abbrev pub decreases-count : goal.decreases-count
+decreases-count l = l.steps
