@@ -1,11 +1,12 @@
 //! Small callers of what is looked up in an image, and of what single commands say: each states its answer by a fact about the
 //! bytes, and cites the law that gives it.
 
-ghost use Rattle.std.specs.Prelude.{◌≡◌, ℕ, List, option_map};
+ghost use Rattle.std.specs.Prelude.{◌≡◌, ℕ, List, Some, IfSome, option_map};
 ghost use Rattle.mach_parts.specs.Segment.{segment_view};
+ghost use Rattle.goblin_mach.specs.FileOffsets.{maps_address, maps_offset, AtMostOne};
 ghost use Rattle.goblin_mach.specs.LookedUpFacts.{HasSegmentNamed, HasSectionNamed, HasSymbolNamed, HasFunctionAt, HasAddressOf, HasOffsetOf};
 ghost use Rattle.goblin_mach.specs.NearestSymbol.{found_symbol_view};
-ghost use Rattle.goblin_mach.specs.OpenImage.{IsImage};
+ghost use Rattle.goblin_mach.specs.OpenImage.{IsImage, segments_view};
 ghost use Rattle.goblin_mach.specs.Said.{build_version_said};
 ghost use Rattle.goblin_mach.specs.SaidFacts.{HasUuid, HasBuildVersions, HasSourceVersion, HasEncryption, HasDylinker};
 ghost use Rattle.goblin_mach.specs.SaidLeft.{said_left, said_text};
@@ -107,6 +108,24 @@ fn found_twice<'a>(
     (map.symbol_at(address), map.image().symbol_at(address))
 }
 
+// Returns the address of an offset, and the offset of that address: the same offset, if one segment alone has the address.
+fn offset_again(image: &MachO<'_>, offset: u64) -> Option<(u64, Option<u64>)>
+    ensures { IfSome result (λ found. AtMostOne (maps_address found.0) (segments_view image.now) → found.1 ≡ Some offset) }
+{
+    laws::address_leads_back_to_offset();
+    let address = image.address_of_offset(offset)?;
+    Some((address, image.offset_of_address(address)))
+}
+
+// Returns the offset of an address, and the address of that offset: the same address, if one segment alone has the offset.
+fn address_again(image: &MachO<'_>, address: u64) -> Option<(u64, Option<u64>)>
+    ensures { IfSome result (λ found. AtMostOne (maps_offset found.0) (segments_view image.now) → found.1 ≡ Some address) }
+{
+    laws::offset_leads_back_to_address();
+    let offset = image.offset_of_address(address)?;
+    Some((offset, image.address_of_offset(offset)))
+}
+
 #[test]
 fn looked_up(rt: HostRuntime) -> std::result::Result<(), Fail> {
     let image = MachO::parse(rt.alloc(), &FILE_B, 0)?;
@@ -116,6 +135,18 @@ fn looked_up(rt: HostRuntime) -> std::result::Result<(), Fail> {
     assert!(rt; matches!(symbol_named(&image, "_main"), Some((0, _))));
     same(&rt, address_of(&image, 0x138), Some(0x100000138));
     same(&rt, offset_of(&image, 0x100000138), Some(0x138));
+    assert!(rt;
+        matches!(
+            offset_again(&image, 0x138),
+            Some((0x100000138, Some(0x138)))
+        )
+    );
+    assert!(rt;
+        matches!(
+            address_again(&image, 0x100000138),
+            Some((0x138, Some(0x100000138)))
+        )
+    );
     assert!(rt; function_at(&image, 0x100000138).is_none());
     let map = SymbolMap::new(rt.alloc(), &image)?;
     let (found, other) = found_twice(&map, 0x100000138);

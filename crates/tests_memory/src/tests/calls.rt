@@ -5,7 +5,10 @@ use goblin_mach::fat::FatArch;
 use goblin_mach::imports::{BindInterpreter, Import};
 use goblin_mach::load_command::DyldInfoCommand;
 use goblin_mach::segment::{Section, SectionData, Segment};
-use goblin_mach::{Ctx, Error, Mach, MachO, MultiArch, Result as Read, SingleArch, link_view};
+use goblin_mach::symbols::Symbols;
+use goblin_mach::{
+    Ctx, Error, Mach, MachO, MultiArch, Result as Read, SingleArch, SymbolMap, link_view,
+};
 use mach_fat_writer::{FatEntry, fat_order, write_fat, write_fat64};
 use mach_samples::files::FILE_B;
 use std::alloc::{AllocError, Allocator, Global};
@@ -20,6 +23,7 @@ pub enum Call {
     Imports,
     Relocations,
     Sections,
+    SymbolMap,
     Chain,
     SharedList,
     Times,
@@ -41,6 +45,7 @@ pub const CALLS: &[(Call, u64)] = &[
     (Call::Imports, 1),
     (Call::Relocations, 1),
     (Call::Sections, 1),
+    (Call::SymbolMap, 5),
     (Call::Chain, 6),
     (Call::SharedList, 12),
     (Call::Times, 2),
@@ -82,6 +87,7 @@ impl<'a> Subjects<'a> {
             Call::Imports => shown(alloc, &self.image.imports(heap)),
             Call::Relocations => shown(alloc, &relocation_count(&self.image, heap)),
             Call::Sections => shown(alloc, &sections(&self.image, heap)),
+            Call::SymbolMap => shown(alloc, &nearest(alloc, heap)),
             Call::Chain => shown(alloc, &trie(&CHAIN).exports(heap, &[])),
             Call::SharedList => shown(alloc, &trie(&SHARED_LIST).exports(heap, &[])),
             Call::Times => shown(alloc, &binds(&TIMES, heap)),
@@ -116,6 +122,32 @@ fn sections<'a, A: Allocator>(
         Some(segment) => segment.sections(heap),
         None => Err(Error::Malformed("no segment")),
     }
+}
+
+// Returns the records of 24 symbols of the first section without names, in no order of their addresses, and the end of their names.
+fn symbols(alloc: Global) -> Result<Vec<u8>, AllocError> {
+    let mut bytes = Vec::new(alloc);
+    for number in 0..24u8 {
+        let value = number ^ 5;
+        bytes.extend_from_slice(&[0, 0, 0, 0, 14, 1, 0, 0, value, 0, 0, 0, 0, 0, 0, 0])?;
+    }
+    bytes.push(0)?;
+    Ok(bytes)
+}
+
+// Returns file B's image with these symbols in place of its own.
+fn image_with<'a>(alloc: Global, records: &'a [u8]) -> Read<MachO<'a>> {
+    let mut image = MachO::parse(alloc, &FILE_B, 0)?;
+    image.symbols = Some(Symbols::new(records, 0, 24, 384)?);
+    Ok(image)
+}
+
+// Returns the number of the symbol that is nearest to an address, by the map of the symbols.
+fn nearest<A: Allocator>(alloc: Global, heap: A) -> Read<Option<usize>> {
+    let records = symbols(alloc)?;
+    let image = image_with(alloc, &records)?;
+    let map = SymbolMap::new(heap, &image)?;
+    Ok(map.symbol_in_section(1, 9).map(|found| found.index))
 }
 
 // A chain of 20 nodes, one branch each, and a node with an export.
