@@ -12,18 +12,26 @@ import goblin_mach
 import test_goblin_mach as made
 import test_values as values
 from goblin_mach import Refused
+from goblin_mach.enums import LoadCommand
 
 FAR = (0, 1, 0xFFFFFFFF, 1 << 63, (1 << 64) - 1)
 
 
-def numbered(image):
-    """The sections that can be read, each with its number over all segments, from 1."""
+def claimed(image):
+    """The sections that can be read: the number of each over all segments, from 1, and those of its segment and in it, from 0."""
     before = 0
-    for segment in image.segments():
-        for k, section in enumerate(image.sections(segment).in_bounds(), before + 1):
+    for i, segment in enumerate(image.segments()):
+        for k, section in enumerate(image.sections(segment).in_bounds()):
             if not section.error:
-                yield k, section
+                yield before + k + 1, i, k, section
         before += segment.nsects
+
+
+def numbered(image):
+    """Those of them whose record is in their segment's command, each with its number over all segments."""
+    front, each = (72, 80) if image.is_64 else (56, 68)
+    room = [(it.size - front) // each for it in image.commands() if it.load_command in (LoadCommand.SEGMENT, LoadCommand.SEGMENT_64)]
+    return ((number, section) for number, i, k, section in claimed(image) if k < room[i])
 
 
 def section_at(image, address):
@@ -144,7 +152,7 @@ class LookUps(unittest.TestCase):
             wanted = next(each for _, each in numbered(image) if (each.segment, each.name) == names) if all(map(is_text, names)) else None
             self.assertEqual(image.section(*names), wanted)
         readable = list(itertools.takewhile(lambda each: not each.error, image.sections()))
-        self.assertEqual(readable, [each for _, each in itertools.islice(numbered(image), len(readable))])
+        self.assertEqual(readable, [each for *_, each in itertools.islice(claimed(image), len(readable))])
 
     def test_of_samples(self):
         for path in [*values.SAMPLES, values.COMMANDS]:

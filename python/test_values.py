@@ -102,7 +102,8 @@ class Commands(unittest.TestCase):
     def test_have_the_fields_that_machinfo_prints(self):
         """An image with a command of each of the 54 kinds; its commands as `machinfo --json commands` prints them."""
         with open(os.path.join(TOP, "crates/machinfo/rows/commands.rows"), encoding="utf-8") as file:
-            wanted = json.loads(re.search(r"^json /images/0/commands '(.*)'$", file.read(), re.M).group(1))
+            rows = json.loads(re.search(r"^json /images/0/commands '(.*)'$", file.read(), re.M).group(1))
+        wanted = [row for row in rows if "cmd" in row]
         found = list(image_of(COMMANDS).commands())
         self.assertEqual(len(found), len(wanted))
         met = set()

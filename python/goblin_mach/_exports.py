@@ -4,7 +4,6 @@ from __future__ import annotations
 
 import ctypes
 from ctypes import byref, c_char, sizeof
-from itertools import repeat
 from typing import Any, Callable, Iterator, Optional, Tuple
 
 from . import _structs as s
@@ -69,9 +68,12 @@ def exports(live: Callable[[], Held], numbers: Any, libraries: Callable[[], Call
 
 
 def errors(live: Callable[[], Held], numbers: Any) -> Iterator[None]:
-    """None for each export, of which nothing is built. A fault of the trie raises `Refused`, as by `exports`."""
-    for room in _batches(live(), numbers):
-        yield from repeat(None, room.batch.count)
+    """Nothing, since no export is built. If they are no list, since the trie has a fault or two paths lead to one node, it raises
+    `Refused`. Each node is visited once."""
+    code, error = are_a_tree(live(), numbers)
+    if code:
+        raise refused(error)
+    yield from ()
 
 
 def _batches(held: Held, numbers: Any) -> Iterator[_Room]:

@@ -2,14 +2,11 @@
 //! The segments and the sections of an image with the places of their commands, one at a time.
 #![forbid(unsafe_code)]
 
-use crate::generated::mach_base::{Container, Ctx, Result};
+use crate::generated::mach_base::{Ctx, Result};
 use crate::generated::mach_layout::rules::Items;
 use crate::generated::mach_load::{CommandVariant, LoadCommand};
-use crate::generated::mach_parts::segment::{place_of, section_at};
-use crate::generated::mach_records::{
-    SIZEOF_SECTION_32, SIZEOF_SECTION_64, SIZEOF_SEGMENT_COMMAND_32, SIZEOF_SEGMENT_COMMAND_64,
-    Section64, SegmentCommand32, SegmentCommand64,
-};
+use crate::generated::mach_parts::segment::{own_sections, place_of, section_at};
+use crate::generated::mach_records::{Section64, SegmentCommand32, SegmentCommand64};
 use core::slice::Iter;
 
 /// A segment's command in its 64-bit form, and its place.
@@ -161,16 +158,6 @@ impl<'a, 'b> SectionIterator<'a, 'b> {
     }
 }
 
-// Returns how many of the sections that a segment states have their record in its own command.
-fn own_sections(width: Container, segment: &PlacedSegment) -> u32 {
-    let (head, each) = match width {
-        Container::Little => (SIZEOF_SEGMENT_COMMAND_32, SIZEOF_SECTION_32),
-        Container::Big => (SIZEOF_SEGMENT_COMMAND_64, SIZEOF_SECTION_64),
-    };
-    let room = segment.command.cmdsize.saturating_sub(head as u32) / each as u32;
-    segment.command.nsects.min(room)
-}
-
 /// Returns the next section of a segment after the first `taken`, if there is one.
 pub(crate) fn take_section(
     bytes: &[u8],
@@ -179,7 +166,8 @@ pub(crate) fn take_section(
     taken: u32,
 ) -> Option<PlacedSection> {
     let segment = segment?;
-    if taken >= own_sections(ctx.container, &segment) {
+    let command = &segment.command;
+    if taken >= own_sections(ctx.container, command.cmdsize, command.nsects) {
         return None;
     }
     placed_section_at(bytes, ctx, segment, taken).ok()

@@ -24,7 +24,9 @@ pub use crate::generated::mach_parts::segment::numbered::{
 pub use crate::generated::mach_parts::segment::readable::{ReadableSections, section_holding};
 pub use crate::generated::mach_parts::segment::relocations::RelocationIterator;
 pub use crate::generated::mach_parts::segment::section::{Section, SectionData};
-pub use crate::generated::mach_parts::segment::sections::{SectionIterator, place_of};
+pub use crate::generated::mach_parts::segment::sections::{
+    SectionIterator, own_sections, place_of,
+};
 use crate::generated::mach_records::{
     LC_SEGMENT, LC_SEGMENT_64, SegmentCommand32, SegmentCommand64,
 };
@@ -212,6 +214,15 @@ impl<'a> Segment<'a> {
     /// - the result is `true` exactly if `seg_offset < self.vmsize`
     pub fn holds(&self, seg_offset: u64) -> bool {
         seg_offset < self.vmsize
+    }
+
+    /// Returns how many of the segment's sections have their record in its command. It is `nsects` unless the command is too small.
+    ///
+    /// # Proved
+    ///
+    /// - `result ≡ sections_held (segment_view self)`
+    pub fn sections_held(&self) -> u32 {
+        own_sections(self.ctx.container, self.cmdsize, self.nsects)
     }
 
     /// Returns the segment's sections with their data. Fails if the record of any section does not lie in the bytes, or if memory runs out.

@@ -17,13 +17,9 @@ fn is_info_plist(section: &NumberedSection) -> bool {
     }
 }
 
-// Returns the first `__info_plist` of `__TEXT` in the bytes. It looks at no more sections than it is given as a bound.
-fn among_sections(most: usize, segments: &[Segment<'_>]) -> Option<NumberedSection> {
-    let mut left = ReadableSections::new(segments);
-    for _ in 0..most {
-        let Some(section) = left.next() else {
-            return None;
-        };
+// Finds the first `__info_plist` of `__TEXT`.
+fn among_sections(segments: &[Segment<'_>]) -> Option<NumberedSection> {
+    for section in ReadableSections::new(segments) {
         if is_info_plist(&section) {
             return Some(section);
         }
@@ -34,14 +30,13 @@ fn among_sections(most: usize, segments: &[Segment<'_>]) -> Option<NumberedSecti
 /// Returns the bytes of the first section `__info_plist` of `__TEXT` in some segments, if there is one and its bytes are in the
 /// file. The section's own names decide.
 ///
-/// In each segment it looks at the sections before the first that isn't in the bytes, and in all at no more sections than there
-/// are bytes. So a count in a file never sets the work.
+/// It looks at the sections in their segment's command and in the bytes. So a count in a file never sets the work.
 ///
 /// # Proved
 ///
 /// - `slot_read result ≡ defined.plist_of bytes (map segment_view segments)`
 pub fn info_plist<'a>(bytes: &'a [u8], segments: &[Segment<'_>]) -> Option<&'a [u8]> {
-    let found = among_sections(bytes.len(), segments)?;
+    let found = among_sections(segments)?;
     let section = &found.section;
     bytes_at(bytes, section.offset as usize, section.size as usize).ok()
 }

@@ -183,7 +183,7 @@ impl<V: ImageView, K: Sink> Document<'_, V, K> {
         let label = Label::of(&item);
         match item.content {
             Ok(Content::NoMember) => {
-                self.sink.begin_image(label, out)?;
+                self.sink.begin_image(self.names.file, label, out)?;
                 self.sink.end_archive(out)?;
                 Ok(Outcome { whole: true, left })
             }
@@ -227,7 +227,7 @@ impl<V: ImageView, K: Sink> Document<'_, V, K> {
         out: &mut O,
         err: &mut E,
     ) -> io::Result<Outcome> {
-        self.sink.begin_image(label, out)?;
+        self.sink.begin_image(self.names.file, label, out)?;
         match self
             .view
             .show(self.names.file, image, self.limit, left, out)
@@ -250,7 +250,7 @@ impl<V: ImageView, K: Sink> Document<'_, V, K> {
         out: &mut O,
         err: &mut E,
     ) -> io::Result<Outcome> {
-        self.sink.begin_image(label, out)?;
+        self.sink.begin_image(self.names.file, label, out)?;
         self.end_refused(label, refusal, left, out, err)
     }
 

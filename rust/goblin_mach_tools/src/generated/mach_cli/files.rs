@@ -6,6 +6,7 @@ use crate::shim::rt::Eprint;
 use crate::shim::rt::HostRuntime;
 
 use crate::generated::mach_cli::cpu::Cpu;
+use crate::generated::mach_cli::first_bytes::begins_fat;
 use crate::generated::mach_cli::label::Label;
 use crate::generated::mach_cli::named::{Others, names_of};
 use crate::generated::mach_cli::names::Names;
@@ -15,7 +16,8 @@ use crate::generated::mach_cli::parts::shown::{ShownPart, shown_part};
 use crate::generated::mach_cli::program::Program;
 use crate::generated::mach_cli::progress::Progress;
 use crate::generated::mach_cli::refusal::{Refusal, complain};
-use crate::generated::mach_cli::titled::{Titled, put_title, title_of};
+use crate::generated::mach_cli::title::{Title, title_of};
+use crate::generated::mach_cli::titled::{Titled, put_title};
 use crate::generated::mach_cli::word::NoText;
 use crate::shim::AllocError;
 use crate::shim::io::{BufWriter, IsTerminal, Write};
@@ -53,6 +55,8 @@ struct Running {
     files: Files,
     // Whether there may be several files.
     are_several: bool,
+    // Whether titles are those of `llvm-nm`.
+    is_nm: bool,
 }
 
 // Returns the status of a file that is shown. After a failed write nothing else is shown: its status is an error.
@@ -84,9 +88,41 @@ impl Files {
         others: &Others<'_>,
         out: &mut BufWriter<Titled<W>>,
     ) -> Result<u8, u8> {
+        self.show_by(rt, false, shows, files, others, out)
+    }
+
+    /// Shows files as `show` does, with the titles of `llvm-nm`: those of the entries of a fat file have the file's name and the cpu,
+    /// and a fat file of 32 bits has none, since the headings of its entries name it.
+    ///
+    /// # Proved
+    ///
+    /// - *shown*: if `Ok(worst)`: `ShowsFilesBy true self (S.shows shows) files others out.old out.new worst`
+    /// - *unwritten*: if `Err(status)`: `IsUnwritten status`
+    pub fn show_as_nm<S: FileView<BufWriter<Titled<W>>>, W: Write>(
+        &self,
+        rt: &HostRuntime,
+        shows: &S,
+        files: &[&str],
+        others: &Others<'_>,
+        out: &mut BufWriter<Titled<W>>,
+    ) -> Result<u8, u8> {
+        self.show_by(rt, true, shows, files, others, out)
+    }
+
+    // Shows files in order, then those named in other ways, and returns the worst status.
+    fn show_by<S: FileView<BufWriter<Titled<W>>>, W: Write>(
+        &self,
+        rt: &HostRuntime,
+        is_nm: bool,
+        shows: &S,
+        files: &[&str],
+        others: &Others<'_>,
+        out: &mut BufWriter<Titled<W>>,
+    ) -> Result<u8, u8> {
         let call = Running {
             files: *self,
             are_several: others.are_several(files.len()),
+            is_nm,
         };
         let mut progress = Progress::new(rt, rt.stderr().is_terminal());
         let of_words = call.refuse_words(rt, others.no_texts.as_slice());
@@ -230,7 +266,7 @@ impl Running {
         out: &mut BufWriter<Titled<W>>,
     ) -> Result<u8, u8> {
         if !self.files.has_parts {
-            return self.show_named(rt, shows, file, bytes, self.are_several, out);
+            return self.show_itself(rt, shows, file, bytes, out);
         }
         if is_missed(self.files.cpu, bytes) {
             return Ok(self.miss(rt, file));
@@ -281,48 +317,76 @@ impl Running {
     ) -> Result<u8, u8> {
         let label = Label::of(&part);
         match shown_part(file, part) {
-            Ok(shown) => self.show_content(rt, shows, file, shown, out),
+            Ok(shown) => self.show_content(rt, shows, file, label, shown, out),
             Err(error) => Ok(self.refuse(rt, file, label, Refusal::Fault(describe(&error)))),
         }
     }
 
-    // Shows what is shown of a part of a file, and returns the status.
+    // Shows what is shown of a part of a file, which has this label, and returns the status.
     fn show_content<S: FileView<BufWriter<Titled<W>>>, W: Write>(
         &self,
         rt: &HostRuntime,
         shows: &S,
         file: &str,
+        label: Label<'_>,
         part: ShownPart<'_>,
         out: &mut BufWriter<Titled<W>>,
     ) -> Result<u8, u8> {
         match part {
             ShownPart::Nothing => Ok(0),
-            ShownPart::Itself(bytes) => {
-                self.show_named(rt, shows, file, bytes, self.are_several, out)
-            }
+            ShownPart::Itself(bytes) => self.show_itself(rt, shows, file, bytes, out),
             ShownPart::Within(name, bytes) => {
-                self.show_named(rt, shows, name.as_str(), bytes, true, out)
+                let title = self.title(file, name.as_str(), label);
+                self.show_named(rt, shows, title, bytes, true, out)
             }
         }
     }
 
-    // Shows bytes under a name, with a title if they may have one, and returns the status.
+    // Shows a file itself, with a title if it may have one, and returns the status.
+    fn show_itself<S: FileView<BufWriter<Titled<W>>>, W: Write>(
+        &self,
+        rt: &HostRuntime,
+        shows: &S,
+        file: &str,
+        bytes: &[u8],
+        out: &mut BufWriter<Titled<W>>,
+    ) -> Result<u8, u8> {
+        let title = self.title(file, file, Label::None);
+        self.show_named(rt, shows, title, bytes, self.are_several, out)
+    }
+
+    // Returns the title of a part with this name and label of a file.
+    fn title<'f, 'a>(&self, file: &'f str, name: &'f str, label: Label<'a>) -> Title<'f, 'a> {
+        Title {
+            file,
+            name,
+            label,
+            is_nm: self.is_nm,
+        }
+    }
+
+    // Shows bytes under the name in a title, with the title if they may have one, and returns the status.
     fn show_named<S: FileView<BufWriter<Titled<W>>>, W: Write>(
         &self,
         rt: &HostRuntime,
         shows: &S,
-        name: &str,
+        title: Title<'_, '_>,
         bytes: &[u8],
         is_titled: bool,
         out: &mut BufWriter<Titled<W>>,
     ) -> Result<u8, u8> {
-        match title_of(is_titled & self.files.has_titles, name) {
-            Ok(title) => {
-                put_title(out, title);
-                unless_unwritten(shows.show(rt, name, bytes, out))
+        match title_of(self.has_title(is_titled, bytes), title) {
+            Ok(text) => {
+                put_title(out, text);
+                unless_unwritten(shows.show(rt, title.name, bytes, out))
             }
-            Err(AllocError) => Ok(self.files.program.no_memory_for(rt, name)),
+            Err(AllocError) => Ok(self.files.program.no_memory_for(rt, title.name)),
         }
+    }
+
+    // Whether bytes that may have a title have one.
+    fn has_title(&self, is_titled: bool, bytes: &[u8]) -> bool {
+        is_titled & self.files.has_titles & !(self.is_nm & begins_fat(bytes))
     }
 
     // Reports that no part of a file is selected, and returns the status.

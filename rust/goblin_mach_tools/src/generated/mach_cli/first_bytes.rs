@@ -2,6 +2,7 @@
 //! What a file is by its first bytes: whether it is divided into parts, what an entry or a member is, and the kind of a refused one.
 #![forbid(unsafe_code)]
 
+use goblin_mach::generated::mach::fat::FAT_MAGIC;
 use goblin_mach::generated::mach::first_bytes::foreign_kind;
 use goblin_mach::generated::mach::{
     Error, FAT_MAGIC_64, Foreign, Hint, Input, MultiArch64, begins_archive, peek, peek_bytes,
@@ -39,6 +40,14 @@ pub fn divided(bytes: &[u8]) -> Option<Input<'_>> {
             Err(_) => None,
         },
         _ => None,
+    }
+}
+
+/// Whether bytes begin as a fat file of 32 bits does.
+pub(crate) fn begins_fat(bytes: &[u8]) -> bool {
+    match peek(bytes, 0) {
+        Ok(magic) => magic == FAT_MAGIC,
+        Err(_) => false,
     }
 }
 

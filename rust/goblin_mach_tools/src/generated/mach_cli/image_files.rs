@@ -6,7 +6,7 @@ use crate::generated::mach_cli::cpu::Cpu;
 use crate::generated::mach_cli::files::Files;
 use crate::generated::mach_cli::images_view::ImagesView;
 use crate::generated::mach_cli::program::Program;
-use crate::generated::mach_cli::sink::{Json, Text};
+use crate::generated::mach_cli::sink::{Json, NmText, Text};
 
 /// How a call shows the images of its files: the lines of one view as text, or the objects of another as JSON.
 #[derive(Clone, Copy)]
@@ -54,6 +54,21 @@ impl<T: Copy, J: Copy> ImageFiles<T, J> {
             limit: self.limit,
             view: self.lines,
             sink: Text,
+        }
+    }
+
+    /// Returns what is shown of each file as text, under the headings of `llvm-nm`.
+    ///
+    /// # Proved
+    ///
+    /// - `let s = self in result ≡ record { program = s.program; cpu = s.cpu; limit = s.limit; view = s.lines; sink = record {} }`
+    pub fn as_nm(&self) -> ImagesView<T, NmText> {
+        ImagesView {
+            program: self.program,
+            cpu: self.cpu,
+            limit: self.limit,
+            view: self.lines,
+            sink: NmText,
         }
     }
 

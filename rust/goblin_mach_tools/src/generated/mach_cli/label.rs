@@ -7,7 +7,7 @@ use crate::generated::mach_cli::escaped::Escaped;
 use crate::generated::mach_cli::json::text::JsonString;
 use core::fmt;
 use core::fmt::{Display, Formatter};
-use goblin_mach::generated::mach::{Content, InputItem};
+use goblin_mach::generated::mach::{Content, EntryCpu, InputItem};
 use goblin_mach::generated::mach_archive::Member;
 
 /// The label of an image within a file.
@@ -15,10 +15,10 @@ use goblin_mach::generated::mach_archive::Member;
 pub enum Label<'a> {
     /// None, if the image is the whole file.
     None,
-    /// The index of its entry in a fat file, and the name of the cpu, if it has one.
-    Entry(usize, Option<&'static str>),
+    /// The index of its entry in a fat file, and the cpu, if the record can be read.
+    Entry(usize, Option<EntryCpu>),
     /// The same of the entry that is an archive, and the member of this archive.
-    Member(usize, Option<&'static str>, Member<'a>),
+    Member(usize, Option<EntryCpu>, Member<'a>),
 }
 
 impl<'a> Label<'a> {
@@ -28,7 +28,7 @@ impl<'a> Label<'a> {
     ///
     /// - `let x = input_item_read item in label_view result ≡ label_of x.place x.content`
     pub fn of(item: &InputItem<'a>) -> Label<'a> {
-        let cpu = entry_cpu_name(item.place.cpu);
+        let cpu = item.place.cpu;
         match item.place.entry {
             Some(index) => match &item.content {
                 Ok(Content::Member(member)) => Label::Member(index, cpu, *member),
@@ -41,7 +41,7 @@ impl<'a> Label<'a> {
 
 // A member's name on one line, or the offset of its header.
 #[derive(Clone, Copy)]
-struct NameOnLine<'a>(Member<'a>);
+pub(crate) struct NameOnLine<'a>(pub Member<'a>);
 
 impl Display for NameOnLine<'_> {
     fn fmt(&self, f: &mut Formatter<'_>) -> fmt::Result {
@@ -89,13 +89,29 @@ impl Display for LabelLine<'_> {
         match self.0 {
             Label::None => Ok(()),
             Label::Entry(index, cpu) => {
-                let cpu = CpuSuffix(cpu);
+                let cpu = CpuSuffix(entry_cpu_name(cpu));
                 writeln!(f, "arch {index}{cpu}")
             }
             Label::Member(index, cpu, member) => {
                 let text = MemberText(index, member);
-                let cpu = CpuSuffix(cpu);
+                let cpu = CpuSuffix(entry_cpu_name(cpu));
                 writeln!(f, "{text}{cpu}")
+            }
+        }
+    }
+}
+
+// The name of the cpu of the entry that has this label, beside another name.
+#[derive(Clone, Copy)]
+pub(crate) struct LabelCpu<'a>(pub Label<'a>);
+
+impl Display for LabelCpu<'_> {
+    fn fmt(&self, f: &mut Formatter<'_>) -> fmt::Result {
+        match self.0 {
+            Label::None => Ok(()),
+            Label::Entry(_, cpu) | Label::Member(_, cpu, _) => {
+                let cpu = CpuSuffix(entry_cpu_name(cpu));
+                write!(f, "{cpu}")
             }
         }
     }
@@ -156,11 +172,11 @@ impl Display for ObjectFront<'_> {
         match self.0 {
             Label::None => write!(f, "{{"),
             Label::Entry(index, cpu) => {
-                let cpu = CpuString(cpu);
+                let cpu = CpuString(entry_cpu_name(cpu));
                 write!(f, "{{\"arch\":{cpu},\"entry\":{index},")
             }
             Label::Member(index, cpu, member) => {
-                let cpu = CpuString(cpu);
+                let cpu = CpuString(entry_cpu_name(cpu));
                 let name = NameString(member);
                 write!(f, "{{\"arch\":{cpu},\"entry\":{index},\"member\":{name},")
             }

@@ -31,10 +31,12 @@ mod items;
 mod label;
 mod listing;
 mod names;
+mod nm_heading;
 mod origins;
 mod refusal;
 mod signing;
 mod sink;
+mod title;
 mod titled;
 mod values;
 
@@ -54,6 +56,10 @@ mod flags;
 mod memory;
 mod section_names;
 mod stretches;
+
+// What an image has at an address, as a line and as an object.
+mod address;
+mod name_text;
 
 // Terminals.
 mod painted;
@@ -108,8 +114,13 @@ pub use crate::generated::mach_cli::section_names::{AllStretches, SegmentStretch
 pub use crate::generated::mach_cli::signing::{
     diverse_by, diversity_by, has_auth, key_by, rebase_type,
 };
-pub use crate::generated::mach_cli::sink::{Json, Sink, Text};
+pub use crate::generated::mach_cli::sink::{Json, NmText, Sink, Text};
 pub use crate::generated::mach_cli::terminal::ForTerminal;
 pub use crate::generated::mach_cli::titled::Titled;
 pub use crate::generated::mach_cli::values::{SourceVersionText, UuidText, VersionText};
 pub use crate::generated::mach_cli::word::{NoText, Word};
+
+// What an image has at an address, and names as they are printed.
+pub use crate::generated::mach_cli::address::FoundAt;
+pub use crate::generated::mach_cli::address::view::{AddressLinesOf, AddressObjectsOf};
+pub use crate::generated::mach_cli::name_text::{FileText, NameText};

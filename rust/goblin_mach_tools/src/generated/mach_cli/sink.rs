@@ -4,6 +4,7 @@
 
 use crate::generated::mach_cli::json::text::JsonString;
 use crate::generated::mach_cli::label::{Label, LabelLine, ObjectFront};
+use crate::generated::mach_cli::nm_heading::NmHeading;
 use crate::generated::mach_cli::refusal::Refusal;
 use crate::shim::io;
 use crate::shim::io::Write;
@@ -43,12 +44,12 @@ pub trait Sink: Copy {
     /// - if `Ok`: `Appends (O.contents out.old) (O.contents out.new) texts.separator`
     fn separate<O: Write>(&self, out: &mut O) -> io::Result<()>;
 
-    /// Begins an image with this label.
+    /// Begins an image with this label, of a file of this name.
     ///
     /// # Proved
     ///
-    /// - if `Ok`: `Appends (O.contents out.old) (O.contents out.new) (texts.image_front (label_view label.entry))`
-    fn begin_image<O: Write>(&self, label: Label<'_>, out: &mut O) -> io::Result<()>;
+    /// - if `Ok`: `Appends (O.contents out.old) (O.contents out.new) (texts.image_front name (label_view label.entry))`
+    fn begin_image<O: Write>(&self, name: &str, label: Label<'_>, out: &mut O) -> io::Result<()>;
 
     /// Ends an image whose output is written.
     ///
@@ -103,7 +104,7 @@ impl Sink for Text {
         Ok(())
     }
 
-    fn begin_image<O: Write>(&self, label: Label<'_>, out: &mut O) -> io::Result<()> {
+    fn begin_image<O: Write>(&self, _name: &str, label: Label<'_>, out: &mut O) -> io::Result<()> {
         let line = LabelLine(label);
         write!(out, "{line}")
     }
@@ -126,6 +127,55 @@ impl Sink for Text {
             Label::None => Ok(()),
             Label::Entry(_, _) | Label::Member(_, _, _) => writeln!(out, "refused: {refusal}"),
         }
+    }
+}
+
+/// Text as `llvm-nm` has it: each image of a fat file has a heading with the file's name and the cpu. All else is as in `Text`.
+#[derive(Clone, Copy)]
+pub struct NmText;
+
+impl Sink for NmText {
+    fn begin_file<O: Write>(&self, out: &mut O) -> io::Result<()> {
+        Text.begin_file(out)
+    }
+
+    fn end_file<O: Write>(&self, kind: &str, name: &str, out: &mut O) -> io::Result<()> {
+        Text.end_file(kind, name, out)
+    }
+
+    fn refuse_file<O: Write>(
+        &self,
+        name: &str,
+        refusal: Refusal<'_>,
+        out: &mut O,
+    ) -> io::Result<()> {
+        Text.refuse_file(name, refusal, out)
+    }
+
+    fn separate<O: Write>(&self, out: &mut O) -> io::Result<()> {
+        Text.separate(out)
+    }
+
+    fn begin_image<O: Write>(&self, name: &str, label: Label<'_>, out: &mut O) -> io::Result<()> {
+        let heading = NmHeading { file: name, label };
+        write!(out, "{heading}")
+    }
+
+    fn end_image<O: Write>(&self, out: &mut O) -> io::Result<()> {
+        Text.end_image(out)
+    }
+
+    fn end_archive<O: Write>(&self, out: &mut O) -> io::Result<()> {
+        Text.end_archive(out)
+    }
+
+    fn refuse_image<O: Write>(
+        &self,
+        label: Label<'_>,
+        refusal: Refusal<'_>,
+        out: &mut O,
+    ) -> io::Result<()> {
+        Text.refuse_image(label, refusal, out)
     }
 }
 
@@ -160,7 +210,7 @@ impl Sink for Json {
         write!(out, ",")
     }
 
-    fn begin_image<O: Write>(&self, label: Label<'_>, out: &mut O) -> io::Result<()> {
+    fn begin_image<O: Write>(&self, _name: &str, label: Label<'_>, out: &mut O) -> io::Result<()> {
         let front = ObjectFront(label);
         write!(out, "{front}")
     }

@@ -2,11 +2,8 @@
 //! A writer that writes a title before the next bytes.
 #![forbid(unsafe_code)]
 
-use crate::shim::format_in;
 use alloc::vec::Vec;
 
-use crate::generated::mach_cli::escaped::Escaped;
-use crate::shim::AllocError;
 use crate::shim::io;
 use crate::shim::io::{BufWriter, ErrorKind, Write};
 
@@ -67,16 +64,6 @@ impl<W: Write> Write for Titled<W> {
     fn flush(&mut self) -> io::Result<()> {
         self.inner.flush()
     }
-}
-
-// Returns the title of a file or a part of this name, if it may have one.
-pub(crate) fn title_of(is_titled: bool, name: &str) -> Result<Vec<u8>, AllocError> {
-    if !is_titled {
-        return Ok(Vec::new());
-    }
-    let name = Escaped(name);
-    let title = format_in!("\n{name}:\n")?;
-    Ok(title.into_bytes())
 }
 
 /// Sets the title of what is written next. It replaces the previous title if that isn't written yet.

@@ -3,9 +3,11 @@
 #![forbid(unsafe_code)]
 
 use crate::generated::mach_cli::{
-    Field, FieldsForm, Value, diverse_by, diversity_by, has_auth, key_by, rebase_type,
+    Escaped, Field, FieldsForm, Line, Value, diverse_by, diversity_by, has_auth, key_by,
+    rebase_type,
 };
 use crate::generated::machfixups::row::{Action, Bind, Location, Row};
+use crate::generated::machfixups::target_symbols::TargetSymbol;
 use crate::shim::io;
 use crate::shim::io::Write;
 use goblin_mach::generated::mach::RebaseKind;
@@ -124,6 +126,30 @@ fn raw_field(raw: Option<u64>) -> Field<'static> {
     }
 }
 
+// Returns the same field for an object alone.
+fn raw_member(raw: Option<u64>) -> Field<'static> {
+    match raw {
+        Some(raw) => Field::of_object("raw", Value::Hex(raw)),
+        None => Field::of_line(Value::Text(""), 0),
+    }
+}
+
+// Returns the field for how far a target is above its symbol, null if it has none.
+fn distance_field(symbol: &Option<TargetSymbol<'_>>) -> Field<'static> {
+    match symbol {
+        Some(symbol) => Field::of_object("target_distance", Value::Number(symbol.distance)),
+        None => Field::of_object("target_distance", Value::OptionalText(None)),
+    }
+}
+
+// Returns the field for the name of a target's symbol, null if it has none.
+fn symbol_field<'a>(symbol: &Option<TargetSymbol<'a>>) -> Field<'a> {
+    match symbol {
+        Some(symbol) => Field::of_object("target_symbol", Value::OptionalText(Some(symbol.name))),
+        None => Field::of_object("target_symbol", Value::OptionalText(None)),
+    }
+}
+
 // Returns the fields of a bind.
 fn bind_fields<'a>(place: &Location<'a>, bind: &Bind<'a>, raw: Option<u64>) -> [Field<'a>; 16] {
     let auth = bind.auth;
@@ -164,10 +190,11 @@ fn weak_fields<'a>(place: &Location<'a>, bind: &Bind<'a>) -> [Field<'a>; 11] {
     ]
 }
 
-// Returns the fields of a rebase.
+// Returns the fields of a rebase: all that an object has, and those of a line up to the target.
 fn rebase_fields<'a>(
     place: &Location<'a>,
     target: &Location<'a>,
+    symbol: &Option<TargetSymbol<'a>>,
     kind: RebaseKind,
     auth: Option<PointerAuth>,
     raw: Option<u64>,
@@ -179,18 +206,27 @@ fn rebase_fields<'a>(
         Field::whether("is_signed", has_auth(auth)),
         Field::of_object("key", Value::Number(u64::from(key_by(auth)))),
         kind_field("kind", "rebase"),
-        raw_field(raw),
+        raw_member(raw),
         section_field(place),
         segment_field(place),
         Field::new("target", Value::Hex(target.address), 6),
+        distance_field(symbol),
         Field::of_object("target_section", Value::OptionalText(target.section)),
         Field::of_object("target_segment", Value::OptionalText(target.segment)),
+        symbol_field(symbol),
         Field::of_object("type", Value::Text(rebase_type(kind))),
-        rebase_word(kind),
-        signed_flags(auth),
         target_segment(target),
         target_section(target),
     ]
+}
+
+// Returns the fields of a rebase that a line has after the symbol.
+fn ending_fields(
+    kind: RebaseKind,
+    auth: Option<PointerAuth>,
+    raw: Option<u64>,
+) -> [Field<'static>; 3] {
+    [rebase_word(kind), signed_flags(auth), raw_field(raw)]
 }
 
 // Returns the fields of a number.
@@ -231,11 +267,65 @@ pub fn write_row<F: FieldsForm, O: Write>(row: &Row<'_, '_>, out: &mut O) -> io:
         Row::At { place, action, raw } => match action {
             Action::Bind(bind) => F::write(&bind_fields(place, bind, *raw), out),
             Action::Weak(bind) => F::write(&weak_fields(place, bind), out),
-            Action::Rebase { target, kind, auth } => {
-                F::write(&rebase_fields(place, target, *kind, *auth, *raw), out)
+            Action::Rebase {
+                target,
+                symbol,
+                kind,
+                auth,
+            } => {
+                let fields = rebase_fields(place, target, symbol, *kind, *auth, *raw);
+                F::write(&fields, out)
             }
             Action::Value(number) => F::write(&value_fields(place, *number, *raw), out),
         },
         Row::Strong(name) => F::write(&strong_fields(name), out),
     }
+}
+
+// Writes the symbol at a target and how far the target is above it, after a space, if there is one.
+fn write_symbol<O: Write>(symbol: &Option<TargetSymbol<'_>>, out: &mut O) -> io::Result<()> {
+    match symbol {
+        Some(symbol) => {
+            let (name, distance) = (Escaped(symbol.name), symbol.distance);
+            write!(out, " {name}+0x{distance:x}")
+        }
+        None => Ok(()),
+    }
+}
+
+// Writes what a line of a rebase has after the target: the symbol there, and the fields after it.
+fn write_rebase_ending<O: Write>(
+    symbol: &Option<TargetSymbol<'_>>,
+    kind: RebaseKind,
+    auth: Option<PointerAuth>,
+    raw: Option<u64>,
+    out: &mut O,
+) -> io::Result<()> {
+    write_symbol(symbol, out)?;
+    Line::write(&ending_fields(kind, auth, raw), out)
+}
+
+// Writes what a line of a row has after the fields.
+fn write_ending<O: Write>(row: &Row<'_, '_>, out: &mut O) -> io::Result<()> {
+    match row {
+        Row::At { action, raw, .. } => match action {
+            Action::Rebase {
+                symbol, kind, auth, ..
+            } => write_rebase_ending(symbol, *kind, *auth, *raw, out),
+            Action::Bind(_) => Ok(()),
+            Action::Weak(_) => Ok(()),
+            Action::Value(_) => Ok(()),
+        },
+        Row::Strong(_) => Ok(()),
+    }
+}
+
+/// Writes the line of a row, without its end.
+///
+/// # Proved
+///
+/// - if `Ok`: `Appends (O.contents out.old) (O.contents out.new) (pointer_line (row_view row))`
+pub fn write_line<O: Write>(row: &Row<'_, '_>, out: &mut O) -> io::Result<()> {
+    write_row::<Line, O>(row, out)?;
+    write_ending(row, out)
 }

@@ -2,12 +2,11 @@
 //! What the program prints of an image.
 #![forbid(unsafe_code)]
 
-use crate::generated::mach_cli::{
-    AllStretches, ImageView, InForm, Line, Outcome, ShowFailure, print_listing,
-};
+use crate::generated::mach_cli::{AllStretches, ImageView, Outcome, ShowFailure, print_listing};
 use crate::generated::machfixups::headed::Headed;
 use crate::generated::machfixups::lists::ImageRows;
 use crate::generated::machfixups::rows::Selection;
+use crate::generated::machfixups::target_symbols::TargetSymbols;
 use crate::shim::io::Write;
 use goblin_mach::generated::mach::MachO;
 
@@ -32,15 +31,17 @@ impl ImageView for FixupLines {
     ) -> Result<Outcome, ShowFailure> {
         let parts = AllStretches::of_image(image)?;
         let shown = self.selection.shown();
+        let symbols = TargetSymbols::of(image, shown.has_rebases())?;
         let list = ImageRows::of(
             image,
             &parts,
+            &symbols,
             shown,
             shown.kinds_in_lines(),
             self.selection.chains,
         );
         let mut lines = Headed {
-            list: InForm { list, form: Line },
+            list,
             heading: HEADING,
             is_written: false,
         };

@@ -2,12 +2,13 @@
 //! The lists of an image's rebases, binds and fixups, of which a line or an object has the fields of each row.
 #![forbid(unsafe_code)]
 
-use crate::generated::mach_cli::{AllStretches, FieldsForm, ItemList};
-use crate::generated::machfixups::fields::write_row;
+use crate::generated::mach_cli::{AllStretches, FieldsForm, ItemList, Listing};
+use crate::generated::machfixups::fields::{write_line, write_row};
 use crate::generated::machfixups::kept_fixups::{KeptFixups, KindsOfLists};
 use crate::generated::machfixups::row::Row;
 use crate::generated::machfixups::rows::{Items, Rows, Selection};
 use crate::generated::machfixups::stored_pointers::StoredPointers;
+use crate::generated::machfixups::target_symbols::TargetSymbols;
 use crate::shim::io;
 use crate::shim::io::Write;
 use goblin_mach::generated::mach::MachO;
@@ -50,36 +51,44 @@ fn table_of<'a>(image: &MachO<'a>) -> Option<ChainedFixups<'a>> {
     }
 }
 
-// Returns the rows of the items of the opcodes, if they are shown, and of fixups of the chains.
-fn rows_of<'p, 'a, 'b>(
-    is_shown: bool,
+// What the rows of all lists of an image are read from.
+struct Sources<'p, 'a, 'b> {
     parts: &'p AllStretches,
+    symbols: &'p Option<TargetSymbols<'a, 'b>>,
     libs: &'b [&'a str],
     table: Option<ChainedFixups<'a>>,
     source: Option<StoredPointers<'a, 'b>>,
+}
+
+// Returns the rows of the items of the opcodes, if they are shown, and of fixups of the chains.
+fn rows_of<'p, 'a, 'b>(
+    is_shown: bool,
+    over: &Sources<'p, 'a, 'b>,
     items: Items<'a, 'b>,
     fixups: KeptFixups<'a, 'b>,
 ) -> Rows<'p, 'a, 'b> {
     Rows {
-        parts,
-        libs,
-        table,
-        source,
+        parts: over.parts,
+        symbols: over.symbols,
+        libs: over.libs,
+        table: over.table,
+        source: over.source,
         items: if is_shown { items } else { Items::Hidden },
         fixups,
     }
 }
 
 impl<'p, 'a, 'b> ImageRows<'p, 'a, 'b> {
-    /// Returns the rows of an image of the lists that are shown, given its segments, which fixups of the chains each list has, and
-    /// whether these are shown with their pointers.
+    /// Returns the rows of an image of the lists that are shown, given its segments, the symbols at targets, which fixups of the
+    /// chains each list has, and whether these are shown with their pointers.
     ///
     /// # Proved
     ///
-    /// - for each `bytes : List ℕ`, `o : ℕ`, if `IsImage bytes o image`, there is `lists : PointerLists` with: `HasPointerLists bytes o lists × (libs : List (List ℕ)) × HasLibraries bytes o libs × (chained : Result (Option Fixups) Fault) × HasChainedFixups bytes o chained × (image_rows_left result ≡ rows_shown has_raw shown kinds (parts_view parts) libs (readable_table chained) lists)`
+    /// - for each `bytes : List ℕ`, `o : ℕ`, if `IsImage bytes o image`, there is `lists : PointerLists` with: `HasPointerLists bytes o lists × (libs : List (List ℕ)) × HasLibraries bytes o libs × (chained : Result (Option Fixups) Fault) × HasChainedFixups bytes o chained × (image_rows_left result ≡ rows_shown has_raw shown kinds (parts_view parts) (symbols_seen symbols) libs (readable_table chained) lists)`
     pub fn of(
         image: &'b MachO<'a>,
         parts: &'p AllStretches,
+        symbols: &'p Option<TargetSymbols<'a, 'b>>,
         shown: Selection,
         kinds: KindsOfLists,
         has_raw: bool,
@@ -90,37 +99,26 @@ impl<'p, 'a, 'b> ImageRows<'p, 'a, 'b> {
         let of_rebases = KeptFixups::of(image.fixups(), kinds.rebases);
         let of_binds = KeptFixups::of(image.fixups(), kinds.binds);
         let of_chains = KeptFixups::of(image.fixups(), kinds.chains);
-        let (libs, table) = (image.libs.as_slice(), table_of(image));
-        let source = StoredPointers::of(image, has_raw);
+        let over = Sources {
+            parts,
+            symbols,
+            libs: image.libs.as_slice(),
+            table: table_of(image),
+            source: StoredPointers::of(image, has_raw),
+        };
         ImageRows {
-            rebases: rows_of(
-                shown.rebases,
-                parts,
-                libs,
-                table,
-                source,
-                rebases,
-                of_rebases,
-            ),
-            binds: rows_of(shown.binds, parts, libs, table, source, binds, of_binds),
-            weak: rows_of(
-                shown.weak,
-                parts,
-                libs,
-                table,
-                source,
-                weak,
-                KeptFixups::none(),
-            ),
-            chains: rows_of(false, parts, libs, table, source, Items::Hidden, of_chains),
+            rebases: rows_of(shown.rebases, &over, rebases, of_rebases),
+            binds: rows_of(shown.binds, &over, binds, of_binds),
+            weak: rows_of(shown.weak, &over, weak, KeptFixups::none()),
+            chains: rows_of(false, &over, Items::Hidden, of_chains),
         }
     }
 }
 
-impl<'p, 'a> ItemList for ImageRows<'p, 'a, '_> {
-    type Item = Row<'p, 'a>;
+impl<'p, 'a> Listing for ImageRows<'p, 'a, '_> {
+    type Row = Row<'p, 'a>;
 
-    fn next_item(&mut self) -> Option<goblin_mach::generated::mach::Result<Row<'p, 'a>>> {
+    fn next_row(&mut self) -> Option<goblin_mach::generated::mach::Result<Row<'p, 'a>>> {
         if let Some(row) = self.rebases.next() {
             return Some(row);
         }
@@ -133,15 +131,15 @@ impl<'p, 'a> ItemList for ImageRows<'p, 'a, '_> {
         self.chains.next()
     }
 
-    fn items_past(&self) -> usize {
+    fn past(&self) -> usize {
         0
     }
 
-    fn items_name(&self) -> &'static str {
+    fn past_name(&self) -> &'static str {
         ""
     }
 
-    fn write_item<F: FieldsForm, O: Write>(row: &Row<'p, 'a>, out: &mut O) -> io::Result<()> {
-        write_row::<F, O>(row, out)
+    fn write_row<O: Write>(row: &Row<'p, 'a>, out: &mut O) -> io::Result<()> {
+        write_line(row, out)
     }
 }

@@ -11,11 +11,11 @@
 //! or a bind of the chains is in two arrays.
 //!
 //! A line has the address, the names of the segment and of the section, and what is stored there: `bind` with the short name of the
-//! image that the symbol comes from and the symbol's name, the addend if it isn't 0, and flags; `weak` with a name, addend and flags;
-//! `rebase` with the segment and the section that hold the address that moves with the image, the address, and flags if the pointer
-//! is signed; or `value` with a number. A strong definition of the image's own has a line `- - - strong -` with its name. With
-//! `--chains` the line of a fixup of the chains ends with the pointer that is stored there; an object always has it, as `raw`. Above
-//! the first line is one with the names of the columns.
+//! image that the symbol comes from and the symbol's name, the addend if it isn't 0, and flags; `weak` with a name, addend and
+//! flags; `rebase` with the segment and the section that hold the address that moves with the image, the address, the symbol there
+//! with the distance from it, if there is one, and flags if the pointer is signed; or `value` with a number. A strong definition of
+//! the image's own has a line `- - - strong -` with its name. With `--chains` the line of a fixup of the chains ends with the
+//! pointer that is stored there; an object always has it, as `raw`. Above the first line is one with the names of the columns.
 //!
 //! The short name of a library is the last component of its path, without `.dylib` at its end. Other names are `itself`,
 //! `main-executable`, `flat` for any image, and `weak-lookup`. The ordinal takes its place if the image's list has no library with
@@ -23,7 +23,7 @@
 //!
 //! Its lines differ from those of `llvm-objdump --rebase --bind --lazy-bind --weak-bind --dyld-info`:
 //! - A library is printed by its short name.
-//! - A rebase of the opcodes has its target, and its type unless it is a pointer.
+//! - A rebase of the opcodes has its target with the symbol there, and its type unless it is a pointer.
 //! - A count of 0 gives no line, and a place has its segment even if no section holds all of it.
 //! - An addend is printed in decimal, with its sign, and it is the sum of the table's and the pointer's.
 //! - A bind or a fixup that can't be read has a line with the error. Those after it in the opcodes or in the chains can't be
@@ -44,6 +44,7 @@ mod members;
 mod row;
 mod rows;
 mod stored_pointers;
+mod target_symbols;
 
 use crate::generated::mach_cli::{
     Call, ForTerminal, ImageFiles, Misuse, Options, Others, Painted, Program, Titled,

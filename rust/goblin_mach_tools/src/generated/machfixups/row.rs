@@ -6,6 +6,7 @@ use crate::generated::mach_cli::{
     AllStretches, SegmentStretches, ordinal_of, origin_of, provider_name,
 };
 use crate::generated::machfixups::stored_pointers::{StoredPointers, raw_of};
+use crate::generated::machfixups::target_symbols::{TargetSymbol, TargetSymbols};
 use goblin_mach::generated::mach::chained_fixups::{
     ChainedFixups, ChainedImport, Fixup, FixupKind, PointerAuth,
 };
@@ -45,6 +46,8 @@ pub enum Action<'b, 'a> {
     /// An address that moves with the image.
     Rebase {
         target: Location<'b>,
+        /// The symbol at the target, if there is one.
+        symbol: Option<TargetSymbol<'a>>,
         kind: RebaseKind,
         auth: Option<PointerAuth>,
     },
@@ -96,6 +99,33 @@ fn target_by_kind<'b>(parts: &'b AllStretches, kind: RebaseKind, target: u64) ->
             segment: None,
             section: None,
         },
+    }
+}
+
+// Returns the symbol at a target, if a section holds it.
+fn symbol_there<'a>(
+    symbols: &Option<TargetSymbols<'a, '_>>,
+    target: &Location<'_>,
+) -> Option<TargetSymbol<'a>> {
+    match (symbols, target.section) {
+        (Some(symbols), Some(_)) => symbols.at(target.address),
+        (Some(_), None) => None,
+        (None, _) => None,
+    }
+}
+
+// Returns what a rebase to a target stores, with the symbol there.
+fn rebase_to<'b, 'a>(
+    symbols: &Option<TargetSymbols<'a, '_>>,
+    target: Location<'b>,
+    kind: RebaseKind,
+    auth: Option<PointerAuth>,
+) -> Action<'b, 'a> {
+    Action::Rebase {
+        target,
+        symbol: symbol_there(symbols, &target),
+        kind,
+        auth,
     }
 }
 
@@ -170,17 +200,17 @@ fn bind_of_import<'a>(
 // Returns what a fixup stores.
 fn action_of<'b, 'a>(
     parts: &'b AllStretches,
+    symbols: &Option<TargetSymbols<'a, '_>>,
     libs: &[&'a str],
     table: &Option<ChainedFixups<'a>>,
     fixup: &Fixup,
 ) -> Result<Action<'b, 'a>> {
     let auth = fixup.auth;
     match fixup.kind {
-        FixupKind::Rebase { target } => Ok(Action::Rebase {
-            target: place_by_address(parts, target),
-            kind: RebaseKind::Pointer,
-            auth,
-        }),
+        FixupKind::Rebase { target } => {
+            let target = place_by_address(parts, target);
+            Ok(rebase_to(symbols, target, RebaseKind::Pointer, auth))
+        }
         FixupKind::Value { value } => Ok(Action::Value(value)),
         FixupKind::Bind { import, addend } => {
             let found = import_in(table, import)?;
@@ -192,12 +222,13 @@ fn action_of<'b, 'a>(
 // Returns the row of a fixup of the chains, in its segment; an error if the import of a bind can't be read.
 fn row_of_fixup<'b, 'a>(
     parts: &'b AllStretches,
+    symbols: &Option<TargetSymbols<'a, '_>>,
     libs: &[&'a str],
     table: &Option<ChainedFixups<'a>>,
     source: &Option<StoredPointers<'_, '_>>,
     fixup: &Fixup,
 ) -> Result<Row<'b, 'a>> {
-    let action = action_of(parts, libs, table, fixup)?;
+    let action = action_of(parts, symbols, libs, table, fixup)?;
     let raw = raw_of(source, table, fixup);
     Ok(row_by_segment(
         parts,
@@ -212,14 +243,15 @@ fn row_of_fixup<'b, 'a>(
 ///
 /// # Proved
 ///
-/// - `row_read result ≡ row_for_rebase (parts_view parts) (rebase_read item)`
-pub fn rebase_row<'b, 'a>(parts: &'b AllStretches, item: Result<Rebase>) -> Result<Row<'b, 'a>> {
+/// - `row_read result ≡ row_for_rebase (parts_view parts) (symbols_seen symbols) (rebase_read item)`
+pub fn rebase_row<'b, 'a>(
+    parts: &'b AllStretches,
+    symbols: &Option<TargetSymbols<'a, '_>>,
+    item: Result<Rebase>,
+) -> Result<Row<'b, 'a>> {
     let rebase = item?;
-    let action = Action::Rebase {
-        target: target_by_kind(parts, rebase.kind, rebase.target),
-        kind: rebase.kind,
-        auth: rebase.auth,
-    };
+    let target = target_by_kind(parts, rebase.kind, rebase.target);
+    let action = rebase_to(symbols, target, rebase.kind, rebase.auth);
     Ok(row_by_segment(
         parts,
         rebase.segment,
@@ -265,16 +297,17 @@ pub fn binding_row<'b, 'a>(
 ///
 /// # Proved
 ///
-/// - `row_read result ≡ row_for_fixup (parts_view parts) (texts libs) (fixups_table_view table) (source_option_view source) (fixup_read item)`
+/// - `row_read result ≡ row_for_fixup (parts_view parts) (symbols_seen symbols) (texts libs) (fixups_table_view table) (source_option_view source) (fixup_read item)`
 pub fn fixup_row<'b, 'a>(
     parts: &'b AllStretches,
+    symbols: &Option<TargetSymbols<'a, '_>>,
     libs: &[&'a str],
     table: &Option<ChainedFixups<'a>>,
     source: &Option<StoredPointers<'_, '_>>,
     item: Result<Fixup>,
 ) -> Result<Row<'b, 'a>> {
     match item {
-        Ok(fixup) => row_of_fixup(parts, libs, table, source, &fixup),
+        Ok(fixup) => row_of_fixup(parts, symbols, libs, table, source, &fixup),
         Err(error) => Err(error),
     }
 }

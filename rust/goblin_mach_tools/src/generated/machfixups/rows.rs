@@ -6,6 +6,7 @@ use crate::generated::mach_cli::AllStretches;
 use crate::generated::machfixups::kept_fixups::{KeptFixups, KindsOfLists, ShownKinds};
 use crate::generated::machfixups::row::{Row, binding_row, fixup_row, rebase_row, weak_row};
 use crate::generated::machfixups::stored_pointers::StoredPointers;
+use crate::generated::machfixups::target_symbols::TargetSymbols;
 use goblin_mach::generated::mach::chained_fixups::ChainedFixups;
 use goblin_mach::generated::mach::{
     OpcodeBindingIterator, OpcodeRebaseIterator, Result, WeakBindIterator,
@@ -42,6 +43,15 @@ impl Selection {
             weak: self.weak || is_all,
             chains: self.chains || is_all,
         }
+    }
+
+    /// Whether one of these lists has rebases.
+    ///
+    /// # Proved
+    ///
+    /// - `result ≡ (self.rebases || self.chains)`
+    pub fn has_rebases(self) -> bool {
+        self.rebases || self.chains
     }
 
     /// Returns the lists that have the fixups of the chains, if they are lines and these lists are shown: that of the chains has
@@ -100,11 +110,15 @@ pub enum Items<'a, 'b> {
 
 impl<'a, 'b> Items<'a, 'b> {
     // Returns the next row.
-    fn next_row<'p>(&mut self, parts: &'p AllStretches) -> Option<Result<Row<'p, 'a>>> {
+    fn next_row<'p>(
+        &mut self,
+        parts: &'p AllStretches,
+        symbols: &Option<TargetSymbols<'a, '_>>,
+    ) -> Option<Result<Row<'p, 'a>>> {
         match self {
             Items::Hidden => None,
             Items::Rebases(items) => match items.next() {
-                Some(item) => Some(rebase_row(parts, item)),
+                Some(item) => Some(rebase_row(parts, symbols, item)),
                 None => None,
             },
             Items::Binds(items) => match items.next() {
@@ -123,6 +137,8 @@ impl<'a, 'b> Items<'a, 'b> {
 pub struct Rows<'p, 'a, 'b> {
     /// The segments that hold its items.
     pub parts: &'p AllStretches,
+    /// The symbols at the targets of its rebases.
+    pub symbols: &'p Option<TargetSymbols<'a, 'b>>,
     /// The image's libraries, by ordinal.
     pub libs: &'b [&'a str],
     /// The chained fixups with the imports of its binds.
@@ -137,11 +153,12 @@ impl<'p, 'a> Iterator for Rows<'p, 'a, '_> {
     type Item = Result<Row<'p, 'a>>;
 
     fn next(&mut self) -> Option<Result<Row<'p, 'a>>> {
-        let (parts, libs, table, source) = (self.parts, self.libs, self.table, self.source);
-        match self.items.next_row(parts) {
+        let (parts, symbols) = (self.parts, self.symbols);
+        let (libs, table, source) = (self.libs, self.table, self.source);
+        match self.items.next_row(parts, symbols) {
             Some(row) => Some(row),
             None => match self.fixups.next() {
-                Some(item) => Some(fixup_row(parts, libs, &table, &source, item)),
+                Some(item) => Some(fixup_row(parts, symbols, libs, &table, &source, item)),
                 None => None,
             },
         }

@@ -48,8 +48,12 @@ fn command_head(number: usize, command: &LoadCommand) -> [Field<'static>; 5] {
     ]
 }
 
-// Returns the bytes of a command.
-fn bytes_of_command<'a>(bytes: &'a [u8], command: &LoadCommand) -> &'a [u8] {
+/// Returns the bytes of a command.
+///
+/// # Proved
+///
+/// - `result ≡ bytes_of_command bytes (command_of command)`
+pub fn bytes_of_command<'a>(bytes: &'a [u8], command: &LoadCommand) -> &'a [u8] {
     let rest = &bytes[command.offset.min(bytes.len())..];
     &rest[..command.command.cmdsize().min(rest.len())]
 }

@@ -13,7 +13,7 @@ use goblin_mach::generated::mach::MachO;
 
 /// The lists that are counted.
 pub const COUNTED: [Word; 12] = [
-    Word::Commands,
+    Word::CommandsAlone,
     Word::Starts,
     Word::Slots,
     Word::Indirect,

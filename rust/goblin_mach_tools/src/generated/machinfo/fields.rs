@@ -3,10 +3,9 @@
 #![forbid(unsafe_code)]
 
 use crate::generated::mach_cli::{
-    Field, FieldsForm, Value, diverse_by, diversity_by, has_auth, key_by, ordinal_of,
-    provider_name, rebase_type,
+    Field, FieldsForm, Value, diverse_by, diversity_by, has_auth, key_by, rebase_type,
 };
-use crate::generated::machinfo::command_fields::write_command;
+use crate::generated::machinfo::command_row_fields::write_command_row;
 use crate::generated::machinfo::notes::NumberedNote;
 use crate::generated::machinfo::part_fields::write_part;
 use crate::generated::machinfo::providers::Provided;
@@ -28,7 +27,7 @@ use goblin_mach::generated::mach::{
 /// - if `Ok`: `Appends (O.contents out.old) (O.contents out.new) (F.fields_text (fields_shown row))`
 pub fn write_fields<F: FieldsForm, O: Write>(row: &Row<'_, '_>, out: &mut O) -> io::Result<()> {
     match *row {
-        Row::Command(command) => write_command::<F, O>(&command, out),
+        Row::Command(row) => write_command_row::<F, O>(&row, out),
         Row::Start(address) => F::write(&[Field::new("address", Value::Hex(address), 1)], out),
         Row::Slot(slot) => write_slot::<F, O>(slot, out),
         Row::Indirect(entry) => write_indirect::<F, O>(entry, out),
@@ -41,7 +40,6 @@ pub fn write_fields<F: FieldsForm, O: Write>(row: &Row<'_, '_>, out: &mut O) -> 
         Row::Rebase(rebase) => F::write(&rebase_fields(rebase), out),
         Row::Weak(WeakBind::Strong { name }) => F::write(&strong_fields(name), out),
         Row::Weak(WeakBind::Bind(binding)) => F::write(&binding_fields(binding), out),
-        Row::Import(binding) => F::write(&import_fields(binding), out),
         Row::Part(part) => write_part::<F, O>(&part, out),
         Row::Verdict(finding) => F::write(&finding_fields(finding), out),
     }
@@ -273,30 +271,5 @@ fn strong_fields<'a>(name: &'a str) -> [Field<'a>; 2] {
     [
         flag_field("is_strong", true, "strong", 1),
         Field::new("name", Value::Text(name), 2),
-    ]
-}
-
-// Returns the field for the image that a symbol comes from: its short name; if there is none, only a line has it, with the ordinal.
-fn import_from<'a>(name: Option<&'a str>, ordinal: i128) -> Field<'a> {
-    match name {
-        Some(name) => Field::new("from", Value::Text(name), 2).wide(20),
-        None => Field::of_line(Value::Signed(ordinal), 2),
-    }
-}
-
-// Returns the fields of what dyld binds: the address, the image that the symbol comes from, its name, the addend and flags; an object
-// also has the ordinal and the file offset.
-fn import_fields<'a>(binding: Binding<'a>) -> [Field<'a>; 8] {
-    let ordinal = ordinal_of(&binding.provider);
-    let addend = i128::from(binding.addend);
-    [
-        Field::new("address", Value::Hex(binding.address), 1).wide(11),
-        Field::new("addend", Value::Signed(addend), column_if(addend != 0, 4)),
-        import_from(provider_name(&binding.provider), ordinal),
-        flag_field("is_lazy", binding.is_lazy, "lazy", 6),
-        flag_field("is_weak", binding.is_weak, "weak", 5),
-        Field::of_object("library", Value::Signed(ordinal)),
-        Field::new("name", Value::Text(binding.name), 3),
-        Field::of_object("offset", Value::Hex(binding.offset)),
     ]
 }

@@ -54,15 +54,6 @@ pub fn may_have_writable_code(segments: &[Segment<'_>]) -> bool {
         .any(|segment| is_writable_code(segment.maxprot))
 }
 
-// Returns how many sections the command of a segment holds.
-fn sections_held(ctx: Ctx, segment: &Segment<'_>) -> u32 {
-    let room = match ctx.container {
-        Container::Little => segment.cmdsize.saturating_sub(56) / 68,
-        Container::Big => segment.cmdsize.saturating_sub(72) / 80,
-    };
-    segment.nsects.min(room)
-}
-
 // Whether a section of a segment is named `__restrict`.
 fn is_restrict(segment: &Segment<'_>, number: u32) -> bool {
     match segment.numbered(0, number) {
@@ -71,23 +62,23 @@ fn is_restrict(segment: &Segment<'_>, number: u32) -> bool {
     }
 }
 
-// Whether a segment has such a section.
-fn has_restrict(ctx: Ctx, segment: &Segment<'_>) -> bool {
-    (0..sections_held(ctx, segment)).any(|number| is_restrict(segment, number))
+// Whether the command of a segment has such a section.
+fn has_restrict(segment: &Segment<'_>) -> bool {
+    (0..segment.sections_held()).any(|number| is_restrict(segment, number))
 }
 
 // Whether a segment is `__RESTRICT` and has such a section.
-fn restricts(ctx: Ctx, segment: &Segment<'_>) -> bool {
-    segment.segname.starts_with(b"__RESTRICT\0") && has_restrict(ctx, segment)
+fn restricts(segment: &Segment<'_>) -> bool {
+    segment.segname.starts_with(b"__RESTRICT\0") && has_restrict(segment)
 }
 
 /// Whether one of these segments is.
 ///
 /// # Proved
 ///
-/// - `result ≡ list_any (λ s. defined.restricts ctx (segment_view s)) segments`
-pub fn has_restricted(ctx: Ctx, segments: &[Segment<'_>]) -> bool {
-    segments.iter().any(|segment| restricts(ctx, segment))
+/// - `result ≡ list_any (λ s. defined.restricts (segment_view s)) segments`
+pub fn has_restricted(segments: &[Segment<'_>]) -> bool {
+    segments.iter().any(|segment| restricts(segment))
 }
 
 // Whether a command places chained fixups.

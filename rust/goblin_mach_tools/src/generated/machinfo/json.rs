@@ -3,10 +3,12 @@
 #![forbid(unsafe_code)]
 
 use crate::generated::mach_cli::{
-    ImageView, InForm, ItemList, Object, Outcome, ShowFailure, print_end_past, print_member,
+    AddressObjectsOf, AllStretches, ImageView, InForm, ItemList, Object, Outcome, ShowFailure,
+    print_end_past, print_member,
 };
 use crate::generated::machinfo::counts::{COUNTED, Form, print_counts};
 use crate::generated::machinfo::exports::{ExportList, exports_of};
+use crate::generated::machinfo::imports::ImportList;
 use crate::generated::machinfo::list::ImageList;
 use crate::generated::machinfo::members::write_front;
 use crate::generated::machinfo::word::{Choice, Word};
@@ -23,7 +25,7 @@ pub struct InfoObjects {
 impl ImageView for InfoObjects {
     fn show<O: Write>(
         &self,
-        _file: &str,
+        file: &str,
         image: &MachO<'_>,
         limit: usize,
         left: usize,
@@ -32,6 +34,10 @@ impl ImageView for InfoObjects {
         match self.choice {
             Some(Choice::Word(word)) => Ok(write_rows(word, image, left, out)?),
             Some(Choice::Exports) => write_exports(image, left, out),
+            Some(Choice::Imports) => write_imports(image, left, out),
+            Some(Choice::At(address)) => {
+                AddressObjectsOf { address }.show(file, image, limit, left, out)
+            }
             None => Ok(write_summary(image, limit, left, out)?),
         }
     }
@@ -60,6 +66,20 @@ fn write_exports<O: Write>(
         exports: exports.as_slice(),
     };
     Ok(write_items("exports", list, left, out)?)
+}
+
+// Writes what dyld binds in an image as objects, at most `left` of them.
+fn write_imports<O: Write>(
+    image: &MachO<'_>,
+    left: usize,
+    out: &mut O,
+) -> Result<Outcome, ShowFailure> {
+    let parts = AllStretches::of_image(image)?;
+    let list = ImportList {
+        parts: &parts,
+        bindings: image.bindings(),
+    };
+    Ok(write_items("imports", list, left, out)?)
 }
 
 // Writes the items of a list as an array of this name, at most `left` of them; whether there are more; and how many more are claimed

@@ -3,6 +3,7 @@
 #![forbid(unsafe_code)]
 
 use crate::generated::mach_cli::{FieldsForm, ItemList};
+use crate::generated::machinfo::command_rows::{CommandRow, CommandRows};
 use crate::generated::machinfo::commands::NumberedCommands;
 use crate::generated::machinfo::fields::write_fields;
 use crate::generated::machinfo::notes::NumberedNotes;
@@ -15,14 +16,15 @@ use crate::shim::io;
 use crate::shim::io::Write;
 use goblin_mach::generated::mach::slots::{IndirectSymbolIterator, SlotIterator};
 use goblin_mach::generated::mach::{
-    BindingIterator, BuildToolIterator, DataInCodeIterator, FunctionStartIterator, LibraryIterator,
+    BuildToolIterator, DataInCodeIterator, FunctionStartIterator, LibraryIterator,
     LinkerOptionIterator, MachO, RebaseIterator, Result, WeakBindIterator,
 };
 
 /// What is left of a list of an image. Of a table these are the rows that begin within the bytes, and the number of those claimed
 /// past their end.
 pub enum ImageList<'a, 'b> {
-    Commands(NumberedCommands<'a, 'b>),
+    Commands(CommandRows<'a, 'b>),
+    CommandsAlone(NumberedCommands<'a, 'b>),
     Starts(FunctionStartIterator<'a>),
     Slots(SlotIterator<'a, 'b>),
     Indirect(IndirectSymbolIterator<'a>, usize),
@@ -34,7 +36,6 @@ pub enum ImageList<'a, 'b> {
     Libraries(LibraryIterator<'a, 'b>),
     Rebases(RebaseIterator<'a, 'b>),
     Weak(WeakBindIterator<'a, 'b>),
-    Imports(BindingIterator<'a, 'b>),
     Part(PartList<'a, 'b>),
     Security(Findings<'a, 'b>),
 }
@@ -64,7 +65,8 @@ impl<'a, 'b> ImageList<'a, 'b> {
     /// - *name*: `rows_name_of result ≡ past_name word`
     pub fn of(word: Word, image: &'b MachO<'a>) -> Self {
         match word {
-            Word::Commands => ImageList::Commands(NumberedCommands::of(image)),
+            Word::Commands => ImageList::Commands(CommandRows::of(image)),
+            Word::CommandsAlone => ImageList::CommandsAlone(NumberedCommands::of(image)),
             Word::Starts => ImageList::Starts(image.function_starts()),
             Word::Slots => ImageList::Slots(image.symbol_slots()),
             Word::Indirect => {
@@ -82,7 +84,6 @@ impl<'a, 'b> ImageList<'a, 'b> {
             Word::Libraries => ImageList::Libraries(image.libraries()),
             Word::Rebases => ImageList::Rebases(image.rebases()),
             Word::Weak => ImageList::Weak(image.weak_binds()),
-            Word::Imports => ImageList::Imports(image.bindings()),
             Word::Part(part) => ImageList::Part(PartList::of(part, image)),
             Word::Security => ImageList::Security(Findings::of(image)),
         }
@@ -95,6 +96,10 @@ impl<'a, 'b> ItemList for ImageList<'a, 'b> {
     fn next_item(&mut self) -> Option<Result<Row<'a, 'b>>> {
         match self {
             ImageList::Commands(list) => Some(Ok(Row::Command(list.take_next()?))),
+            ImageList::CommandsAlone(list) => {
+                let command = list.take_next()?;
+                Some(Ok(Row::Command(CommandRow::Itself(command))))
+            }
             ImageList::Starts(list) => match list.next()? {
                 Ok(address) => Some(Ok(Row::Start(address))),
                 Err(error) => Some(Err(error)),
@@ -134,10 +139,6 @@ impl<'a, 'b> ItemList for ImageList<'a, 'b> {
             },
             ImageList::Weak(list) => match list.next()? {
                 Ok(bind) => Some(Ok(Row::Weak(bind))),
-                Err(error) => Some(Err(error)),
-            },
-            ImageList::Imports(list) => match list.next()? {
-                Ok(binding) => Some(Ok(Row::Import(binding))),
                 Err(error) => Some(Err(error)),
             },
             ImageList::Part(list) => match list.take_next()? {

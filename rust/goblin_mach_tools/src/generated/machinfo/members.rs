@@ -3,14 +3,16 @@
 #![forbid(unsafe_code)]
 
 use crate::generated::mach_cli::{
-    ListProgress, comma_before, cpu_name, image_kind, print_member, then,
+    InForm, ListProgress, Object, comma_before, cpu_name, image_kind, print_member, then,
 };
 use crate::generated::machinfo::command_facts::{CommandFacts, Question};
 use crate::generated::machinfo::fact::{FactList, FactObjects};
+use crate::generated::machinfo::list::ImageList;
 use crate::generated::machinfo::segments::{TextOrNull, write_segments};
 use crate::generated::machinfo::signed::{is_ad_hoc, is_readable};
 use crate::generated::machinfo::state::{State, state_of};
 use crate::generated::machinfo::summary::flag_short_name;
+use crate::generated::machinfo::word::{Part, Word};
 use crate::shim::io;
 use crate::shim::io::Write;
 use goblin_mach::generated::mach::header::Header;
@@ -29,13 +31,24 @@ use goblin_mach::generated::mach_signature::image::code_directory;
 pub fn write_front<O: Write>(image: &MachO<'_>, limit: usize, out: &mut O) -> io::Result<bool> {
     write_header(&image.header, image.name, image.entry, out)?;
     write_flags(image.header.flags, out)?;
+    let entry = write_entry(image, out)?;
     let lists = write_lists(image, limit, out)?;
     let signature = write_signature(image, out)?;
     let more = lists.more;
     write!(out, "\"limit_met\":{more},")?;
     let state = state_of(image);
     write_state(state, out)?;
-    Ok(lists.whole & !more & signature & (state.past == 0))
+    Ok(entry.whole & lists.whole & !more & signature & (state.past == 0))
+}
+
+// Writes the row of the entry point, if there is one, as the list of that name.
+fn write_entry<O: Write>(image: &MachO<'_>, out: &mut O) -> io::Result<ListProgress> {
+    let mut list = InForm {
+        list: ImageList::of(Word::Part(Part::Entry), image),
+        form: Object,
+    };
+    let reported = print_member("entrypoint", &mut list, 1, out)?;
+    Ok(reported)
 }
 
 // Writes the lists of an image.

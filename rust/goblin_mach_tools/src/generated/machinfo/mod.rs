@@ -4,7 +4,7 @@
 //! With a word it prints one list instead, an item a line: load commands, function starts, stubs and pointers, indirect symbols,
 //! data in code, linker options, tools, notes, providers of symbols, libraries, rebases, weak binds, segments, sections,
 //! UUIDs, run paths, the entry point, the header, how it is hardened, exports or imports. Of a fat file it prints that of each entry, or of the
-//! entries for one cpu, under a line that says which.
+//! entries for one cpu, under a line that says which. With `at` and an address it prints what each image has there.
 //!
 //! It prints at most as many rows of a file as `--limit` says, and a line after those of an image that has more. A row that can't
 //! be read is a line with the error. With `--json` it writes one object for each file instead, on a line.
@@ -28,24 +28,33 @@ mod views;
 
 // The lists of an image: an item is a row, whose fields are shown as a line or as an object of JSON.
 mod command_fields;
+mod command_row_fields;
+mod command_rows;
+mod command_sections;
 mod commands;
 mod exports;
 mod fields;
 mod hardening;
+mod imports;
 mod list;
 mod list_lines;
 mod notes;
 mod part_fields;
 mod parts;
 mod providers;
+mod registers;
 mod row;
 mod sections;
 mod security;
+
+// What a call selects.
+mod selection;
 mod word;
 
 use crate::generated::mach_cli::{
     Call, ForTerminal, ImageFiles, Misuse, Options, Others, Painted, Program, SharedOnly, Titled,
 };
+use crate::generated::machinfo::selection::{Selection, has_small_letters, selection_of};
 use crate::generated::machinfo::word::Choice;
 use crate::shim::io;
 use crate::shim::io::{BufWriter, IsTerminal, Write};
@@ -59,15 +68,20 @@ const DEFAULT_LIMIT: usize = 10_000_000;
 const PROGRAM: Program = Program {
     name: "machinfo",
     usage: "usage: machinfo [--json] [--limit N] [--arch NAME | --cputype 0xN] [--names FILE] [-0] [--color WHEN] [WORD] FILE..
+       machinfo at ADDRESS | --at ADDRESS [--json] [--arch NAME | --cputype 0xN] [--names FILE] [-0] [--color WHEN] FILE..
        machinfo -h | --help | --version
 WORD: commands, starts, slots, indirect, data, options, tools, notes, providers, libraries, rebases, weak,
       segments, sections, uuid, rpaths, entrypoint, header, security, exports, imports
 ",
     version: "machinfo 0.3.0\n",
-    options: Options::OF_IMAGES,
+    options: Options {
+        has_address: true,
+        ..Options::OF_IMAGES
+    },
     known: &[
         "-0",
         "--arch",
+        "--at",
         "--color",
         "--cputype",
         "--help",
@@ -75,6 +89,7 @@ WORD: commands, starts, slots, indirect, data, options, tools, notes, providers,
         "--limit",
         "--names",
         "--version",
+        "at",
         "commands",
         "data",
         "entrypoint",
@@ -114,11 +129,15 @@ fn start(rt: &HostRuntime) -> Result<u8, u8> {
 
 // Runs a parsed call.
 fn answer(rt: &HostRuntime, call: &Call<'_, SharedOnly>) -> Result<u8, u8> {
-    let (files, others) = (files_named(&call.words), &call.others);
+    let selection = match selection_of(call.address, &call.words) {
+        Ok(selection) => selection,
+        Err(misuse) => return Err(PROGRAM.bad_usage(rt, misuse)),
+    };
+    let (files, others) = (selection.files, &call.others);
     if files.is_empty() && others.is_empty() {
         return Err(PROGRAM.bad_usage(rt, Misuse::Missing("FILE")));
     }
-    if let Some(misuse) = misspelled(rt, &call.words) {
+    if let Some(misuse) = misspelled(rt, selection) {
         return Err(PROGRAM.bad_usage(rt, misuse));
     }
     let painted = Painted::new(io::writer(rt), call.color.is_for(rt, call.format));
@@ -126,25 +145,22 @@ fn answer(rt: &HostRuntime, call: &Call<'_, SharedOnly>) -> Result<u8, u8> {
     let Ok(mut out) = BufWriter::new(Titled::new(output)) else {
         return Err(PROGRAM.out_of_memory(rt));
     };
-    show(rt, &shown_by(call), files, others, &mut out)
+    show(
+        rt,
+        &shown_by(call, selection.choice),
+        files,
+        others,
+        &mut out,
+    )
 }
 
-// Whether all bytes of a text are small letters.
-fn has_small_letters(text: &[u8]) -> bool {
-    let mut all = true;
-    for byte in text {
-        all &= *byte >= b'a' && *byte <= b'z';
-    }
-    all
-}
-
-// Returns what is wrong with a first argument before others that is nearly a word: one of small letters alone that is no word,
-// but similar to one.
-fn misspelled<'a>(rt: &HostRuntime, arguments: &[&'a str]) -> Option<Misuse<'a>> {
-    let [first, _, ..] = arguments else {
+// Returns what is wrong with a first file before others that is nearly a word, if nothing is selected: it is of small letters alone,
+// and similar to a word.
+fn misspelled<'a>(rt: &HostRuntime, selection: Selection<'_, 'a>) -> Option<Misuse<'a>> {
+    let [first, _, ..] = selection.files else {
         return None;
     };
-    if Choice::named(first).is_some() || !has_small_letters(first.as_bytes()) {
+    if selection.choice.is_some() || !has_small_letters(first.as_bytes()) {
         return None;
     }
     let misuse = Misuse::UnknownWord(first);
@@ -152,23 +168,11 @@ fn misspelled<'a>(rt: &HostRuntime, arguments: &[&'a str]) -> Option<Misuse<'a>>
     if meant.is_some() { Some(misuse) } else { None }
 }
 
-// Returns the list that the first argument selects, if it does.
-fn selected_by(arguments: &[&str]) -> Option<Choice> {
-    let first = arguments.first()?;
-    Choice::named(first)
-}
-
-// Returns the arguments that are files: all but a first one that selects a list.
-fn files_named<'a, 'b>(arguments: &'a [&'b str]) -> &'a [&'b str] {
-    match arguments {
-        [_, files @ ..] if selected_by(arguments).is_some() => files,
-        _ => arguments,
-    }
-}
-
-// Returns how a call shows its files: the list that its first argument selects, or else the summary, as lines or as objects.
-fn shown_by(call: &Call<'_, SharedOnly>) -> ImageFiles<InfoLines, InfoObjects> {
-    let choice = selected_by(&call.words);
+// Returns how a call shows its files: what it selects, or else the summary, as lines or as objects.
+fn shown_by(
+    call: &Call<'_, SharedOnly>,
+    choice: Option<Choice>,
+) -> ImageFiles<InfoLines, InfoObjects> {
     ImageFiles {
         program: PROGRAM,
         cpu: call.cpu,

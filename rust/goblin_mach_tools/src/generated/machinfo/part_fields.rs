@@ -5,7 +5,7 @@
 use crate::generated::mach_cli::{Field, FieldsForm, Value, cpu_name, image_kind};
 use crate::generated::machinfo::command_fields::{named, rights, text_from};
 use crate::generated::machinfo::fields::{column_if, flag_field};
-use crate::generated::machinfo::parts::{EntryRow, PartRow, UuidRow};
+use crate::generated::machinfo::parts::{EntryRow, EntrySymbol, PartRow, UuidRow};
 use crate::generated::machinfo::sections::SectionRow;
 use crate::generated::machinfo::summary::flag_short_name;
 use crate::shim::io;
@@ -42,8 +42,12 @@ pub fn write_part<F: FieldsForm, O: Write>(row: &PartRow<'_, '_>, out: &mut O) -
     }
 }
 
-// Returns a text, `-` if there is none or it is empty.
-fn text_or_dash(text: Option<&str>) -> &str {
+/// Returns a text, `-` if there is none or it is empty.
+///
+/// # Proved
+///
+/// - `result ≡ text_or_dash (text_in text.entry)`
+pub fn text_or_dash(text: Option<&str>) -> &str {
     let Some(text) = text else {
         return "-";
     };
@@ -76,8 +80,12 @@ fn segment_fields<'a>(number: usize, segment: &'a Segment<'_>) -> [Field<'a>; 17
     ]
 }
 
-// Returns the words for a type of section, none if it has no name.
-fn section_type(number: u32) -> &'static str {
+/// Returns the words for a type of section, none if it has no name.
+///
+/// # Proved
+///
+/// - `result ≡ section_type_name number`
+pub fn section_type(number: u32) -> &'static str {
     match number {
         0x0 => "regular",
         0x1 => "zerofill",
@@ -196,14 +204,48 @@ fn name_of_found(found: &Option<NumberedSection>) -> Option<&str> {
     }
 }
 
+// Returns the name of a symbol.
+fn name_of_symbol<'a>(symbol: Option<EntrySymbol<'a>>) -> Option<&'a str> {
+    match symbol {
+        Some(symbol) => Some(symbol.name),
+        None => None,
+    }
+}
+
+// Returns the field for how far an address is above a symbol; a line has it only if it is above it.
+fn distance_field(symbol: Option<EntrySymbol<'_>>) -> Field<'static> {
+    match symbol {
+        Some(symbol) => {
+            let distance = symbol.distance;
+            Field::new(
+                "distance",
+                Value::Hex(distance),
+                column_if(distance != 0, 6),
+            )
+        }
+        None => Field::of_line(Value::Text(""), 0),
+    }
+}
+
+// Returns the sign before the distance.
+fn above_field(symbol: Option<EntrySymbol<'_>>) -> Field<'static> {
+    match symbol {
+        Some(symbol) => Field::of_line(Value::Text("+"), column_if(symbol.distance != 0, 5)),
+        None => Field::of_line(Value::Text(""), 0),
+    }
+}
+
 // Returns the fields of an entry point.
-fn entry_fields<'a>(row: &'a EntryRow) -> [Field<'a>; 3] {
+fn entry_fields<'b>(row: &'b EntryRow<'_>) -> [Field<'b>; 6] {
     let segment = segment_of_found(&row.section);
     let name = name_of_found(&row.section);
     [
         Field::new("address", Value::Hex(row.address), 1),
         Field::new("segment", Value::OptionalText(segment), 2),
         Field::new("section", Value::OptionalText(name), 3),
+        Field::new("symbol", Value::OptionalText(name_of_symbol(row.symbol)), 4),
+        above_field(row.symbol),
+        distance_field(row.symbol),
     ]
 }
 

@@ -22,7 +22,7 @@ pub enum PartRow<'a, 'b> {
     /// A run path, and its number.
     Rpath(usize, &'a str),
     /// Where the image begins to run.
-    Entry(EntryRow),
+    Entry(EntryRow<'a>),
     /// The header.
     Header(Header),
 }
@@ -40,11 +40,22 @@ pub struct UuidRow {
 
 /// An entry point.
 #[derive(Clone, Copy)]
-pub struct EntryRow {
+pub struct EntryRow<'a> {
     /// The address.
     pub address: u64,
     /// The first section that holds it, if there is one.
     pub section: Option<NumberedSection>,
+    /// The nearest symbol of that section at or below it, if there is one.
+    pub symbol: Option<EntrySymbol<'a>>,
+}
+
+/// A symbol at or below an address.
+#[derive(Clone, Copy)]
+pub struct EntrySymbol<'a> {
+    /// Its name.
+    pub name: &'a str,
+    /// How far the address is above it.
+    pub distance: u64,
 }
 
 /// The segments from a number on.
@@ -138,14 +149,36 @@ impl<'a, 'b> NumberedPaths<'a, 'b> {
     }
 }
 
-// Returns the row of where an image begins to run, if that is known.
-fn entry_row<'a, 'b>(image: &'b MachO<'a>) -> Option<PartRow<'a, 'b>> {
+// Returns the symbol at an address of an image, if there is one.
+fn symbol_at<'a>(image: &MachO<'a>, address: u64) -> Option<EntrySymbol<'a>> {
+    match image.symbol_at(address) {
+        Some(found) => Some(EntrySymbol {
+            name: found.name,
+            distance: found.distance,
+        }),
+        None => None,
+    }
+}
+
+// Returns where an image begins to run, if that is known.
+fn entry_row<'a>(image: &MachO<'a>) -> Option<EntryRow<'a>> {
     let address = image.entry;
     if address == 0 {
         return None;
     }
-    let section = image.section_at(address);
-    Some(PartRow::Entry(EntryRow { address, section }))
+    Some(EntryRow {
+        address,
+        section: image.section_at(address),
+        symbol: symbol_at(image, address),
+    })
+}
+
+// Returns it as a row.
+fn entry_part<'a, 'b>(image: &'b MachO<'a>) -> Option<PartRow<'a, 'b>> {
+    match entry_row(image) {
+        Some(row) => Some(PartRow::Entry(row)),
+        None => None,
+    }
 }
 
 // Returns the row of the header.
@@ -167,7 +200,7 @@ impl<'a, 'b> PartList<'a, 'b> {
     ///
     /// # Proved
     ///
-    /// - *rows*: `part_rows_left result ≡ rows_of_part part image.entry (facts_view image)`
+    /// - *rows*: `ArePartRows part image.entry (facts_view image) (part_rows_left result)`
     /// - *past*: `part_rows_past result ≡ past_of_part part (facts_view image)`
     /// - *name*: `part_name_of result ≡ part_past_name part`
     pub fn of(part: Part, image: &'b MachO<'a>) -> Self {
@@ -179,7 +212,7 @@ impl<'a, 'b> PartList<'a, 'b> {
             ),
             Part::Uuid => PartList::Uuids(UuidRows::of(image)),
             Part::Rpaths => PartList::Rpaths(NumberedPaths::of(image)),
-            Part::Entry => PartList::One(entry_row(image)),
+            Part::Entry => PartList::One(entry_part(image)),
             Part::Header => PartList::One(header_row(image)),
         }
     }

@@ -2,19 +2,19 @@
 //! A row of a list.
 #![forbid(unsafe_code)]
 
-use crate::generated::machinfo::commands::NumberedCommand;
+use crate::generated::machinfo::command_rows::CommandRow;
 use crate::generated::machinfo::notes::NumberedNote;
 use crate::generated::machinfo::parts::PartRow;
 use crate::generated::machinfo::providers::Provided;
 use crate::generated::machinfo::security::Finding;
 use goblin_mach::generated::mach::load_command::{BuildToolVersion, DataInCodeEntry};
 use goblin_mach::generated::mach::slots::{IndirectSymbol, SymbolSlot};
-use goblin_mach::generated::mach::{Binding, Library, Rebase, WeakBind};
+use goblin_mach::generated::mach::{Library, Rebase, WeakBind};
 
 /// A row of a list.
 #[derive(Clone, Copy)]
 pub enum Row<'a, 'b> {
-    Command(NumberedCommand<'a, 'b>),
+    Command(CommandRow<'a, 'b>),
     Start(u64),
     Slot(SymbolSlot<'a>),
     Indirect(IndirectSymbol),
@@ -26,7 +26,6 @@ pub enum Row<'a, 'b> {
     Library(Library<'a>),
     Rebase(Rebase),
     Weak(WeakBind<'a>),
-    Import(Binding<'a>),
     Part(PartRow<'a, 'b>),
     Verdict(Finding),
 }

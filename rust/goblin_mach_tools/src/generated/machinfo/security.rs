@@ -188,7 +188,7 @@ fn is_so(image: &MachO<'_>, verdict: Verdict) -> Result<bool> {
         Verdict::StackCanary => Ok(has_canary(image)),
         Verdict::WritableCode => Ok(has_writable_code(segments)),
         Verdict::WritableCodeAllowed => Ok(may_have_writable_code(segments)),
-        Verdict::Restricted => Ok(has_restricted(image.ctx(), segments)),
+        Verdict::Restricted => Ok(has_restricted(segments)),
         Verdict::ChainedFixups => Ok(has_chained_fixups(commands)),
         Verdict::RelativeRunPaths => Ok(has_relative_path(image.rpaths.as_slice())),
         Verdict::Encrypted => Ok(is_encrypted(commands)),

@@ -3,10 +3,12 @@
 #![forbid(unsafe_code)]
 
 use crate::generated::mach_cli::{
-    ImageView, InForm, Line, Outcome, Pairs, ShowFailure, print_listing,
+    AddressLinesOf, AllStretches, ImageView, InForm, Line, Outcome, Pairs, ShowFailure,
+    print_listing,
 };
 use crate::generated::machinfo::counts::{COUNTED, Form, print_counts};
 use crate::generated::machinfo::exports::{ExportList, exports_of};
+use crate::generated::machinfo::imports::ImportList;
 use crate::generated::machinfo::list_lines::print_in_form;
 use crate::generated::machinfo::part_lines::print_parts;
 use crate::generated::machinfo::signed::print_signed;
@@ -26,7 +28,7 @@ pub struct InfoLines {
 impl ImageView for InfoLines {
     fn show<O: Write>(
         &self,
-        _file: &str,
+        file: &str,
         image: &MachO<'_>,
         limit: usize,
         left: usize,
@@ -35,6 +37,15 @@ impl ImageView for InfoLines {
         match self.choice {
             Some(Choice::Word(word)) => Ok(print_list(word, image, limit, left, out)?),
             Some(Choice::Exports) => print_exports(image, limit, left, out),
+            Some(Choice::Imports) => print_imports(image, limit, left, out),
+            Some(Choice::At(address)) => {
+                let line = AddressLinesOf {
+                    address,
+                    has_file: false,
+                    is_raw: false,
+                };
+                line.show(file, image, limit, left, out)
+            }
             None => Ok(print_summary(image, limit, left, out)?),
         }
     }
@@ -72,10 +83,27 @@ fn print_exports<O: Write>(
     Ok(print_listing(&mut lines, "refused", limit, left, out)?)
 }
 
+// Prints what dyld binds in an image, at most `left` binds; one that can't be read is a line that says why.
+fn print_imports<O: Write>(
+    image: &MachO<'_>,
+    limit: usize,
+    left: usize,
+    out: &mut O,
+) -> Result<Outcome, ShowFailure> {
+    let parts = AllStretches::of_image(image)?;
+    let list = ImportList {
+        parts: &parts,
+        bindings: image.bindings(),
+    };
+    let mut lines = InForm { list, form: Line };
+    Ok(print_listing(&mut lines, "refused", limit, left, out)?)
+}
+
 // Whether the lines of a word's list have the names of fields.
 fn has_names(word: Word) -> bool {
     match word {
         Word::Commands => true,
+        Word::CommandsAlone => true,
         Word::Starts => false,
         Word::Slots => false,
         Word::Indirect => false,
@@ -87,7 +115,6 @@ fn has_names(word: Word) -> bool {
         Word::Libraries => false,
         Word::Rebases => false,
         Word::Weak => false,
-        Word::Imports => false,
         Word::Part(Part::Header) => true,
         Word::Part(_) => false,
         Word::Security => false,

@@ -9,13 +9,19 @@ pub enum Choice {
     Word(Word),
     /// Its exports.
     Exports,
+    /// What dyld binds in it.
+    Imports,
+    /// What it has at this address.
+    At(u64),
 }
 
 /// A list of an image that takes no memory.
 #[derive(Clone, Copy, PartialEq)]
 pub enum Word {
-    /// Its load commands.
+    /// Its load commands, each with what it holds.
     Commands,
+    /// Its load commands alone, which are counted.
+    CommandsAlone,
     /// The addresses of its functions.
     Starts,
     /// Its stubs and pointers that stand for symbols.
@@ -38,8 +44,6 @@ pub enum Word {
     Rebases,
     /// Its weak binds.
     Weak,
-    /// What dyld binds in it.
-    Imports,
     /// A part of it.
     Part(Part),
     /// How it is hardened.
@@ -72,6 +76,7 @@ impl Choice {
     pub fn named(text: &str) -> Option<Choice> {
         match text {
             "exports" => Some(Choice::Exports),
+            "imports" => Some(Choice::Imports),
             _ => Some(Choice::Word(Word::named(text)?)),
         }
     }
@@ -97,7 +102,6 @@ impl Word {
             "libraries" => Some(Word::Libraries),
             "rebases" => Some(Word::Rebases),
             "weak" => Some(Word::Weak),
-            "imports" => Some(Word::Imports),
             "segments" => Some(Word::Part(Part::Segments)),
             "sections" => Some(Word::Part(Part::Sections)),
             "uuid" => Some(Word::Part(Part::Uuid)),
@@ -117,6 +121,7 @@ impl Word {
     pub fn name(self) -> &'static str {
         match self {
             Word::Commands => "commands",
+            Word::CommandsAlone => "commands",
             Word::Starts => "starts",
             Word::Slots => "slots",
             Word::Indirect => "indirect",
@@ -128,7 +133,6 @@ impl Word {
             Word::Libraries => "libraries",
             Word::Rebases => "rebases",
             Word::Weak => "weak",
-            Word::Imports => "imports",
             Word::Part(Part::Segments) => "segments",
             Word::Part(Part::Sections) => "sections",
             Word::Part(Part::Uuid) => "uuid",

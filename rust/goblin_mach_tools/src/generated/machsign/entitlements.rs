@@ -2,6 +2,15 @@
 //! The entitlements of a file.
 #![forbid(unsafe_code)]
 
+pub mod agreement;
+mod compare;
+mod der;
+mod digits;
+mod front;
+mod parts;
+mod spelling;
+mod xml;
+
 use crate::generated::mach_cli::output::failed;
 use crate::generated::mach_cli::{Cpu, Label, Names, Refusal, complain, refusal_of};
 use crate::shim::io;

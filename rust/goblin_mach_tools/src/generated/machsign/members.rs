@@ -4,12 +4,15 @@
 
 use crate::generated::mach_cli::{JsonString, Outcome, print_array, print_bytes};
 use crate::generated::machsign::blobs::OtherBlobs;
+use crate::generated::machsign::entitlements::agreement::{
+    Agreement, AgreementObject, agreement_in,
+};
 use crate::generated::machsign::faults::write_faults;
 use crate::generated::machsign::form::Form;
 use crate::generated::machsign::full_hash::print_hash_of;
 use crate::generated::machsign::kind::Kind;
 use crate::generated::machsign::requirement_lines::write_requirements;
-use crate::generated::machsign::signed::signed_image;
+use crate::generated::machsign::signed::{has_sound_parts, signed_image};
 use crate::generated::machsign::special::{MOST_SLOTS, SpecialSlots};
 use crate::generated::machsign::text::RuntimeText;
 use crate::shim::io;
@@ -61,35 +64,53 @@ fn write_signed<O: Write>(
     write!(out, "{{\"blobs\":")?;
     let mut rows = OtherBlobs::of(&signed.signature, Form::Objects);
     let blobs = print_array(&mut rows, left, out)?;
-    write_before(&directory, out)?;
+    write_before(agreement_in(&signed.signature), &directory, out)?;
     let faults = write_faults(Form::Objects, segments, blobs.left, signed, out)?;
     let more = blobs.more | faults.more;
     write_after(signed, &directory, more, out)?;
     Ok(Outcome {
-        whole: faults.whole & !more,
+        whole: faults.whole & !more & has_sound_parts(signed),
         left: faults.left,
     })
 }
 
-// Writes the members between the blobs and the faults: those of the directory that is used, or why none is.
-fn write_before<O: Write>(directory: &Result<CodeDirectory<'_>>, out: &mut O) -> io::Result<()> {
+// Writes the members between the blobs and the faults: those of the directory that is used, or why none is, and whether the
+// entitlements say the same.
+fn write_before<O: Write>(
+    agreement: Option<Agreement>,
+    directory: &Result<CodeDirectory<'_>>,
+    out: &mut O,
+) -> io::Result<()> {
     match directory {
-        Ok(directory) => write_cdhash(directory, out),
+        Ok(directory) => write_cdhash(agreement, directory, out),
         Err(error) => {
+            let compared = AgreementObject(agreement);
             let words = describe(error);
-            write!(out, ",\"error\":\"{words}\",\"faults\":[")
+            write!(
+                out,
+                ",\"entitlements_compared\":{compared},\"error\":\"{words}\",\"faults\":["
+            )
         }
     }
 }
 
-// Writes the hash of a directory, cut to 20 bytes and whole, its executable segment, and the start of the faults.
-fn write_cdhash<O: Write>(directory: &CodeDirectory<'_>, out: &mut O) -> io::Result<()> {
+// Writes the hash of a directory, cut to 20 bytes and whole, whether the entitlements say the same, the executable segment, and
+// the start of the faults.
+fn write_cdhash<O: Write>(
+    agreement: Option<Agreement>,
+    directory: &CodeDirectory<'_>,
+    out: &mut O,
+) -> io::Result<()> {
     write!(out, ",\"cdhash\":\"")?;
     print_bytes(&directory.cdhash(), out)?;
     write!(out, "\",\"cdhash_full\":\"")?;
     print_hash_of(directory.hash, directory.bytes, out)?;
+    let compared = AgreementObject(agreement);
     let executable = ExecutableObject(directory.executable);
-    write!(out, "\",\"executable\":{executable},\"faults\":[")
+    write!(
+        out,
+        "\",\"entitlements_compared\":{compared},\"executable\":{executable},\"faults\":["
+    )
 }
 
 // An executable segment; null if the version has none.

@@ -5,11 +5,12 @@
 use crate::generated::mach_cli::{Outcome, print_cut, print_rows};
 use crate::generated::machsign::blobs::OtherBlobs;
 use crate::generated::machsign::block::print_directory;
+use crate::generated::machsign::entitlements::agreement::{agreement_in, print_agreement};
 use crate::generated::machsign::faults::write_faults;
 use crate::generated::machsign::form::Form;
 use crate::generated::machsign::kind::{Cms, Kind, cms_of};
 use crate::generated::machsign::requirement_lines::print_requirements;
-use crate::generated::machsign::signed::signed_image;
+use crate::generated::machsign::signed::{has_sound_parts, signed_image};
 use crate::shim::io;
 use crate::shim::io::Write;
 use goblin_mach::generated::mach::segment::Segment;
@@ -64,7 +65,7 @@ fn print_signed<O: Write>(
     let more = blobs.more | faults.more;
     print_back(signed, limit, more, out)?;
     Ok(Outcome {
-        whole: faults.whole & !more,
+        whole: faults.whole & !more & has_sound_parts(signed),
         left: faults.left,
     })
 }
@@ -106,13 +107,14 @@ fn print_found<O: Write>(
     }
 }
 
-// Prints whether there are more lines than the limit, and what isn't checked.
+// Prints whether the entitlements say the same, whether there are more lines than the limit, and what isn't checked.
 fn print_back<O: Write>(
     signed: &SignedBytes<'_>,
     limit: usize,
     more: bool,
     out: &mut O,
 ) -> io::Result<()> {
+    print_agreement(agreement_in(&signed.signature), out)?;
     print_cut(limit, more, out)?;
     print_unchecked(cms_of(signed), out)
 }

@@ -28,6 +28,33 @@ fn requirements_of<'a>(signature: &CodeSignature<'a>) -> Result<Option<CodeSigna
     }
 }
 
+// Whether what was looked up can be read, or isn't there.
+fn is_readable_blob(found: &Result<Option<Blob<'_>>>) -> bool {
+    found.is_ok()
+}
+
+// Whether the first requirements of the five types can be read.
+fn has_readable_types(index: &CodeSignature<'_>) -> bool {
+    is_readable_blob(&index.blob(1))
+        && is_readable_blob(&index.blob(2))
+        && is_readable_blob(&index.blob(3))
+        && is_readable_blob(&index.blob(4))
+        && is_readable_blob(&index.blob(5))
+}
+
+/// Whether the requirements of a signature can be read, if it has some.
+///
+/// # Proved
+///
+/// - `result ≡ defined.has_readable_requirements (signature_view signature)`
+pub fn has_readable_requirements(signature: &CodeSignature<'_>) -> bool {
+    match requirements_of(signature) {
+        Ok(Some(index)) => has_readable_types(&index),
+        Ok(None) => true,
+        Err(_) => false,
+    }
+}
+
 /// Prints the lines of the requirements of a signature: the first of each type.
 ///
 /// # Proved

@@ -2,9 +2,20 @@
 //! The signature of an image, with the bytes of the image.
 #![forbid(unsafe_code)]
 
+use crate::generated::machsign::entitlements::agreement::{agreement_in, is_agreed};
+use crate::generated::machsign::requirement_lines::has_readable_requirements;
 use goblin_mach::generated::mach::{MachO, Result};
 use goblin_mach::generated::mach_signature::image::{image_plist, signature_place};
 use goblin_mach::generated::mach_signature::{SignedBytes, code_signature};
+
+/// Whether the entitlements of a signature say the same, if it has them in XML and in DER, and its requirements can be read.
+///
+/// # Proved
+///
+/// - `result ≡ has_sound_parts (signed_view signed)`
+pub fn has_sound_parts(signed: &SignedBytes<'_>) -> bool {
+    is_agreed(agreement_in(&signed.signature)) && has_readable_requirements(&signed.signature)
+}
 
 /// Returns the signature of an image, if it has one, with the bytes of the image.
 ///

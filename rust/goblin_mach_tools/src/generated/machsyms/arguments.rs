@@ -159,6 +159,10 @@ pub fn selected_of<'a>(letters: Option<Letters>, is_raw: bool, file: &'a str) ->
 }
 
 /// Whether each line has the name of its file before it.
+///
+/// # Proved
+///
+/// - `result ≡ defined.names_files letters`
 pub fn names_files(letters: Option<Letters>) -> bool {
     match letters {
         Some(letters) => letters.has_file,

@@ -5,12 +5,11 @@
 use crate::shim::format_in;
 use alloc::string::String;
 
-use crate::generated::mach_cli::{Outcome, print_listing};
+use crate::generated::mach_cli::{FileText, Outcome, print_listing};
 use crate::generated::machsyms::lines::SymbolLines;
 use crate::generated::machsyms::order::SortKey;
 use crate::generated::machsyms::selection::Request;
 use crate::generated::machsyms::setting::Setting;
-use crate::generated::machsyms::text::FileText;
 use crate::shim::AllocError;
 use crate::shim::io;
 use crate::shim::io::Write;

@@ -2,34 +2,14 @@
 //! A symbol as it is printed.
 #![forbid(unsafe_code)]
 
+use crate::generated::mach_cli::{FileText, NameText};
 use crate::generated::machsyms::letters::symbol_letter;
-use crate::generated::machsyms::names::NameText;
 use crate::generated::machsyms::selection::{Form, Request, is_elsewhere};
 use crate::generated::machsyms::setting::Setting;
 use crate::generated::machsyms::stabs::stab_name;
 use core::fmt;
 use core::fmt::{Display, Formatter};
 use goblin_mach::generated::mach::symbols::Nlist;
-
-/// The name of the file before a line, if it is selected.
-#[derive(Clone, Copy)]
-pub struct FileText<'a> {
-    pub file: Option<&'a str>,
-    pub is_raw: bool,
-}
-
-impl<'a> Display for FileText<'a> {
-    fn fmt(&self, f: &mut Formatter<'_>) -> fmt::Result {
-        let is_raw = self.is_raw;
-        match self.file {
-            Some(name) => {
-                let name = NameText { name, is_raw };
-                write!(f, "{name}: ")
-            }
-            None => Ok(()),
-        }
-    }
-}
 
 /// A symbol as it is printed, in the selected form.
 pub struct SymbolText<'c, 's, 'b, 'a> {

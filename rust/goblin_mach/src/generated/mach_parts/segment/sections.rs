@@ -2,9 +2,12 @@
 //! The sections of a segment, one at a time.
 #![forbid(unsafe_code)]
 
-use crate::generated::mach_base::{Ctx, Result, SizeWith, records_in_bounds};
+use crate::generated::mach_base::{Container, Ctx, Result, SizeWith, records_in_bounds};
 use crate::generated::mach_parts::segment::conversions::command_len;
 use crate::generated::mach_parts::segment::section::{Section, SectionData};
+use crate::generated::mach_records::{
+    SIZEOF_SECTION_32, SIZEOF_SECTION_64, SIZEOF_SEGMENT_COMMAND_32, SIZEOF_SEGMENT_COMMAND_64,
+};
 
 /// An iterator over the sections of a segment with their data. It has exactly as many items
 /// as the segment claims. Each is the section at its own place, or the error of that read.
@@ -25,6 +28,20 @@ pub struct SectionIterator<'a> {
 pub fn place_of(ctx: Ctx, offset: usize, number: u32) -> usize {
     let following = command_len(ctx.container) + number as usize * Section::size_with(&ctx);
     offset.saturating_add(following)
+}
+
+/// Returns how many of `nsects` sections have their record in their segment's command of `cmdsize` bytes.
+///
+/// # Proved
+///
+/// - `result ≡ own_sections width cmdsize nsects`
+pub fn own_sections(width: Container, cmdsize: u32, nsects: u32) -> u32 {
+    let (head, each) = match width {
+        Container::Little => (SIZEOF_SEGMENT_COMMAND_32, SIZEOF_SECTION_32),
+        Container::Big => (SIZEOF_SEGMENT_COMMAND_64, SIZEOF_SECTION_64),
+    };
+    let room = cmdsize.saturating_sub(head as u32) / each as u32;
+    nsects.min(room)
 }
 
 // Reads the section at `place`, with its data.

@@ -2,7 +2,7 @@
 //! A symbol in words.
 #![forbid(unsafe_code)]
 
-use crate::generated::machsyms::names::NameText;
+use crate::generated::mach_cli::NameText;
 use crate::generated::machsyms::nm::origin::{Origin, OriginText};
 use core::fmt;
 use core::fmt::{Display, Formatter};

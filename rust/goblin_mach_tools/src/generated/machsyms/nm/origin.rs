@@ -2,7 +2,7 @@
 //! The library that provides a symbol.
 #![forbid(unsafe_code)]
 
-use crate::generated::machsyms::names::NameText;
+use crate::generated::mach_cli::NameText;
 use crate::generated::machsyms::nm::library::short_name;
 use core::fmt;
 use core::fmt::{Display, Formatter};
