@@ -285,6 +285,14 @@ def segments(size):
     return image([segment(b"__S%d" % i, 0, 0x1000, 0, size) for i in range(count)])
 
 
+def same_sections(size):
+    """Segments that all claim the same sections, and all others too: one command of size 0, which is read again and again."""
+    count = size // 80
+    command = words(SEGMENT_64, 0) + b"__S".ljust(16, b"\0") + struct.pack("<4Q", 0, 2**32, 0, 0) + words(7, 3, count, 0)
+    body = b"".join(section(i) for i in range(count))
+    return words(0xFEEDFACF, 0x01000007, 3, 1, size // 8, size, 0, 0) + command + body
+
+
 def libraries(size):
     """Libraries that all have one name, and paths on which they are sought."""
     each = [named(DYLIB, b"/l"), words(RPATH, 16, 12) + b"/p\0\0"]
@@ -331,6 +339,8 @@ def growing(size):
         "libraries_far_%d" % size: far_libraries(size),
         # 1.2 * 10^11 bytes of one name that is read for each of many commands.
         "names_%d" % size: read_again(size),
+        # 1.6 * 10^9 sections, which are the same for each segment.
+        "sections_same_%d" % size: same_sections(size),
     }
 
 
