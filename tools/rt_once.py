@@ -1,10 +1,14 @@
 #!/usr/bin/env python3
-"""Runs the toolchain's `rt` with one method replaced: `rt_once.py ci` also leaves the archive of each static library in its out/.
+"""Runs the toolchain's `rt` with one method replaced: `rt_once.py ci` also leaves the archive of each static library in its out/, and lets a proof
+use the processors that no other proof uses.
 
 `rt ci` proves a static library and keeps nothing of it, so its archive would need a second proof. Here the same check also records what it has
 proved (`rattle check -o`), as `rt ci` has it do for a program, and `rattle build --crate-checked` compiles that without a proof. The verdict stays
 that of the check: an archive that can't be built is a line of the output, and fails nothing. What `rt` takes from an earlier run leaves no archive.
-Beside the archive stands a stamp, a sum of all that the proof read and of the archive itself, so that others see whether it still fits."""
+Beside the archive stands a stamp, a sum of all that the proof read and of the archive itself, so that others see whether it still fits.
+
+With RT_JOBS `rt ci` gives each proof one job. The libraries stand on one another, so most of the time it would use one processor. Here a proof
+begins with as many jobs as there are processors for each proof that runs. A job more takes an eighth of the memory of the first."""
 import functools
 import hashlib
 import importlib.machinery
@@ -13,6 +17,7 @@ import os
 import subprocess
 import sys
 import tempfile
+import threading
 
 sys.dont_write_bytecode = True
 
@@ -76,16 +81,37 @@ def prove_static(rt, crate, flags, begun):
     return status
 
 
+class Shares:
+    """The processors, which the proofs that run share."""
+
+    def __init__(self, processors):
+        self.processors, self.running, self.lock = processors, 0, threading.Lock()
+
+    def __enter__(self):
+        """Returns how many jobs a proof begins with: those that began before it keep theirs."""
+        with self.lock:
+            self.running += 1
+            return max(1, self.processors // self.running)
+
+    def __exit__(self, *_):
+        with self.lock:
+            self.running -= 1
+
+
 def main(words):
     rt = toolchain()
+    shares = Shares(int(os.environ.get("RT_JOBS") or 0))
     begun = {it.name: sources_of(rt, it) for it in rt.rtlib.crates_below(os.getcwd()) if it.is_static}
     ci = rt.Crate.ci
 
     @functools.wraps(ci)
-    def ci_with_archive(crate, flags, tests):
-        return prove_static(rt, crate, flags, begun) if crate.is_static and not tests else ci(crate, flags, tests)
+    def ci_in_share(crate, flags, tests):
+        with shares as jobs:
+            at = flags.index("--jobs") + 1
+            flags = [*flags[:at], str(max(jobs, int(flags[at]))), *flags[at + 1 :]]
+            return prove_static(rt, crate, flags, begun) if crate.is_static and not tests else ci(crate, flags, tests)
 
-    rt.Crate.ci = ci_with_archive
+    rt.Crate.ci = ci_in_share
     return rt.main(words)
 
 

@@ -76,6 +76,13 @@ class RunsOnce(unittest.TestCase):
         self.write("crates/trial_once/src/lib.rt", SOURCE.replace("BODY", "number"))
         self.assert_passes(not KEEPS_VERDICTS, anew=False)
 
+    def test_a_proof_begins_with_its_share_of_the_processors(self):
+        shares = rt_once.Shares(4)
+        with shares as first, shares as second, shares as third:
+            self.assertEqual((first, second, third), (4, 2, 1))
+        with shares as alone:
+            self.assertEqual(alone, 4)
+
 
 if __name__ == "__main__":
     unittest.main()
