@@ -1,5 +1,5 @@
-/* Runs a program, discards its output, and prints its seconds, its peak of memory in kB, and its status. It is small itself: the peak
-   that Linux reports for a process is at least that of its parent, from before it became the program. */
+/* Runs a program, discards its output, and prints its seconds, its peak of memory in kB, and its status. It is small itself: the peak that
+   Linux reports for a process is at least that of its parent, whose memory it has until it becomes the program. */
 #define _GNU_SOURCE
 #include <fcntl.h>
 #include <stdio.h>

@@ -1,14 +1,14 @@
 #!/usr/bin/env python3
-"""Runs the toolchain's `rt` with one method replaced: `rt_once.py ci` also leaves the archive of each static library in its out/, and lets a proof
-use the processors that no other proof uses.
+"""Runs the toolchain's `rt` with one method replaced. `rt_once.py ci` also leaves the archive of each static library in its out/. It lets a proof use
+the processors that no other proof uses.
 
-`rt ci` proves a static library and keeps nothing of it, so its archive would need a second proof. Here the same check also records what it has
-proved (`rattle check -o`), as `rt ci` has it do for a program, and `rattle build --crate-checked` compiles that without a proof. The verdict stays
-that of the check: an archive that can't be built is a line of the output, and fails nothing. What `rt` takes from an earlier run leaves no archive.
-Beside the archive stands a stamp, a sum of all that the proof read and of the archive itself, so that others see whether it still fits.
+`rt ci` proves a static library and keeps nothing of it: its archive would need a second proof. Here the same check also records what it has proved
+(`rattle check -o`), as `rt ci` does for a program. `rattle build --crate-checked` then compiles that without a proof. The verdict stays that of the
+check: if an archive can't be built, a line says so, and nothing fails. What `rt` takes from an earlier run leaves no archive. Beside the archive is
+a stamp, a sum of all that the proof read and of the archive itself. It shows whether the archive still fits.
 
-With RT_JOBS `rt ci` gives each proof one job. The libraries stand on one another, so most of the time it would use one processor. Here a proof
-begins with as many jobs as there are processors for each proof that runs. A job more takes an eighth of the memory of the first."""
+With RT_JOBS `rt ci` gives each proof one job. Each library needs those below it, so that most of the time it would use one processor. Here a proof
+begins with as many jobs as there are processors for each proof that runs. A further job takes an eighth of the memory of the first."""
 import functools
 import hashlib
 import importlib.machinery
@@ -36,7 +36,7 @@ def archive_of(crate):
 
 
 def sources_of(rt, crate):
-    """Returns the sum of the toolchain, of what HANDLES allows, on which a proof rests too, and of all sources that the proof reads."""
+    """Returns a sum of the toolchain, of what HANDLES allows, and of all sources that the proof reads. A proof rests on all three."""
     kit = subprocess.run(["rt", "version"], check=True, capture_output=True, text=True).stdout
     handles = rt.handles_of(os.path.dirname(os.path.dirname(crate.folder)))
     return hashlib.sha256(repr((kit, handles, crate.stamp())).encode()).hexdigest()
@@ -50,7 +50,7 @@ def stamp_of(rt, crate):
 
 
 def has_archive(rt, crate):
-    """Returns whether `rt_once.py ci` has built the archive of just these sources."""
+    """Returns whether `rt_once.py ci` has built the archive of exactly these sources."""
     try:
         with open(f"{archive_of(crate)}.proved", encoding="utf-8") as it:
             return it.read() == stamp_of(rt, crate)
@@ -72,7 +72,7 @@ def build(rt, crate, words, checked):
 
 
 def prove_static(rt, crate, flags, begun):
-    """Proves a static library as `rt ci` does, and builds its archive, unless its sources are others now than at the beginning of the run."""
+    """Proves a static library as `rt ci` does, and builds its archive, unless its sources have changed since the beginning of the run."""
     words = crate.words(flags, keeps=False)
     with tempfile.TemporaryDirectory(prefix=f"rt-proved-{os.getpid()}-") as room:
         status = crate.prove(["check", *words, "-o", f"{room}/checked"])
@@ -88,7 +88,7 @@ class Shares:
         self.processors, self.running, self.lock = processors, 0, threading.Lock()
 
     def __enter__(self):
-        """Returns how many jobs a proof begins with: those that began before it keep theirs."""
+        """Returns how many jobs a proof begins with. Proofs that began before it keep theirs."""
         with self.lock:
             self.running += 1
             return max(1, self.processors // self.running)

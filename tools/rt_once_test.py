@@ -1,5 +1,5 @@
 #!/usr/bin/env python3
-"""Tests rt_once.py on a repository of one static library with one function, in a temporary folder: four runs, two of which prove it."""
+"""Tests rt_once.py on a repository of one static library with one function, in a temporary folder: one run of a wrong body, and two of a right one."""
 import os
 import subprocess
 import sys
@@ -23,7 +23,7 @@ pub extern "C" fn trial_same(number: usize) -> usize
 
 
 def keeps_verdicts():
-    """Returns whether the toolchain's `rt ci` takes verdicts from earlier runs, unless `--anew` is given. Not every one does."""
+    """Returns whether the toolchain's `rt ci` takes verdicts from earlier runs, unless `--anew` is given. Not every toolchain does."""
     with open(rt_once.toolchain().__file__, encoding="utf-8") as it:
         return '"--anew"' in it.read()
 
@@ -45,7 +45,7 @@ class RunsOnce(unittest.TestCase):
             it.write(text)
 
     def ci(self, anew):
-        """Runs `rt_once.py ci`, anew or as it is, and returns its status, its output and whether it left an archive that fits."""
+        """Runs `rt_once.py ci`, maybe anew. Returns its status, its output, and whether it left an archive that fits."""
         words = ["--anew"] if anew and KEEPS_VERDICTS else []
         how = {"cwd": self.root, "stdin": subprocess.DEVNULL, "stdout": subprocess.PIPE, "stderr": subprocess.STDOUT, "text": True}
         ran = subprocess.run([sys.executable, os.path.abspath(rt_once.__file__), "ci", *words], **how)
@@ -72,7 +72,7 @@ class RunsOnce(unittest.TestCase):
         self.assert_passes(True, anew=True)
         self.write("crates/trial_once/src/lib.rt", SOURCE.replace("BODY", "{ number }"))
         self.assertFalse(self.has_archive(), "the archive of other sources")
-        # (`rt ci` removes what earlier runs built; where it keeps verdicts, it reads this one, and proves nothing from which to build)
+        # (`rt ci` removes what earlier runs built. If it keeps verdicts, it reads this one, and proves nothing from which to build an archive.)
         self.write("crates/trial_once/src/lib.rt", SOURCE.replace("BODY", "number"))
         self.assert_passes(not KEEPS_VERDICTS, anew=False)
 

@@ -1,14 +1,16 @@
 """Tries edits of function bodies between stubs, for tools/edits.
 
-In a copy of the crate each function has the body `unreachable!()`, and one hole over its statement in place of its proof. So what an edited body calls
-counts by its contract alone and isn't proved again. The edited body goes into a copy of its function, with copies of its proof files, next to the stub
-of that function. So one check, which loads the libraries once, tries many edits. A method of a trait can have no other name: it is edited in its place.
+In a copy of the crate each function is a stub: its body is `unreachable!()`, and its proof is one hole over its statement. What an edited body calls
+then counts by its contract alone, and isn't proved again. The edited body goes into a copy of its function, next to the stub of that function, with
+copies of its proof files. One check loads the libraries once, and tries many edits. A method of a trait can have no other name, and is edited in its
+own place.
 
-Two things are trusted. Rattle takes a declaration with a hole by its signature, so a stub gives its callers its statement and nothing else. And a proof
-doesn't depend on the name of its function: `tools/edits --control` shows that, for each function that has an edit.
+Two things are trusted. Rattle takes a declaration with a hole by its signature: a stub gives its callers its statement and nothing else. And a proof
+doesn't depend on the name of its function. `tools/edits --control` shows that for each function that has an edit.
 
-An edit is refused only by the line on its own body: `search` did not prove a goal of it, or it rests on an answer of its own that antt finds to be of
-another type. All else leaves it open: an error of names, a call of what isn't proved, a hole, a proof, and any error outside the edited bodies' proofs."""
+An edit is refused only by the line on its own body. Either `search` did not prove a goal of it, or it rests on an answer of its own that antt finds
+to be of another type. All else leaves the edit open: an error of names, a call of what isn't proved, a hole, a proof, and any error outside the
+proofs of the edited bodies."""
 import contextlib
 import json
 import os
@@ -17,7 +19,7 @@ import shutil
 import subprocess
 import tempfile
 
-# How many edited bodies one check has, as each takes memory until the end.
+# The most edited bodies that one check has: each takes memory until the check ends.
 BODIES = 16
 STUB = "unreachable!()"
 HOLE = """use Rattle.{module}.Statement as stated
@@ -68,12 +70,12 @@ class Body:
         self.is_of_cycle = any(it.lstrip().startswith("#[cycle(") for it in lines[self.top : head])
         block = self.block_head(lines) if self.indent else ""
         self.trait = block.split()[-1] if block.startswith("trait ") else None
-        # (a method of a trait can have no copy under another name, and an attribute of several lines isn't read)
+        # (A method of a trait can have no copy under another name, and an attribute of several lines isn't read.)
         is_whole = not lines[self.top - 1].rstrip().endswith("]")
         self.can_be_copied = is_whole and (not block or block.startswith("impl") and len(self.indent) == 4 and " for " not in block)
 
     def block_head(self, lines):
-        """Returns the head of the block around it: all of it for an impl, else the word and the name."""
+        """Returns the head of the block around the function: all of it for an impl, and the word and the name for another block."""
         first = next((row for row in range(self.head, -1, -1) if self.BLOCK.match(lines[row])), self.head)
         found = self.BLOCK.match(lines[first])
         if not found or found[1] != "impl":
@@ -92,7 +94,8 @@ class Body:
 
     @classmethod
     def at(cls, lines, head):
-        """Returns the function whose head is in that row, if it has a body of lines of its own. It ends with the first brace as far to the right."""
+        """Returns the function whose head is in that row, if it has a body of lines of its own. It ends with the first closing brace that is indented
+        like the head."""
         found = cls.HEAD.match(lines[head])
         if not found:
             return None
@@ -110,7 +113,7 @@ class Body:
 
 
 class Trial:
-    """An edit of one body, in a copy of its function or in the place of it. `asked` is the path of the function that the check is to judge."""
+    """An edit of one body, in a copy of its function or in the function itself. `asked` is the path of the function that the check judges."""
 
     def __init__(self, edit, function, body, lines):
         self.edit, self.function, self.asked = edit, function, function
@@ -136,14 +139,14 @@ class Trial:
 
 
 def can_be_renamed(crate, function):
-    """Returns whether the function has no proof files but those in which its name is known."""
+    """Returns whether the function has no proof files except those in which its name is known."""
     folder = f"{crate.folder}/proofs/{file_of(function)}"
     return not os.path.exists(f"{folder}.antt") and (not os.path.isdir(folder) or {*os.listdir(folder)} <= {*PROOF_FILES[:2]})
 
 
 def names_of(crate, said_file):
-    """Returns the paths of the crate's functions below it, from its rlib. For a crate with none they are in the lines `fn NAME: proved` of the file.
-    What rattle makes itself (with a +) and constants are left out."""
+    """Returns the paths of the crate's functions, without the crate's name, from its rlib. If it has no rlib, they come from the lines
+    `fn NAME: proved` of the file. What rattle makes itself (with a +) and constants are left out."""
     found = []
     with contextlib.suppress(OSError, ValueError, TypeError, IndexError):
         with open(f"{crate.rlib}/toolchain/mir.json", encoding="utf-8") as it:
@@ -156,7 +159,7 @@ def names_of(crate, said_file):
 
 
 def function_of(edit, body, names):
-    """Returns the path of the function of an edit, or None if the text leaves it open. (A method has the module of its type, in whatever file it is.)"""
+    """Returns the path of the function of an edit, or None if the text leaves it open. (A method is in the module of its type, whatever file has it.)"""
     piece = edit.pieces[0]
     module = f"{module_of(piece.path) or ''}::".removeprefix("::")
     near = [it for it in names if it.startswith(module) and last_of(it) == piece.function]
@@ -177,7 +180,7 @@ def trial_of(edit, names):
 
 
 def trials_of(edits, names):
-    """Returns the trials of those edits of one crate that are worth one: none, if no edited body calls a function of its crate."""
+    """Returns the trials of those edits of one crate that can have one. There are none if no edited body calls a function of its crate."""
     trials = [it for it in (trial_of(it, names) for it in edits) if it]
     own = {last_of(it) for it in names}
     return trials if any(it.called & own for it in trials) else []
@@ -192,7 +195,7 @@ def controls_of(edits, names):
 
 
 def in_parts(trials):
-    """Returns the trials of one crate in parts, each for one check. A function that is edited in its place is once in a part."""
+    """Returns the trials of one crate in parts, each for one check. A function that is edited in its own place is only once in a part."""
     most = -(-len(trials) // max(1, -(-len(trials) // BODIES)))
     parts = []
     for trial in trials:
@@ -206,8 +209,8 @@ def in_parts(trials):
 
 
 def write_bodies(room, trials):
-    """Turns each body in the room's sources into a stub, but for those that are edited in their places, and adds the copies.
-    Returns the names of members of cycles, which have no stub."""
+    """Turns each body in the room's sources into a stub, except those that are edited in their own places, and adds the copies. Returns the names
+    of members of cycles, which have no stub."""
     of_cycles = set()
     for at, _, files in os.walk(f"{room}/src"):
         for file in (f"{at}/{it}" for it in files if it.endswith(".rt")):
@@ -225,7 +228,7 @@ def write_bodies(room, trials):
 
 
 def write_proofs(crate, room, trials, stubs):
-    """Puts a hole in the place of each stub's proof, and gives each copy the proof files of its function under its own name."""
+    """Replaces each stub's proof by a hole, and gives each copy the proof files of its function under its own name."""
     for trial in (it for it in trials if it.is_copy):
         own = f"{room}/proofs/{file_of(trial.function)}"
         named = rf"(?<=\.){re.escape(trial.function.replace('::', '.'))}(?![\w-])"
@@ -280,7 +283,7 @@ class Said:
         refused = [it[1] for it in map(self.ERROR.match, self.lines) if it]
         ended = status in (0, 1) and re.match(r"only=\d+ holes=\d+", self.lines[-1])
         self.is_over = bool(ended) and not any(it.startswith("src/") for it in refused)
-        # (an error elsewhere can be the reason why a body isn't proved)
+        # (An error elsewhere can be the reason why a body isn't proved.)
         own = tuple(f"proofs/{file_of(it.asked)}/" for it in trials)
         self.is_clean = self.is_over and all(it.startswith(own) for it in refused) and not rt.rtlib.STALE.search("\n".join(self.lines))
 
@@ -299,7 +302,7 @@ class Said:
         return "`search` did not prove `" in line or any(self.is_of_another_type(trial, it) for it in self.answers_refused(trial, line))
 
     def hides(self, trial, trials):
-        """Returns whether the line on a body says only that it calls what isn't proved, and what another trial edits in its place."""
+        """Returns whether the line on a body says only that it calls a function that isn't proved, since another trial edits that in its own place."""
         line = self.line_on(trial)
         in_place = [f"`{self.crate}::{it.function}`" for it in trials if not it.is_copy and it is not trial]
         return bool(self.ONLY_ITS_CALL.match(line)) and any(it in line for it in in_place)
@@ -317,13 +320,14 @@ class Said:
 
 
 def refused(rt, trials, names):
-    """Returns the edits that checks between stubs refuse. A check that ends without a verdict, as by an edit that doesn't compile, is halved."""
+    """Returns the edits that checks between stubs refuse. If a check ends without a verdict, as after an edit that doesn't compile, its halves are
+    checked."""
     said = Said(rt, trials[0].edit.crate, trials, names)
     if not said.is_over and len(trials) > 1:
         half = len(trials) // 2
         return refused(rt, trials[:half], names) | refused(rt, trials[half:], names)
     found = {it.edit for it in trials if said.refuses(it)}
-    # (a caller of a function that is edited in its place is tried again, next to the stub of that function)
+    # (A caller of a function that is edited in its own place is tried again, next to the stub of that function.)
     hidden = [it for it in trials if said.hides(it, trials)]
     again = hidden if len(hidden) < len(trials) else []
     for it in trials:
@@ -333,7 +337,7 @@ def refused(rt, trials, names):
 
 
 def control(rt, trials, names):
-    """Returns, for each function of some controls, whether its right body is proved between stubs, and what to say of it."""
+    """Returns for each function of some controls whether its right body is proved between stubs, and the line to print."""
     said, crate = Said(rt, trials[0].edit.crate, trials, names), trials[0].edit.crate.name
     given = []
     for it in trials:

@@ -13,7 +13,7 @@ from vectors import vectors as form  # noqa: E402
 
 
 def module(name):
-    """A program of tools/ as a module."""
+    """Returns a program of tools/ as a module."""
     loader = importlib.machinery.SourceFileLoader(name, os.path.join(TOP, "tools", name))
     made = importlib.util.module_from_spec(importlib.util.spec_from_loader(name, loader))
     loader.exec_module(made)

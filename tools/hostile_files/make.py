@@ -3,9 +3,9 @@
 
   tools/hostile_files/make.py FOLDER [BYTES]
 
-The small ones have up to some hundred bytes. The large ones have some BYTES, 100,000 where nothing is said, and are those whose cost
-may grow faster than the file. Of those that a reader goes over again and again, if it keeps nothing of what it read, another has ten times as
-many bytes. `files` and `growing`, below, say of each what it is.
+The small ones have up to some hundred bytes. The large ones have about BYTES bytes, 100,000 if no number is given; their cost may grow
+faster than the file. Some of them a reader goes over again and again, if it keeps nothing of what it read. Each of these is there a second
+time, with ten times as many bytes. `files` and `growing`, below, say what each file is.
 """
 import os
 import struct
@@ -26,7 +26,7 @@ def words(*values):
 
 
 def uleb(value, width=1):
-    """A number in LEB128, in at least so many bytes."""
+    """Returns a number in LEB128, in at least so many bytes."""
     made = b""
     while value > 0x7F or len(made) + 1 < width:
         made += bytes([value & 0x7F | 0x80])
@@ -35,7 +35,7 @@ def uleb(value, width=1):
 
 
 def image(commands, tail=b"", bits=64, kind=LIBRARY, count=None):
-    """A header, these commands and what stands behind them. `count` stands in the place of their number."""
+    """Returns a header, these commands and what comes after them. `count`, if it is given, replaces their number."""
     magic, cpu = (0xFEEDFACF, 0x01000007) if bits == 64 else (0xFEEDFACE, 7)
     body = b"".join(commands)
     header = words(magic, cpu, 3, kind, len(commands) if count is None else count, len(body), 0) + bytes(4 if bits == 64 else 0)
@@ -43,18 +43,18 @@ def image(commands, tail=b"", bits=64, kind=LIBRARY, count=None):
 
 
 def begin(commands, bits=64):
-    """Where the bytes behind the header and so many bytes of commands begin."""
+    """Returns the place after the header and so many bytes of commands."""
     return (32 if bits == 64 else 28) + commands
 
 
 def named(command, name):
-    """A command that names a library."""
+    """Returns a command that names a library."""
     size = (24 + len(name) + 8) // 8 * 8
     return words(command, size, 24, 2, 0x10000, 0x10000) + name.ljust(size - 24, b"\0")
 
 
 def segment(name, address=0, size=0x1000, at=0, length=0, sections=0, bits=64, body=b""):
-    """A segment and the records of its sections. `sections` is the count that it states."""
+    """Returns a segment and the records of its sections. `sections` is the count that it states."""
     if bits == 64:
         front = words(SEGMENT_64, 72 + len(body)) + name.ljust(16, b"\0") + struct.pack("<4Q", address, size, at, length)
     else:
@@ -63,12 +63,12 @@ def segment(name, address=0, size=0x1000, at=0, length=0, sections=0, bits=64, b
 
 
 def section(number, relocations=0, relocations_at=0):
-    """A section of no bytes."""
+    """Returns a section of no bytes."""
     return b"__s".ljust(16, b"\0") + b"__DATA".ljust(16, b"\0") + struct.pack("<2Q", 0, 0) + words(0, 0, relocations_at, relocations, 0, number, 0, 0)
 
 
 def info(at, rebase=b"", bind=b"", weak=b"", lazy=b"", trie=b""):
-    """LC_DYLD_INFO_ONLY over these parts, which stand one behind the other from `at` on."""
+    """Returns LC_DYLD_INFO_ONLY over these parts, which lie one after the other from `at` on."""
     made = words(DYLD_INFO_ONLY, 48)
     for part in (rebase, bind, weak, lazy, trie):
         made += words(at, len(part))
@@ -77,7 +77,7 @@ def info(at, rebase=b"", bind=b"", weak=b"", lazy=b"", trie=b""):
 
 
 def repeated(turns, skip, bits=64, lazy=False, offset=0):
-    """One bind instruction that binds `turns` times, `skip` bytes and a pointer on each time."""
+    """Returns an image with one bind instruction, which binds `turns` times. After each time it goes on by `skip` bytes and a pointer."""
     opcodes = b"\x11\x51\x40_a\0\x70" + uleb(offset) + b"\xc0" + uleb(turns) + uleb(skip) + b"\0"
     fixed = [named(ID_DYLIB, b"/me"), named(DYLIB, b"/l"), segment(b"__DATA", 0, 0x1000, bits=bits)]
     at = begin(sum(map(len, fixed)) + 48, bits)
@@ -86,12 +86,12 @@ def repeated(turns, skip, bits=64, lazy=False, offset=0):
 
 
 def again(bits):
-    """The skip that, with a pointer, is a whole turn of the addresses: each bind is at the place of the one before."""
+    """Returns the skip that, with a pointer, is a whole turn of the addresses: each bind is at the place of the one before."""
     return 2**64 - bits // 8
 
 
 def long_name(size):
-    """A name of letters of two bytes, which takes longer to test than one of ASCII."""
+    """Returns a name of letters of two bytes, which takes longer to test than one of ASCII."""
     return "é".encode() * (size // 2)
 
 
@@ -103,13 +103,13 @@ def symbol_table(count, tail):
 
 
 def full_info(command):
-    """Bind opcodes and the like, of which each range is as long as can be said."""
+    """Returns an image with a command for bind opcodes and the like. Each range of it is as long as the field allows."""
     fixed = 48
     return image([words(command, fixed, *[begin(fixed), MANY] * 5)], bytes(16))
 
 
 def dynamic_symbols():
-    """Each of its tables has as many items as can be said."""
+    """Returns an image with LC_DYSYMTAB. Each of its tables has as many items as the field allows."""
     at = begin(24 + 80)
     one = struct.pack("<IBBHQ", 1, 1, 0, 0, 0) + b"\0_a\0"
     tables = words(DYSYMTAB, 80, 0, MANY, 0, MANY, 0, MANY, *[at, MANY] * 6)
@@ -117,7 +117,7 @@ def dynamic_symbols():
 
 
 def chains(header=None, starts=b"", imports=0, tail=b"", bits=64):
-    """A chained fixups command over one segment of data that can be read."""
+    """Returns an image with a command of chained fixups, over one segment of data that can be read."""
     data = struct.pack("<Q", 0)
     commands = 72 + 16
     at = begin(commands)
@@ -128,14 +128,14 @@ def chains(header=None, starts=b"", imports=0, tail=b"", bits=64):
 
 
 def chain_starts(pages, segments=1, first=0, each=0):
-    """The starts of the chains: so many segments, all of them at one record, of so many pages."""
+    """Returns the starts of the chains: so many segments, all of them at one record of so many pages."""
     page = struct.pack("<IHHQIH", 22 + 2 * len(each or [0]), 0x1000, 6, 0, 0, pages) + struct.pack("<%dH" % len(each or [0]), *(each or [first]))
     offset = 4 + 4 * min(segments, 8)
     return words(segments, *[offset] * min(segments, 8)) + page
 
 
 def shared_branches(size, found):
-    """A trie of many nodes that share one list of branches, which lead nowhere, or to a node."""
+    """Returns an image with a trie of many nodes that share one list of branches. The branches lead nowhere, or to a node."""
     nodes, branches = size // 18, size // 8
     first = 1 + 3 + 4 * nodes
     shared = first + 5 * nodes
@@ -146,9 +146,10 @@ def shared_branches(size, found):
 
 
 def overlaid_branches(size, ends_together=True):
-    """A trie of nodes whose lists of branches all lead nowhere: each begins a branch behind the one before, and all end together, or have one length.
+    """Returns an image with a trie of nodes whose lists of branches all lead nowhere. Each list begins a branch after the one before. All lists end
+    together, or have one length.
 
-    The count of a list is the end of the number that stands before it, which is where the branch before it leads.
+    The count of a list is the last bytes of the number before it, which says where the branch before it leads.
     """
     nodes, others = size // 33, size // 13
     counts = [others + (nodes - i if ends_together else 0) for i in range(nodes + 1)]
@@ -161,7 +162,7 @@ def overlaid_branches(size, ends_together=True):
 
 
 def far_labels(size):
-    """A trie of nodes of one branch, which leads nowhere; all their labels run on to one zero byte."""
+    """Returns an image with a trie of nodes of one branch, which leads nowhere. All their labels run on to one zero byte."""
     nodes = size // 18
     first = 1 + 4 + 5 * nodes
     made = b"\0" + uleb(nodes, 4) + b"".join(b"\0" + uleb(first + 4 * i, 4) for i in range(nodes))
@@ -170,7 +171,8 @@ def far_labels(size):
 
 
 def far_reexports(size):
-    """A trie of nodes that are re-exports; all their names run on to one zero byte. The count of each node's branches stands behind that."""
+    """Returns an image with a trie of nodes that are re-exports. All their names run on to one zero byte. The count of each node's branches is after
+    that byte."""
     nodes = size // 32
     name = long_name(size // 3)
     turns = (5 * nodes + len(name)) // 2**14 + 1
@@ -181,13 +183,13 @@ def far_reexports(size):
 
 
 def deep_trie(size):
-    """A trie in which each node has one child behind it: names as long as the trie."""
+    """Returns an image with a trie in which each node has one child after it: its names are as long as the trie."""
     made = b"".join(b"\0\x01a\0" + uleb(at + 7, 3) for at in range(0, size - 8, 7)) + b"\x02\0\0\0"
     return image([words(EXPORTS_TRIE, 16, begin(16), len(made))], made)
 
 
 def ladder(levels):
-    """A trie of nodes of two branches that lead to the same next node: 2 to the power of `levels` paths."""
+    """Returns an image with a trie of nodes whose two branches lead to the same next node: it has 2 to the power of `levels` paths."""
     made = b""
     for level in range(levels):
         after = len(made) + 2 + 2 * 4
@@ -197,7 +199,8 @@ def ladder(levels):
 
 
 def read_again(size):
-    """A command that is a library's, of size 0, so that it is read again for each of so many commands; its name is the rest of the file."""
+    """Returns an image with a command of a library whose size is 0: it is read again for each of so many commands. Its name is the rest of the
+    file."""
     record = words(DYLIB, 0, 24, 0, 0, 0)
     count = (size - 8) // 8
     magic = words(0xFEEDFACF, 0x01000007, 3, LIBRARY, count, size - 8, 0, 0)
@@ -205,32 +208,33 @@ def read_again(size):
 
 
 def symbols_within(names, places):
-    """Symbols whose names begin at these places of some bytes."""
+    """Returns an image with symbols whose names begin at these places of some bytes."""
     first = 16 * len(places) - 15
     rows = [struct.pack("<IBBHQ", first + it, 1, 0, 0, 0) for it in places]
     return symbol_table(len(rows), b"".join(rows) + b"\0" + names + b"\0")
 
 
 def symbol_names(size, step, end=b""):
-    """Symbols whose names begin so many bytes behind each other within one, which fills half of the bytes; before the others, where that is below 0."""
+    """Returns an image with symbols whose names begin `step` bytes after each other, within one that fills half of the bytes. If `step` is below 0, each
+    name begins before the one before."""
     places = [abs(step) * i for i in range(size // 32)]
     return symbols_within(long_name(size // 2) + end, places if step >= 0 else places[::-1])
 
 
 def symbols_by_turns(size):
-    """Symbols that have one of two names by turns, which fill half of the bytes."""
+    """Returns an image with symbols that have one of two names by turns. The names fill half of the bytes."""
     name = long_name(size // 4)
     return symbols_within(name + b"\0" + name, [0, len(name) + 1] * (size // 64))
 
 
 def far_libraries(size):
-    """Libraries whose names begin a letter behind each other, within one that ends with the file."""
+    """Returns an image with libraries whose names begin a letter after each other, within one that ends with the file."""
     count = size // 48
     return image([words(DYLIB, 24, 24 * count - 22 * i, 2, 0, 0) for i in range(count)], long_name(size // 2))
 
 
 def overlaid(size):
-    """A fat file in which each entry is all that stands behind the table."""
+    """Returns a fat file in which each entry is all that comes after the table."""
     count = size // 40
     at = 8 + 20 * count
     entry = image([], b"", 32)
@@ -239,30 +243,30 @@ def overlaid(size):
 
 
 def member(name, data):
-    """A member of an archive, with its header."""
+    """Returns a member of an archive, with its header."""
     fields = name.ljust(16) + b"0".ljust(12) + b"0".ljust(6) * 2 + b"644".ljust(8) + str(len(data)).encode().ljust(10) + b"`\n"
     return fields + data + b"\n" * (len(data) % 2)
 
 
 def archive_of_members(size):
-    """An archive of members without bytes."""
+    """Returns an archive of members without bytes."""
     return b"!<arch>\n" + member(b"a/", b"") * (size // 60)
 
 
 def archive_of_names(size):
-    """An archive whose members all have one long name, which fills half of the bytes and has no end."""
+    """Returns an archive whose members all have one long name, which fills half of the bytes and has no end."""
     return b"!<arch>\n" + member(b"//", b"a" * (size // 2)) + member(b"/0", b"") * (size // 120)
 
 
 def fat_archives(size):
-    """A fat file whose entries are all the same archive."""
+    """Returns a fat file whose entries are all the same archive."""
     found = b"!<arch>\n" + member(b"a/", b"") * (size // 600)
     count = size // 40
     return struct.pack(">2I", 0xCAFEBABE, count) + struct.pack(">5I", 7, 3, 8 + 20 * count, len(found), 0) * count + found
 
 
 def tables(size):
-    """Commands of symbol tables that all lie over one table."""
+    """Returns an image with commands of symbol tables that all lie over one table."""
     count = size // 48
     at = begin(24 * count)
     rows = (size - at) // 16
@@ -271,7 +275,7 @@ def tables(size):
 
 
 def relocations(size):
-    """Sections that all have one table of relocations."""
+    """Returns an image with sections that all have one table of relocations."""
     count = size // 160
     at = begin(72 + 80 * count)
     rows = (size - at) // 8
@@ -280,13 +284,13 @@ def relocations(size):
 
 
 def segments(size):
-    """Segments that all lie over each other, in the file and in memory."""
+    """Returns an image with segments that all lie over each other, in the file and in memory."""
     count = size // 72
     return image([segment(b"__S%d" % i, 0, 0x1000, 0, size) for i in range(count)])
 
 
 def same_sections(size):
-    """Segments that all claim the same sections, and all others too: one command of size 0, which is read again and again."""
+    """Returns an image with segments that all claim the same sections: one command of size 0, which is read again and again."""
     count = size // 80
     command = words(SEGMENT_64, 0) + b"__S".ljust(16, b"\0") + struct.pack("<4Q", 0, 2**32, 0, 0) + words(7, 3, count, 0)
     body = b"".join(section(i) for i in range(count))
@@ -294,13 +298,13 @@ def same_sections(size):
 
 
 def libraries(size):
-    """Libraries that all have one name, and paths on which they are sought."""
+    """Returns an image with libraries that all have one name, and with paths on which they are searched."""
     each = [named(DYLIB, b"/l"), words(RPATH, 16, 12) + b"/p\0\0"]
     return image(each * (size // 48))
 
 
 def bind_again(size):
-    """Instructions that each bind 2^60 times at one place, one behind the other."""
+    """Returns an image with instructions that each bind 2^60 times at one place, one after the other."""
     one = b"\xc0" + uleb(2**60) + uleb(again(64))
     opcodes = b"\x11\x51\x40_a\0\x70\0" + one * (size // len(one)) + b"\0"
     fixed = [named(DYLIB, b"/l"), segment(b"__DATA")]
@@ -309,7 +313,7 @@ def bind_again(size):
 
 
 def chain_of_imports(size):
-    """A table of imports whose names are each the rest of the file."""
+    """Returns an image with a table of imports. The name of each is the rest of the file."""
     count = size // 8
     names = b"a" * (size // 2)
     starts = words(1, 0)
@@ -318,14 +322,15 @@ def chain_of_imports(size):
 
 
 def pages(size):
-    """A segment of many pages whose chains all begin in its last bytes."""
+    """Returns an image whose starts state many pages for a segment of 8 bytes. The chain of each page begins at the page's first byte."""
     count = min(size // 4, 65535)
     each = [0] * count
     return chains(starts=chain_starts(count, 1, 0, each))
 
 
 def growing(size):
-    """Files of some bytes, with what a reader goes over in 1,000,000 of them that reads each list and each name from its beginning to its end."""
+    """Returns files of some bytes. The comments say what a reader goes over in 1,000,000 bytes, if it reads each list and each name from its beginning
+    to its end."""
     return {
         # 7 * 10^9 branches in lists that are the same list; 2.8 * 10^9 in lists that overlap.
         "trie_shared_%d" % size: shared_branches(size, 2**21 - 1),
@@ -345,7 +350,7 @@ def growing(size):
 
 
 def files(size):
-    """The files: small ones, and large ones of up to so many bytes."""
+    """Returns the files: small ones, and large ones of up to so many bytes."""
     one = struct.pack("<IBBHQ", 1, 1, 0, 0, 0) + b"\0_a\0"
     return {
         # One instruction that binds 2^60 times at one place: within its segment, outside of it, and lazily.

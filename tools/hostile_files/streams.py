@@ -1,12 +1,13 @@
 #!/usr/bin/env python3
-"""Compares what machfixups and machinfo tell of damaged streams with a second reading of the rules, which knows nothing of the library.
+"""Compares what machfixups and machinfo print of damaged streams with a second reading of the rules, which knows nothing of the library.
 
   tools/hostile_files/streams.py [--seed N] [--files N] [--images N] [--try] [FOLDER]
 
-Each file is a fat file of images whose rebases, weak binds and function starts are sound streams that were damaged: bytes changed, put in, left
-out, the range cut short or drawn out. The programs are those that `rt run` or `rt ci` has built, crates/NAME/out/NAME; with --try those of
-`rt try`, which builds anew for each file. It is run by hand, since its files are drawn by chance: --seed draws the same ones again. An image on
-which the answers differ is kept in FOLDER (the current one), and both answers are printed. The last line is 'N passed, M failed', in images."""
+Each file is a fat file of images. Their rebases, weak binds and function starts are sound streams that were damaged: bytes are changed, put in or
+left out, and the range is cut short or extended. The programs are those that `rt run` or `rt ci` has built, crates/NAME/out/NAME. With --try they
+are those of `rt try`, which builds anew for each file. It is run by hand, since its files are drawn by chance: --seed draws the same ones again. If
+the answers differ on an image, it is kept in FOLDER (the current one), and both answers are printed. The last line is 'N passed, M failed', in
+images."""
 import argparse
 import os
 import random
@@ -24,7 +25,7 @@ class Fault(Exception):
     """The words of a refusal, as the programs print them."""
 
 
-# The image, but for its streams.
+# The image, without its streams.
 
 BASE = 0x1_0000_0000
 
@@ -34,7 +35,7 @@ def numbers(width, *values):
 
 
 class Image:
-    """Three segments; the second has 0x800 bytes of data in 0x1000 of memory. What the commands say of the streams may not be so."""
+    """An image of three segments. The second has 0x800 bytes of data in 0x1000 of memory. What the commands say of the streams may be wrong."""
 
     def __init__(self, rng, wide):
         self.wide, self.width = wide, 8 if wide else 4
@@ -48,7 +49,7 @@ class Image:
         self.streams = {}
 
     def bytes(self):
-        """The file, and of each stream where it begins and ends by its command."""
+        """Returns the file, and for each stream the place and the size by its command."""
         body, places = b"", {}
         for name, (stream, size) in self.streams.items():
             places[name] = (0x2400 + len(body), size)
@@ -75,7 +76,7 @@ class Image:
 
 
 class Cut:
-    """Bytes up to where a command's range ends, and the place of the next one that is read."""
+    """Bytes up to the end of a command's range, and the place of the next one that is read."""
 
     def __init__(self, file, place, size):
         self.end = min(len(file), place + size)
@@ -88,7 +89,7 @@ class Cut:
         return self.bytes[self.place - 1]
 
     def spelled(self, what):
-        """The groups of seven bits of a LEB128 number, which has at most ten bytes, the last of 64 bits."""
+        """Returns the value of a LEB128 number, and how many bits its groups of seven have. It has at most ten bytes, and fits into 64 bits."""
         start, groups = self.place, []
         self.byte()
         self.place = start
@@ -125,7 +126,7 @@ class Cut:
 
 
 class Reading:
-    """What stands in a stream: its items as lines, up to the first fault, or to one more than are asked for."""
+    """What is in a stream: its items as lines, up to the first fault, or to one more than LIMIT."""
 
     def __init__(self, image, file, place, size):
         self.image, self.cut = image, Cut(file, place, size)
@@ -142,7 +143,7 @@ class Reading:
         return self.lines
 
     def turns(self, count, skip):
-        """Turns of one instruction: an item, and the pointer's width and the skip on."""
+        """Takes the turns of one instruction. Each adds an item, and goes on by the pointer's width and the skip."""
         while count and len(self.lines) <= LIMIT:
             self.item()
             self.advance(skip + self.image.width)
@@ -152,7 +153,7 @@ class Reading:
         self.at = (self.at + by) % WORD
 
     def place_of(self, kind, unnamed, outside):
-        """The segment, and the address in it, of the item that comes now."""
+        """Returns the name of the segment of the item that comes now, and the item's address."""
         if not 1 <= self.kind <= 3 or self.segment is None or unnamed:
             raise Fault(f"malformed: {kind}")
         if self.segment >= len(self.image.segments):
@@ -201,7 +202,7 @@ class Rebases(Reading):
         self.lines.append(f"{address:#x} {name} - rebase {self.holder(target)} - {target:#x}{kind}")
 
     def holder(self, target):
-        """The name of the first segment that holds the target; a number that is relative to its own address has none."""
+        """Returns the name of the first segment that holds the target. A number that is relative to its own address has none."""
         names = [name for name, vmaddr, vmsize, _, _ in self.image.segments if vmaddr <= target < vmaddr + vmsize]
         return names[0] if names and self.kind != 3 else "-"
 
@@ -249,7 +250,7 @@ class WeakBinds(Reading):
 
 
 def starts_of(image, file, place, size):
-    """Where functions begin: each number is the distance from the one before, the first from the base, and a zero ends them."""
+    """Returns where functions begin. Each number is the distance from the one before, the first is from the base, and a zero ends them."""
     cut, at, lines = Cut(file, place, size), image.base, []
     try:
         while size and cut.place < cut.upto:
@@ -277,7 +278,7 @@ def uleb(value, width=1):
 
 
 def number(rng):
-    """A number as streams have them: small, near an end of the segment, or near that of 64 bits, in more bytes than it needs at times."""
+    """Returns a number as streams have it: small, near an end of the segment, or near that of 64 bits. At times it has more bytes than it needs."""
     value = rng.randrange(64)
     if rng.random() < 0.25:
         value = rng.choice([rng.randrange(0x800), 0xFF8 + rng.randrange(16), WORD - rng.randrange(1, 64), rng.randrange(WORD)])
@@ -310,7 +311,7 @@ def start_stream(rng):
 
 
 def damaged(rng, stream):
-    """The bytes, and the size that the command says."""
+    """Damages a stream. Returns its bytes, and the size that the command says."""
     made = bytearray(stream)
     for _ in range(rng.choice([0, 1, 1, 2, 4])):
         at = rng.randrange(len(made) + 1)
@@ -326,7 +327,7 @@ def damaged(rng, stream):
 
 
 def image_of(rng):
-    """An image, its bytes, and the lines of machfixups and of machinfo for it."""
+    """Returns the bytes of an image, and the lines of machfixups and of machinfo for it."""
     image = Image(rng, rng.random() < 0.7)
     for name, make in (("rebases", rebase_stream), ("weak", weak_stream), ("starts", start_stream)):
         image.streams[name] = damaged(rng, make(rng))
@@ -338,7 +339,7 @@ def image_of(rng):
 
 
 def fat_of(images):
-    """A fat file of these images, each on a boundary of 16 bytes."""
+    """Returns a fat file of these images, each on a boundary of 16 bytes."""
     table, body, start = [], b"", (8 + 20 * len(images) + 15) // 16 * 16
     for image in images:
         table.append((0x1000007, 3, start + len(body), len(image), 4))
@@ -357,17 +358,17 @@ def run(program, words, path, tries):
 
 
 def one_space(line):
-    """A line with one space between two columns."""
+    """Returns a line with one space between two columns."""
     return " ".join(it for it in line.split(" ") if it)
 
 
 def escaped(line):
-    """A line with the control characters of its names as the programs print them."""
+    """Returns a line with the control characters of its names as the programs print them."""
     return re.sub(r"[\x00-\x1f\x7f]", lambda it: f"\\x{ord(it[0]):02x}", line.replace("\\", "\\\\"))
 
 
 def entries(text, count):
-    """The lines of each entry of a fat file, without a heading, with one space between two words."""
+    """Returns the lines of each entry of a fat file, without a heading, with one space between two words."""
     found, at = [[] for _ in range(count)], -1
     for line in text.split("\n"):
         if re.fullmatch(rf"arch {at + 1}( \(\w+\))?", line):

@@ -1,11 +1,11 @@
 #!/usr/bin/env python3
-"""Writes images of which one number is as great as can be, and images with a few bytes damaged at random.
+"""Writes images with one number that is as large as can be, and images with a few bytes damaged at random.
 
   tools/hostile_files/sweep.py FOLDER IMAGES [SEED] [COUNT]
 
-IMAGES is a folder with `object.macho`, `library.macho`, `executable.macho` and `chained.macho`. Of these, and of a fat file of two, each file `word_*`
-has one 32-bit word of the load commands (of a fat file also of the table) set to 2^32 - 1. The COUNT files `damaged_*`, 2,000 where nothing is
-said, have up to eight bytes damaged; the same SEED gives the same ones."""
+IMAGES is a folder with `object.macho`, `library.macho`, `executable.macho` and `chained.macho`. The files are made from these and from a fat file of
+two of them. Each file `word_*` has one 32-bit word set to 2^32 - 1. It is a word of the load commands, or of a fat file also of the table. The COUNT
+files `damaged_*`, 2,000 if no number is given, have up to eight bytes damaged. The same SEED gives the same ones."""
 import os
 import random
 import struct
@@ -15,14 +15,14 @@ NAMES = ("object", "library", "executable", "chained")
 
 
 def commands_of(image, at=0):
-    """The range of the load commands of the image that begins at a place."""
+    """Returns the range of the load commands of the image that begins at a place."""
     wide = image[at:at + 4] == b"\xcf\xfa\xed\xfe"
     first = at + (32 if wide else 28)
     return first, first + struct.unpack_from("<I", image, at + 20)[0]
 
 
 def fat_of(images):
-    """A fat file of these images, each at a multiple of 4096, for cpus 1, 2 and so on."""
+    """Returns a fat file of these images, each at a multiple of 4096, for cpus 1, 2 and so on."""
     table, slices = struct.pack(">2I", 0xCAFEBABE, len(images)), b""
     for number, image in enumerate(images):
         slices += bytes(-len(slices) % 4096)
@@ -32,7 +32,7 @@ def fat_of(images):
 
 
 def bases(folder):
-    """The images, by name, each with the ranges of its commands and tables."""
+    """Returns the images, by name, each with the ranges of its commands and tables."""
     found = {}
     for name in NAMES:
         with open(f"{folder}/{name}.macho", "rb") as file:
@@ -45,14 +45,14 @@ def bases(folder):
 
 
 def swept(images):
-    """Each image with each word of its ranges set to 2^32 - 1."""
+    """Yields each image with each word of its ranges set to 2^32 - 1."""
     for name, (image, ranges) in images.items():
         for at in (it for begin, end in ranges for it in range(begin, end, 4)):
             yield f"word_{name}_{at}", image[:at] + b"\xff" * 4 + image[at + 4:]
 
 
 def damaged(images, seed, count):
-    """So many images with a few bytes damaged, half of these bytes within the commands."""
+    """Yields so many images with a few bytes damaged. Most of these bytes are within the commands and tables."""
     some = random.Random(seed)
     for number in range(count):
         image, ranges = images[some.choice(sorted(images))]
@@ -64,7 +64,7 @@ def damaged(images, seed, count):
 
 
 def write(folder, images, seed, count=2000):
-    """Writes all of them, and answers their paths."""
+    """Writes all of them, and returns their paths."""
     os.makedirs(folder, exist_ok=True)
     found, paths = bases(images), []
     for made in (swept(found), damaged(found, seed, count)):
