@@ -1,11 +1,11 @@
 #!/usr/bin/env python3
-"""Writes what the C interface takes from the sources of the library: the marked parts of c/include/goblin_mach.h (the constants of the
-format, and asserts on structs and numbers), and c/names.h (the names of numbers).
+"""Writes what the C interface takes from the sources of the library. These are c/names.h (the names of numbers) and the marked parts of
+c/include/goblin_mach.h: the constants of the format, and asserts on structs and numbers.
 
   c/constants.py           writes them
   c/constants.py --check   compares them with the sources, and ends with 1 and a diff if they differ
 
-It refuses a constant that is in no group below, and one of MORE that the sources have, too."""
+It refuses a constant that is in no group below. It also refuses a constant of MORE that the sources have."""
 import difflib
 import pathlib
 import re
@@ -197,8 +197,8 @@ NUMBERS = {
                          ("Unknown", "UNKNOWN"), ("Unsealed", "UNSEALED"), ("Changed", "SPECIAL"), ("Absent", "ABSENT")))],
 }
 
-# The functions of names, each with its argument: the function in the sources that returns the names, or the constant whose group it names;
-# and the prefix that is left out of a name.
+# The functions of names, each with its argument. After it is the function in the sources that returns the names, or the constant whose group
+# it names. The last text is the prefix that is left out of a name.
 NAMED = [
     ("const char *gm_command_name(uint32_t cmd)", "cmd_to_str", ""),
     ("const char *gm_file_type_name(uint32_t filetype)", "filetype_to_str", ""),
@@ -218,19 +218,19 @@ def refuse(words):
 
 
 def sources(crate):
-    """The text of each source file of a crate, except its tests."""
+    """Returns the text of each source file of a crate, except its tests."""
     folder = TOP / "crates" / crate / "src"
     return {path.relative_to(TOP): path.read_text() for path in sorted(folder.rglob("*.rt")) if "tests" not in path.parts}
 
 
 def words_of(comment):
-    """A comment of the sources as C has it: one line, without a full stop at the end, and without a header of the format."""
+    """Returns a comment of the sources as C has it: on one line, without a full stop at the end, and without a header of the format."""
     text = re.sub(r" \(`[^`]*`\)", "", " ".join(line.strip(" /") for line in comment.splitlines())).rstrip(".")
     return text if re.match(r"(?!A\b)\w*[A-Z0-9]\b", text) or not text else text[0].lower() + text[1:]
 
 
 def pointer_formats(path, text):
-    """The constants that the sources have as variants: the type, the number and the comment of each, by name."""
+    """Yields the constants that the sources have as variants, by name: the type, the number and the comment of each."""
     rows = re.findall(r"/// `(DYLD_CHAINED_PTR_\w+)`, (\d+): (.*)\n +(\w+),", text)
     called = {variant: name for name, _, _, variant in rows}
     for name, number, words, variant in rows:
@@ -240,7 +240,7 @@ def pointer_formats(path, text):
 
 
 def more():
-    """The constants of MORE."""
+    """Yields the constants of MORE."""
     for line in MORE.strip().splitlines():
         if re.match(r"[A-Z]", line):
             name, kind, number, *words = line.split(" ", 3)
@@ -248,7 +248,7 @@ def more():
 
 
 def constants():
-    """The type, the number and the comment of each constant, by name."""
+    """Returns the type, the number and the comment of each constant, by name."""
     found, types = {}, {}
     texts = {path: text for crate in CRATES for path, text in sources(crate).items()}
     for text in texts.values():
@@ -268,7 +268,7 @@ def constants():
 
 
 def grouped(found):
-    """The constants of each group, by their numbers."""
+    """Returns the constants of each group, by their numbers."""
     groups = {words: [] for words, _ in GROUPS}
     for name in sorted(found, key=lambda name: int(found[name][1], 0)):
         fits = [words for words, pattern in GROUPS if re.fullmatch(pattern, name)]
@@ -290,7 +290,7 @@ def header_constants(found):
 
 
 def structs():
-    """The structs of the sources whose layout C sees, by name: the fields of each."""
+    """Returns the structs of the sources whose layout C sees, by name: the fields of each."""
     found = {}
     for crate in ["goblin_mach_c", "mach_fat_writer", *CRATES]:
         for text in sources(crate).values():
@@ -302,7 +302,7 @@ def structs():
 
 
 def laid_out(found, name):
-    """The fields of a struct with offset and size of each, its size, and its alignment, as C lays them out."""
+    """Returns the fields of a struct with offset and size of each, its size, and its alignment, as C lays them out."""
     rows, end, most = [], 0, 1
     for field, kind in found[name]:
         array = re.fullmatch(r"\[(\w+); (\d+)\]", kind)
@@ -334,7 +334,7 @@ def header_asserts():
 
 
 def arms(function):
-    """The constants and the names that a function of the sources returns."""
+    """Returns the constants and the names that a function of the sources returns."""
     texts = [text for crate in CRATES for text in sources(crate).values()]
     body = [it for text in texts for it in re.findall(rf"^(?:pub )?fn {function}\(.*?^}}", text, re.M | re.S)]
     rows = re.findall(r"(\w+) =>\s*\"([^\"]*)\",", body[0] if len(body) == 1 else refuse(f"{len(body)} functions are {function}"))
@@ -344,7 +344,7 @@ def arms(function):
 
 
 def names(found):
-    """The functions of names. A constant of MORE is named with those of its group."""
+    """Returns the functions of names. A constant of MORE is named with those of its group."""
     groups = grouped(found)
     lines = ["/* Written by c/constants.py. The names of numbers, as the sources of the library have them. */"]
     for head, of, left_out in NAMED:
@@ -358,7 +358,7 @@ def names(found):
 
 
 def kind_names():
-    """The plain names of what bytes are, by the numbers of goblin_mach_c; those of foreign kinds are the words of the programs."""
+    """Returns the plain names of what bytes are, by the numbers of goblin_mach_c. Those of foreign kinds are the words of the programs."""
     numbers = dict(re.findall(r"Foreign::(\w+) => (GM_KIND_\w+),", sources("goblin_mach_c")[pathlib.Path("crates/goblin_mach_c/src/kinds.rt")]))
     words = re.findall(r'Foreign::(\w+) => write!\(f, "not Mach-O: ([^"]*)"\)', sources("goblin_mach")[pathlib.Path("crates/goblin_mach/src/first_bytes.rt")])
     if {name for name, _ in words} != set(numbers):
@@ -370,7 +370,7 @@ def kind_names():
 
 
 def with_part(text, part, lines):
-    """The text with these lines between the marks of a part."""
+    """Returns the text with these lines between the marks of a part."""
     marks = re.compile(rf"(/\* ---- {part}: written by c/constants.py \*/\n).*?(/\* ---- end \*/\n)", re.S)
     if len(marks.findall(text)) != 1:
         refuse(f"{HEADER} has no part '{part}'")

@@ -1,5 +1,5 @@
 /* containers_test check FILE..: tests archives and fat files of 32 and 64 bits, all prefixes of these files and some that are written here. It
-   tests lists in batches, look-ups against the lists, and written fat files, which are read back by the rules of the format alone.
+   tests lists in batches, and look-ups against the lists. It reads written fat files back by the rules of the format alone.
    containers_test members|archive_symbols|entries FILE prints the lines of a list. */
 #include "goblin_mach.h"
 #include <inttypes.h>
@@ -46,7 +46,7 @@ static const list lists[] = {{"members", sizeof(gm_archive_member), rows_members
                              {"entries", sizeof(gm_fat_entry64), rows_entries, line_entries}};
 enum { LISTS = sizeof lists / sizeof *lists, LIMIT = 400 };
 
-/* the lines of a list in batches of so many, at most LIMIT of them, which may have zero bytes; each array has exactly the length that is passed */
+/* Returns the lines of a list in batches of so many, at most LIMIT of them. They may have zero bytes. Each array has exactly the length that is passed. */
 static char *lines(const list *l, const given *g, uint64_t batch, uint64_t *len) {
     char *all = NULL;
     uint64_t n = 0, k, room;
@@ -99,7 +99,7 @@ static bool same_text(const given *g, uint64_t at, uint64_t len, uint64_t other,
     return len == other_len && !memcmp(g->bytes + at, g->bytes + other, len);
 }
 
-/* the first member of each name, by the list */
+/* Checks that the first member of each name is found, by the list. */
 static void found_by_name(const given *g, const gm_archive_member *m, uint64_t count) {
     gm_archive_member one, before;
     gm_error e;
@@ -120,7 +120,7 @@ static void found_by_name(const given *g, const gm_archive_member *m, uint64_t c
         DIE("a name of no member: %u, and not %u", code, last);
 }
 
-/* the member of the first symbol of each name, by the list */
+/* Checks that the member of the first symbol of each name is found, by the list. */
 static void found_by_symbol(const given *g, const gm_archive_symbol *s, uint64_t count) {
     static gm_archive_member m[LIMIT];
     gm_archive_member one;
@@ -182,7 +182,7 @@ static uint64_t big(const uint8_t *at, uint64_t width) {
     return n;
 }
 
-/* checks that these bytes are the fat file of the parts, byte for byte */
+/* Checks that these bytes are the fat file of the parts, byte for byte. */
 static void is_file(const uint8_t *out, uint64_t needed, const uint8_t *bytes, const gm_fat_part *p, uint64_t count, bool is_64) {
     uint64_t width = is_64 ? 32 : 20, end = 8 + width * count;
     if (needed < end || big(out, 4) != (is_64 ? GM_FAT_MAGIC_64 : GM_FAT_MAGIC) || big(out + 4, 4) != count) DIE("the front of a file");
@@ -267,7 +267,7 @@ static void check_writes(void) {
     if (gm_write_fat(NULL, 0, NULL, 0, 0, NULL, 0, &needed, NULL, NULL) != GM_NO_SPACE || needed != 8) DIE("a file of no entry needs %" PRIu64, needed);
 }
 
-/* a table of 64 bits whose header says so many records, with so many bytes of them */
+/* Checks a table of 64 bits whose header says so many records, with so many bytes of them. */
 static void check_cut(void) {
     static const struct { uint32_t says; uint64_t there, told; bool cut; } rows[] = {
         {0, 0, 0, false}, {0, 90, 0, false}, {1, 32, 1, false}, {1, 31, 1, true}, {2, 64, 2, false}, {2, 96, 2, false}, {2, 63, 2, true}, {2, 33, 2, true},
@@ -285,7 +285,7 @@ static void check_cut(void) {
     }
 }
 
-/* exactly the bytes of a file, so that a read past them is detected */
+/* Returns exactly the bytes of a file, so that a read past them is detected. */
 static uint8_t *read_file(const char *name, uint64_t *len) {
     FILE *f = fopen(name, "rb");
     if (!f) DIE("%s can't be opened", name);

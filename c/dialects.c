@@ -1,11 +1,11 @@
-/* Uses the header like programs in C99 to C17 and in C++11 to C++20: c/check compiles this file in each of them, without warnings. */
+/* Uses the header like programs in C99 to C17 and in C++11 to C++20. c/check compiles this file in each of these dialects, without warnings. */
 #include "goblin_mach.h"
 
 #if GM_VERSION_NUMBER < 3000 || GM_MH_MAGIC_64 != 0xfeedfacf || GM_N_EXT != 1 || GM_EXPORT_SYMBOL_FLAGS_KIND_MASK != 3
 #error "a constant that the preprocessor reads otherwise"
 #endif
 
-/* whether a segment has code, a symbol is in a section, an export is from another library */
+/* These return whether a segment has code, a symbol is in a section, an export is from another library. */
 static bool is_code(const gm_segment *s) { return (s->initprot & GM_VM_PROT_EXECUTE) != 0 && (s->flags & ~GM_SG_NORELOC) == 0; }
 static bool is_of_section(const gm_symbol *s) { return (s->n_type & GM_N_STAB) == 0 && (s->n_type & GM_N_TYPE) == GM_N_SECT; }
 static bool is_brought(const gm_export *e) { return (e->flags & GM_EXPORT_SYMBOL_FLAGS_REEXPORT) != 0 && e->kind == GM_REEXPORTED; }

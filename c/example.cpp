@@ -13,7 +13,7 @@
 
 namespace {
 
-// All rows of a list, requested in batches.
+// Returns all rows of a list, requested in batches.
 template <typename Row, typename Call>
 std::vector<Row> rows(Call call) {
     std::vector<Row> all;

@@ -1,5 +1,5 @@
-/* finds_test FILE.. tests what is looked up in images, and what single commands say, on each file and on some of its prefixes, by the lists of
-   segments, sections, symbols and starts, and by the bytes of commands. Before that it tests kinds, images for a cpu, and texts. */
+/* finds_test FILE.. tests what is looked up in images, and what single commands say, on each file and on some of its prefixes. It compares with the
+   lists of segments, sections, symbols and starts, and with the bytes of commands. Before that it tests kinds, images for a cpu, and texts. */
 #include "goblin_mach.h"
 #include <inttypes.h>
 #include <stdio.h>
@@ -224,7 +224,7 @@ static void commands_say(const given *g) {
     said += has_uuid + has_version + has_part + has_linker + versions + settings + entries;
 }
 
-/* ---- exports by a callback: those of the walk, until it says stop, and with memory that is refused */
+/* ---- exports by a callback: those of the walk, until the callback says stop, and with memory that is refused */
 
 typedef struct { const given *g; uint64_t count, stop; } visits;
 static int visit(void *user, const gm_listed_export *item, const char *name) {
@@ -311,7 +311,7 @@ static void put(uint8_t *at, uint64_t number, int bytes) {
     for (int i = 0; i < bytes; i++) at[i] = (uint8_t)(number >> 8 * (bytes - 1 - i));
 }
 
-/* a fat file of four entries: arm64e with a capability, arm64 twice, and x86-64 that isn't in the file; of 32 or 64 bits */
+/* Checks a fat file of four entries, of 32 or 64 bits: arm64e with a capability, arm64 twice, and x86-64 that isn't in the file. */
 static void check_images(bool is_64) {
     static const struct { uint64_t cputype, cpusubtype, offset, size; } entries[] = {
         {GM_CPU_TYPE_ARM64, 0x80000002, 200, 10}, {GM_CPU_TYPE_ARM64, 0, 210, 90}, {GM_CPU_TYPE_ARM64, 0, 250, 1}, {GM_CPU_TYPE_X86_64, 3, 290, 11}};

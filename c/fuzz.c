@@ -1,5 +1,5 @@
-/* A target for libFuzzer over the C library: lists in batches, memory refused at each request, and what a refusal may change are tested for each
-   input as gm_test tests them for a file. What gm_test reads by itself out of the bytes is left out, since that is meant for sound files.
+/* A target for libFuzzer over the C library. For each input it tests lists in batches, memory refused at each request, and what a refusal may change, as
+   gm_test tests them for a file. What gm_test reads by itself out of the bytes is left out, since that is meant for sound files.
    tools/rust-fuzz builds and runs it. */
 #define main gm_test_main
 #include "gm_test.c"

@@ -1,6 +1,7 @@
-/* gm_test WHAT FILE prints the lines of a list, to compare them with the programs of this repository; gm_test names prints the rules of layout.
-   gm_test check FILE.. tests each file and each of its prefixes: batches of 1, 2, 7 and all give the same rows, the rest of an array is
-   unchanged, memory may be refused at any request, an arena works without malloc, NULL works for length 0.
+/* gm_test WHAT FILE prints the lines of a list, to compare them with the programs of this repository.
+   gm_test names prints the rules and parts of layout, and the kinds of faults of signatures.
+   gm_test check FILE.. tests each file and each of its prefixes. Batches of 1, 2, 7 and all give the same rows, and the rest of an array is
+   unchanged. Memory may be refused at any request, an arena works without malloc, and NULL works for length 0.
    gm_test deep LEVELS visits a trie of so many levels in buffers that grow.
    gm_test constants FILE.. tests constants and names of the header against what the calls return for each file.
    gm_test damage COUNT FILE.. passes COUNT images of made-up numbers, by a fixed seed. */
@@ -60,7 +61,7 @@ static void make_up(void *at, uint64_t size, uint64_t len);
 
 static int of_damage;
 
-/* what comes after a cursor: from the start at 0, else from where the last call ended; for damage a cursor of made-up numbers */
+/* the rows after a cursor, which is at the start for `first` 0, and then where the last call ended; for damage its numbers are made up */
 #define BEHIND(name, row, place) \
     static uint64_t name(const given *g, uint64_t first, row *rows, uint64_t cap) { \
         static place at; \
@@ -99,7 +100,7 @@ BEHIND(fixups, gm_fixup, gm_fixup_cursor)
 LIST(fixups, gm_fixup, fixups(g, first, rows, cap),
      fprintf(to, "%" PRIx64 " %" PRIx64 " %" PRIx64 " %u %u %u %d %u %u %u %u %u", r->address, r->offset, r->target, r->segment, r->kind, r->import,
              r->addend, r->is_signed, r->key, r->diversity, r->is_address_diverse, r->code))
-/* machdump's line of an import comes last */
+/* (machdump's line of an import is the end of the line) */
 static void dylib(FILE *to, const given *g, uint64_t ordinal) {
     gm_library l;
     if (!ordinal) fputs("self", to);
@@ -245,7 +246,7 @@ static const list *named(const char *name) {
     return NULL;
 }
 
-/* the lines of a list in batches of so many, at most LIMIT of them; each array has exactly the length that is passed */
+/* Returns the lines of a list in batches of so many, at most LIMIT of them. Each array has exactly the length that is passed. */
 static char *lines(const list *l, const given *g, uint64_t batch) {
     char *text_of = NULL;
     size_t len = 0;
@@ -337,7 +338,7 @@ static void check_parts(given *g) {
     }
 }
 
-/* a name that is looked up, also with memory that is refused; machdump has the exports of file C */
+/* Looks up a name, also with memory that is refused. Of file C machdump has the exports. */
 static void finds(const given *g, const char *name, uint64_t name_len) {
     gm_export found, before;
     char library[8], target[8];
@@ -361,7 +362,7 @@ static void finds(const given *g, const char *name, uint64_t name_len) {
     tested++;
 }
 
-/* faults with memory that is refused at each request, and out of an arena */
+/* Checks faults with memory that is refused at each request, and out of an arena. */
 static void tells(told *call, const given *g) {
     enum { CAP = 8, USED = offsetof(gm_layout_fault, other_part) + 4 };
     static _Alignas(16) uint8_t room[1 << 20];
@@ -394,7 +395,7 @@ static void tells(told *call, const given *g) {
     tested++;
 }
 
-/* the signature with memory that is refused at each request; it has faults exactly when the image isn't as it was signed */
+/* Checks the signature with memory that is refused at each request. It has faults exactly if the image isn't as it was signed. */
 static void says(const given *g) {
     gm_signature_fault all[8], again[8];
     gm_signature said, said_again;
@@ -430,7 +431,7 @@ static void says(const given *g) {
     tested++;
 }
 
-/* the layout of an image after other bytes is that of the image */
+/* Checks that the layout of an image after other bytes is that of the image. */
 static void lies_behind(const given *g) {
     const uint64_t front = 16;
     uint8_t *bytes = malloc(front + g->len);
@@ -447,7 +448,7 @@ static void lies_behind(const given *g) {
 
 /* ---- exports */
 
-/* the buffers of a walk: each has exactly the length that is passed, so that a write past it is detected */
+/* Returns a buffer of a walk. It has exactly the length that is passed, so that a write past it is detected. */
 static void *grown(void *held, uint64_t old, uint64_t size) {
     uint8_t *more = malloc(size + !size);
     if (!more) DIE("no memory");
@@ -466,7 +467,7 @@ static gm_export_room room_of(uint64_t some, uint64_t cap) {
 }
 static void give_room(gm_export_room *r) { free(r->name); free(r->stack); free(r->out); free(r->names); }
 
-/* a batch; checks that what follows its rows and its names is unchanged */
+/* Requests a batch; checks that what follows its rows and its names is unchanged. */
 static uint32_t export_batch(const given *g, gm_export_walk *walk, const gm_export_room *r, gm_export_batch *b, const gm_memory *m) {
     gm_error e = {0};
     memset(r->out, 0xa5, r->cap * sizeof *r->out);
@@ -481,7 +482,7 @@ static uint32_t export_batch(const given *g, gm_export_walk *walk, const gm_expo
     return code;
 }
 
-/* enlarges what is too short, never by a byte or a node more than needed, so that each call counts */
+/* Enlarges what is too short, never by a byte or a node more than needed. In this way each call counts. */
 static void give_more(gm_export_room *r, const gm_export_batch *b) {
     uint64_t *cap = b->end == GM_NAME_SHORT ? &r->name_cap : b->end == GM_STACK_SHORT ? &r->stack_cap : &r->names_cap;
     if (b->needed <= *cap) DIE("no more is needed than there is");
@@ -491,7 +492,7 @@ static void give_more(gm_export_room *r, const gm_export_batch *b) {
     *cap = b->needed;
 }
 
-/* an export equals the one that is found by its name: the first of that name, so the later ones of that name may differ */
+/* Compares an export with the one that is found by its name. That is the first of the name, so later ones of the name may differ. */
 static void same_as_found(const given *g, const gm_listed_export *x, const char *names) {
     gm_export found;
     gm_error e;
@@ -508,7 +509,7 @@ static void same_as_found(const given *g, const gm_listed_export *x, const char 
     brought++;
 }
 
-/* the lines of the exports in batches of so many, and how the walk ends; the buffers start with so many bytes and nodes */
+/* Returns the lines of the exports in batches of so many, and how the walk ends. The buffers start with so many bytes and nodes. */
 static char *export_lines(const given *g, uint64_t cap, uint64_t some, bool of_library) {
     char *text_of = NULL;
     uint64_t len = 0;
@@ -545,7 +546,7 @@ static char *export_lines(const given *g, uint64_t cap, uint64_t some, bool of_l
     return text_of;
 }
 
-/* Whether the exports are a tree: then a walk gives a list and no refusal. Memory is refused at each request in turn. */
+/* Checks whether the exports are a tree. If they are, a walk gives a list and no refusal. Memory is refused at each request in turn. */
 static void exports_by_tree(const given *g, const char *lines) {
     gm_error e = {0};
     uint32_t code = gm_exports_are_a_tree(OF, NULL, &e);
@@ -563,7 +564,7 @@ static void exports_by_tree(const given *g, const char *lines) {
     trees += !code;
 }
 
-/* a root with two branches to one node: a walk returns its export twice and ends, and the exports are no tree */
+/* Checks a root with two branches to one node. A walk returns its export twice and ends, and the exports are no tree. */
 static void check_shared(void) {
     const uint32_t header[] = {0xfeedfacf, 0x01000007, 3, 6, 1, 16, 0, 0, 0x80000033, 16, 48, 12};
     const uint8_t trie[12] = {0, 2, 'a', 0, 8, 'b', 0, 8, 2, 0, 7, 0};
@@ -581,7 +582,7 @@ static void check_shared(void) {
     if (gm_exports_are_a_tree(OF, NULL, &e) != GM_OK) DIE("a trie without a shared node is no tree");
 }
 
-/* memory is refused at each request in turn, in the middle of a walk; and a walk in buffers of length 0 */
+/* Refuses memory at each request in turn, in the middle of a walk. Also walks in buffers of length 0. */
 static void exports_by_memory(const given *g) {
     gm_export_walk walk = {0}, zeros = {0};
     gm_export_room none = {0}, r = room_of(64, 2);
@@ -606,7 +607,7 @@ static void exports_by_memory(const given *g) {
     give_room(&r);
 }
 
-/* a trie of so many levels, each an inner node with two branches: the first leads on, the second to an export */
+/* Visits a trie of so many levels. Each is an inner node with two branches: the first leads on, the second to an export. */
 static void put_uleb3(uint8_t *at, uint64_t n) { at[0] = n | 0x80, at[1] = n >> 7 | 0x80, at[2] = n >> 14; }
 static void check_deep(uint64_t levels) {
     enum { AT = 48, NODE = 12, LEAF = 4 };
@@ -662,7 +663,7 @@ static void check_exports(const given *g) {
     tested++;
 }
 
-/* the numbers of an image are those of its lists */
+/* Checks that the numbers of an image are those of its lists. */
 static void counts(const given *g) {
     const struct { const char *list; uint64_t count; } rows[] = {{"commands", g->image.commands}, {"segments", g->image.segments}, {"symbols",
         g->image.symbols},
@@ -675,7 +676,7 @@ static void counts(const given *g) {
     }
 }
 
-/* four bytes in the image's order */
+/* Returns four bytes in the image's order. */
 static uint32_t word_at(const given *g, const uint8_t *at) {
     uint32_t n = 0;
     for (int i = 0; i < 4; i++) n |= (uint32_t)at[g->image.is_little_endian ? i : 3 - i] << 8 * i;
@@ -684,10 +685,10 @@ static uint32_t word_at(const given *g, const uint8_t *at) {
 
 /* ---- the tables of commands, read here a second time, by the format alone */
 
-/* whether so many bytes are at a place */
+/* Returns whether so many bytes are at a place. */
 static bool stand(const given *g, uint64_t at, uint64_t size) { return at <= g->len && size <= g->len - at; }
 
-/* the last command of a number, or one of size 0 */
+/* Returns the last command of a number, or one of size 0. */
 static gm_command last_command(const given *g, uint32_t cmd) {
     gm_command c, last = {0};
     for (uint64_t i = 0; gm_commands(OF, i, &c, 1); i++)
@@ -695,7 +696,7 @@ static gm_command last_command(const given *g, uint32_t cmd) {
     return last;
 }
 
-/* the address of the first segment that is named __TEXT */
+/* Returns the address of the first segment that is named __TEXT. */
 static uint64_t base_by_segments(const given *g) {
     gm_segment s;
     for (uint64_t i = 0; gm_segments(OF, i, &s, 1); i++)
@@ -740,7 +741,7 @@ typedef struct {
     bool has_segment, has_name;
 } opcodes;
 
-/* the opcodes whose offset and size are at a number of the command */
+/* Returns the opcodes whose offset and size are at a number of the command. */
 static opcodes opcodes_of(const given *g, uint64_t number) {
     gm_command c = last_command(g, GM_LC_DYLD_INFO), only = last_command(g, GM_LC_DYLD_INFO_ONLY);
     if (only.offset > c.offset) c = only;
@@ -753,7 +754,7 @@ static opcodes opcodes_of(const given *g, uint64_t number) {
 
 static bool has_byte(const given *g, const opcodes *o) { return o->at < g->len && o->at < o->upto; }
 
-/* a number of 7 bits a byte; false if it is cut, or has more than 64 bits */
+/* Reads a number of 7 bits a byte. Returns false if it is cut, or has more than 64 bits. */
 static bool leb(const given *g, opcodes *o, bool is_signed, uint64_t *n) {
     *n = 0;
     for (int shift = 0;; shift += 7) {
@@ -769,13 +770,13 @@ static bool leb(const given *g, opcodes *o, bool is_signed, uint64_t *n) {
     }
 }
 
-/* the segment that holds a whole pointer, if one was set and it does; all sums have 64 bits */
+/* Returns whether a segment was set and holds a whole pointer. All sums have 64 bits. */
 static bool lies(const given *g, const opcodes *o, uint64_t p, gm_segment *s) {
     if (!o->has_segment || !o->kind || o->kind > 3 || gm_segments(OF, o->segment, s, 1) != 1) return false;
     return o->offset <= s->vmsize && p <= s->vmsize - o->offset && s->vmaddr + o->offset >= s->vmaddr;
 }
 
-/* the number in so many bytes of a segment's memory: its data, and zeros after them */
+/* Returns the number in so many bytes of a segment's memory: its data, and zeros after them. */
 static uint64_t in_memory(const given *g, const gm_segment *s, uint64_t offset, uint64_t width) {
     uint64_t n = 0;
     for (uint64_t i = 0; i < width; i++) {
@@ -791,7 +792,7 @@ static bool next_rebase(const given *g, gm_rebase_cursor *at, gm_rebase *r) {
     return count == 1;
 }
 
-/* the end, or a fault of this code (of any code for UINT32_MAX) and the end */
+/* Checks that the end follows, or a fault of this code (of any code for UINT32_MAX) and then the end. */
 static void ends_rebases(const given *g, gm_rebase_cursor *at, uint32_t code) {
     gm_rebase r, none = {0};
     if (code) {
@@ -802,7 +803,7 @@ static void ends_rebases(const given *g, gm_rebase_cursor *at, uint32_t code) {
     if (next_rebase(g, at, &r)) DIE("too many rebases");
 }
 
-/* whether there is a rebase with the current settings; a fault if there is none */
+/* Returns whether there is a rebase with the current settings. If not, a fault follows. */
 static bool is_rebased(const given *g, const opcodes *o, uint64_t p, gm_rebase_cursor *at) {
     gm_segment s;
     gm_rebase r;
@@ -812,7 +813,7 @@ static bool is_rebased(const given *g, const opcodes *o, uint64_t p, gm_rebase_c
     return true;
 }
 
-/* executes an opcode of rebases: how many come, and how far it advances after each; false if it can't be read */
+/* Executes an opcode of rebases. Fills in how many come, and how far it advances after each. Returns false if it can't be read. */
 static bool rebase_opcode(const given *g, opcodes *o, uint64_t p, uint64_t *count, uint64_t *stride) {
     uint64_t n = 0, skip = 0;
     if (!has_byte(g, o)) return false;
@@ -873,7 +874,7 @@ static bool next_weak(const given *g, gm_bind_cursor *at, gm_weak_bind *w) {
     return count == 1;
 }
 
-/* the end, or a fault and the end */
+/* Checks that the end follows, or a fault and then the end. */
 static void ends_weak(const given *g, gm_bind_cursor *at, bool is_fault) {
     gm_weak_bind w, none = {0};
     if (is_fault) {
@@ -884,7 +885,7 @@ static void ends_weak(const given *g, gm_bind_cursor *at, bool is_fault) {
     if (next_weak(g, at, &w)) DIE("too many weak binds");
 }
 
-/* the name after an opcode, up to its zero byte; if the bytes may not be UTF-8, the library decides */
+/* Reads the name after an opcode, up to its zero byte. If the bytes may not be UTF-8, the library decides. */
 static bool weak_name(const given *g, opcodes *o, uint32_t flags, gm_bind_cursor *at) {
     bool plain = true;
     uint64_t name = o->at;
@@ -909,7 +910,7 @@ static bool is_weakly_bound(const given *g, const opcodes *o, uint64_t p, gm_bin
     return true;
 }
 
-/* executes an opcode of weak binds */
+/* Executes an opcode of weak binds. Returns false if it can't be read. */
 static bool weak_opcode(const given *g, opcodes *o, uint64_t p, uint64_t *count, uint64_t *stride, gm_bind_cursor *at) {
     uint64_t n = 0;
     if (!has_byte(g, o)) return false;
@@ -992,7 +993,7 @@ static void indirect_by_bytes(const given *g) {
     if (gm_indirect_symbols(OF, n, &r, 1)) DIE("too many indirect symbols");
 }
 
-/* options, tools and notes, command by command: options and tools end with the first fault */
+/* Checks options, tools and notes, command by command. Options and tools end with the first fault. */
 static void lists_by_bytes(const given *g) {
     uint64_t options = 0, tools = 0, notes = 0;
     bool options_end = false, tools_end = false;
@@ -1034,7 +1035,7 @@ static void lists_by_bytes(const given *g) {
     if (gm_linker_options(OF, options, &o, 1) || gm_build_tools(OF, tools, &t, 1) || gm_notes(OF, notes, &n, 1)) DIE("too many options, tools or notes");
 }
 
-/* what a slot of a section should be, for entry k of the indirect symbols: false ends the section */
+/* Checks a slot of a section, for entry k of the indirect symbols. Returns false if the section ends with it. */
 static bool slot_by_bytes(const given *g, const gm_slot *r, uint64_t address, uint64_t len, uint64_t k, uint32_t kind) {
     gm_indirect_symbol entry;
     if (gm_indirect_symbols(OF, k, &entry, 1) != 1 || entry.code || address < len) {
@@ -1078,7 +1079,7 @@ static void slots_by_bytes(const given *g) {
                 if (rows[n].code == GM_OK && (rows[n].segment != i || rows[n].section != k)) DIE("a slot of another section");
                 if (!slot_by_bytes(g, &rows[n++], addr + (j + 1) * len, len, (uint64_t)first + j, kind)) break;
             }
-            if (s.code != GM_OK) return; /* (the library's own tests cover the rows of those that lie partly in the file) */
+            if (s.code != GM_OK) return; /* (the library's own tests cover the rows of sections that lie partly in the file) */
         }
     if (n != many) DIE("%" PRIu64 " slots, and not %" PRIu64, many, n);
     for (n = 0; n < many; n++) {
@@ -1093,7 +1094,7 @@ static void slots_by_bytes(const given *g) {
     }
 }
 
-/* sections by their number and by an address: the first, the last and one more; and providers of all symbols */
+/* Checks sections by their number and by an address, also numbers out of range; and the providers of all symbols. */
 static void finds_by_bytes(const given *g) {
     gm_segment segment;
     gm_section s;
@@ -1192,7 +1193,7 @@ static void has_name(const char *name, const char *of, uint32_t number) {
     named_numbers++;
 }
 
-/* the kind of the library that a command loads, or -1 */
+/* Returns the kind of the library that a command loads, or -1. */
 static int kind_of(uint32_t cmd) {
     switch (cmd) {
     case GM_LC_LOAD_DYLIB: return GM_REQUIRED;
@@ -1204,7 +1205,7 @@ static int kind_of(uint32_t cmd) {
     }
 }
 
-/* how the library of a command is used: by its four bytes at 24 if it is a struct dylib_use_command, else by its number */
+/* Returns how the library of a command is used. A struct dylib_use_command says it by its four bytes at 24, and another command by its number. */
 static uint32_t used_by(const given *g, const gm_command *c) {
     const uint8_t *at = g->bytes + c->offset;
     int may = (c->cmd == GM_LC_LOAD_DYLIB || c->cmd == GM_LC_LOAD_WEAK_DYLIB) && c->size >= 28;
@@ -1290,7 +1291,7 @@ static void check_constants(const uint8_t *bytes, uint64_t len) {
     constants_of_exports(g);
 }
 
-/* a line for each entry for a debugger: its type, and the type's name without N_, or the type again */
+/* Prints a line for each entry for a debugger: its type, and the type's name without N_, or the type again. */
 static void print_debugger_entries(const given *g) {
     gm_symbol s;
     for (uint64_t i = 0; gm_symbols(OF, i, &s, 1); i++) {
@@ -1301,7 +1302,7 @@ static void print_debugger_entries(const given *g) {
     }
 }
 
-/* names of some numbers, and that others have none; and the version */
+/* Checks names of some numbers, that others have none, and the version. */
 static void check_names(void) {
     const struct { const char *found, *wanted; } rows[] = {
         {gm_code_name(GM_OK), "ok"}, {gm_code_name(GM_NO_ROWS), "no rows"}, {gm_code_name(GM_NO_SPACE), "no space"},
@@ -1333,7 +1334,7 @@ static void check_names(void) {
 static uint64_t seed = 88172645463325252u;
 static uint64_t chance(void) { seed ^= seed << 13; seed ^= seed >> 7; seed ^= seed << 17; return seed; }
 
-/* numbers of all kinds: small ones, ones near the length, ones near the last of 32 and 64 bits */
+/* Returns numbers of all kinds: small ones, ones near the length, ones near the last of 32 and 64 bits. */
 static uint64_t made_up(uint64_t len) {
     switch (chance() % 6) {
     case 0: return chance() % 4;
@@ -1345,7 +1346,7 @@ static uint64_t made_up(uint64_t len) {
     }
 }
 
-/* made-up numbers in some places of a struct */
+/* Puts made-up numbers in some places of a struct. */
 static void make_up(void *at, uint64_t size, uint64_t len) {
     for (uint64_t k = 0; k + 4 <= size; k += 4) {
         uint64_t number = made_up(len);
@@ -1353,7 +1354,7 @@ static void make_up(void *at, uint64_t size, uint64_t len) {
     }
 }
 
-/* a walk in which each number may be made up, with open nodes that may be, too */
+/* Walks with numbers that may each be made up, as those of the open nodes may be. */
 static void damage_walk(const given *g) {
     gm_export_walk walk = {0};
     gm_export_room r = room_of(chance() % 40, chance() % 5);
@@ -1419,7 +1420,7 @@ static void damage(const uint8_t *bytes, uint64_t len) {
     }
 }
 
-/* a line for an export of each of these names, as machdump shows it */
+/* Prints a line for an export of each of these names, as machdump shows it. */
 static void print_exports(const given *g, const char *names) {
     for (const char *at = names; *at; at += strcspn(at, ",") + 1) {
         gm_export found;
@@ -1453,7 +1454,7 @@ static void print(const char *what, const uint8_t *bytes, uint64_t len) {
     if (l) print_list(l, &g);
 }
 
-/* exactly the bytes of a file, so that a read past them is detected */
+/* Returns exactly the bytes of a file, so that a read past them is detected. */
 static uint8_t *read_file(const char *name, uint64_t *len) {
     FILE *f = fopen(name, "rb");
     if (!f) DIE("%s can't be opened", name);
@@ -1466,7 +1467,7 @@ static uint8_t *read_file(const char *name, uint64_t *len) {
     return bytes;
 }
 
-/* each rule and each part with its number and its plain name */
+/* Prints each rule, each part and each kind with its number and its plain name. */
 static int print_names(void) {
     for (uint32_t n = 1; strcmp(gm_layout_rule(n), "none"); n++) printf("Rule %u %s\n", n, gm_layout_rule(n));
     for (uint32_t n = 1; strcmp(gm_layout_part(n), "none"); n++) printf("Part %u %s\n", n, gm_layout_part(n));
@@ -1477,7 +1478,7 @@ static int print_names(void) {
     return 0;
 }
 
-/* what no clause of the library promises: the texts of errors */
+/* Checks what no clause of the library promises: the texts of errors. */
 static void check_words(void) {
     static const struct { uint8_t bytes[31]; uint32_t code; const char *text; } rows[] = {
         {{0xcf, 0xfa, 0xed, 0xfe}, GM_MALFORMED, "malformed: a header is 32 bytes"},
@@ -1492,7 +1493,7 @@ static void check_words(void) {
     }
 }
 
-/* a fat file whose header says so many records, with so many bytes of them: how many entries are reported, and whether the last is cut */
+/* Checks a fat file whose header says so many records, with so many bytes of them. So many entries must be reported, and the last may be cut. */
 static void check_cut(void) {
     static const struct { uint32_t says; uint64_t there, told; bool cut; } rows[] = {
         {0, 0, 0, false}, {0, 60, 0, false}, {1, 20, 1, false}, {1, 19, 1, true}, {2, 40, 2, false}, {2, 60, 2, false}, {2, 39, 2, true}, {2, 21, 2, true},
@@ -1510,7 +1511,7 @@ static void check_cut(void) {
     }
 }
 
-/* an image with one symbol table of these records and names */
+/* Returns an image with one symbol table of these records and names. */
 static uint8_t *image_of_symbols(const uint8_t *rest, uint64_t len, uint32_t nsyms, uint64_t *whole) {
     enum { AT = 56 };
     const uint32_t front[] = {0xfeedfacf, 0x01000007, 3, 6, 1, 24, 0, 0, 2, 24, AT, nsyms, AT + 16 * nsyms, (uint32_t)len - 16 * nsyms};
@@ -1521,7 +1522,7 @@ static uint8_t *image_of_symbols(const uint8_t *rest, uint64_t len, uint32_t nsy
     return bytes;
 }
 
-/* the answer for a symbol whose name isn't text, or is past the end */
+/* Checks the answer for a symbol whose name isn't text, or is past the end. */
 static void check_symbols(void) {
     static const struct { uint8_t strx, code; uint64_t at, len; } rows[] = {
         {1, GM_OK, 1, 2}, {4, GM_SHORT, 4, 3}, {6, GM_SHORT, 6, 1}, {8, GM_OK, 8, 1}, {9, GM_SHORT, 0, 0}};
@@ -1573,7 +1574,7 @@ static void check_within(const given *g) {
     if (!c.calls || mallocs == before_call) DIE("nothing was called within a call");
 }
 
-/* wrong arguments of a caller, and what a caller may leave out */
+/* Checks wrong arguments of a caller, and what a caller may leave out. */
 static void check_edges(void) {
     given g = {0};
     uint8_t *bytes = image_of_symbols((const uint8_t[17]){0}, 17, 1, &g.len);

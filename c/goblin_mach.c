@@ -29,7 +29,7 @@ tried rattle_realloc(void *block, size_t kept, size_t size, size_t align) {
     return grown;
 }
 
-/* ---- an arena: blocks one after the other; none is taken back before the last, and then all are */
+/* ---- an arena: blocks one after the other; none is taken back alone, but all together once no block is in use */
 
 static void *arena_take(void *self, size_t size) {
     gm_arena *a = self;
@@ -54,7 +54,7 @@ gm_memory gm_arena_memory(gm_arena *arena) { return (gm_memory){arena, arena_tak
 #define BYTES ((bytes) ? (bytes) : (const uint8_t *)&nothing)
 #define TOLD ((error) ? (error) : &unread)
 
-/* A call's allocator is installed while it runs, and restores the one of the call around it, whose `take` or `give` made this one. */
+/* Installs a call's allocator while the call runs, and then restores the one of the call around it, whose `take` or `give` made this call. */
 #define WITH_MEMORY(call) { \
     const gm_memory *around = memory_of_call; \
     gm_error unread; \
@@ -64,7 +64,7 @@ gm_memory gm_arena_memory(gm_arena *arena) { return (gm_memory){arena, arena_tak
     return code; \
 }
 
-/* the version is the header's, if the library has the interface that this file calls */
+/* The version is the header's, if the library has the interface that this file calls. */
 uint32_t gmr_version(void);
 const char *gm_version(void) { return GM_VERSION_TEXT; }
 uint32_t gm_version_number(void) { return gmr_version() == 1 ? GM_VERSION_NUMBER : 0; }
@@ -246,7 +246,7 @@ uint32_t gm_exports(const uint8_t *bytes, uint64_t len, const gm_image *image, g
 /* an array that grows */
 typedef struct { void *at; uint64_t size; } growing;
 
-/* Makes an array at least `needed` bytes long, and twice as long as it is, with the old contents at its start. */
+/* Makes an array twice as long as it is, or `needed` bytes long if that is longer by more than a byte. The old contents are at its start. */
 static bool grow(const gm_memory *m, growing *array, uint64_t needed) {
     uint64_t size = array->size < needed / 2 ? needed : 2 * array->size;
     void *at = size < PTRDIFF_MAX ? take(m, (size_t)size) : NULL;
@@ -259,7 +259,8 @@ static bool grow(const gm_memory *m, growing *array, uint64_t needed) {
     return true;
 }
 
-/* Calls `each` for the rows of a batch. A zero byte is put after each name while it runs: there is room for one after the last. */
+/* Calls `each` for the rows of a batch; returns whether it took them all. While it runs there is a zero byte after the name. There is room for one
+   after the last name. */
 static bool all_taken(const gm_listed_export *rows, uint64_t count, char *names, gm_export_call each, void *user) {
     for (uint64_t i = 0; i < count; i++) {
         char *name = names + rows[i].name, *end = name + rows[i].name_len, after = *end;
@@ -325,7 +326,7 @@ static uint64_t char_len(const uint8_t *s, uint64_t left) {
     return len;
 }
 
-/* Whether a character isn't shown: a control character, one for the direction of text, or the end of a line. */
+/* Returns whether a character isn't shown: a control character, one for the direction of text, or the end of a line. */
 static bool is_hidden(const uint8_t *s, uint64_t len) {
     if (len == 1) return s[0] < 0x20 || s[0] == 0x7f;
     if (len == 2) return s[0] == 0xc2 && s[1] < 0xa0;

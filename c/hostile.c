@@ -1,5 +1,5 @@
-/* hostile CALL FILE repeats a call of the library on a file as long as its list goes on, up to CALLS times or until SECONDS are over, and prints
-   how many rows it returned. Its caller limits time and memory. The status is 0, or 1 if the image is refused.
+/* hostile CALL FILE repeats a call of the library on a file as long as its list goes on. It ends after CALLS times, or once SECONDS are over. It prints
+   how many rows the call returned. Its caller limits time and memory. The status is 0, or 1 if the image is refused.
    hostile all FILE.. makes all calls on each of these files, each up to FEW_CALLS times, and prints nothing. The status is 0. */
 #define _GNU_SOURCE
 #include "goblin_mach.h"
@@ -16,7 +16,7 @@ typedef struct { const uint8_t *bytes; uint64_t len; gm_image image; } given;
 static uint64_t calls, most_calls = CALLS;
 static time_t begun;
 
-/* whether to make another call */
+/* Returns whether to make another call. */
 static int goes_on(void) { return calls++ < most_calls && time(NULL) - begun <= SECONDS; }
 
 /* the rows of a list that is called by number */
@@ -48,7 +48,7 @@ NUMBERED(build_versions, gm_build_version, gm_build_versions(OF, first, rows, RO
 NUMBERED(dyld_environment, gm_command_text, gm_dyld_environment(OF, first, rows, ROWS))
 NUMBERED(fileset_entries, gm_fileset_entry, gm_fileset_entries(OF, first, rows, ROWS))
 
-/* what single commands say */
+/* Counts what single commands say. */
 static uint64_t said(const given *g) {
     gm_image_uuid uuid;
     gm_encrypted_part part;
@@ -58,7 +58,7 @@ static uint64_t said(const given *g) {
     return found;
 }
 
-/* the sections of all segments, and the relocations of all sections */
+/* Counts the sections of all segments, or the relocations of all sections. */
 static uint64_t inner(const given *g, int relocations) {
     static gm_segment segments[ROWS];
     static gm_section sections[ROWS];
@@ -126,7 +126,7 @@ static uint64_t signature(const given *g) {
     return (!gm_code_signature(OF, &said, NULL, &e) && said.is_signed) + (!gm_is_as_signed(OF, &is, NULL, &e) && is);
 }
 
-/* look-ups by an address or a number: addresses in some order, and numbers up to as many */
+/* Looks up by an address or a number: addresses in some order, and numbers up to as many. */
 static uint64_t slot_at(const given *g) {
     gm_slot slot;
     gm_found_section section;
@@ -140,7 +140,7 @@ static uint64_t slot_at(const given *g) {
     }
     return found;
 }
-/* look-ups of parts and symbols, by names of some lengths, addresses and offsets */
+/* Looks up parts and symbols, by names of some lengths, addresses and offsets. */
 static uint64_t parts_at(const given *g) {
     static char name[1 << 20];
     gm_segment segment;
@@ -225,7 +225,7 @@ static uint64_t open_all(const given *g) {
     return found + !gm_open(g->bytes, g->len, 0, GM_LOSSY, NULL, &image, &e);
 }
 
-/* look-ups in an archive: names of some lengths */
+/* Looks up in an archive, by names of some lengths. */
 static uint64_t archive_find(const given *g) {
     static char name[1 << 20];
     gm_archive_member one;
@@ -239,7 +239,7 @@ static uint64_t archive_find(const given *g) {
     return found;
 }
 
-/* the image for each of many cpus, and what the bytes are */
+/* Looks up the image for each of many cpus, and what the bytes are. */
 static uint64_t image_for(const given *g) {
     gm_fat_entry64 one;
     gm_error e;
@@ -248,7 +248,7 @@ static uint64_t image_for(const given *g) {
     return found;
 }
 
-/* a fat file of the entries that are there */
+/* Writes fat files of the entries that are there: of none, of the first, and on to all. */
 static uint64_t write_fat(const given *g) {
     static gm_fat_entry64 rows[ROWS];
     static gm_fat_part parts[ROWS];
@@ -269,7 +269,7 @@ static const struct { const char *name; uint64_t (*call)(const given *); } all[]
     CALL(layout), CALL(signature), CALL(signature_faults), CALL(all_sections), CALL(build_versions), CALL(dyld_environment), CALL(fileset_entries),
     CALL(said), CALL(parts_at), CALL(exports_each)};
 
-/* the bytes of a file, 4 MB of them at most; none if it can't be read */
+/* Reads the bytes of a file, at most 4 MB of them. Returns whether it can be read. */
 static int read_file(const char *name, given *g) {
     static uint8_t bytes[1 << 22];
     FILE *file = fopen(name, "rb");
@@ -279,7 +279,7 @@ static int read_file(const char *name, given *g) {
     return 1;
 }
 
-/* makes call k on a file; returns whether the image opens, if the call is one on images */
+/* Makes call k on a file. Returns whether the image opens, if the call is one on images. */
 static int make(uint64_t k, given *g, uint64_t *found, gm_error *e) {
     int refused = k >= 9 && gm_open(g->bytes, g->len, 0, GM_STRICT, NULL, &g->image, e) && gm_open(g->bytes, g->len, 0, GM_LOSSY, NULL, &g->image, e);
     calls = 0;

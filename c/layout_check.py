@@ -1,6 +1,6 @@
-"""python3 c/layout_check.py MACHAUDIT COUNT FILE..: damages COUNT copies of each file by a fixed seed, and compares the layout faults of
-each copy in the Python package with those that `machaudit --json` prints: rule, owner and text of the first ten of each rule, and how
-many more there are. It prints how many faults of how many rules agree."""
+"""python3 c/layout_check.py MACHAUDIT COUNT FILE..: makes COUNT copies of each file, and damages all but the first by a fixed seed. It
+compares the layout faults of each copy in the Python package with those that `machaudit --json` prints. These are rule, owner and text of
+the first ten of each rule, and how many more there are. It prints how many faults of how many rules agree."""
 
 import collections
 import json
@@ -16,7 +16,7 @@ TOLD = 10
 
 
 def damaged(data, chance):
-    """The bytes with some numbers at the start changed: small ones, ones near the length, and any."""
+    """Returns the bytes with some numbers at the start changed: to small ones, ones near the length, and any."""
     data = bytearray(data)
     for _ in range(chance.randrange(4)):
         at = 4 * chance.randrange(max(1, min(len(data), 1200) // 4))
@@ -26,7 +26,7 @@ def damaged(data, chance):
 
 
 def told(faults):
-    """What machaudit prints for faults: for each rule the first ten, and how many more."""
+    """Returns what machaudit prints for faults: for each rule the first ten, and how many more there are."""
     counts = collections.Counter()
     lines = []
     for f in faults:
@@ -37,7 +37,7 @@ def told(faults):
 
 
 def part_of(parts, name):
-    """What machaudit prints for a part, if there is one."""
+    """Returns what machaudit prints for a part, if there is one."""
     for part in parts:
         if part["part"] == name:
             return [(f["kind"], f["owner"], f["words"]) for f in part["faults"]], part["more"]
@@ -45,7 +45,7 @@ def part_of(parts, name):
 
 
 def compare(data, audit, seen):
-    """The faults of a table, and of each image that opens."""
+    """Compares the faults of a table, and of each image that opens. Returns the first difference, or None."""
     pairs = [(told(goblin_mach.container_faults(data)), part_of(audit["container"], "table"))]
     entries = list(goblin_mach.fat_entries(data))
     files = [data[e.offset:e.offset + e.size] for e in entries] or [data]

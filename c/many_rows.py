@@ -1,8 +1,8 @@
 #!/usr/bin/env python3
-"""many_rows.py FOLDER: writes an image with 1,000 symbols, imports and exports and 200 sections to FOLDER/many, and the lines that the
-examples of docs/C.md print for it to FOLDER/symbols, commands, sections, imports, bindings, exports, faults, memory and create; an
-archive with it to FOLDER/many.a, and the lines for that to FOLDER/members; and a fat file of 20 entries, each of them that image, to
-FOLDER/fat."""
+"""many_rows.py FOLDER: writes an image with 1,000 symbols, imports and exports and 200 sections to FOLDER/many. The lines that the examples
+of docs/C.md print for it are in FOLDER/symbols, commands, sections, imports, bindings, exports, faults, memory and create. An archive with
+the image is FOLDER/many.a, and the lines for it are in FOLDER/members. A fat file of 20 entries, each of them the image, is FOLDER/fat, and
+the lines for it are in FOLDER/entries."""
 import struct
 import sys
 
@@ -12,12 +12,12 @@ SEGMENTS, SECTIONS = 10, 20  # segments, and sections in each, of four bytes eac
 
 
 def uleb(number):
-    """A number in three bytes, whatever it is."""
+    """Returns a number in three bytes, whatever it is."""
     return bytes([number & 127 | 128, number >> 7 & 127 | 128, number >> 14])
 
 
 def trie():
-    """Exports _e000 to _e999: a root with ten branches, each to a node with a hundred."""
+    """Returns exports _e000 to _e999: a root with ten branches, each to a node with a hundred."""
     label = lambda text, start: text + b"\0" + uleb(start)
     size_of_root, size_of_node, size_of_leaf = 2 + 10 * 7, 2 + 100 * 6, 6
     first = size_of_root + 10 * size_of_node
@@ -28,7 +28,8 @@ def trie():
 
 
 def archive(data):
-    """An archive in GNU's form with an index of 100 symbols, and 100 members: first an image, then texts with long names."""
+    """Returns an archive in GNU's form, and its lines. It has an index of 100 symbols, and 100 members: first an image, then texts with long
+    names."""
     header = lambda name, size: name.ljust(16) + b"0".ljust(12) + b"0".ljust(6) * 2 + b"644".ljust(8) + b"%-10d`\n" % size
     names = b"".join(b"a_member_with_a_long_name_%02d.txt/\n" % k for k in range(99))
     texts = b"".join(b"_t%02d\0" % k for k in range(100))
@@ -53,7 +54,7 @@ def data_of(segment, section):
 
 
 def sections_at(place):
-    """The commands of segments whose data follow one another from a place on."""
+    """Returns the commands of segments whose data follow one another from a place on."""
     out = b""
     for a in range(SEGMENTS):
         name, begin = b"__S%d" % a, place + 4 * SECTIONS * a
@@ -64,7 +65,7 @@ def sections_at(place):
 
 
 def image():
-    """The image, and the offsets of its commands, each with its name."""
+    """Returns the image, and the offsets of its commands, each with its name."""
     names = b"\0" + b"".join(b"_s%03d\0" % k for k in range(COUNT))
     symbols = b"".join(struct.pack("<IBBHQ", 1 + 6 * k, 0xF, 255, 0, k) for k in range(COUNT))
     binds = b"\x11\x51\x70\0" + b"".join(b"\x40_i%03d\0\x90" % k for k in range(COUNT)) + b"\0"

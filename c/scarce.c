@@ -32,7 +32,7 @@ static uint64_t count, readings, most, held;
 static bool all_behind, is_heap, no_clock, no_renames;
 static int told = -1;
 
-/* Where the program's own code is: the first of all objects is the program. */
+/* Finds where the program's own code is. The first of all objects is the program. */
 static int find_own(struct dl_phdr_info *info, uint64_t size, void *nothing) {
     (void)size, (void)nothing;
     for (int i = 0; i < info->dlpi_phnum; i++) {
@@ -67,13 +67,13 @@ static void tell(char letter) {
     if (write(told, &letter, 1) < 0) told = -1;
 }
 
-/* Whether an allocator call that returns to this address comes from the program's own code. */
+/* Returns whether an allocator call that returns to this address comes from the program's own code. */
 static bool is_own(void *back) {
     uintptr_t at = (uintptr_t)back;
     return at >= own_from && at < own_upto;
 }
 
-/* Whether a growth to so many bytes, instead of those of a block, exceeds the limit. */
+/* Returns whether a growth to so many bytes, instead of those of a block, exceeds the limit. */
 static bool is_past_heap(uint64_t size, void *block) {
     if (!is_heap) return false;
     tell('h');
@@ -81,7 +81,7 @@ static bool is_past_heap(uint64_t size, void *block) {
     return size > most || others > most - size;
 }
 
-/* Whether a growth by the program's own code is the one to refuse, or a later one. */
+/* Returns whether a growth by the program's own code is the one to refuse, or a later one. */
 static bool is_numbered(void) {
     if (spared > 0) return spared--, false;
     growths++;
@@ -90,14 +90,14 @@ static bool is_numbered(void) {
     return true;
 }
 
-/* Whether an allocator call that returns to this address is refused; it requests so many bytes instead of a block, or a new block. */
+/* Returns whether an allocator call that returns to this address is refused. It requests so many bytes instead of a block, or a new block. */
 static bool is_refused(void *back, uint64_t size, void *block) {
     if (!is_own(back) || (!is_numbered() && !is_past_heap(size, block))) return false;
     errno = ENOMEM;
     return true;
 }
 
-/* Returns the new block, which counts if it is the program's own. */
+/* Returns the new block. It counts if it is the program's own. */
 static void *counted(void *back, void *made) {
     if (is_own(back)) held += malloc_usable_size(made);
     return made;

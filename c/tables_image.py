@@ -1,7 +1,8 @@
 #!/usr/bin/env python3
-"""c/tables_image.py FOLDER writes two small images that have each list of the C interface: tables.macho of 64 bits, little-endian, and
-tables32.macho of 32 bits, big-endian: function starts, data in code, linker options, tools, notes, indirect symbols with stubs and
-pointers, rebases, weak binds, and what single commands say. No linker writes such an image; the lists are as llvm-objdump prints them."""
+"""c/tables_image.py FOLDER writes two small images that have each list of the C interface. tables.macho has 64 bits and is little-endian, and
+tables32.macho has 32 bits and is big-endian. They have function starts, data in code, linker options, tools, notes, indirect symbols with
+stubs and pointers, rebases, weak binds, and what single commands say. No linker writes such an image. The lists are as llvm-objdump prints
+them."""
 import struct
 import sys
 
@@ -48,7 +49,7 @@ class Image:
         return rows, names
 
     def build(self, front):
-        """The image, with so many bytes of header and commands; built a second time if they turn out different."""
+        """Returns the image, with so many bytes of header and commands. Builds it a second time if they turn out different."""
         p, self.commands = self.pointer, []
         text, data = 0x40, 16 * p
         rows, names = self.symbols()

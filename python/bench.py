@@ -1,5 +1,5 @@
-"""python3 python/bench.py FILE: measures the lists of a file's first image in microseconds of processor time for each item, the least of
-five runs."""
+"""python3 python/bench.py FILE measures the lists of a file's first image, by processor time. It prints the seconds of the fastest of five
+runs, and the microseconds an item."""
 
 from __future__ import annotations
 

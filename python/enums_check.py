@@ -25,7 +25,7 @@ class Constant(NamedTuple):
 
 
 class Prefix(NamedTuple):
-    """Constants with this prefix (of this type, if one is given, and in a file of this name, if one is given) are members of this enum."""
+    """A rule: constants with this prefix are members of this enum. If a type or the name of a file is given, it must be the constant's."""
 
     prefix: str
     enum: str
@@ -33,8 +33,8 @@ class Prefix(NamedTuple):
     file: str = ""
 
 
-# The first line that fits a constant counts. One without an enum, such as a mask or a magic, isn't in the package, nor is one that no line
-# fits.
+# The first line that fits a constant counts. A constant whose line has no enum, such as a mask or a magic, isn't in the package. Nor is one
+# that no line fits.
 PREFIXES = [
     Prefix("GM_OK", ""), Prefix("GM_", "ErrorCode", file="errors.rt"), Prefix("GM_STRICT", "Mode"), Prefix("GM_LOSSY", "Mode"),
     Prefix("LC_REQ_DYLD", ""), Prefix("LC_", "LoadCommand"),
@@ -63,7 +63,7 @@ NAMED = {
 
 
 def enum_classes() -> Dict[str, Any]:
-    """The enums by name. The package's own file is not imported, because it loads the library."""
+    """Returns the enums by name. The package's own file is not imported, since it loads the library."""
     shell = types.ModuleType("goblin_mach_enums")
     shell.__path__ = [os.path.join(HERE, "goblin_mach")]
     sys.modules[shell.__name__] = shell
@@ -80,7 +80,7 @@ def source_files(top: str) -> Iterator[str]:
 
 
 def constants(top: str) -> Tuple[List[Tuple[str, Constant]], List[str]]:
-    """The numbers of the library crates and of the header, by name, and what can't be read of them."""
+    """Returns the numbers of the library crates and of the header, by name, and what can't be read of them."""
     found: List[Tuple[str, Constant]] = []
     wrong = []
     for path in source_files(top):
@@ -99,13 +99,13 @@ def constants(top: str) -> Tuple[List[Tuple[str, Constant]], List[str]]:
 
 
 def line_of(name: str, constant: Constant) -> Prefix:
-    """The line of the table that fits a constant."""
+    """Returns the line of the table that fits a constant."""
     fits = (line for line in PREFIXES if name.startswith(line.prefix) and line.type in ("", constant.type) and line.file in ("", constant.file))
     return next(fits, Prefix("", ""))
 
 
 def differences(top: str = TOP) -> List[str]:
-    """What differs between enums and crates."""
+    """Returns what differs between enums and crates."""
     classes = enum_classes()
     subtypes = [name for name, item in classes.items() if name.endswith("Subtype") and item.__members__]
     known, wrong = constants(top)

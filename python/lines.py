@@ -1,5 +1,5 @@
-"""`python3 python/lines.py FOLDER FILE WORD..` writes lists of each image of a file, in the lines of c/gm_test.c, with which c/check compares
-them: those of a WORD to the file of that name in FOLDER."""
+"""`python3 python/lines.py FOLDER FILE WORD..` writes lists of each image of a file, in the lines of c/gm_test.c. c/check compares the two.
+The lines of a WORD go to the file of that name in FOLDER."""
 
 from __future__ import annotations
 
@@ -178,7 +178,7 @@ WHOLE: Dict[str, Callable[[File], Iterator[str]]] = {"members": _members, "archi
 
 
 def _lines_of(file: File, word: str) -> Iterator[str]:
-    """The lines of a list, of each image that has it."""
+    """Yields the lines of a list, of each image that has it."""
     if word in WHOLE:
         yield from WHOLE[word](file)
         return

@@ -1,4 +1,4 @@
-"""A wheel that includes the library is for the system that the library was built on, and for any Python 3; one without it is for all
+"""A wheel that includes the library is for the system that the library was built on, and for any Python 3. A wheel without it is for all
 systems."""
 
 import glob

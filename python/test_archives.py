@@ -28,18 +28,18 @@ def image(cpu=X86_64, kind=3, names=()):
 
 
 def indexed():
-    """GNU's index of two symbols of one member."""
+    """Returns GNU's index of two symbols of one member."""
     return MAGIC + header(b"/", 18) + struct.pack(">3I", 2, 86, 86) + b"_a\0_b\0" + header(b"x.o/", 0)
 
 
 def symdef(order="<"):
-    """BSD's index, with names after the header."""
+    """Returns BSD's index, with names after the header."""
     table = struct.pack(order + "6I", 16, 0, 112, 3, 112, 8) + b"_a\0_b\0\0\0"
     return MAGIC + header(b"#1/12", 44) + b"__.SYMDEF\0\0\0" + table + header(b"x.o", 2) + b"xy"
 
 
-# Each archive; for each member its name, the offsets of its header and of its bytes, and how many these are; or the number of the error after
-# it.
+# Each archive with its members. A member is its name, the offsets of its header and of its bytes, and how many bytes these are. The number of
+# an error may follow the members.
 MEMBERS = [
     (MAGIC, []),
     (MAGIC + header(b"a.o/", 1) + b"x\n" + header(b"b.o/", 0), [("a.o", 8, 68, 1), ("b.o", 70, 130, 0)]),
@@ -61,7 +61,7 @@ MEMBERS = [
     (symdef(), [("x.o", 112, 172, 2)]),
 ]
 
-# Each archive; for each symbol of its index its name and its member, or the number of the error.
+# Each archive with the symbols of its index. A symbol is its name and its member, or the number of the error.
 SYMBOLS = [
     (MAGIC, []),
     (MAGIC + header(b"a.o/", 0), []),
@@ -134,7 +134,7 @@ def _code(words):
 
 
 def library():
-    """An archive with an image, a text, an image that can't be opened, and another image."""
+    """Returns an archive with an image, a text, an image that can't be opened, and another image."""
     members = [(b"a.o/", image(names=[b"_a"])), (b"t.txt/", b"text"), (b"bad.o/", image()[:20]), (b"b.o/", image(names=[b"_b", b"_c"]))]
     return MAGIC + b"".join(header(name, len(data)) + data + b"\n" * (len(data) % 2) for name, data in members)
 
@@ -199,7 +199,7 @@ def library_of(cpu, kind):
 
 class Writing(made.Case):
     def fat(self, parts, is_64):
-        """The fat file of some parts, computed a second time."""
+        """Returns the fat file of some parts, computed a second time."""
         width, records, out = (32, b"", b"") if is_64 else (20, b"", b"")
         end = 8 + width * len(parts)
         for part in parts:

@@ -1,6 +1,6 @@
-"""Tests with other tools: that `mypy --strict` reports nothing for the package, if it is installed, and that Python's tools build a
-wheel that includes the library, without a network, if build, setuptools and wheel are installed (Debian: python3-build,
-python3-setuptools, python3-wheel)."""
+"""Tests with other tools. `mypy --strict` must report nothing for the package, if it is installed. Python's tools must build a wheel that
+includes the library, without a network, if build, setuptools and wheel are installed (Debian: python3-build, python3-setuptools,
+python3-wheel)."""
 
 import os
 import shutil
@@ -65,7 +65,7 @@ class Wheel(unittest.TestCase):
         shutil.copytree(HERE, self.source, ignore=left_out)
 
     def made(self):
-        """The names of the files of a wheel that is built, and its own."""
+        """Returns the name of a wheel that is built, and the names of its files."""
         status, said = run(PYTHON, "-m", "build", "--no-isolation", "--wheel", "--outdir", self.room, self.source, cwd=self.room)
         self.assertEqual(status, 0, said)
         (name,) = (name for name in os.listdir(self.room) if name.endswith(".whl"))

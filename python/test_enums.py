@@ -19,7 +19,7 @@ class Names(unittest.TestCase):
         self.assertEqual(enums_check.differences(), [])
 
     def test_a_number_that_differs_is_told(self):
-        """The check itself, on a repository of one file, with a number that differs and a name that is new."""
+        """Tests the check itself, on a repository of one file, with a number that differs and a name that is new."""
         with tempfile.TemporaryDirectory() as room:
             os.makedirs(os.path.join(room, "crates/mach_some/src"))
             os.makedirs(os.path.join(room, "c/include"))
@@ -65,7 +65,7 @@ class Names(unittest.TestCase):
 
 class Unknown(unittest.TestCase):
     def each(self):
-        """Each enum that has names, and a number without a name in it."""
+        """Yields each enum that has names, and a number without a name in it."""
         for name, item in sorted(CLASSES.items()):
             if item.__members__:
                 number = 0xFFFFFFFF - 0x12345

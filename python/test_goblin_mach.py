@@ -32,13 +32,13 @@ def segment(name, sections=b"", count=0, size=0x1000):
 
 
 def image(*commands, filetype=DYLIB, behind=b""):
-    """The bytes of an image of 64 bits with these commands, and some bytes after them."""
+    """Returns the bytes of an image of 64 bits with these commands, and some bytes after them."""
     body = b"".join(commands)
     return struct.pack("<8I", 0xFEEDFACF, CPU, 3, filetype, len(commands), len(body), 0, 0) + body + behind
 
 
 def with_symbols(*names):
-    """An image with a symbol for each name: number k has the value k."""
+    """Returns an image with a symbol for each name. Number k has the value k."""
     texts, rows = b"\0", b""
     for k, name in enumerate(names):
         rows += struct.pack("<IBBHQ", len(texts), 0xF, 0, 0, k)
@@ -48,7 +48,7 @@ def with_symbols(*names):
 
 
 def with_binds(opcodes):
-    """An image with a library, a segment of 2^62 bytes of memory and these bind opcodes, but no bytes of the segment."""
+    """Returns an image with a library, a segment of 2^62 bytes of memory and these bind opcodes, but no bytes of the segment."""
     library = command(0xC, struct.pack("<4I", 24, 0, 0, 0), b"/l\0")
     given = segment(b"__DATA", size=1 << 62)
     at = 32 + len(library) + len(given) + 48
@@ -56,25 +56,26 @@ def with_binds(opcodes):
 
 
 def with_exports():
-    """An image that exports _a at 0x10 and _b at 0x11."""
+    """Returns an image that exports _a at 0x10 and _b at 0x11."""
     trie = b"\0\2_a\0\x0a_b\0\x0e" + b"\2\0\x10\0" + b"\2\0\x11\0"
     return image(command(0x22, struct.pack("<10I", *8 * [0], 32 + 48, len(trie))), behind=trie)
 
 
 def with_shared_node():
-    """An image whose trie has two branches to one node, which exports 7."""
+    """Returns an image whose trie has two branches to one node, which exports 7."""
     trie = b"\0\2a\0\x08b\0\x08" + b"\2\0\7\0"
     return image(command(0x22, struct.pack("<10I", *8 * [0], 32 + 48, len(trie))), behind=trie)
 
 
 def many_binds():
-    """An image whose binds take longer than a lifetime: one instruction claims 2^55 of them. The program prints at least 2^17."""
+    """Returns an image whose binds take longer than a lifetime: one instruction claims 2^55 of them. The program prints at least
+    2^17."""
     count = bytes([0x80] * 7 + [0x40])  # 2^55, as ULEB128
     return with_binds(b"\x11\x40_far\0\x51\x70\0" + b"\xc0" + count + b"\0" + bytes(1 << 17))
 
 
 def fat(*entries, count=None):
-    """The bytes of a fat file with these entries, whose header claims so many records."""
+    """Returns the bytes of a fat file with these entries, whose header claims so many records."""
     at, records, bodies = 8 + 20 * len(entries), b"", b""
     for entry in entries:
         records += struct.pack(">5I", CPU, 3, at + len(bodies), len(entry), 0)
@@ -323,13 +324,13 @@ def surroundings(**more):
 
 
 def run(words, stdout=subprocess.PIPE, **more):
-    """A run of the program."""
+    """Runs the program."""
     return subprocess.run(words_of(words), stdin=subprocess.DEVNULL, stdout=stdout, stderr=subprocess.PIPE, env=surroundings(**more),
                           timeout=SECONDS, check=False)
 
 
 def answers_ctrl_c():
-    """Ctrl-C as for programs on a terminal, even if the tests run in the background."""
+    """Sets Ctrl-C as for programs on a terminal, even if the tests run in the background."""
     signal.signal(signal.SIGINT, signal.default_int_handler)
 
 
@@ -339,7 +340,7 @@ def ignores_ctrl_c():
 
 class Program(Case):
     def begun(self, words, before, lines=3):
-        """A program that writes without end, once it has written its first items; and the last of these lines."""
+        """Returns a program that writes without end, once it has written its first items, and the last of these lines."""
         program = subprocess.Popen(words, stdin=subprocess.DEVNULL, stdout=subprocess.PIPE, stderr=subprocess.PIPE, env=surroundings(),
                                    preexec_fn=before)
         self.addCleanup(lambda: [program.kill(), program.wait(), program.stdout.close(), program.stderr.close()])

@@ -1,5 +1,5 @@
-"""Tests of what single commands say of an image, and of look-ups by names, addresses and offsets: by values of the repository's images, and
-beside definitions over the package's lists, also on damaged copies."""
+"""Tests of what single commands say of an image, and of look-ups by names, addresses and offsets. They compare with values of the
+repository's images, and with definitions over the package's lists, also on damaged copies."""
 
 import itertools
 import json
@@ -18,7 +18,8 @@ FAR = (0, 1, 0xFFFFFFFF, 1 << 63, (1 << 64) - 1)
 
 
 def claimed(image):
-    """The sections that can be read: the number of each over all segments, from 1, and those of its segment and in it, from 0."""
+    """Yields the sections that can be read: the number of each over all segments, from 1, and those of its segment and in it, from
+    0."""
     before = 0
     for i, segment in enumerate(image.segments()):
         for k, section in enumerate(image.sections(segment).in_bounds()):
@@ -28,7 +29,7 @@ def claimed(image):
 
 
 def numbered(image):
-    """Those of them whose record is in their segment's command, each with its number over all segments."""
+    """Returns those of them whose record is in their segment's command, each with its number over all segments."""
     front, each = (72, 80) if image.is_64 else (56, 68)
     room = [(it.size - front) // each for it in image.commands() if it.load_command in (LoadCommand.SEGMENT, LoadCommand.SEGMENT_64)]
     return ((number, section) for number, i, k, section in claimed(image) if k < room[i])
@@ -43,7 +44,7 @@ def symbol_named(image, name):
 
 
 def symbol_at(image, address):
-    """The index of the symbol that names an address, with the symbol, or None."""
+    """Returns the index of the symbol that names an address, with the symbol, or None."""
     section, _ = section_at(image, address)
     found = [(k, each) for k, each in enumerate(image.symbols().in_bounds())
              if not each.error and each.n_type & 0xEE == 0x0E and each.section == section and each.value <= address]
@@ -58,7 +59,7 @@ def function_at(image, address):
 
 
 def moved(number, first, count, to):
-    """Where a number among `count` from `first` on is, if these begin at `to`."""
+    """Returns where a number among `count` from `first` on is, if these begin at `to`."""
     return number - first + to if 0 <= number - first < count else None
 
 
@@ -77,7 +78,7 @@ def is_text(name):
 
 
 def addresses(image):
-    """Addresses of interest: where segments, sections, symbols and functions begin and end, and far ones."""
+    """Returns addresses of interest: where segments, sections, symbols and functions begin and end, and far ones."""
     found = {0, *FAR}
     for each in itertools.islice(image.segments(), 50):
         found.update((each.vmaddr, each.vmaddr + each.vmsize, each.vmaddr + each.filesize))
@@ -131,7 +132,7 @@ class Said(unittest.TestCase):
 
 class LookUps(unittest.TestCase):
     def compare(self, image):
-        """Each look-up of an image, beside its definition."""
+        """Compares each look-up of an image with its definition."""
         names = {each.name for each in itertools.islice(image.symbols().in_bounds(), 20) if not each.error}
         for name in names | {"", "_nothing"}:
             found, wanted = image.symbol(name), symbol_named(image, name)
@@ -173,7 +174,8 @@ class LookUps(unittest.TestCase):
         self.assertEqual(json.loads(found.json())["symbol"]["name"], "_answer")
 
     def test_ties_and_kinds(self):
-        """Of several symbols of one value the last; none of another section, none that is undefined, absolute or for a debugger."""
+        """Tests that of several symbols of one value the last is found. None is found in another section, and none that is undefined,
+        absolute or for a debugger."""
         raw = b"".join(struct.pack("<16s16s2Q8I", name, b"__T", at, 16, 0, 0, 0, 0, 0, 0, 0, 0) for name, at in ((b"a", 0x1000), (b"b", 0x1010)))
         rows = [(0x0E, 1, 0x1000), (0x0F, 1, 0x1004), (0x0F, 1, 0x1004), (0x24, 1, 0x1005), (0x02, 0, 0x1006), (0x0F, 2, 0x1007), (0x1E, 2, 0x1012)]
         texts = b"".join(b"\0_%d" % k for k in range(len(rows))) + b"\0"
@@ -193,7 +195,7 @@ class LookUps(unittest.TestCase):
                     call(wrong)
 
     def hostile(self):
-        """Damaged copies of the samples, and images that claim 2^32 - 1 records."""
+        """Yields damaged copies of the samples, and images that claim 2^32 - 1 records."""
         for path in values.SAMPLES:
             data = values.open_bytes(path)
             chance = random.Random(len(data))

@@ -28,7 +28,7 @@ MANY = 2500
 
 
 def image_of(cpu, kind, *commands, filetype=2):
-    """The bytes of an image for this cpu."""
+    """Returns the bytes of an image for this cpu."""
     data = bytearray(made.image(*commands, filetype=filetype))
     data[4:12] = struct.pack("<2I", cpu, kind)
     return bytes(data)
@@ -186,7 +186,8 @@ class Lists(made.Case):
         self.assertEqual([each.ordinal for each in image.libraries()[999:1002]], [1000, 1001, 1002])
 
     def test_that_begin_anew_at_each_call_have_few_calls(self):
-        """A call of such a list reads what is before its first item, so 20,000 items need few calls, also at an index and in a slice."""
+        """Tests that 20,000 items need few calls, also at an index and in a slice. Each call of such a list reads what is before its first
+        item."""
         count = 20000
         image = goblin_mach.Image(made.image(*(library(b"/%d" % k) for k in range(count))))
         kind = image.libraries()._kind
@@ -255,7 +256,7 @@ class Lists(made.Case):
         self.assertEqual(repr(symbols), "<Rows: symbols, the file is closed>")
 
     def test_of_many_exports(self):
-        """More exports than a batch holds, and names longer than the first buffers."""
+        """Tests more exports than a batch holds, and names longer than the first buffers."""
         long = b"n" * 3000
         leaf = [b"\2\0" + bytes([k]) + b"\0" for k in range(3)]
         names = [long + b"%d" % k for k in range(3)]
@@ -397,7 +398,7 @@ class Loading(made.Case):
         return path
 
     def loads(self, **more):
-        """What it loads, or the text of its ImportError."""
+        """Returns what it loads, or the text of its ImportError."""
         code = "try:\n    import goblin_mach\n    print(goblin_mach._library.lib._name)\nexcept ImportError as why:\n    print('not:', why)"
         kept = {name: value for name, value in os.environ.items() if name not in ("GOBLIN_MACH", "LD_LIBRARY_PATH")}
         ran = subprocess.run([sys.executable, "-c", code], stdout=subprocess.PIPE, check=True, timeout=made.SECONDS, cwd=self.room,
@@ -442,7 +443,7 @@ def open_lines(path):
 
 
 def _library_file(line):
-    """Whether a line of /proc/self/maps is for the loaded library."""
+    """Returns whether a line of /proc/self/maps is for the loaded library."""
     return os.path.realpath(line.split()[-1]) == os.path.realpath(_library.lib._name) or os.path.basename(line.split()[-1]).startswith("libgoblin_mach")
 
 

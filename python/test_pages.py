@@ -1,5 +1,5 @@
-"""Tests that each example of the pages runs and prints what the page says: fenced blocks of Python in docs/PYTHON.md, docs/C.md and both
-READMEs, run at the top of the repository. A block of text directly after one is its output."""
+"""Tests that each example of the pages runs and prints what the page says. The examples are fenced blocks of Python in docs/PYTHON.md,
+docs/C.md and both READMEs. They run at the top of the repository. A block of text directly after one is its output."""
 
 import contextlib
 import io
@@ -23,7 +23,7 @@ def read(page):
 
 class Pages(unittest.TestCase):
     def setUp(self):
-        """A folder where a.out is an image and crates/ is that of the repository."""
+        """Makes a folder where a.out is an image and crates/ is that of the repository."""
         room = tempfile.TemporaryDirectory()
         self.addCleanup(room.cleanup)
         os.symlink(os.path.join(TOP, "crates"), os.path.join(room.name, "crates"))

@@ -24,7 +24,7 @@ def little(*numbers):
 
 
 def code(size):
-    """An image of arm64 with one command, LC_CODE_SIGNATURE, and zeros up to its signature of this size."""
+    """Returns an image of arm64 with one command, LC_CODE_SIGNATURE, and zeros up to its signature of this size."""
     return (little(0xFEEDFACF, 0x0100000C, 0, 2, 1, 16, 0, 0) + little(0x1D, 16, CODE, size)).ljust(CODE, b"\0")
 
 
@@ -33,7 +33,7 @@ def blob(magic, content):
 
 
 def directory(image, sealed, flags=2, names=b"id\0ABCDE12345\0"):
-    """A code directory of version 0x20400, SHA-256, pages of 4096, with the identifier `id` and then the team."""
+    """Returns a code directory of version 0x20400, SHA-256, pages of 4096, with the identifier `id` and then the team."""
     hashes = b"".join(hashlib.sha256(sealed[k]).digest() if k in sealed else bytes(32) for k in range(max(sealed, default=0), 0, -1))
     pages = [image[at:at + 4096] for at in range(0, CODE, 4096)]
     at = 88 + len(names) + len(hashes)
@@ -42,7 +42,7 @@ def directory(image, sealed, flags=2, names=b"id\0ABCDE12345\0"):
 
 
 def signature_of(*blobs):
-    """A signature of blobs, each with its slot."""
+    """Returns a signature of blobs, each with its slot."""
     at, index = 12 + 8 * len(blobs), b""
     for slot, content in blobs:
         index += big(slot, at)
@@ -51,7 +51,7 @@ def signature_of(*blobs):
 
 
 def signed(entitlements=ENTITLEMENTS, **more):
-    """An image with a signature that has a team and, if they are given, entitlements."""
+    """Returns an image with a signature that has a team and, if they are given, entitlements."""
     others = [] if entitlements is None else [(5, blob(0xFADE7171, entitlements))]
     sealed = dict(others)
     size = len(signature_of((0, directory(code(0), sealed, **more)), *others))

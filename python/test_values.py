@@ -1,4 +1,4 @@
-"""Tests of what a caller asks for first, by values of the repository's images: items as JSON, the fields of load commands, segments and
+"""Tests of what a caller needs first, by values of the repository's images: items as JSON, the fields of load commands, segments and
 sections by their names, what isn't Mach-O, and the command `goblin-mach`."""
 
 import contextlib
@@ -100,7 +100,7 @@ def open_bytes(path):
 
 class Commands(unittest.TestCase):
     def test_have_the_fields_that_machinfo_prints(self):
-        """An image with a command of each of the 54 kinds; its commands as `machinfo --json commands` prints them."""
+        """Tests an image with a command of each of the 54 kinds. Its commands must be as `machinfo --json commands` prints them."""
         with open(os.path.join(TOP, "crates/machinfo/rows/commands.rows"), encoding="utf-8") as file:
             rows = json.loads(re.search(r"^json /images/0/commands '(.*)'$", file.read(), re.M).group(1))
         wanted = [row for row in rows if "cmd" in row]

@@ -1,4 +1,4 @@
-"""Tries the vectors of the repository on the package: vectors/README.md says what they are.
+"""Tries the vectors of the repository on the package. vectors/README.md says what they are.
 
 `python3 python/test_vectors.py FILE..` prints what differs in some files; `c/check` runs this with the other tests, on all files."""
 
@@ -15,7 +15,7 @@ import vectors  # noqa: E402
 
 
 class Outcome:
-    """What comes of the vectors of some files."""
+    """What the vectors of some files result in."""
 
     def __init__(self):
         self.differences, self.vectors, self.expected, self.left_out = [], 0, 0, []

@@ -1,4 +1,4 @@
-"""The answers of the package to vectors: vectors/README.md says what they are. `test_vectors.py` compares them."""
+"""The answers of the package to vectors. vectors/README.md says what vectors are. `test_vectors.py` compares the answers."""
 
 import re
 
@@ -10,7 +10,7 @@ LEFT_OUT = {"mach", "input", "images"}
 """The calls that the package doesn't have."""
 
 
-# ---- errors, of which the package tells fewer apart than the vectors
+# ---- errors; the package has fewer kinds of them than the vectors
 
 ERRORS = {"malformed": "malformed", "bad magic": "bad-magic", "out of the bytes, or no text": "short", "too many": "too-short"}
 CALLED = {"malformed": "malformed", "bad-magic": "bad-magic", "bad-offset": "short", "too-big": "short", "bad-input": "short", "too-short": "too-short"}
@@ -18,7 +18,7 @@ ERROR = re.compile(rf"(\berror |\()({'|'.join(CALLED)})[^)]*")
 
 
 def plain(line):
-    """A wanted line, with errors as the package tells them apart."""
+    """Returns a wanted line, with errors of the kinds that the package has."""
     parts = line.split('"')
     parts[::2] = [ERROR.sub(lambda found: found[1] + CALLED[found[2]], part) for part in parts[::2]]
     return '"'.join(parts)
@@ -33,7 +33,7 @@ def why(refused):
 
 
 def each(items, line):
-    """The lines of items up to their end or to what refuses them. An item after the end is `more`."""
+    """Yields the lines of items up to their end or to what refuses them. An item after the end is `more`."""
     try:
         for item in items:
             is_read = getattr(item, "is_read", not getattr(item, "error", None))
@@ -56,12 +56,12 @@ def hyphened(words):
 
 
 def words_if(**held):
-    """The words of what holds, each after a blank."""
+    """Returns the words of what holds, each after a blank."""
     return "".join(" " + hyphened(word.replace("_", " ")) for word, holds in held.items() if holds)
 
 
 def library(image, ordinal):
-    """The name of a library by its ordinal: that of ordinal 0 is the image's own, or self."""
+    """Returns the name of a library by its ordinal. Ordinal 0 has the image's own name, or self."""
     return quoted(image.libraries()[ordinal - 1].name if ordinal else image.name or "self")
 
 
@@ -77,7 +77,7 @@ def signed(item):
 
 
 def place(part, whole):
-    """Where the bytes of a part begin in those of the whole."""
+    """Returns where the bytes of a part begin in those of the whole."""
     return _memory.Held(part).at - _memory.Held(whole).at
 
 
@@ -157,7 +157,7 @@ def indirect(it):
 
 def export(it):
     if it.kind == "re-export":
-        # The target is the name there, also if it is the same.
+        # The target is the name there, even if it is the same.
         what = f"of {quoted(it.library)}" + ("" if it.target == it.name else f" as {quoted(it.target)}")
     else:
         what = f"at {it.address:#x}" if it.kind == "address" else f"stub {it.address:#x} resolver {it.resolver:#x}"
@@ -165,7 +165,8 @@ def export(it):
 
 
 def walk(image, vector):
-    """The exports of a walk. The walk goes on past a node that is met again: then what comes before the wanted fault is compared."""
+    """Returns the exports of a walk. The walk goes on past a node that is met again. In that case what comes before the wanted fault is
+    compared."""
     lines, want = list(each(image.exports(), export)), vector.want or []
     end = len(want) - 1
     goes_on = len(lines) >= end and not any(line.startswith("error ") for line in lines[:end + 1])
@@ -175,7 +176,8 @@ def walk(image, vector):
 
 
 def exports(image):
-    """All exports, or only why the trie is refused. A trie that a walk reads to its end, and that is no tree, has a shared node."""
+    """Returns all exports, or only why the trie is refused. A trie that a walk reads to its end, and that is no tree, has a shared
+    node."""
     lines = list(each(image.exports(), export))
     if image.exports_are_a_tree():
         return lines
@@ -221,7 +223,7 @@ def entry(it):
 
 
 def archive_kind(data):
-    """The kind of an archive. None if it is thin, or none: the package refuses these."""
+    """Returns the kind of an archive, or None if it is thin or no archive, since the package refuses these."""
     return Archive(data).kind if data.startswith(b"!<arch>\n") else None
 
 
@@ -233,7 +235,7 @@ def member(it):
 
 
 def write_fat(vector, data):
-    """The lines of a written file. None if a part isn't in the bytes: the package takes bytes."""
+    """Returns the lines of a written file, or None if a part isn't in the bytes, since the package takes bytes."""
     if any(offset + length > len(data) for offset, length, *_ in vector.parts):
         return None
     parts = [FatPart(cputype, cpusubtype, data[offset:offset + length], align) for offset, length, cputype, cpusubtype, align in vector.parts]
@@ -268,7 +270,7 @@ def signature(image):
 
 
 def signature_faults(image):
-    """Faults have errors, but each is the line of a fault."""
+    """Yields the line of each fault, also of one with an error."""
     try:
         for it in image.signature_faults():
             ends = f" {error(it.error)}" if it.error else ""
@@ -278,7 +280,7 @@ def signature_faults(image):
 
 
 def as_signed(image):
-    """Whether it is as it was signed. If no code directory counts, which refuses the signature, that is a fault of it."""
+    """Returns whether it is as it was signed. If no code directory counts, the signature is refused, and that is a fault of it."""
     try:
         found = image.signature
     except Refused:
@@ -286,7 +288,7 @@ def as_signed(image):
     return "yes" if found is not None and found.is_as_signed() else "no"
 
 
-# ---- names of numbers. None is a name that the package has, and the library doesn't
+# ---- names of numbers; None if the package has a name and the library hasn't
 
 def known(number, prefix=""):
     return prefix + number.name if number.is_known else "none"
@@ -333,7 +335,7 @@ NAMES = {
 }
 
 
-# ---- calls: lists of lines, to which an end is added, and single lines. None is what the package can't be asked
+# ---- calls: lists of lines, which get an end, and single lines; None if the package can't be asked
 
 LISTS_OF_IMAGES = {
     "header": header,
@@ -397,7 +399,7 @@ SINGLES_OF_FILES = {
 
 
 def ended(lines):
-    """A list with its end, unless an error is its last line."""
+    """Returns a list with its end, unless an error is its last line."""
     lines = list(lines)
     return lines if lines and lines[-1].startswith("error ") else [*lines, "end"]
 
@@ -410,7 +412,7 @@ def named(vector):
 
 
 def answer(vector):
-    """The lines of a vector's answer. None if the package can't be asked."""
+    """Returns the lines of a vector's answer, or None if the package can't be asked."""
     call, data = vector.call, vector.bytes()
     if call in LEFT_OUT or call in NAMES:
         return None if call in LEFT_OUT else named(vector)

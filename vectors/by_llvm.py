@@ -1,4 +1,4 @@
-"""Says whether LLVM's tools confirm the answer of a vector, for tools/vectors. What they print is read by others/llvm.py."""
+"""Says whether LLVM's tools confirm the answer of a vector, for tools/vectors. others/llvm.py reads what they print."""
 import concurrent.futures
 import os
 import re
@@ -8,7 +8,7 @@ from vectors.others import llvm
 from vectors.others.compared import is_refusal, kind
 
 THREADS = 4
-# Refusals of a whole file: for what LLVM asks of it, whatever the question is.
+# Refusals of a whole file: what LLVM demands of it, whatever the question is.
 WHOLE_FILE = {
     "a library of type DYLIB has to have LC_ID_DYLIB": r"no LC_ID_DYLIB|LC_ID_DYLIB load command in non-dynamic",
     "a command that may come once comes again": r"more than one LC_",
@@ -20,7 +20,7 @@ WHOLE_FILE = {
     "every range of a command has to lie in the file": r"_off field|dataoff field|reloff field|LC_\w+ command \d+ extends past",
     "the type of a file has to be one of those it knows": r"is not an object file|not recognized as a valid object file",
 }
-# Refusals for what the question is about. A reader that asks more of it than the pages of the format refuses more.
+# Refusals of what the question is about. A reader that demands more than the pages of the format refuses more.
 QUESTION = {
     "the header of a fat file has entries, and no two of one cpu": r"zero architecture types|two of the same architecture",
     "an entry has to lie in the file, and to be an image or an archive": r"extends past the end of the file|is not a Mach-O file",
@@ -33,7 +33,7 @@ QUESTION = {
     "chained fixups of this format aren't known": r"chained|fixup|pointer_format|pointer format",
     "bytes after the last start are an error": r"function starts|uleb",
 }
-# Answers that differ, by the call: a pattern of what LLVM gives.
+# Answers that differ: what LLVM does, for which calls, and a pattern of what it gives.
 OTHERWISE = [
     ("nm shows no map of an index that it can't read, and none of a sorted one", ("archive-symbols",), r"^end$"),
     ("a member `__.SYMDEF SORTED` by its short name is listed; an archive that is thin has no members of its own", ("members",), r"SYMDEF SORTED|^end$"),
@@ -48,12 +48,12 @@ _answers = {}
 
 
 def missing():
-    """Why LLVM can't be asked, or nothing."""
+    """Returns why LLVM can't be asked, or nothing if it can."""
     return llvm.missing()
 
 
 def known(vector, said, how):
-    """The kind of a difference, or nothing."""
+    """Returns the words for a difference that is known, or nothing."""
     if how == "endless":
         return "a count of the opcodes is taken as it is, and the list printed without an end"
     if how == "crashes":
@@ -65,14 +65,15 @@ def known(vector, said, how):
 
 
 def judged(vector, said):
-    """True if LLVM confirms an answer, None if it says nothing of it or differs in a known way, False if it contradicts."""
+    """Returns True if LLVM confirms an answer, and False if it contradicts. Returns None if LLVM says nothing of it or differs in a known
+    way."""
     how = kind(vector, said, llvm.CALLS[vector.call].left_out)
     if how != "alike":
         return None if known(vector, said, how) else False
     if vector.call == "signature" and vector.want != ["unsigned"]:
         return None
     if is_refusal(vector) and any(re.search(pattern, said.message) for pattern in WHOLE_FILE.values()):
-        # A file that is refused for something else says nothing of the question.
+        # A file that is refused for another reason says nothing of the question.
         return True if vector.call in ("header", "commands", "segments", "sections", "mach", "input") else None
     return True
 
@@ -96,7 +97,7 @@ def prepare(vectors):
 
 
 def answer(vector):
-    """Whether LLVM confirms a vector."""
+    """Returns whether LLVM confirms a vector, as `judged` does, or None if LLVM can't be asked."""
     if can_be_asked(vector) and vector.name not in _answers:
         prepare([vector])
     return _answers.get(vector.name)

@@ -1,11 +1,11 @@
-/* drive FILE.. answers the vectors of the files by the C library, and compares: README.md says what they are. It prints the first line that differs
-   in the answer to each vector, then how many are as expected, and which calls were left out since C has none. The status is 1 if a vector
-   differs, and 2 if a file can't be read as vectors. */
+/* drive FILE.. answers the vectors of the files by the C library, and compares. README.md says what vectors are. For each vector it prints the first line
+   of the answer that differs. Then it prints how many vectors are as expected, and which calls were left out since C has none. The status is 1 if a
+   vector differs, and 2 if a file can't be read as vectors. */
 #include "lists.h"
 
 /* ---- answers that are no lists */
 
-/* Says why a call was refused, or else these words. */
+/* Says why a call was refused; if it wasn't, says these words. */
 static void say_or_error(asked *a, uint32_t code, const char *none) {
     if (code) say_error(a, code);
     else say(a, none);
@@ -67,13 +67,15 @@ static void make_room(gm_export_room *room, const gm_export_batch *batch) {
     else if (batch->end == GM_NO_ROOM) room->names = longer(room->names, room->names_cap = more);
 }
 
-/* Whether the answer ends here with the fault of a node that is met again. A walk doesn't report it, and gives the exports of the node once more. */
+/* Returns whether the answer ends here with the fault of a node that is met again. A walk doesn't report it, and gives the exports of the node once
+   more. */
 static bool ends_at_shared_node(asked *a, uint32_t fault) {
     const char *next = next_line(&a->to);
     return fault == GM_MALFORMED && next && !strncmp(next, "error ", 6);
 }
 
-/* Says the exports of a walk up to its end, or up to the fault of a trie that is no tree, if the answer has it earlier. Returns the code of either. */
+/* Says the exports of a walk up to its end. It ends earlier at the fault of a trie that is no tree, if the answer has that fault there. Returns the code
+   of either. */
 static uint32_t say_walk(asked *a, gm_export_walk *walk, gm_export_room *room, uint32_t fault) {
     gm_export_batch batch = {0, 0, 0, GM_MORE, 0};
     uint32_t code = GM_OK;
@@ -110,7 +112,7 @@ static void answer_exports(asked *a) {
     else answer_walk(a);
 }
 
-/* Returns the bytes of the name that is looked up: it is written as in answers, without the quotes. */
+/* Returns the bytes of the name that is looked up. It is written as in answers, without the quotes. */
 static buffer name_of(const block *b) {
     buffer name = {NULL, 0, 0};
     for (const char *c = needed(b, "name"); *c; c++) {
@@ -176,7 +178,7 @@ static void answer_section_of(asked *a) {
     say_section(a, code, &found);
 }
 
-/* Puts why a text of the signature isn't there: an error, or none. Returns false if it is there. */
+/* Puts why a text of the signature isn't there: an error, or none. Returns whether it isn't there. */
 static bool is_missing(asked *a, size_t at, uint32_t code) {
     if (code) PUT("(%s)", error_of(code));
     else if (!at) PUT("none");
@@ -308,7 +310,7 @@ static struct { const char *call; size_t count; } left_out[] = {{"mach", 0}, {"i
 
 #define COUNT(table) (sizeof table / sizeof *table)
 
-/* Opens the image; if it can't be opened, that is the answer. */
+/* Opens the image. If it can't be opened, the error is the answer. */
 static bool opens(asked *a) {
     const char *mode = value_of(a->to.b, "mode");
     uint32_t how = mode && !strcmp(mode, "lossy") ? GM_LOSSY : GM_STRICT;
@@ -323,7 +325,7 @@ static const list *find_list(const list *all, size_t count, const char *call) {
     return NULL;
 }
 
-/* Answers a call that is a list. Returns false if it is none. */
+/* Answers a call that is a list. Returns whether the call is one. */
 static bool answers_list(asked *a, const char *call) {
     const list *of_image = find_list(lists_of_images, COUNT(lists_of_images), call), *of_file = find_list(lists_of_files, COUNT(lists_of_files), call);
     if (of_file) answer_list(a, of_file);
@@ -331,7 +333,7 @@ static bool answers_list(asked *a, const char *call) {
     return of_image || of_file;
 }
 
-/* Answers a call. Returns false if C doesn't have it. */
+/* Answers a call. Returns whether C has it. */
 static bool answers_call(asked *a, const char *call) {
     if (answers_list(a, call)) return true;
     for (size_t k = 0; k < COUNT(answers); k++)

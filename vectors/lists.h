@@ -68,7 +68,7 @@ static void put_text(asked *a, size_t at, size_t len) {
     else put_name(a, len ? a->bytes + at : NULL, len);
 }
 
-/* Returns the name of a library by its ordinal, or NULL. That of ordinal 0 is the image's own; if it has none, it is called self. */
+/* Returns the name of a library by its ordinal, or NULL. Ordinal 0 is the image itself; without a name of its own, it is called self. */
 static const void *library_name(const asked *a, uint64_t ordinal, size_t *len) {
     gm_library library;
     gm_id id;
@@ -133,7 +133,7 @@ typedef struct {
     const char *call;
     rows_call *rows;
     row_line *line;
-    size_t size, code; /* of a row, and where its code is */
+    size_t size, code; /* of a row, and the place of its code in it */
 } list;
 
 #define FILE_OF a->bytes, a->len
@@ -195,7 +195,7 @@ BY_NUMBER(relocations, gm_relocation, IMAGE_OF, a->section.reloff, a->section.nr
 LINE(relocations, gm_relocation,
      PUT("relocation %zu %zu address 0x%" PRIx32 " info 0x%" PRIx32, a->segment_number, a->section_number, (uint32_t)r->address, r->info))
 
-/* the lists of segments, each of which visits the sections, and of sections, each of which visits the relocations */
+/* lists in lists: each segment visits its sections, and each section its relocations */
 static const list list_of_sections = {"", sections_rows, sections_line, sizeof(gm_section), CODE_OF(gm_section)};
 static const list list_of_relocations = {"", relocations_rows, relocations_line, sizeof(gm_relocation), CODE_OF(gm_relocation)};
 
@@ -318,7 +318,7 @@ LINE(fixups, gm_fixup,
      PUT(" at 0x%" PRIx64 " segment %" PRIu32 " offset 0x%" PRIx64, r->address, r->segment, r->offset);
      put_signed(a, r->is_signed, r->key, r->diversity, r->is_address_diverse))
 
-/* Writes the entries by the call for both widths. If they are of 32 bits, the other call gives the same. */
+/* Writes the entries by the call for both widths. The call for 32 bits must give the same, if they have 32 bits. */
 static uint32_t entries_rows(asked *a, place *at, void *out, size_t *count) {
     gm_fat_entry64 *rows = out;
     gm_fat_entry same[ROWS];

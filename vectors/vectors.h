@@ -1,5 +1,5 @@
-/* Reads files of vectors, and compares answers with those that are wanted: README.md says what they are. What is no file of vectors ends the
-   program with status 2. */
+/* Reads files of vectors, and compares answers with those that are wanted. README.md says what vectors are. A file that can't be read as vectors
+   ends the program with status 2. */
 #ifndef VECTORS_H
 #define VECTORS_H
 #include <stdarg.h>
@@ -30,7 +30,7 @@ LIKE_PRINTF(1, 2) static void die(const char *form, ...) {
     exit(2);
 }
 
-/* Makes a block longer; one of no bytes is NULL. */
+/* Makes a block longer. A block of no bytes is NULL. */
 static void *longer(void *block, size_t size) {
     if (!size) {
         free(block);
@@ -64,7 +64,7 @@ typedef struct { field *all; size_t count, cap, line; } block; /* line: of the f
 typedef struct { const char *name; buffer bytes; } named;
 typedef struct { named *all; size_t count; } images;
 
-/* Returns the next field of a key after a field, or the first after NULL; NULL if there is none. */
+/* Returns the next field of a key after a field, or the first one after NULL. Returns NULL if there is none. */
 static const field *next_of(const block *b, const char *key, const field *after) {
     for (const field *f = after ? after + 1 : b->all; f < b->all + b->count; f++)
         if (!strcmp(f->key, key)) return f;
@@ -137,7 +137,7 @@ static void change(buffer *of, const char *value) {
     free(bytes.at);
 }
 
-/* Returns the file of a block, in a block of memory that has no byte more. */
+/* Returns the file of a block, in a block of memory with no byte more. */
 static buffer file_of(const block *b, const images *named) {
     buffer file = {NULL, 0, 0};
     const char *image = strcmp(b->all[0].key, "vector") ? NULL : value_of(b, "image");
@@ -230,7 +230,7 @@ static answer answer_to(const block *b, const char *path) {
     return a;
 }
 
-/* Returns the line that is wanted next, or NULL if any line will do. */
+/* Returns the line that is wanted next, or NULL if any line fits. */
 static const char *next_line(answer *a) {
     if (a->last_lines && a->lines + a->last_lines == a->wanted_lines && strcmp(a->key, "last")) want_lines(a, "last");
     return a->next ? a->next->value : NULL;
@@ -243,7 +243,7 @@ static const char *take_line(answer *a) {
     return line;
 }
 
-/* Returns how long an error's words are if a text begins with some, and writes what C calls it. */
+/* Returns how long an error's words are, and writes C's name for the error. Returns 0 if a text doesn't begin with such words. */
 static size_t error_words(const char *text, const char **called) {
     static const char *const words[][2] = {{"malformed", "malformed"}, {"bad-magic", "bad-magic"}, {"bad-offset", "short"}, {"too-big", "short"},
                                            {"bad-input", "short"}, {"too-short", "too-short"}};
@@ -255,7 +255,7 @@ static size_t error_words(const char *text, const char **called) {
     return 0;
 }
 
-/* Puts a wanted line, with errors as C tells them apart: after the word error, and in brackets in place of a name. */
+/* Puts a wanted line, with C's names for errors: after the word error, and in brackets instead of a name. */
 static void put_wanted(buffer *to, const char *line) {
     bool in_quotes = false;
     const char *called;

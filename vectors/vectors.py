@@ -1,9 +1,9 @@
-"""Reads files of vectors, as README.md says what they are. What the format doesn't allow is a Fault, with its file and its line."""
+"""Reads files of vectors, which README.md describes. What the format doesn't allow raises a Fault, with its file and its line."""
 
 import itertools
 import re
 
-# The keys of which a vector may have one line, and those of which it may have several.
+# The keys that a vector may have once, and those that it may have several times.
 ONCE = set("vector shows source image cut call mode offset name address count checked choice".split())
 OFTEN = set("row bytes change number part want first last".split())
 # The calls, each with the key that it needs.
@@ -37,7 +37,7 @@ class Line:
         return Fault(f"{self.file}:{self.number}: {what}")
 
     def integer(self, word=None):
-        """The number that a word is, or the value."""
+        """Returns the number that a word is; without a word, that of the value."""
         word = self.value if word is None else word
         if not NUMBER.fullmatch(word):
             raise self.fault(f"'{word}' is no number")
@@ -50,7 +50,7 @@ class Line:
         return tuple(self.integer(word) for word in words)
 
     def data(self, words=None):
-        """The bytes of words such as 00ff and 00*16."""
+        """Returns the bytes of words such as 00ff and 00*16."""
         parts = []
         for word in (self.value if words is None else words).split():
             read = WORD.fullmatch(word)
@@ -60,7 +60,7 @@ class Line:
         return b"".join(parts)
 
     def unescaped(self):
-        """The bytes of a name, in which a backslash, x and two digits are a byte."""
+        """Returns the bytes of a name, in which a backslash, x and two digits are a byte."""
         name = re.sub(r"\\x([0-9a-fA-F]{2})", lambda found: chr(int(found[1], 16)), self.value).encode("latin-1")
         if re.search(r"\\(?!x[0-9a-fA-F]{2})", self.value):
             raise self.fault("a backslash without x and two digits")
@@ -83,7 +83,7 @@ class Vector:
         self._read_answer()
 
     def all(self, key):
-        """The lines of a key."""
+        """Returns the lines of a key."""
         return [line for line in self.lines if line.key == key]
 
     def _needed(self, key):
@@ -121,7 +121,7 @@ class Vector:
             raise self._needed("count").fault("fewer lines than first or last ones")
 
     def bytes(self):
-        """The file: the image, cut and changed, and then the bytes."""
+        """Returns the file: the image, cut and changed, and then the bytes."""
         file = bytearray().join(self.images[line.value] for line in self.all("image"))
         for line in self.all("cut"):
             if line.integer() > len(file):
@@ -136,7 +136,7 @@ class Vector:
         return bytes(file + b"".join(line.data() for line in self.all("bytes")))
 
     def difference(self, lines):
-        """Where these lines aren't the wanted answer; nothing if they are."""
+        """Returns the first difference between lines and the wanted answer, or nothing."""
         if self.want is None and self.count is None:
             return "neither want nor count"
         if self.want is None and len(lines) != self.count:
@@ -151,7 +151,7 @@ class Vector:
 
 
 def parse_text(text, file):
-    """The vectors of a file's text, in order."""
+    """Returns the vectors of a file's text, in order."""
     rows = [Line(file, number, text) for number, text in enumerate(text.split("\n"), 1)]
     for row in rows:
         if not row.text.isascii() or "\r" in row.text:
@@ -182,6 +182,6 @@ def _add_image(images, block):
 
 
 def parse(path):
-    """The vectors of a file, in order."""
+    """Returns the vectors of a file, in order."""
     with open(path, encoding="latin-1", newline="") as file:
         return parse_text(file.read(), str(path))

@@ -1,15 +1,15 @@
 /* goblin_mach reads Apple's Mach-O images from bytes in memory. Each call is proved to read and write only what the caller passes, whatever the
-   bytes and the numbers are, and to write what is said here; docs/C.md has all details. The bytes must not change during a call. Nothing is kept
-   between calls: a gm_image is numbers, belongs to the caller, may be copied, and is used with the bytes that it was opened in. Any thread may
+   bytes and the numbers are, and to write what is said here. docs/C.md has all details. The bytes must not change during a call. Nothing is kept
+   between calls. A gm_image is numbers. It belongs to the caller, may be copied, and is used with the bytes that it was opened in. Any thread may
    call.
 
-   Calls with `first`, `out` and `cap` write the items of a list from index `first` on, as many as there are and fit, return how many, and leave
-   the rest of the array unchanged: 0 means that there are no more. A pointer may be NULL if its length is 0. Calls that return a code return
-   GM_OK or the reason for a refusal, with a text in *error; `error` may be NULL.
+   Calls with `first`, `out` and `cap` write the items of a list from index `first` on, as many as there are and fit. They return how many, and leave
+   the rest of the array unchanged. 0 means that there are no more. A pointer may be NULL if its length is 0. Calls that return a code return
+   GM_OK or the reason for a refusal, with a text in *error. `error` may be NULL.
 
-   Calls with a cursor write the items after it, as many as there are and fit, move it past them, and write how many to *count: fewer than `cap`
-   means that there are no more. With a `cap` of 0 they are refused with GM_NO_ROWS. A cursor is numbers that only the calls read; all zero is
-   the start; it is used with the bytes and the image, and may be copied. These calls open the image again, and allocate memory while they run. A
+   Calls with a cursor write the items after it, as many as there are and fit. They move it past them, and write how many to *count. Fewer than `cap`
+   means that there are no more. With a `cap` of 0 they are refused with GM_NO_ROWS. A cursor is numbers that only the calls read. All zero is
+   the start. It is used with the bytes and the image, and may be copied. These calls open the image again, and allocate memory while they run. A
    refused call leaves the array, the cursor and *count unchanged.
 
    Calls that return a bool write what they find to *found and return true, or return false and leave *found unchanged.
@@ -26,8 +26,8 @@ extern "C" {
 #endif
 
 /* The version of this header. gm_version() and gm_version_number() return those of the library. If MAJOR or MINOR differ, structs and calls may
-   differ: test GM_VERSION_FITS() once. The loader refuses a shared library with another MAJOR or MINOR for a program that was linked to this
-   one. */
+   differ: test GM_VERSION_FITS() once. For a program that was linked to this version the loader refuses a shared library with another MAJOR or
+   MINOR. */
 #define GM_VERSION_MAJOR 0
 #define GM_VERSION_MINOR 3
 #define GM_VERSION_PATCH 0
@@ -37,14 +37,14 @@ extern "C" {
 const char *gm_version(void);
 uint32_t gm_version_number(void);
 
-/* malformed bytes; a magic that no image has; a read past the end, or of bytes that aren't text; a count that is too large; memory ran out;
+/* malformed bytes; a magic that no image has; a read past the end, or of bytes that aren't text; a count that is too large; out of memory;
    `cap` is 0; the output is larger than `cap`; the file has no image for the cpu */
 enum { GM_OK, GM_MALFORMED, GM_BAD_MAGIC, GM_SHORT, GM_TOO_MANY, GM_NO_MEMORY, GM_NO_ROWS, GM_NO_SPACE, GM_NO_IMAGE };
 
 /* why a call was refused; the text ends with a zero byte */
 typedef struct gm_error { uint32_t code; char text[124]; } gm_error;
 
-/* Memory for a call: `take` returns a block of `size` bytes, aligned to 16, or NULL; `give` takes one back. A call gives back everything that it
+/* Memory for a call. `take` returns a block of `size` bytes, aligned to 16, or NULL. `give` takes one back. A call gives back everything that it
    took, and both functions may call this library. If a gm_memory is NULL, malloc and free are used. */
 typedef struct gm_memory {
     void *self;
@@ -52,19 +52,19 @@ typedef struct gm_memory {
     void (*give)(void *self, void *block);
 } gm_memory;
 
-/* Memory for calls from a buffer of the caller's, which is aligned to 16; `used` and `blocks` begin as 0. */
+/* Memory for calls from a buffer of the caller's, which is aligned to 16. `used` and `blocks` begin as 0. */
 typedef struct gm_arena { uint8_t *bytes; uint64_t size, used, blocks; } gm_arena;
 gm_memory gm_arena_memory(gm_arena *arena);
 
 /* ---- what bytes are, by how they begin: an image, a fat file of 32 or 64 bits, an archive (also a thin one), a program or library of ELF or PE,
-   a Java class (whose magic is that of fat files), LLVM bitcode. What begins so need not be whole, and need not open. */
+   a Java class (whose magic is that of fat files), LLVM bitcode. A file that begins in this way may be cut, and may be refused when it is opened. */
 enum { GM_KIND_UNKNOWN, GM_KIND_EMPTY, GM_KIND_IMAGE, GM_KIND_FAT, GM_KIND_FAT_64, GM_KIND_ARCHIVE, GM_KIND_ELF, GM_KIND_PE, GM_KIND_JAVA_CLASS,
        GM_KIND_BITCODE };
 uint32_t gm_kind(const uint8_t *bytes, uint64_t len);
 
-/* ---- a fat file: its entries; 0 if the bytes are none. An entry is `size` bytes at bytes + offset. If these aren't all in the file, its code
-   is GM_SHORT, and the rest is as in the record. If the header claims more records than the bytes have, the last entry is the first that isn't
-   whole in them: its code is GM_SHORT, and the rest is 0. */
+/* ---- a fat file: its entries; 0 if the bytes are no fat file. An entry is `size` bytes at bytes + offset. If these aren't all in the file, its
+   code is GM_SHORT, and the rest is as in the record. If the header claims more records than the bytes have, the last entry is the first that
+   isn't whole in them. Its code is GM_SHORT, and the rest is 0. */
 typedef struct gm_fat_entry { uint32_t cputype, cpusubtype, offset, size, align, code; } gm_fat_entry;
 uint64_t gm_fat_entries(const uint8_t *bytes, uint64_t len, uint64_t first, gm_fat_entry *out, uint64_t cap);
 
@@ -72,10 +72,10 @@ uint64_t gm_fat_entries(const uint8_t *bytes, uint64_t len, uint64_t first, gm_f
 typedef struct gm_fat_entry64 { uint64_t offset, size; uint32_t cputype, cpusubtype, align, code; } gm_fat_entry64;
 uint64_t gm_fat_entries64(const uint8_t *bytes, uint64_t len, uint64_t first, gm_fat_entry64 *out, uint64_t cap);
 
-/* The one image for a cpu in a fat file of 32 or 64 bits, or in a thin file, which is an image itself: `size` bytes at bytes + offset. Only bits
-   that are no capabilities are compared of a `cpusubtype`; with GM_CPU_SUBTYPE_ANY all fit. Of several entries the first counts. Refused if that
-   entry isn't all in the file (GM_SHORT), and if there is none, also if the bytes are neither (GM_NO_IMAGE). A refused call leaves *found
-   unchanged. */
+/* Finds the one image for a cpu: `size` bytes at bytes + offset. The bytes are a fat file of 32 or 64 bits, or a thin file, which is an image
+   itself. Of a `cpusubtype` only the bits that are no capabilities are compared. With GM_CPU_SUBTYPE_ANY all fit. Of several entries the first
+   counts. The call is refused with GM_SHORT if that entry isn't all in the file. It is refused with GM_NO_IMAGE if there is none, also if the bytes
+   are neither kind of file. A refused call leaves *found unchanged. */
 uint32_t gm_image_for(const uint8_t *bytes, uint64_t len, uint32_t cputype, uint32_t cpusubtype, gm_fat_entry64 *found, gm_error *error);
 
 /* ---- a fat file written from parts of a buffer, each for another cpu: `len` bytes from `offset` on. In the file each part follows the one
@@ -86,25 +86,25 @@ typedef struct gm_fat_part {
 } gm_fat_part;
 
 /* Writes the file to the start of `out`, and its size to *needed. It has 64 bits, or 32 if `is_64` is 0. If `cap` is too small, perhaps on
-   purpose, that is GM_NO_SPACE, and *needed is written. It is also refused if a part isn't in the bytes (GM_SHORT), and if an alignment is
-   too large, two parts are for one cpu whatever its capabilities, or an offset or a length is too large for a record (GM_MALFORMED). These
-   refusals leave *needed unchanged, and every refusal `out`. It allocates memory for the parts while it runs, not for their bytes. `out` and the
-   bytes must not overlap. */
+   purpose, the call is refused with GM_NO_SPACE, and *needed is written. It is refused with GM_SHORT if a part isn't in the bytes. It is refused
+   with GM_MALFORMED if two parts are for one cpu, whatever its capabilities. The same holds if an alignment is too large, or an offset or a length
+   is too large for a record. These two refusals leave *needed unchanged, and every refusal leaves `out` unchanged. The call allocates memory for
+   the parts while it runs, not for their bytes. `out` and the bytes must not overlap. */
 uint32_t gm_write_fat(const uint8_t *bytes, uint64_t len, const gm_fat_part *parts, uint64_t count, uint32_t is_64, uint8_t *out, uint64_t cap,
                       uint64_t *needed, const gm_memory *memory, gm_error *error);
 
 /* ---- an archive: a static library */
 enum { GM_ARCHIVE_NONE, GM_ARCHIVE_GNU, GM_ARCHIVE_BSD, GM_ARCHIVE_THIN };
 
-/* Which archive the bytes are, by their first 8 and the members at the start: how short names are written; GM_ARCHIVE_NONE if they don't begin
-   as an archive; GM_ARCHIVE_THIN if its members are other files, which no call reads. It is refused if the start of an archive can't be read;
-   then *kind is unchanged. */
+/* Finds which archive the bytes are, by their first 8 and the members at the start: how short names are written. It is GM_ARCHIVE_NONE if they don't
+   begin as an archive, and GM_ARCHIVE_THIN if its members are other files, which no call reads. The call is refused if the start of an archive can't
+   be read. Then *kind is unchanged. */
 uint32_t gm_archive_kind(const uint8_t *bytes, uint64_t len, uint32_t *kind, gm_error *error);
 
-/* Its members in order. The bytes of one are `data_len` at bytes + data. If they are an image, open it with these bytes; its offsets count from
-   there. The name is `name_len` bytes at bytes + name, and may be any bytes; if `name_code` is not GM_OK it can't be read, and both numbers are
-   0. A row with a `code` is the last: it says why there are no more members, or why the bytes are no archive, and has nothing else. `first` has
-   a cost: the headers before it are read, so request many members at a time. */
+/* Its members in order. The bytes of one are `data_len` at bytes + data. If they are an image, open it with these bytes. Its offsets count from
+   there. The name is `name_len` bytes at bytes + name, and may be any bytes. If `name_code` is not GM_OK it can't be read, and both numbers are
+   0. A row with a `code` is the last. It says why there are no more members, or why the bytes are no archive, and has nothing more. `first` has
+   a cost, since the headers before it are read: request many members at a time. */
 typedef struct gm_archive_member {
     uint64_t date, uid, gid, mode; /* seconds from 1970, owner, group, mode; each GM_NO_NUMBER if its field is no number */
     uint64_t header;               /* the offset of its header, which has 60 bytes */
@@ -114,9 +114,9 @@ typedef struct gm_archive_member {
 #define GM_NO_NUMBER UINT64_MAX
 uint64_t gm_archive_members(const uint8_t *bytes, uint64_t len, uint64_t first, gm_archive_member *out, uint64_t cap);
 
-/* The symbols of its index in the order of the index; none if it has none. Each name is `name_len` bytes at bytes + name, and `member` is the
-   `header` of the member that defines it, which isn't checked. A row with a `code` is the last: why a name or the index can't be read, or why
-   the bytes are no archive. The names before `first` are read. */
+/* The symbols of its index in the order of the index, or none if it has no index. Each name is `name_len` bytes at bytes + name. `member` is the
+   `header` of the member that defines it, which isn't checked. A row with a `code` is the last. It says why a name or the index can't be read, or
+   why the bytes are no archive. The names before `first` are read. */
 typedef struct gm_archive_symbol {
     uint64_t member;
     uint64_t name, name_len;
@@ -124,9 +124,9 @@ typedef struct gm_archive_symbol {
 } gm_archive_symbol;
 uint64_t gm_archive_symbols(const uint8_t *bytes, uint64_t len, uint64_t first, gm_archive_symbol *out, uint64_t cap);
 
-/* The member that defines a symbol, by the index; and the first member with a name. If there is none, that is no refusal, and all of *member is
-   0, also `header`. Refused if the archive, its index or a header on the way can't be read; gm_archive_find also if the name isn't UTF-8. A
-   refused call leaves *member unchanged. */
+/* Finds the member that defines a symbol, by the index; and the first member with a name. If there is none, that is no refusal, and all of *member
+   is 0, also `header`. A call is refused if the archive, its index or a header on the way can't be read. gm_archive_find is also refused if the name
+   isn't UTF-8. A refused call leaves *member unchanged. */
 uint32_t gm_archive_find(const uint8_t *bytes, uint64_t len, const char *symbol, uint64_t symbol_len, gm_archive_member *member, gm_error *error);
 uint32_t gm_archive_member_named(const uint8_t *bytes, uint64_t len, const char *name, uint64_t name_len, gm_archive_member *member, gm_error *error);
 
@@ -143,22 +143,22 @@ typedef struct gm_image {
 } gm_image;
 enum { GM_STRICT, GM_LOSSY };
 
-/* How many of `count` records of `size` bytes each, from `start` on, begin within `len` bytes. A file may claim any count of records. The rows
-   after those that begin there can't be read. */
+/* Returns how many of `count` records of `size` bytes each, from `start` on, begin within `len` bytes. A file may claim any count of records. The
+   rows after those that begin there can't be read. */
 static inline uint64_t gm_in_bounds(uint64_t len, uint64_t start, uint64_t size, uint64_t count) {
     uint64_t begun = start < len && size != 0 ? (len - start - 1) / size + 1 : 0;
     return begun < count ? begun : count;
 }
 
-/* Opens the image at `offset`. GM_STRICT refuses what can't be read; GM_LOSSY skips it; any other mode is refused as GM_MALFORMED. It allocates
-   memory for the commands while it runs. A refused call leaves *image unchanged, and GM_OK leaves *error. */
+/* Opens the image at `offset`. GM_STRICT refuses what can't be read, and GM_LOSSY skips it. Any other mode is refused as GM_MALFORMED. The call
+   allocates memory for the commands while it runs. A refused call leaves *image unchanged, and GM_OK leaves *error unchanged. */
 uint32_t gm_open(const uint8_t *bytes, uint64_t len, uint64_t offset, uint32_t mode, const gm_memory *memory, gm_image *image, gm_error *error);
 
 /* ---- its load commands: each record is `size` bytes at `offset` */
 typedef struct gm_command { uint64_t offset, size; uint32_t cmd, reserved; } gm_command;
 uint64_t gm_commands(const uint8_t *bytes, uint64_t len, const gm_image *image, uint64_t first, gm_command *out, uint64_t cap);
 
-/* ---- its segments: the command is at `command`; the data are `data_len` bytes at `fileoff`, or none */
+/* ---- its segments: the command is at `command`, and the data are `data_len` bytes at `fileoff`, or none */
 typedef struct gm_segment {
     uint8_t name[16]; /* padded with zeros if it has fewer than 16 bytes */
     uint64_t vmaddr, vmsize, fileoff, filesize;
@@ -167,11 +167,11 @@ typedef struct gm_segment {
 } gm_segment;
 uint64_t gm_segments(const uint8_t *bytes, uint64_t len, const gm_image *image, uint64_t first, gm_segment *out, uint64_t cap);
 
-/* the first segment with a name, which has at most 16 bytes */
+/* Finds the first segment with a name, which has at most 16 bytes. */
 bool gm_segment_named(const uint8_t *bytes, uint64_t len, const gm_image *image, const char *name, uint64_t name_len, gm_segment *found);
 
-/* The address in memory of what is at an offset in the file, counted from the image's first byte; and the offset of what is at an address: by the
-   first segment whose part in the file holds it. There is none in zero-filled memory. */
+/* Finds the address in memory of what is at an offset in the file; and the offset of what is at an address. Offsets count from the image's first
+   byte. Both use the first segment whose part in the file holds it. There is none in zero-filled memory. */
 bool gm_address_of_offset(const uint8_t *bytes, uint64_t len, const gm_image *image, uint64_t offset, uint64_t *found);
 bool gm_offset_of_address(const uint8_t *bytes, uint64_t len, const gm_image *image, uint64_t address, uint64_t *found);
 
@@ -186,7 +186,7 @@ uint64_t gm_sections(const uint8_t *bytes, uint64_t len, const gm_image *image, 
                      uint64_t cap);
 
 /* The sections of all segments in order, each with the offset of its segment's command and its number there, from 1. They end with the first that
-   can't be read; so the one at index `k` has number `k + 1` in the `section` of a gm_symbol. */
+   can't be read. The section at index `k` has number `k + 1` in the `section` of a gm_symbol. */
 typedef struct gm_numbered_section {
     gm_section section;
     uint64_t command;
@@ -200,7 +200,7 @@ uint64_t gm_relocations(const uint8_t *bytes, uint64_t len, const gm_image *imag
                         uint64_t cap);
 
 /* ---- its symbols: the name of one is `name_len` bytes at bytes + name. If `code` says that these aren't text, or that there is no name, the
-   rest is as in the record; if the record can't be read everything else is 0. */
+   rest is as in the record. If the record can't be read all other fields are 0. */
 typedef struct gm_symbol {
     uint64_t value;
     uint64_t name, name_len, section;
@@ -224,8 +224,8 @@ uint64_t gm_libraries(const uint8_t *bytes, uint64_t len, const gm_image *image,
 typedef struct gm_run_path { uint64_t path, path_len; } gm_run_path;
 uint64_t gm_run_paths(const uint8_t *bytes, uint64_t len, const gm_image *image, uint64_t first, gm_run_path *out, uint64_t cap);
 
-/* ---- the names of the image itself as a library (LC_ID_DYLIB), each `name_len` bytes at bytes + name: if there are several, the last one
-   counts */
+/* ---- the names of the image itself as a library (LC_ID_DYLIB), each `name_len` bytes at bytes + name. If there are several, the last one
+   counts. */
 typedef struct gm_id { uint64_t name, name_len; } gm_id;
 uint64_t gm_ids(const uint8_t *bytes, uint64_t len, const gm_image *image, uint64_t first, gm_id *out, uint64_t cap);
 
@@ -238,7 +238,7 @@ typedef struct gm_start_cursor { uint64_t place; uint64_t address; uint32_t stag
 uint32_t gm_function_starts(const uint8_t *bytes, uint64_t len, const gm_image *image, gm_start_cursor *cursor, gm_function_start *out, uint64_t cap,
                             uint64_t *count, const gm_memory *memory, gm_error *error);
 
-/* ---- the data in its code (LC_DATA_IN_CODE): `length` bytes, `offset` bytes after the image's first byte in memory; in an object file after
+/* ---- the data in its code (LC_DATA_IN_CODE): `length` bytes, `offset` bytes after the image's first byte in memory, or in an object file after
    address 0 */
 typedef struct gm_data_in_code_entry {
     uint32_t offset;
@@ -249,7 +249,7 @@ uint64_t gm_data_in_code(const uint8_t *bytes, uint64_t len, const gm_image *ima
 
 /* ---- its table of indirect symbols: those of the pointers and stubs of a section follow one another from the section's place in it */
 typedef struct gm_indirect_symbol {
-    uint32_t kind, symbol; /* symbol: for GM_INDIRECT_SYMBOL its index for gm_symbols, else 0 */
+    uint32_t kind, symbol; /* symbol: for GM_INDIRECT_SYMBOL its index for gm_symbols, or 0 */
     uint32_t code;         /* GM_OK, or why it can't be read */
 } gm_indirect_symbol;
 enum { GM_INDIRECT_SYMBOL, GM_INDIRECT_LOCAL, GM_INDIRECT_ABSOLUTE, GM_INDIRECT_LOCAL_ABSOLUTE };
@@ -258,7 +258,7 @@ uint64_t gm_indirect_symbols(const uint8_t *bytes, uint64_t len, const gm_image 
 /* ---- the linker options in an object file (LC_LINKER_OPTION): each is `text_len` bytes at bytes + text, from the command at `command` */
 typedef struct gm_linker_option {
     uint64_t command, text, text_len;
-    uint32_t code, reserved; /* code: GM_OK; or why it can't be read, and then none follows it */
+    uint32_t code, reserved; /* code: GM_OK; or why it can't be read, and then no option follows it */
 } gm_linker_option;
 uint64_t gm_linker_options(const uint8_t *bytes, uint64_t len, const gm_image *image, uint64_t first, gm_linker_option *out, uint64_t cap);
 
@@ -266,11 +266,11 @@ uint64_t gm_linker_options(const uint8_t *bytes, uint64_t len, const gm_image *i
 typedef struct gm_build_tool {
     uint64_t command;
     uint32_t tool, version;  /* a GM_TOOL_ number, and X.Y.Z in 16, 8 and 8 bits */
-    uint32_t code, reserved; /* code: GM_OK; or why it can't be read, and then none follows it */
+    uint32_t code, reserved; /* code: GM_OK; or why it can't be read, and then no tool follows it */
 } gm_build_tool;
 uint64_t gm_build_tools(const uint8_t *bytes, uint64_t len, const gm_image *image, uint64_t first, gm_build_tool *out, uint64_t cap);
 
-/* ---- its platforms (LC_BUILD_VERSION, LC_VERSION_MIN_MACOSX and the like), in the order of the commands, from the command at `command`: dyld
+/* ---- its platforms (LC_BUILD_VERSION, LC_VERSION_MIN_MACOSX and the like), in the order of the commands, from the command at `command`. dyld
    takes the first. Versions are X.Y.Z in 16, 8 and 8 bits. */
 typedef struct gm_build_version {
     uint64_t command;
@@ -286,8 +286,8 @@ typedef struct gm_image_uuid { uint8_t bytes[16]; } gm_image_uuid;
 bool gm_uuid(const uint8_t *bytes, uint64_t len, const gm_image *image, gm_image_uuid *found);
 bool gm_source_version(const uint8_t *bytes, uint64_t len, const gm_image *image, uint64_t *found);
 
-/* ---- its encrypted part (LC_ENCRYPTION_INFO, LC_ENCRYPTION_INFO_64): `size` bytes at `offset`, counted from the image's first byte; the first
-   command counts. With an `id` of 0 they are not encrypted yet. */
+/* ---- its encrypted part (LC_ENCRYPTION_INFO, LC_ENCRYPTION_INFO_64): `size` bytes at `offset`, counted from the image's first byte. The first
+   command counts. If `id` is 0 they are not encrypted yet. */
 typedef struct gm_encrypted_part { uint32_t offset, size, id; } gm_encrypted_part;
 bool gm_encryption(const uint8_t *bytes, uint64_t len, const gm_image *image, gm_encrypted_part *found);
 
@@ -302,14 +302,14 @@ bool gm_dylinker(const uint8_t *bytes, uint64_t len, const gm_image *image, gm_c
 uint64_t gm_dyld_environment(const uint8_t *bytes, uint64_t len, const gm_image *image, uint64_t first, gm_command_text *out, uint64_t cap);
 
 /* ---- the images of a fileset (LC_FILESET_ENTRY), such as a kernel collection: each at `address` in memory, and at `offset`, counted from the
-   fileset's first byte; its name is `name_len` bytes at bytes + name */
+   fileset's first byte. Its name is `name_len` bytes at bytes + name. */
 typedef struct gm_fileset_entry {
     uint64_t address, offset, name, name_len;
     uint32_t code, reserved; /* code: GM_OK, or why the name can't be read */
 } gm_fileset_entry;
 uint64_t gm_fileset_entries(const uint8_t *bytes, uint64_t len, const gm_image *image, uint64_t first, gm_fileset_entry *out, uint64_t cap);
 
-/* ---- its notes (LC_NOTE), from the command at `command`: the owner's name is `owner_len` bytes at bytes + owner, and the note is `size` bytes
+/* ---- its notes (LC_NOTE), from the command at `command`. The owner's name is `owner_len` bytes at bytes + owner, and the note is `size` bytes
    at bytes + place. An empty note may be placed anywhere. */
 typedef struct gm_note {
     uint64_t command, owner, owner_len;
@@ -330,20 +330,20 @@ typedef struct gm_slot {
 } gm_slot;
 enum { GM_NO_SLOT, GM_SLOT_POINTER, GM_SLOT_LAZY_POINTER, GM_SLOT_STUB, GM_SLOT_LAZY_LIBRARY_POINTER, GM_SLOT_THREAD_LOCAL_POINTER };
 
-/* The slots from index `first` on; how many were written is in *count. It opens the image again, allocates memory while it runs, and visits the
+/* Writes the slots from index `first` on, and how many it wrote to *count. It opens the image again, allocates memory while it runs, and visits the
    slots before `first`: request many at a time. With a `cap` of 0 it is refused with GM_NO_ROWS. A refused call leaves the array and *count
    unchanged. */
 uint32_t gm_slots(const uint8_t *bytes, uint64_t len, const gm_image *image, uint64_t first, gm_slot *out, uint64_t cap, uint64_t *count,
                   const gm_memory *memory, gm_error *error);
 
-/* Finds the slot that holds an address; its kind is GM_NO_SLOT if there is none. It opens the image again, and allocates memory while it runs.
-   It is also refused if that slot can't be read; a refused call leaves *slot unchanged. */
+/* Finds the slot that holds an address. Its kind is GM_NO_SLOT if there is none. The call opens the image again, and allocates memory while it runs.
+   It is also refused if that slot can't be read. A refused call leaves *slot unchanged. */
 uint32_t gm_slot_at(const uint8_t *bytes, uint64_t len, const gm_image *image, uint64_t address, gm_slot *slot, const gm_memory *memory, gm_error *error);
 
-/* ---- the provider of an undefined symbol, as the linker recorded it in images with GM_MH_TWOLEVEL: from a number of the symbol alone, which
-   dyld need not follow. For any other symbol `is_reported` and everything else is 0. */
+/* ---- the provider of an undefined symbol, as the linker recorded it in images with GM_MH_TWOLEVEL. It comes from a number of the symbol alone,
+   which dyld need not follow. For any other symbol `is_reported` and all other fields are 0. */
 typedef struct gm_provider {
-    uint64_t library;           /* the ordinal of a library, else 0 */
+    uint64_t library;           /* the ordinal of a library, or 0 */
     uint32_t provider, is_reported; /* GM_OF_LIBRARY, GM_OF_ITSELF, GM_OF_PROGRAM or GM_OF_ANY; 0 or 1 */
     uint32_t code, reserved;    /* code: GM_OK, or GM_MALFORMED if the ordinal is past the last library */
 } gm_provider;
@@ -359,15 +359,15 @@ typedef struct gm_found_section {
     uint32_t is_found, reserved;
 } gm_found_section;
 
-/* The first section that holds an address, among those that are in the bytes; and the one with the number `section` of a gm_symbol, counted from
-   1 over all segments. Both open the image again, and allocate memory while they run. A refused call leaves *section unchanged; the second is
+/* Finds the first section that holds an address, among those in the bytes; and the one with the number `section` of a gm_symbol. Numbers count from
+   1 over all segments. Both open the image again, and allocate memory while they run. A refused call leaves *section unchanged. The second is
    also refused if that section isn't in the bytes. */
 uint32_t gm_section_at(const uint8_t *bytes, uint64_t len, const gm_image *image, uint64_t address, gm_found_section *section, const gm_memory *memory,
                        gm_error *error);
 uint32_t gm_section_of(const uint8_t *bytes, uint64_t len, const gm_image *image, uint64_t number, gm_found_section *section, const gm_memory *memory,
                        gm_error *error);
 
-/* the first section with a name in a segment of that name, by the names that the section has itself, among those that are in the bytes */
+/* Finds the first section with a name in a segment of that name, by the names that the section has itself, among those that are in the bytes. */
 uint32_t gm_section_named(const uint8_t *bytes, uint64_t len, const gm_image *image, const char *segment, uint64_t segment_len, const char *name,
                           uint64_t name_len, gm_found_section *section, const gm_memory *memory, gm_error *error);
 
@@ -375,21 +375,21 @@ uint32_t gm_section_named(const uint8_t *bytes, uint64_t len, const gm_image *im
 typedef struct gm_found_symbol {
     gm_symbol symbol;
     uint64_t index;
-    uint64_t distance; /* of gm_symbol_at: the address less the symbol's value; else 0 */
+    uint64_t distance; /* of gm_symbol_at: the address less the symbol's value; of gm_symbol_named 0 */
     uint32_t is_found, reserved;
 } gm_found_symbol;
 
-/* The first symbol with a name, among those whose names can be read; and the one that names an address: of the defined ones in the section that
-   holds the address, at or below it, that of the greatest value, and of several the last. Both open the image again, and allocate memory while
-   they run. A refused call leaves *symbol unchanged. */
+/* Finds the first symbol with a name, among those whose names can be read; and the symbol that names an address. The latter is one of the defined ones
+   in the section that holds the address, at the address or below it. Of these it has the greatest value, and of several with that value it is the
+   last. Both open the image again, and allocate memory while they run. A refused call leaves *symbol unchanged. */
 uint32_t gm_symbol_named(const uint8_t *bytes, uint64_t len, const gm_image *image, const char *name, uint64_t name_len, gm_found_symbol *symbol,
                          const gm_memory *memory, gm_error *error);
 uint32_t gm_symbol_at(const uint8_t *bytes, uint64_t len, const gm_image *image, uint64_t address, gm_found_symbol *symbol, const gm_memory *memory,
                       gm_error *error);
 
-/* The function that holds an address, by the starts of functions: from the greatest start at or below it in the section that holds the address to
-   the next start, or to the end of the section; all 0 if `is_found` is 0. It opens the image again, and allocates memory while it runs. A refused
-   call leaves *function unchanged. */
+/* Finds the function that holds an address, by the starts of functions. It begins at the greatest start at or below the address, in the section that
+   holds the address. It ends at the next start, or at the end of the section. All is 0 if `is_found` is 0. The call opens the image again, and
+   allocates memory while it runs. A refused call leaves *function unchanged. */
 typedef struct gm_found_function {
     uint64_t start, end;
     uint32_t is_found, reserved;
@@ -405,15 +405,15 @@ typedef struct gm_export {
 } gm_export;
 enum { GM_NO_EXPORT, GM_ADDRESS, GM_REEXPORTED, GM_STUB };
 
-/* Finds the export of a name; only the nodes on its path are read. For a re-export it writes as much of the library's name as fits to `library`,
-   and of the name there to `target`. It opens the image again, and allocates memory while it runs. A refused call leaves everything but *error
+/* Finds the export of a name. Only the nodes on its path are read. For a re-export it writes as much of the library's name as fits to `library`,
+   and of the name there to `target`. It opens the image again, and allocates memory while it runs. A refused call leaves everything except *error
    unchanged. */
 uint32_t gm_find_export(const uint8_t *bytes, uint64_t len, const gm_image *image, const char *name, uint64_t name_len, gm_export *found,
                         char *library, uint64_t library_cap, char *target, uint64_t target_cap, const gm_memory *memory, gm_error *error);
 
 /* ---- all of its exports, in batches */
 
-/* The position of a walk over the exports: numbers, all 0 at the start, as in `gm_export_walk walk = {0};`. They may be copied, and are used
+/* The position of a walk over the exports. It is numbers, all 0 at the start, as in `gm_export_walk walk = {0};`. They may be copied. They are used
    with the bytes, the image, and the `name` and the `stack` that the previous call left. */
 typedef struct gm_open_node { uint64_t left, place, name_len; } gm_open_node;
 typedef struct gm_export_walk {
@@ -431,8 +431,8 @@ typedef struct gm_listed_export {
     gm_export what; /* `kind` is never GM_NO_EXPORT */
 } gm_listed_export;
 
-/* What a call may write to. `name` belongs to the walk, and must hold the longest name; so does `stack`, for the nodes that are open at once;
-   `out` is for rows, and `names` for their names, one after the other: make it many times as long as `name`. */
+/* What a call may write to. `name` belongs to the walk, and must hold the longest name. `stack` belongs to it too, and must hold the nodes that are
+   open at once. `out` is for rows, and `names` for their names, one after the other: make it many times as long as `name`. */
 typedef struct gm_export_room {
     char *name; uint64_t name_cap;
     gm_open_node *stack; uint64_t stack_cap;
@@ -451,21 +451,21 @@ enum {
     GM_REFUSED      /* the code says why; the rows before it are valid */
 };
 
-/* Goes on with a walk. If `name`, `stack` or `names` is too short, call again with a larger one that begins with the old contents; no export is
-   lost. It opens the image again, and allocates memory while it runs. If memory runs out, everything but *batch and *error is unchanged, and the
-   call may be repeated. */
+/* Goes on with a walk. If `name`, `stack` or `names` is too short, call again with a larger one that begins with the old contents. No export is
+   lost. The call opens the image again, and allocates memory while it runs. If it is out of memory, everything except *batch and *error is unchanged,
+   and the call may be repeated. */
 uint32_t gm_exports(const uint8_t *bytes, uint64_t len, const gm_image *image, gm_export_walk *walk, const gm_export_room *room,
                     gm_export_batch *batch, const gm_memory *memory, gm_error *error);
 
-/* Calls `each` for each of its exports, with a name that ends with a zero byte, until it returns another number than 0: then that is GM_OK, too.
-   It opens the image again, and allocates memory while it runs, also while `each` runs. If no further exports can be read, it is refused after
+/* Calls `each` for each of its exports, with a name that ends with a zero byte. It ends if `each` returns another number than 0, and that is GM_OK,
+   too. It opens the image again, and allocates memory while it runs, also while `each` runs. If no further exports can be read, it is refused after
    those before. */
 typedef int (*gm_export_call)(void *user, const gm_listed_export *item, const char *name);
 uint32_t gm_exports_each(const uint8_t *bytes, uint64_t len, const gm_image *image, gm_export_call each, void *user, const gm_memory *memory,
                          gm_error *error);
 
-/* Whether all exports can be read, and no two paths of their trie lead to one node: GM_OK, and then a walk of gm_exports returns the image's
-   list of exports; else the code of a fault. It opens the image again, visits all exports, and allocates memory while it runs: for the commands,
+/* Returns GM_OK if all exports can be read, and no two paths of their trie lead to one node. Then a walk of gm_exports returns the image's list of
+   exports. If not, returns the code of a fault. It opens the image again, visits all exports, and allocates memory while it runs: for the commands,
    and one bit for each byte of the trie. */
 uint32_t gm_exports_are_a_tree(const uint8_t *bytes, uint64_t len, const gm_image *image, const gm_memory *memory, gm_error *error);
 
@@ -486,15 +486,15 @@ typedef struct gm_fixup_cursor { uint64_t chains[4]; uint32_t stage, reserved; }
 uint32_t gm_fixups(const uint8_t *bytes, uint64_t len, const gm_image *image, gm_fixup_cursor *cursor, gm_fixup *out, uint64_t cap, uint64_t *count,
                    const gm_memory *memory, gm_error *error);
 
-/* ---- its imports, from the binds of LC_DYLD_INFO: the name of one is `name_len` bytes at bytes + name, and its library has ordinal `library`,
-   0 for the image itself */
+/* ---- its imports, from the binds of LC_DYLD_INFO: the name of one is `name_len` bytes at bytes + name. Its library has ordinal `library`, which
+   is 0 for the image itself. */
 typedef struct gm_import {
     uint64_t address, offset; /* of the pointer to bind: in memory, and in the file */
     int64_t addend;
     uint64_t start_of_sequence_offset; /* the offset after the last DONE before it, counted from the start of its range, or 0 */
     uint64_t name, name_len;
     uint64_t library;
-    uint64_t size;              /* 8 for a lazy one, else 0 */
+    uint64_t size;              /* 8 for a lazy one, or 0 */
     uint32_t is_weak, is_lazy;  /* whether the symbol may be missing, whether it is bound at its first use: 0 or 1 each */
     uint32_t code, reserved;    /* code: GM_OK, or why no further ones can be read */
 } gm_import;
@@ -507,8 +507,8 @@ typedef struct gm_binding {
     uint64_t address, offset; /* of the pointer to bind: in memory, and in the file */
     int64_t addend;
     uint64_t name, name_len;
-    uint64_t library;           /* the ordinal of a library, else 0 */
-    uint32_t provider;          /* where the symbol is looked for */
+    uint64_t library;           /* the ordinal of a library, or 0 */
+    uint32_t provider;          /* where the symbol is looked up */
     uint32_t is_weak, is_lazy; /* whether the symbol may be missing, whether it is bound at its first use: 0 or 1 each */
     uint32_t code;              /* GM_OK, or why no further ones can be read */
 } gm_binding;
@@ -517,8 +517,8 @@ typedef struct gm_binding_cursor { gm_bind_cursor opcodes; gm_fixup_cursor chain
 uint32_t gm_bindings(const uint8_t *bytes, uint64_t len, const gm_image *image, gm_binding_cursor *cursor, gm_binding *out, uint64_t cap, uint64_t *count,
                      const gm_memory *memory, gm_error *error);
 
-/* ---- its weak binds, from LC_DYLD_INFO, which images of C++ have: names that the image defines itself and not weakly, and places that take the
-   definition of a name that all images share, whatever was bound there before. The name of one is `name_len` bytes at bytes + name. */
+/* ---- its weak binds, from LC_DYLD_INFO, which images of C++ have. These are names that the image defines itself and not weakly, and places that
+   take the definition of a name that all images share, whatever was bound there before. The name of one is `name_len` bytes at bytes + name. */
 typedef struct gm_weak_bind {
     uint64_t address, offset; /* of the pointer to bind: in memory, and in the file */
     int64_t addend;
@@ -530,8 +530,8 @@ typedef struct gm_weak_bind {
 uint32_t gm_weak_binds(const uint8_t *bytes, uint64_t len, const gm_image *image, gm_bind_cursor *cursor, gm_weak_bind *out, uint64_t cap, uint64_t *count,
                        const gm_memory *memory, gm_error *error);
 
-/* ---- its rebases, from the opcodes of LC_DYLD_INFO and then from the chains: places in memory whose number dyld adjusts by the slide of the
-   image, each at `address`, `offset` bytes after the start of segment number `segment` */
+/* ---- its rebases, from the opcodes of LC_DYLD_INFO and then from the chains. These are places in memory whose number dyld adjusts by the slide of
+   the image. Each is at `address`, `offset` bytes after the start of segment number `segment`. */
 typedef struct gm_rebase {
     uint64_t address, offset;
     uint64_t target; /* the number there before it is adjusted */
@@ -595,17 +595,18 @@ enum { GM_PART_NONE, GM_LAYOUT_PARTS(GM_LAYOUT_PART) };
 #undef GM_LAYOUT_RULE
 #undef GM_LAYOUT_PART
 
-/* the plain name of a rule, and of a part; "none" for any other number */
+/* Return the plain name of a rule, and of a part, or "none" for any other number. */
 const char *gm_layout_rule(uint32_t rule);
 const char *gm_layout_part(uint32_t part);
 
-/* The faults from index `first` on; how many were written is in *count. They are those of the file that begins with the image, and offsets count
+/* Writes the faults from index `first` on, and how many it wrote to *count. They are those of the file that begins with the image, and offsets count
    from there. It opens the image again, and allocates memory while it runs. With a `cap` of 0 it is refused with GM_NO_ROWS. A refused call
    leaves the array and *count unchanged. */
 uint32_t gm_layout_faults(const uint8_t *bytes, uint64_t len, const gm_image *image, uint64_t first, gm_layout_fault *out, uint64_t cap, uint64_t *count,
                           const gm_memory *memory, gm_error *error);
 
-/* The same for the table of a fat file, of 32 or 64 bits: none if the bytes are none. Unless `cap` is 0, it is only refused with GM_NO_MEMORY. */
+/* Does the same for the table of a fat file of 32 or 64 bits; there are none if the bytes are no fat file. Unless `cap` is 0, it is only refused with
+   GM_NO_MEMORY. */
 uint32_t gm_container_faults(const uint8_t *bytes, uint64_t len, uint64_t first, gm_layout_fault *out, uint64_t cap, uint64_t *count,
                              const gm_memory *memory, gm_error *error);
 
@@ -616,15 +617,15 @@ typedef struct gm_signature {
     uint64_t identifier, identifier_len, team, team_len;
     uint64_t entitlements, entitlements_len;                   /* in XML */
     uint32_t version, flags, hash_type;                      /* flags: GM_CS_ADHOC and the like; hash_type: GM_CS_HASHTYPE_SHA256 and the like */
-    uint32_t page_size;                                      /* the size of a page as a power of 2; 0 if all covered bytes are one page */
+    uint32_t page_size;                                      /* the size of a page as an exponent of 2; 0 if all covered bytes are one page */
     uint32_t identifier_code, team_code, entitlements_code;  /* GM_OK, or why the text can't be read */
-    uint32_t is_signed;                                      /* 0 or 1; if it is 0 no command places a signature, and everything is 0 */
+    uint32_t is_signed;                                      /* 0 or 1; if it is 0 no command places a signature, and all fields are 0 */
     uint8_t cdhash[20];                                      /* the system knows the code by this: 20 bytes of the directory's hash, by hash_type */
     uint32_t reserved;
 } gm_signature;
 
-/* Writes it. It opens the image again, and allocates memory while it runs. It is also refused if the signature or one of its directories can't
-   be read, if two directories have the same hash type, or if there is none; a refused call leaves *signature unchanged. */
+/* Writes the signature. It opens the image again, and allocates memory while it runs. It is also refused if the signature or one of its directories
+   can't be read, if two directories have the same hash type, or if there is no directory. A refused call leaves *signature unchanged. */
 uint32_t gm_code_signature(const uint8_t *bytes, uint64_t len, const gm_image *image, gm_signature *signature, const gm_memory *memory, gm_error *error);
 
 /* what isn't as it was signed: a fault of a kind, of the directory at a slot or of a blob. docs/C.md says what `found` and `limit` are for each
@@ -643,24 +644,24 @@ typedef struct gm_signature_fault {
 enum { GM_SIGNATURE_NONE, GM_SIGNATURE_KINDS(GM_SIGNATURE_KIND) };
 #undef GM_SIGNATURE_KIND
 
-/* the plain name of a kind; "none" for any other number */
+/* Returns the plain name of a kind, or "none" for any other number. */
 const char *gm_signature_kind(uint32_t kind);
 
-/* The faults of the signature from index `first` on; how many were written is in *count; none if no command places a signature. It opens the
-   image again, allocates memory while it runs, and hashes the covered bytes from the first page on: if there are many faults, pass an array that
-   holds them all. With a `cap` of 0 it is refused with GM_NO_ROWS; it is also refused if the signature can't be read. A refused call leaves the
-   array and *count unchanged. */
+/* Writes the faults of the signature from index `first` on, and how many it wrote to *count. There are none if no command places a signature. It opens
+   the image again, allocates memory while it runs, and hashes the covered bytes from the first page on. If there are many faults, pass an array
+   that holds them all. With a `cap` of 0 it is refused with GM_NO_ROWS. It is also refused if the signature can't be read. A refused call leaves
+   the array and *count unchanged. */
 uint32_t gm_signature_faults(const uint8_t *bytes, uint64_t len, const gm_image *image, uint64_t first, gm_signature_fault *out, uint64_t cap, uint64_t *count,
                              const gm_memory *memory, gm_error *error);
 
-/* Whether the image has a signature and is as it was signed: writes 1 or 0 to *as_signed. It opens the image again, allocates memory while it
-   runs, and hashes the covered bytes. It is also refused if the signature can't be read; a refused call leaves *as_signed unchanged. Who signed
+/* Writes to *as_signed whether the image has a signature and is as it was signed, as 1 or 0. It opens the image again, allocates memory while it
+   runs, and hashes the covered bytes. It is also refused if the signature can't be read. A refused call leaves *as_signed unchanged. Who signed
    is not checked. */
 uint32_t gm_is_as_signed(const uint8_t *bytes, uint64_t len, const gm_image *image, uint32_t *as_signed, const gm_memory *memory, gm_error *error);
 
 /* ---- a name as a text for C: a copy of it in `out` that fits on a line, as the programs print it, and ends with a zero byte. A backslash is \\,
    and each byte of a control character, of a mark that changes the direction of text, and of what isn't UTF-8 is \xNN. Zero bytes at the end of
-   a name are left out. Returns the bytes that the whole text needs, with its zero byte; if `cap` is less, it is cut before an escape or a
+   a name are left out. Returns the bytes that the whole text needs, with its zero byte. If `cap` is less, the text is cut before an escape or a
    character that doesn't fit. */
 uint64_t gm_text(char *out, uint64_t cap, const void *name, uint64_t name_len);
 
@@ -1085,7 +1086,7 @@ const char *gm_platform_name(uint32_t platform);                      /* "MACOS"
 #define GM_CS_LINKER_SIGNED    UINT32_C(0x20000) /* the linker signed it */
 /* ---- end */
 
-/* The layout that the library gives each struct (x86-64 Linux), and its numbers: a compiler that sees other ones refuses this header. */
+/* The layout that the library gives each struct (x86-64 Linux), and its numbers. A compiler that sees other ones refuses this header. */
 #ifdef __cplusplus
 #define GM_ASSERT(name, holds) static_assert(holds, #name)
 #define GM_WIDTH(type, field) sizeof(type::field)

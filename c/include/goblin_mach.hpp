@@ -1,5 +1,5 @@
-// goblin_mach.h for C++17. A refused call throws goblin_mach::refusal; what may be missing is a std::optional; a list is a range whose rows are
-// read in batches while it is visited; a name is a std::string_view of the bytes. An image refers to its bytes, which must outlive it, and copies
+// goblin_mach.h for C++17. A refused call throws goblin_mach::refusal. What may be missing is a std::optional. A list is a range whose rows are
+// read in batches while it is visited. A name is a std::string_view of the bytes. An image refers to its bytes, which must outlive it, and copies
 // nothing. All names of goblin_mach.h may be used beside these.
 #ifndef GOBLIN_MACH_HPP
 #define GOBLIN_MACH_HPP
@@ -62,7 +62,7 @@ public:
     }
     iterator end() { return iterator(); }
 
-    // All rows.
+    // Returns all rows.
     std::vector<Row> all() {
         std::vector<Row> found;
         for (const Row &row : *this) found.push_back(row);
@@ -79,13 +79,13 @@ private:
     uint64_t at = 0, count = 0;
 };
 
-// The name in a field of 16 bytes, which zeros pad.
+// Returns the name in a field of 16 bytes, which zeros pad.
 inline std::string_view name_of(const uint8_t (&field)[16]) {
     std::string_view name(reinterpret_cast<const char *>(field), sizeof field);
     return name.substr(0, name.find('\0'));
 }
 
-// A name on one line, with escapes, as gm_text writes it.
+// Returns a name on one line, with escapes, as gm_text writes it.
 inline std::string printable(std::string_view name) {
     std::string text(gm_text(nullptr, 0, name.data(), name.size()), '\0');
     gm_text(text.data(), text.size(), name.data(), name.size());
@@ -188,10 +188,10 @@ public:
         if (gm_open(data, len, 0, mode, memory, &numbers, &error)) throw refusal(error);
     }
 
-    // the numbers of its header and of its lists
+    // Returns the numbers of its header and of its lists.
     const gm_image *operator->() const { return &numbers; }
 
-    // what the bytes have at a place, which a row gives; and the name of a row
+    // Return what the bytes have at a place, which a row gives; and the name of a row.
     std::string_view text(uint64_t at, uint64_t size) const { return {reinterpret_cast<const char *>(data) + at, static_cast<std::size_t>(size)}; }
     template <typename Row>
     std::string_view name(const Row &row) const { return text(row.name, row.name_len); }
@@ -249,7 +249,7 @@ public:
 
     // ---- exports and the signature
 
-    // Calls `each` with the name and the row of each export, until it returns false. What it throws ends the visit, and is thrown.
+    // Calls `each` with the name and the row of each export, until it returns false. What `each` throws ends the visit, and is thrown.
     template <typename Each>
     void exports(Each each) const {
         struct visit { Each &each; std::exception_ptr thrown; } state{each, nullptr};
@@ -301,15 +301,15 @@ public:
     const std::vector<uint8_t> &bytes() const { return held; }
     uint32_t kind() const { return gm_kind(held.data(), held.size()); }
 
-    // The entries of a fat file; none of any other file.
+    // Returns the entries of a fat file, or none of any other file.
     rows<gm_fat_entry64, fills::of_entries> entries() const { return rows<gm_fat_entry64, fills::of_entries>({held.data(), held.size(), 0}); }
 
-    // The image of an entry, whose code is GM_OK.
+    // Opens the image of an entry, whose code is GM_OK.
     goblin_mach::image image(const gm_fat_entry64 &entry, uint32_t mode = GM_STRICT) const {
         return goblin_mach::image(held.data() + entry.offset, entry.size, mode);
     }
 
-    // The one image for a cpu.
+    // Opens the one image for a cpu.
     goblin_mach::image image_for(uint32_t cputype, uint32_t cpusubtype = GM_CPU_SUBTYPE_ANY, uint32_t mode = GM_STRICT) const {
         gm_fat_entry64 found;
         gm_error error;
@@ -317,7 +317,7 @@ public:
         return image(found, mode);
     }
 
-    // The images of all entries, or of the file itself.
+    // Opens the images of all entries, or of the file itself.
     std::vector<goblin_mach::image> images(uint32_t mode = GM_STRICT) const {
         std::vector<goblin_mach::image> all;
         auto list = entries();

@@ -7,9 +7,10 @@
                 print(hex(symbol.value), symbol.name)
 
 A file is mapped, not copied. Each list is an iterator that requests 1,000 items at a time from the library. An item that can't be read
-has an `error`. What can't be opened raises `Refused`, except an entry of a fat file, which is an image with an `error`. A list may be as
-long as a hostile file claims, up to 2^60 bindings: take only the part that you need (`itertools.islice`). Bytes of a name that aren't
-UTF-8 become surrogates, as by `os.fsdecode`. The package needs nothing but Python 3.8 or later. docs/PYTHON.md says more."""
+has an `error`. What can't be opened raises `Refused`. An entry of a fat file or a member of an archive that can't be opened is an image
+with an `error`. A list may be as long as a hostile file claims, up to 2^60 bindings: take only the part that you need
+(`itertools.islice`). Bytes of a name that aren't UTF-8 become surrogates, as by `os.fsdecode`. The package needs nothing but Python 3.8
+or later. docs/PYTHON.md says more."""
 
 from __future__ import annotations
 

@@ -1,4 +1,5 @@
-"""The command `goblin-mach WORD FILE..`, which is `python3 -m goblin_mach` too: shows what is in Mach-O files, with labels or as JSON."""
+"""The command `goblin-mach WORD FILE..`, which is `python3 -m goblin_mach` too. It shows what is in Mach-O files, with labels or as
+JSON."""
 
 from __future__ import annotations
 
@@ -28,7 +29,7 @@ def _complain(words: object) -> int:
 
 
 def _items(name: str, image: Image, left_out: List[str]) -> Iterator[Any]:
-    """The items of a table, but no more than the image has bytes. What is left out, and why, is added to `left_out`."""
+    """Yields the items of a table, but no more than the image has bytes. Adds to `left_out` what is left out, and why."""
     limit = len(image.data)
     items = iter(TABLES[name].items(image))
     try:
@@ -104,7 +105,7 @@ def _show(word: str, file: File, as_json: bool) -> int:
 
 
 def _arguments(words: List[str]) -> argparse.Namespace:
-    """The arguments of the command. Wrong ones, `--help` and `--version` end the program."""
+    """Returns the arguments of the command. Wrong ones, `--help` and `--version` end the program."""
     parser = argparse.ArgumentParser(prog="goblin-mach", description="Shows what is in Mach-O files, fat files and archives.",
                                      formatter_class=argparse.RawDescriptionHelpFormatter,
                                      epilog="words:\n" + "\n".join(f"  {name:<10} {word.about}" for name, word in WORDS.items()))
@@ -133,7 +134,7 @@ def main(words: List[str]) -> int:
 
 def program(words: Optional[List[str]] = None) -> None:
     """Runs the command, and ends the program."""
-    # A closed pipe and Ctrl-C end it as they end other programs: without a message, and by their signal. If Ctrl-C was ignored it stays
+    # A closed pipe and Ctrl-C end it as they end other programs: without a message, and by their signal. If Ctrl-C was ignored, it stays
     # ignored.
     signal.signal(signal.SIGPIPE, signal.SIG_DFL)
     if signal.getsignal(signal.SIGINT) is signal.default_int_handler:

@@ -30,7 +30,7 @@ NAMES: Dict[Tuple[int, int], str] = {
 
 
 def arch_name(cputype: int, cpusubtype: int) -> str:
-    """The name of an architecture, whatever its capabilities, for example "arm64e"; "unknown(99,3)" for one without a name, as lipo
-    prints it."""
+    """Returns the name of an architecture, whatever its capabilities, for example "arm64e". One without a name is "unknown(99,3)", as
+    lipo prints it."""
     kind = cpusubtype & 0xFFFFFF
     return NAMES.get((cputype, kind)) or f"unknown({cputype},{kind})"

@@ -63,13 +63,13 @@ FIELDS: Dict[int, List[List[str]]] = {
 
 
 def name_in(raw: bytes) -> str:
-    """The text before the first zero byte. Bytes that aren't UTF-8 become surrogates."""
+    """Returns the text before the first zero byte. Bytes that aren't UTF-8 become surrogates."""
     return raw.split(b"\0", 1)[0].decode("utf-8", "surrogateescape")
 
 
 def fields_of(cmd: int, data: memoryview) -> Dict[str, Any]:
-    """The fields of the record of a command with these bytes, as far as these hold them. The bytes are in the order in which they begin
-    with the command's number. A text that isn't in the command is None."""
+    """Returns the fields of the record of a command with these bytes, as far as they hold them. The byte order is the one in which they
+    begin with the command's number. A text that isn't in the command is None."""
     order = "<" if data[:4] == struct.pack("<I", cmd) else ">"
     found: Dict[str, Any] = {}
     place = 8

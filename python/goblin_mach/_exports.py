@@ -43,14 +43,14 @@ class _Room:
 
 
 def _longer(old: ctypes.Array[c_char], count: int) -> ctypes.Array[c_char]:
-    """A longer buffer that begins with the old contents."""
+    """Returns a longer buffer that begins with the old contents."""
     new = (c_char * count)()
     ctypes.memmove(new, old, len(old))
     return new
 
 
 def exports(live: Callable[[], Held], numbers: Any, libraries: Callable[[], Callable[[int], str]]) -> Iterator[Export]:
-    """All exports, in the order of the trie. `libraries` returns what gives the name of a library by its ordinal."""
+    """Yields all exports, in the order of the trie. `libraries` returns a function that gives the name of a library by its ordinal."""
     held, known, new = live(), None, tuple.__new__
     life, view = held.life, held.view
     for room in _batches(held, numbers):
@@ -68,8 +68,8 @@ def exports(live: Callable[[], Held], numbers: Any, libraries: Callable[[], Call
 
 
 def errors(live: Callable[[], Held], numbers: Any) -> Iterator[None]:
-    """Nothing, since no export is built. If they are no list, since the trie has a fault or two paths lead to one node, it raises
-    `Refused`. Each node is visited once."""
+    """Yields nothing, since no export is built. Raises `Refused` if the trie has a fault, or if two of its paths lead to one node. Visits
+    each node once."""
     code, error = are_a_tree(live(), numbers)
     if code:
         raise refused(error)
@@ -77,7 +77,7 @@ def errors(live: Callable[[], Held], numbers: Any) -> Iterator[None]:
 
 
 def _batches(held: Held, numbers: Any) -> Iterator[_Room]:
-    """The buffers of a walk after each call. A fault of the trie raises `Refused` after the batch before it."""
+    """Yields the buffers of a walk after each call. A fault of the trie raises `Refused` after the batch before it."""
     room, error = _Room(), s.gm_error()
     while True:
         held.life.check()
@@ -92,7 +92,7 @@ def _batches(held: Held, numbers: Any) -> Iterator[_Room]:
 
 
 def find_export(held: Held, numbers: Any, name: str) -> Optional[Export]:
-    """The export of a name from the image, or None."""
+    """Returns the export of a name from the image, or None."""
     raw, found, error, size = name.encode("utf-8", "surrogateescape"), s.gm_export(), s.gm_error(), 256
     while True:
         library, target = ctypes.create_string_buffer(size), ctypes.create_string_buffer(size)
@@ -112,6 +112,6 @@ def find_export(held: Held, numbers: Any, name: str) -> Optional[Export]:
 
 
 def are_a_tree(held: Held, numbers: Any) -> Tuple[int, s.gm_error]:
-    """The code of the answer, and its text."""
+    """Returns the code of the answer, and its text."""
     error = s.gm_error()
     return int(lib.gm_exports_are_a_tree(held.at, held.len, numbers, None, byref(error))), error

@@ -8,15 +8,15 @@ from typing import Any, Dict
 
 
 def _shown(value: object) -> str:
-    """A value as text: numbers in hexadecimal, and for bytes of the file how many they are."""
+    """Returns a value as text: numbers in hexadecimal, and for bytes of the file how many they are."""
     if isinstance(value, int) and not isinstance(value, bool):
         return str(value) if -10 < value < 10 else hex(value)
     return f"<{len(value)} bytes>" if isinstance(value, memoryview) else repr(value)
 
 
 def plain(value: Any) -> Any:
-    """A value as JSON takes it: an item as its dict, a name (`bytes`) as a `str` with surrogates for what isn't UTF-8, and other bytes
-    of the file (a `memoryview`) in hexadecimal."""
+    """Returns a value as JSON takes it. An item becomes its dict, and a name (`bytes`) a `str` with surrogates for what isn't UTF-8.
+    Other bytes of the file (a `memoryview`) become hexadecimal, and a UUID its text."""
     if isinstance(value, Item):
         return value.to_dict()
     if isinstance(value, bytes):
@@ -32,11 +32,11 @@ class Item:
     __slots__ = ()
 
     def to_dict(self: Any) -> Dict[str, Any]:
-        """Its fields by their names, with values that `json.dumps` takes: names are `str`, and bytes are in hexadecimal."""
+        """Returns its fields by their names, with values that `json.dumps` takes. Names are `str`, and bytes are in hexadecimal."""
         return {name: plain(value) for name, value in zip(self._fields, self)}
 
     def json(self) -> str:
-        """`to_dict()` as JSON, on one line."""
+        """Returns `to_dict()` as JSON, on one line."""
         return json.dumps(self.to_dict())
 
     def __repr__(self: Any) -> str:

@@ -25,8 +25,9 @@ def _in_folder(folder: str) -> List[str]:
 
 
 def places() -> List[str]:
-    """Where the library is searched, in order: where GOBLIN_MACH says, and only there if it is set; beside this file, as in a wheel that
-    includes it; in build/ of the repository that contains the package; and where the system's loader looks."""
+    """Returns the places where the library is searched, in order. If GOBLIN_MACH is set it names the only place. Otherwise the library is
+    searched beside this file, as in a wheel that includes it. After that it is searched in build/ of the repository that contains the
+    package, and where the system's loader looks."""
     named = os.environ.get("GOBLIN_MACH")
     if named:
         return [named]
@@ -36,7 +37,7 @@ def places() -> List[str]:
 
 
 def _open_first(paths: Sequence[str]) -> ctypes.CDLL:
-    """The first of these that can be loaded."""
+    """Returns the first of these libraries that can be loaded."""
     why = []
     for path in paths:
         try:
@@ -47,7 +48,7 @@ def _open_first(paths: Sequence[str]) -> ctypes.CDLL:
 
 
 def _prototypes() -> Dict[str, Tuple[Any, List[Any]]]:
-    """What each call returns, and what it takes."""
+    """Returns what each call returns, and what it takes."""
     image, error, count = POINTER(s.gm_image), POINTER(s.gm_error), POINTER(c_uint64)
     held: List[Any] = [c_void_p, c_uint64]
     name: List[Any] = [c_char_p, c_uint64]
@@ -104,14 +105,15 @@ def _prototypes() -> Dict[str, Tuple[Any, List[Any]]]:
 
 
 def version_of(found: ctypes.CDLL) -> Tuple[int, int, int]:
-    """The version of a library."""
+    """Returns the version of a library."""
     found.gm_version_number.restype = c_uint32
     number = int(found.gm_version_number())
     return number // 1000000, number // 1000 % 1000, number % 1000
 
 
 def load(paths: Sequence[str]) -> ctypes.CDLL:
-    """The library, loaded from the first of these places that has it; an ImportError if none has it, or if its version is another one."""
+    """Returns the library, loaded from the first of these places that has it. Raises ImportError if none has it, if its version is
+    another one, or if it lacks a call."""
     found = _open_first(paths)
     try:
         version = version_of(found)
@@ -129,19 +131,19 @@ lib = load(places())
 
 
 def refused(error: s.gm_error) -> Refused:
-    """The error for a refusal, with the library's text."""
+    """Returns the error for a refusal, with the library's text."""
     return Refused(error.code, error.text.decode("utf-8", "replace"))
 
 
 def bits64(number: int) -> int:
-    """A number as C takes it. One of more than 64 bits would be cut, and is refused."""
+    """Returns a number as C takes it. A number of more than 64 bits would be cut, and is refused."""
     if not 0 <= number < 1 << 64:
         raise ValueError(f"{number:#x} is no number of 64 bits")
     return number
 
 
 def escaped(name: Union[str, bytes]) -> str:
-    """A name as the programs print it, so that it can't forge output and fits on a line: a backslash is twice there, and each byte of a
+    """Returns a name as the programs print it. It can't forge output, and fits on a line. A backslash is there twice. Each byte of a
     control character, of a mark that changes the direction of text, and of what isn't UTF-8 is \\xNN."""
     if isinstance(name, str) and name.isascii() and name.isprintable() and "\\" not in name:
         return name

@@ -1,4 +1,4 @@
-"""Items from rows: for each kind of list a function that builds its items. Each has a loop of its own over tuples, because lists are
+"""Items from rows: for each kind of list a function that builds its items. Each has a loop of its own over tuples, since lists are
 long."""
 
 from __future__ import annotations
@@ -36,7 +36,7 @@ def as_written(held: Held, raws: Raws, first: int) -> List[Tuple[Any, ...]]:
 
 
 def _told(number: int) -> Optional[int]:
-    """A number of a member's header, or None if its field is no number (GM_NO_NUMBER)."""
+    """Returns a number of a member's header, or None if its field is no number (GM_NO_NUMBER)."""
     return None if number == (1 << 64) - 1 else number
 
 
@@ -210,17 +210,17 @@ def slots(held: Held, raws: Raws, first: int) -> List[SymbolSlot]:
 
 
 def found_symbol(held: Held, found: s.gm_found_symbol) -> Optional[FoundSymbol]:
-    """A symbol that was looked up, if it was found."""
+    """Returns a symbol that was looked up, if it was found."""
     return FoundSymbol(SYMBOLS.items_of(held, found.symbol)[0], found.index, found.distance) if found.is_found else None
 
 
 def provider(found: s.gm_provider) -> Optional[SymbolProvider]:
-    """The provider of a symbol, if the linker recorded it."""
+    """Returns the provider of a symbol, if the linker recorded it."""
     return SymbolProvider(PROVIDERS[found.provider], found.library, _error(found.code)) if found.is_reported else None
 
 
 def numbered_section(found: s.gm_found_section) -> Optional[NumberedSection]:
-    """A section that was looked up, if it was found."""
+    """Returns a section that was looked up, if it was found."""
     if not found.is_found:
         return None
     return NumberedSection(found.segment, found.number, _name(bytes(found.name)), _name(bytes(found.segment_name)), found.addr, found.size, found.offset,

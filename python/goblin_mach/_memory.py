@@ -61,10 +61,10 @@ class Held:
 
 
 def text(raw: ReadableBuffer) -> str:
-    """Bytes as text. Those that aren't UTF-8 become surrogates."""
+    """Returns bytes as text. Those that aren't UTF-8 become surrogates."""
     return str(raw, "utf-8", "surrogateescape")
 
 
 def bytes_of(name: Union[str, bytes]) -> bytes:
-    """A name as its bytes in a file."""
+    """Returns a name as its bytes in a file."""
     return name.encode("utf-8", "surrogateescape") if isinstance(name, str) else name

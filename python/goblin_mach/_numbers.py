@@ -1,10 +1,10 @@
 """What all numbers with names have in common.
 
-The fields of items and images are plain `int`s, as in the file, and a property of each gives the enum: `command.cmd` is 25, and
-`command.load_command` is `LoadCommand.SEGMENT_64`. So a list looks up no names that nobody uses, the values that are printed, compared
-or pickled are numbers in every version of Python, and a number without a name is no error. The property always returns an enum: for a
-number without a name one that is named after it, such as `LoadCommand.UNKNOWN_0x99`. It equals the number, and isn't stored, so a file
-can't make the tables grow."""
+The fields of items and images are plain `int`s, as in the file. A property of each gives the enum: `command.cmd` is 25, and
+`command.load_command` is `LoadCommand.SEGMENT_64`. A list looks up no names that nobody uses. The values that are printed, compared or
+pickled are numbers in every version of Python. A number without a name is no error. The property always returns an enum. For a number
+without a name that is one named after it, such as `LoadCommand.UNKNOWN_0x99`. It equals the number, and isn't stored. A file can't make
+the tables grow."""
 
 from __future__ import annotations
 
@@ -20,7 +20,7 @@ class Number(IntEnum):
 
     @classmethod
     def of(cls: Type[E], number: int) -> E:
-        """The member of a number, with a name or without."""
+        """Returns the member of a number, with a name or without."""
         member = cls._value2member_map_.get(number)
         return cls._unnamed(number) if member is None else cast(E, member)
 
@@ -55,7 +55,7 @@ class Flags(IntFlag):
 
     @classmethod
     def of(cls: Type[F], number: int) -> F:
-        """The flags of a number; bits without a name are kept."""
+        """Returns the flags of a number. Bits without a name are kept."""
         return cls(number)
 
     @classmethod
@@ -66,7 +66,7 @@ class Flags(IntFlag):
 
     @property
     def names(self) -> Tuple[str, ...]:
-        """The names of the bits that are set, lowest first; a bit without a name appears as its number."""
+        """The names of the bits that are set, lowest first. A bit without a name appears as its number."""
         known = {member.value: name for name, member in reversed(list(type(self).__members__.items()))}
         bits = (1 << k for k in range(int(self).bit_length()))
         return tuple(known.get(bit, f"0x{bit:x}") for bit in bits if int(self) & bit)

@@ -27,7 +27,7 @@ def errors_of(held: Held, raws: Iterable[Tuple[Any, ...]], first: int) -> List[O
 
 
 class Kind(Generic[T]):
-    """A kind of list: the call that writes its rows, the struct of a row, and what builds items from rows."""
+    """A kind of list: the call that writes its rows, the struct of a row, and the function that builds items from rows."""
 
     __slots__ = ("call", "decode", "grows", "row", "struct")
 
@@ -36,34 +36,34 @@ class Kind(Generic[T]):
         self.struct, self.row = row, unpacker(row)
 
     def errors(self) -> Kind[Optional[str]]:
-        """The same list, with the error of each item alone, or None: nothing else of an item is built."""
+        """Returns the kind of the same list with the error of each item alone, or None. Nothing more of an item is built."""
         made: Kind[Optional[str]] = Kind(self.call, self.struct, errors_of, self.grows)
         made.row = code_unpacker(self.struct)
         return made
 
     def array(self, count: int) -> ctypes.Array[ctypes.c_char]:
-        """Room for `count` rows."""
+        """Returns room for `count` rows."""
         return ctypes.create_string_buffer(count * self.row.size)
 
     def items(self, held: Held, array: ctypes.Array[ctypes.c_char], count: int, first: int) -> List[T]:
-        """The items of the first `count` rows of an array, whose indices begin with `first`."""
+        """Returns the items of the first `count` rows of an array, whose indices begin with `first`."""
         return self.decode(held, self.row.iter_unpack(memoryview(array)[:count * self.row.size]), first)
 
     def each(self, held: Held, array: ctypes.Array[ctypes.c_char], count: int, first: int) -> Iterator[T]:
-        """The items of the first `count` rows of an array, of which at most 1,000 are built at a time."""
+        """Yields the items of the first `count` rows of an array. At most 1,000 are built at a time."""
         rows = memoryview(array)[:count * self.row.size]
         for start in range(0, count, BATCH):
             part = rows[start * self.row.size:(start + BATCH) * self.row.size]
             yield from self.decode(held, self.row.iter_unpack(part), first + start)
 
     def items_of(self, held: Held, row: ctypes.Structure) -> List[T]:
-        """The item of one row, in a list."""
+        """Returns the item of one row, in a list."""
         return self.decode(held, self.row.iter_unpack(bytes(row)), 0)
 
 
 class Rows(Generic[T]):
-    """A list whose items have indices. It is an iterator, which runs once. In addition it has `len`; an index or a slice, and `in`,
-    request items anew, independently of the iterator."""
+    """A list whose items have indices. It is an iterator, which runs once. It also has `len`, indices, slices and `in`. These request
+    items anew, independently of the iterator."""
 
     __slots__ = ("_end", "_given", "_kind", "_length", "_live", "_table", "_walk")
 
@@ -73,8 +73,8 @@ class Rows(Generic[T]):
         self._walk = self._items(0, None)
 
     def in_bounds(self) -> Rows[T]:
-        """Those whose record begins within the bytes, as a list of its own. A file may claim 2^32 records when it has few. Lists without
-        a table of records are returned whole."""
+        """Returns the items whose record begins within the bytes, as a list of its own. A file may claim 2^32 records when it has few.
+        Lists without a table of records are returned whole."""
         if self._table is None:
             return Rows(self._kind, self._live, self._given, self._length, None, self._end)
         held = self._live()
@@ -83,11 +83,11 @@ class Rows(Generic[T]):
         return Rows(self._kind, self._live, self._given, lambda: end, None, end)
 
     def errors(self) -> Rows[Optional[str]]:
-        """The `error` of each item, as a list of its own: nothing else of the items is built, no name and no data."""
+        """Returns the `error` of each item, as a list of its own. Nothing more of the items is built, no name and no data."""
         return Rows(self._kind.errors(), self._live, self._given, self._length, self._table, self._end)
 
     def _items(self, first: int, end: Optional[int]) -> Iterator[T]:
-        """The items from an index on, up to `end` if it is given, in batches."""
+        """Yields the items from an index on, up to `end` if it is given, in batches."""
         kind, held = self._kind, self._live()
         if self._end is not None:
             end = self._end if end is None else min(end, self._end)
@@ -143,7 +143,7 @@ class Rows(Generic[T]):
         return found[0]
 
     def _slice(self, numbers: range) -> List[T]:
-        """The items at these indices. Those between them are read in batches, and not kept."""
+        """Returns the items at these indices. Those between them are read in batches, and not kept."""
         if not numbers:
             return []
         first, end, step = min(numbers[0], numbers[-1]), max(numbers[0], numbers[-1]) + 1, abs(numbers.step)
@@ -159,7 +159,7 @@ class Rows(Generic[T]):
 
 
 def rows_behind(kind: Kind[T], live: Callable[[], Held], numbers: Any, cursor: ctypes.Structure) -> Iterator[T]:
-    """The items of a list that goes on from a cursor, which begins as zeros."""
+    """Yields the items of a list that goes on from a cursor, which begins as zeros."""
     held, array, count, error, first = live(), kind.array(BATCH), ctypes.c_uint64(), gm_error(), 0
     life = held.life
     while True:
@@ -176,7 +176,7 @@ def rows_behind(kind: Kind[T], live: Callable[[], Held], numbers: Any, cursor: c
 
 
 def in_growing_batches(kind: Kind[T], live: Callable[[], Held], given: Sequence[Any] = ()) -> Iterator[T]:
-    """The items of a list whose calls all search from the start: so batches double in size."""
+    """Yields the items of a list whose calls all search from the start. For that reason batches double in size."""
     held, first, cap = live(), 0, BATCH
     life = held.life
     while True:

@@ -20,7 +20,7 @@ def _flags(**named: bool) -> str:
 
 
 class Table(NamedTuple):
-    """A list: its items, the form of a line, the headings, and what gives the cells of an item."""
+    """A list: its items, the form of a line, the headings, and what makes the cells of an item."""
 
     items: Callable[[Image], Iterable[Any]]
     form: str
@@ -42,7 +42,7 @@ def _of_binding(image: Image) -> Callable[[Binding], Tuple[object, ...]]:
 
     @lru_cache(maxsize=None)
     def name_of(ordinal: int) -> str:
-        # (many names may run on to one far end, so no more of each is kept)
+        # (no more of each name is kept, since many names may run on to one far end)
         return escaped(library(ordinal)[:200])
 
     return lambda b: (hex(b.address), b.addend, _flags(weak=b.is_weak, lazy=b.is_lazy), escaped(b.name),
@@ -66,7 +66,8 @@ def _of_fault(image: Image) -> Callable[[Any], Tuple[object, ...]]:
 
 
 def _first_fault(image: Image, errors: Callable[[], Iterator[Optional[str]]]) -> Optional[str]:
-    """Why the first item of a list that can't be read can't be, or why the list ends. It has no more items than the image has bytes."""
+    """Returns the `error` of the first item of a list that has one, or why the list ends; None without either. Reads no more items than
+    the image has bytes."""
     try:
         return next(filter(None, islice(errors(), len(image.data))), None)
     except Refused as why:
@@ -74,7 +75,7 @@ def _first_fault(image: Image, errors: Callable[[], Iterator[Optional[str]]]) ->
 
 
 def faults(image: Image) -> Iterator[Dict[str, str]]:
-    """What is wrong with an image: its layout, what isn't as it was signed, and the first fault of each list."""
+    """Yields what is wrong with an image: its layout, what isn't as it was signed, and the first fault of each list."""
     for name, found in (("layout", image.layout_faults()), ("signature", image.signature_faults())):
         try:
             for fault in islice(found, len(image.data)):
@@ -107,8 +108,8 @@ PAST_END: Dict[str, Callable[[Image], int]] = {
 
 
 def _names(image: Image, rows: Rows[Tuple[Any, ...]]) -> Iterator[str]:
-    """The names in rows that begin with the place and the length of one, as long as they have no more letters than the image has bytes;
-    then how many there are. Many names may run on to one far end."""
+    """Yields the names in rows that begin with the place and the length of one. Stops if they have more letters than the image has bytes,
+    and then yields how many names there are. Many names may run on to one far end."""
     left = len(image.data)
     for place, size, *_ in rows:
         name = text(image.data[place:place + size])
@@ -120,7 +121,7 @@ def _names(image: Image, rows: Rows[Tuple[Any, ...]]) -> Iterator[str]:
 
 
 def _info(image: Image) -> Dict[str, Any]:
-    """What an image is."""
+    """Returns what an image is."""
     return {
         "arch": image.arch, "file_type": image.file_type.name, "header_flags": " ".join(image.header_flags.names) or None,
         "uuid": image.uuid, "platform": None if image.platform is None else image.platform.name, "minos": image.minos, "sdk": image.sdk,
@@ -133,7 +134,7 @@ def _info(image: Image) -> Dict[str, Any]:
 
 
 def _signature(image: Image) -> Dict[str, Any]:
-    """How an image is signed."""
+    """Returns how an image is signed."""
     found = image.signature
     if found is None:
         return {"is_signed": "no"}

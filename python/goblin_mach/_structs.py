@@ -265,7 +265,7 @@ class gm_signature_fault(ctypes.Structure):
 
 
 def _codes(kind: Any) -> str:
-    """The format of the fields of a type, one after the other, for the module `struct`."""
+    """Returns the format of the fields of a type, one after the other, for the module `struct`."""
     if issubclass(kind, ctypes.Structure):
         return "".join(_codes(field[1]) for field in kind._fields_)
     if issubclass(kind, ctypes.Array):
@@ -274,18 +274,19 @@ def _codes(kind: Any) -> str:
 
 
 def code_unpacker(row: Type[ctypes.Structure]) -> struct.Struct:
-    """A function that unpacks rows of this type from bytes, each as its `code` alone."""
+    """Returns the `Struct` that unpacks rows of this type from bytes, each as its `code` alone."""
     place, size = _place_of_code(row), ctypes.sizeof(row)
     return struct.Struct(f"={place}xI{size - place - 4}x")
 
 
 def _place_of_code(row: Any) -> int:
-    """The offset of the field `code` in a row, or in the row that it begins with."""
+    """Returns the offset of the field `code` in a row, or in the row that it begins with."""
     return int(row.code.offset) if hasattr(row, "code") else _place_of_code(row._fields_[0][1])
 
 
 def unpacker(row: Type[ctypes.Structure]) -> struct.Struct:
-    """A function that unpacks rows of this type from bytes, each as a tuple of its fields: many times as fast as ctypes."""
+    """Returns the `Struct` that unpacks rows of this type from bytes, each as a tuple of its fields. It is many times as fast as
+    ctypes."""
     end = {4: "0I", 8: "0Q"}[ctypes.alignment(row)]
     made = struct.Struct("@" + _codes(row) + end)
     if made.size != ctypes.sizeof(row):

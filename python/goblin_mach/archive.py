@@ -39,11 +39,11 @@ class Archive:
             self._found(lib.gm_archive_member_named, b"")  # reports why these bytes are no archive
 
     def members(self) -> Rows[Member]:
-        """Its members in order. The last has an `error` if the next one can't be read."""
+        """Returns its members in order. The last item has an `error` if no more can be read."""
         return Rows(_lists.ARCHIVE_MEMBERS, self._held.live)
 
     def symbols(self) -> Rows[ArchiveSymbol]:
-        """The symbols of its index; none if it has none. The last has an `error` if no more can be read."""
+        """Returns the symbols of its index, or none without an index. The last item has an `error` if no more can be read."""
         return Rows(_lists.ARCHIVE_SYMBOLS, self._held.live)
 
     def _found(self, call: Callable[..., Any], name: bytes) -> Optional[Member]:
@@ -53,21 +53,22 @@ class Archive:
         return next(iter(_lists.ARCHIVE_MEMBERS.items_of(held, found))) if found.header else None
 
     def member(self, name: Union[str, bytes]) -> Optional[Member]:
-        """The first member with a name, or None; raises `Refused` if a header before it can't be read."""
+        """Returns the first member with a name, or None. Raises `Refused` if a header before it can't be read."""
         return self._found(lib.gm_archive_member_named, bytes_of(name))
 
     def defining(self, symbol: Union[str, bytes]) -> Optional[Member]:
-        """The member that defines a symbol, by the index, or None; raises `Refused` if the index or the member can't be read."""
+        """Returns the member that defines a symbol, by the index, or None. Raises `Refused` if the index or the member can't be read."""
         return self._found(lib.gm_archive_find, bytes_of(symbol))
 
     def image(self, member: Member, mode: int = Mode.STRICT) -> Image:
-        """The image of a member. One that can't be opened has an `error`."""
+        """Returns the image of a member. One that can't be opened has an `error`."""
         held = self._held.live()
         why = None if member.error is None else Refused(code_of(member.error), member.error)
         return Image._of_part(Held(member.data, held.life), mode, member.offset, None, why)
 
     def images(self, mode: int = Mode.STRICT) -> Iterator[Tuple[Member, Image]]:
-        """The members that are images (they begin as one), each with its image. If no more members can be read, the last image says why."""
+        """Yields the members that are images (they begin as one), each with its image. If no more members can be read, the last image says
+        why."""
         for member in self.members():
             if member.error is not None or bytes(member.data[:4]) in IMAGE_MAGICS:
                 yield member, self.image(member, mode)
@@ -85,7 +86,7 @@ class Archive:
     def __getitem__(self, index: slice) -> List[Member]: ...
 
     def __getitem__(self, index: Union[int, str, bytes, slice]) -> Union[Member, List[Member]]:
-        """A member by its index or its name, or some by a slice."""
+        """Returns a member by its index or its name, or some by a slice."""
         if not isinstance(index, (str, bytes)):
             return self.members()[index]
         found = self.member(index)

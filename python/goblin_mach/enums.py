@@ -1,8 +1,8 @@
 """Numbers that have names, under the names of Apple's headers, without the prefix in each docstring.
 
 `LoadCommand(0x19)` is `LoadCommand.SEGMENT_64`, `LoadCommand.SEGMENT_64 == 0x19`, and `LoadCommand(0x99)` is a member too, named after
-the number. For flags `names` lists those that are set. The numbers are those of the crates, with which a test compares them
-(python/enums_check.py); those that the crates don't have are from LLVM's BinaryFormat/MachO.h and from the header that is named."""
+the number. For flags `names` lists those that are set. The numbers are those of the crates, and a test compares them
+(python/enums_check.py). Those that the crates don't have are from LLVM's BinaryFormat/MachO.h and from the header that is named."""
 
 from __future__ import annotations
 
@@ -279,7 +279,7 @@ class Protection(Flags):
 
     @property
     def letters(self) -> str:
-        """As ls prints them: "r-x"."""
+        """The rights as ls prints them: "r-x"."""
         return "".join(letter if int(self) & bit else "-" for letter, bit in (("r", 1), ("w", 2), ("x", 4)))
 
 
@@ -400,5 +400,5 @@ class SignatureHash(Number):
 
 
 def cpu_subtype(cputype: int, cpusubtype: int) -> CpuSubtype:
-    """A cpu's subtype, without its capabilities."""
+    """Returns a cpu's subtype, without its capabilities."""
     return CPU_SUBTYPES.get(cputype, CpuSubtype).of(cpusubtype & 0xFFFFFF)

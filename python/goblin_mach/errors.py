@@ -20,7 +20,8 @@ _CODES = {words: code for code, words in ERRORS.items()}
 
 
 class Refused(Exception):
-    """Why an image was refused: `code` is its number, one of `ErrorCode`, and the text says more. It can be copied and pickled."""
+    """Why something was refused. `code` is the number of the reason, one of `ErrorCode`, and the text says more. It can be copied and
+    pickled."""
 
     def __init__(self, code: int, words: str) -> None:
         super().__init__(code, words)
@@ -31,10 +32,10 @@ class Refused(Exception):
 
 
 def again(error: Refused) -> Refused:
-    """An error with the same code and text, without a traceback."""
+    """Returns an error with the same code and text, without a traceback."""
     return Refused(error.code, error.words)
 
 
 def code_of(error: Optional[str]) -> int:
-    """The code of an item's `error`: 0 if that is None."""
+    """Returns the code of an item's `error`, or 0 if that is None."""
     return 0 if error is None else int(_CODES[error])

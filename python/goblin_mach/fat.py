@@ -21,7 +21,8 @@ _ABI64 = 0x01000000
 
 
 class FatPart(NamedTuple):
-    """An entry for a fat file to be written: its cpu, its bytes, and the power of 2 that its offset is a multiple of, at most 15."""
+    """An entry for a fat file that is written: its cpu, its bytes, and its alignment. Its offset is a multiple of 2 to the power of
+    `align`, which is at most 15."""
 
     cputype: int
     cpusubtype: int
@@ -30,7 +31,7 @@ class FatPart(NamedTuple):
 
     @classmethod
     def of(cls, data: ReadableBuffer) -> FatPart:
-        """The entry that an image or an archive of images becomes, as for `machfat create`; raises `Refused` for anything else."""
+        """Returns the entry for an image or an archive of images, as `machfat create` makes it. Raises `Refused` for any other bytes."""
         view = memoryview(data).cast("B")
         if bytes(view[:8]) != b"!<arch>\n":
             cputype, cpusubtype = _cpu(view)
@@ -40,7 +41,7 @@ class FatPart(NamedTuple):
 
 
 def _cpu(view: memoryview) -> Tuple[int, int]:
-    """The cpu in an image's header."""
+    """Returns the cpu in an image's header."""
     order = _ORDERS.get(bytes(view[:4]))
     if order is None:
         raise Refused(ErrorCode.BAD_MAGIC, f"bad magic 0x{bytes(view[:4]).hex()}")
@@ -51,7 +52,7 @@ def _cpu(view: memoryview) -> Tuple[int, int]:
 
 
 def _cpu_of_all(archive: Archive) -> Tuple[int, int]:
-    """The cpu of all members of an archive."""
+    """Returns the cpu of all members of an archive."""
     cpus: Set[Tuple[int, int]] = set()
     for member in archive:
         if member.error is not None:
@@ -63,7 +64,7 @@ def _cpu_of_all(archive: Archive) -> Tuple[int, int]:
 
 
 def _row(part: FatPart, offset: int, length: int) -> s.gm_fat_part:
-    """A part as C takes it. A number of more than 32 bits would be cut, and is refused."""
+    """Returns a part as C takes it. A number of more than 32 bits would be cut, and is refused."""
     for number in (part.cputype, part.cpusubtype, part.align):
         if not 0 <= number < 1 << 32:
             raise ValueError(f"{number:#x} is no number of 32 bits")
@@ -71,8 +72,8 @@ def _row(part: FatPart, offset: int, length: int) -> s.gm_fat_part:
 
 
 def write_fat(parts: Iterable[FatPart], is_64: bool = False) -> bytearray:
-    """The bytes of a fat file of these entries, in their order, each for another cpu: with offsets of 32 bits, or of 64. Raises
-    `Refused` if two are for one cpu, an alignment is above 15, or a record can't hold an offset or a length."""
+    """Returns the bytes of a fat file of these entries, in their order, with offsets of 32 bits, or of 64 if `is_64`. Each entry is for
+    another cpu. Raises `Refused` if two are for one cpu, an alignment is above 15, or a record can't hold an offset or a length."""
     given = list(parts)
     views = [memoryview(part.data).cast("B") for part in given]
     rows, end = (s.gm_fat_part * len(given))(), 0

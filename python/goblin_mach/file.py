@@ -35,7 +35,8 @@ def _held(data: Union[ReadableBuffer, Held]) -> Held:
 
 
 def kind_of(data: Union[ReadableBuffer, Held]) -> str:
-    """What bytes are, by how they begin: "image", "fat", "fat64", "archive", "ELF", "PE", "Java class", "bitcode", "empty" or "unknown"."""
+    """Returns what bytes are, by how they begin: "image", "fat", "fat64", "archive", "ELF", "PE", "Java class", "bitcode", "empty" or
+    "unknown"."""
     held = _held(data).live()
     return KINDS[lib.gm_kind(held.at, held.len)]
 
@@ -50,17 +51,17 @@ def _check(held: Held) -> None:
 
 
 def fat_entries(data: Union[ReadableBuffer, Held]) -> Rows[FatEntry]:
-    """The entries of a fat file, of 32 or 64 bits; none if the bytes are no fat file."""
+    """Returns the entries of a fat file of 32 or 64 bits, or none if the bytes are no fat file."""
     return Rows(_lists.FAT_ENTRIES, _held(data).live)
 
 
 def container_faults(data: Union[ReadableBuffer, Held]) -> Iterator[LayoutFault]:
-    """The faults of the table of a fat file, of 32 or 64 bits; none if the bytes are no fat file."""
+    """Returns the faults of the table of a fat file of 32 or 64 bits, or none if the bytes are no fat file."""
     return in_growing_batches(_lists.CONTAINER_FAULTS, _held(data).live)
 
 
 def _mapped(path: Any) -> Union[mmap.mmap, bytes]:
-    """The bytes of the file at a path, mapped."""
+    """Maps the file at a path; returns its bytes."""
     with builtins.open(path, "rb") as file:
         state = os.fstat(file.fileno())
         if not stat.S_ISREG(state.st_mode):
@@ -69,10 +70,10 @@ def _mapped(path: Any) -> Union[mmap.mmap, bytes]:
 
 
 class File(Sequence[Image]):
-    """A mapped file, or bytes: a sequence of its images, each of which is opened when it is requested. For a fat file these are the
-    images of its entries, without archives; for an archive those of its members. `images` returns all of them. Images and their lists
-    may be used while the file is open: after `close`, or after a `with` block, they raise ValueError. Items already returned stay
-    valid."""
+    """A mapped file, or bytes: a sequence of its images. Each image is opened when it is requested. For a fat file these are the images of
+    its entries, without archives. For an archive these are the images of its members. `images` returns the images in archives of a fat
+    file too. Images and their lists may be used while the file is open. After `close`, or after a `with` block, they raise ValueError.
+    Items already returned stay valid."""
 
     def __init__(self, path: StrOrBytesPath, mode: int = Mode.STRICT) -> None:
         self._begin(_mapped(path), path, mode)
@@ -102,12 +103,12 @@ class File(Sequence[Image]):
         return self._held
 
     def _part(self, whole: Held, entry: FatEntry) -> memoryview:
-        """The bytes of an entry: all of them, or none."""
+        """Returns the bytes of an entry: all of them, or none."""
         end = entry.offset + entry.size
         return whole.view[entry.offset:end] if end <= whole.len else whole.view[:0]
 
     def _has_image(self, whole: Held, entry: FatEntry) -> bool:
-        """Whether an entry is for an image: it is unless it begins as an archive."""
+        """Returns whether an entry is for an image. It is, unless it begins as an archive."""
         part = self._part(whole, entry)
         return len(part) < 16 or part[:8] != ARCHIVE_MAGIC
 
@@ -115,15 +116,15 @@ class File(Sequence[Image]):
         return Image._of_entry(entry, Held(self._part(whole, entry), self._life), self._mode)
 
     def _entries(self) -> Tuple[FatEntry, ...]:
-        """The entries of a fat file that are for images."""
+        """Returns the entries of a fat file that are for images."""
         if self._kept is None:
             whole = self._whole()
             self._kept = tuple(entry for entry in fat_entries(whole) if self._has_image(whole, entry))
         return self._kept
 
     def __iter__(self) -> Iterator[Image]:
-        """Its image, or those of a fat file's entries or of an archive's members, in order. One that can't be opened is an image with an
-        `error`."""
+        """Yields its image, or those of a fat file's entries or of an archive's members, in order. An entry or a member that can't be opened
+        is an image with an `error`."""
         whole = self._whole()
         kind = kind_of(whole)
         if kind == "image":
@@ -138,7 +139,7 @@ class File(Sequence[Image]):
                     yield self._of_entry(whole, entry)
 
     def _image_members(self) -> Tuple[Member, ...]:
-        """The members of an archive that are images."""
+        """Returns the members of an archive that are images."""
         if self._members is None:
             self._members = tuple(member for member, _ in Archive(self._whole()).images(self._mode))
         return self._members
@@ -154,7 +155,7 @@ class File(Sequence[Image]):
     def __getitem__(self, index: slice) -> List[Image]: ...
 
     def __getitem__(self, index: Union[int, str, slice]) -> Union[Image, List[Image]]:
-        """An image by its index, or the first one of an architecture ("arm64"), or some by a slice."""
+        """Returns an image by its index, or the first one of an architecture ("arm64"), or some by a slice."""
         whole = self._whole()
         if isinstance(index, str):
             found = next((image for image in self if image.arch == index), None)
@@ -173,7 +174,7 @@ class File(Sequence[Image]):
         return Image(whole, 0, self._mode)
 
     def image(self, arch: Optional[str] = None) -> Image:
-        """The first image, or the first one of an architecture, for example "arm64e"; raises LookupError if there is none."""
+        """Returns the first image, or the first one of an architecture, for example "arm64e". Raises LookupError if there is none."""
         found: Dict[str, None] = {}
         for image in self:
             if arch is None or image.arch == arch:
@@ -188,14 +189,14 @@ class File(Sequence[Image]):
         return "" if self.name is None else os.fsdecode(self.name)
 
     def _parts(self) -> Iterator[Tuple[str, FatEntry, Held]]:
-        """The entries of a fat file: the name of each, its record, its bytes."""
+        """Yields the entries of a fat file: the name of each, its record, its bytes."""
         whole = self._whole()
         for entry in fat_entries(whole):
             yield f"{self.label}: arch {entry.arch}".lstrip(": "), entry, Held(self._part(whole, entry), self._life)
 
     def archives(self) -> Iterator[Tuple[str, Archive]]:
-        """The archive that it is, or those among a fat file's entries, each with its name. Raises `Refused` if the start of one can't be
-        read."""
+        """Yields the archive that it is, or those among a fat file's entries, each with its name. Raises `Refused` if the start of one can't
+        be read."""
         whole = self._whole()
         if kind_of(whole) == "archive":
             yield self.label, Archive(whole)
@@ -204,9 +205,9 @@ class File(Sequence[Image]):
                 yield label, Archive(part)
 
     def images(self) -> Iterator[Tuple[str, Image]]:
-        """All images in it, each with its name: `libx.a(member.o)` for a member, `a.out: arch arm64` for an entry of a fat file, and
-        `libx.a: arch arm64(member.o)` for a member of an archive among its entries. An entry or a member that can't be opened has an
-        `error`."""
+        """Yields all images in it, each with its name. The name is `libx.a(member.o)` for a member, `a.out: arch arm64` for an entry of a fat
+        file, and `libx.a: arch arm64(member.o)` for a member of an archive among its entries. An entry or a member that can't be opened
+        has an `error`."""
         whole = self._whole()
         kind = kind_of(whole)
         if kind == "image":
@@ -220,7 +221,7 @@ class File(Sequence[Image]):
                 yield from self._images_of(label, entry, part)
 
     def _images_of(self, label: str, entry: FatEntry, part: Held) -> Iterator[Tuple[str, Image]]:
-        """The images of an entry of a fat file: its own, or those of the archive that it is."""
+        """Yields the images of an entry of a fat file: its own, or those of the archive that it is."""
         if kind_of(part) != "archive":
             yield label, Image._of_entry(entry, part, self._mode)
             return
@@ -233,7 +234,7 @@ class File(Sequence[Image]):
             yield f"{label}({member.label})", image
 
     def container_faults(self) -> Iterator[LayoutFault]:
-        """The faults of its table, if it is a fat file."""
+        """Returns the faults of its table, if it is a fat file."""
         return container_faults(self._whole())
 
     def close(self) -> None:
@@ -256,7 +257,7 @@ def open(path: Union[StrOrBytesPath, ReadableBuffer], mode: int = Mode.STRICT) -
     """Maps the file at a path: a str, bytes or a `pathlib.Path`. Any other object with a buffer, such as a bytearray, a memoryview or an
     mmap, is used as the bytes of a file (`parse`). What is no Mach-O file, fat file or archive raises `Refused`, with the words of the
     programs: "not Mach-O: an ELF file". Its images are opened one by one during iteration. One that can't be opened raises `Refused`
-    then; an entry of a fat file is an image with that `error`."""
+    then. An entry of a fat file or a member of an archive is an image with that `error` instead."""
     if isinstance(path, (bytearray, memoryview, mmap.mmap)) or not isinstance(path, (str, bytes, int)) and not hasattr(path, "__fspath__"):
         return parse(path, mode)
     return File(path, mode)

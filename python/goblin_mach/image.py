@@ -34,10 +34,10 @@ F = TypeVar("F", bound="ctypes._CData")
 
 
 class Image:
-    """An image in some bytes, which must not change while it is used. `error` is None; for an entry of a fat file that can't be opened it
-    is the `Refused` with the reason, its numbers are 0, and each of its lists raises it.
+    """An image in some bytes, which must not change while it is used. `error` is None, except for an entry of a fat file or a member of an
+    archive that can't be opened. There it is the `Refused` with the reason, its numbers are 0, and each of its lists raises it.
 
-    Lists are iterators. Those whose items have indices also have `len`, indices and slices (`Rows`); those of exports, fixups, imports,
+    Lists are iterators. Those whose items have indices also have `len`, indices and slices (`Rows`). Those of exports, fixups, imports,
     bindings, weak binds, rebases, function starts, slots and faults go on from where they stopped, and have none of these."""
 
     error: Optional[Refused] = None
@@ -74,7 +74,7 @@ class Image:
 
     @classmethod
     def _of_part(cls, part: Held, mode: int, place: int, arch: Optional[str], why: Optional[Refused]) -> Image:
-        """The image of a part of a file with these bytes, or one with the reason why it can't be opened."""
+        """Returns the image of a part of a file with these bytes, or one with the reason why it can't be opened."""
         self = cls.__new__(cls)
         try:
             if why is not None:
@@ -89,12 +89,12 @@ class Image:
 
     @classmethod
     def _of_entry(cls, entry: FatEntry, part: Held, mode: int) -> Image:
-        """The image of an entry of a fat file with these bytes, or one with the reason why it can't be opened."""
+        """Returns the image of an entry of a fat file with these bytes, or one with the reason why it can't be opened."""
         why = None if entry.is_read or entry.error is None else Refused(code_of(entry.error), entry.error)
         return cls._of_part(part, mode, entry.offset, entry.arch, why)
 
     def _live(self) -> Held:
-        """Its bytes, if it was opened and its file is open."""
+        """Returns its bytes, if it was opened and its file is open."""
         if self.error is not None:
             raise again(self.error)
         return self._held.live()
@@ -132,22 +132,22 @@ class Image:
         return self._live().view
 
     def commands(self) -> Rows[Command]:
-        """Its load commands."""
+        """Returns its load commands."""
         return Rows(_lists.COMMANDS, self._live, (self._pointer,), lambda: int(self._numbers.commands))
 
     def segments(self) -> Rows[Segment]:
-        """Its segments."""
+        """Returns its segments."""
         return Rows(_lists.SEGMENTS, self._live, (self._pointer,), lambda: int(self._numbers.segments))
 
     def segment(self, name: Union[str, bytes]) -> Optional[Segment]:
-        """The first segment with a name, such as "__DATA", or None."""
+        """Returns the first segment with a name, such as "__DATA", or None."""
         held, raw, found = self._live(), bytes_of(name), s.gm_segment()
         is_found = lib.gm_segment_named(held.at, held.len, self._pointer, raw, len(raw), ctypes.byref(found))
         return _lists.SEGMENTS.items_of(held, found)[0] if is_found else None
 
     def sections(self, segment: Optional[Segment] = None) -> Rows[Section]:
-        """The sections of a segment: one that can't be read has an `error`. Without a segment those of all segments: they end with the first
-        that can't be read, and the one of a symbol's number `section` has index `section - 1`."""
+        """Returns the sections of a segment. One that can't be read has an `error`. Without a segment it returns those of all segments,
+        which end with the first that can't be read. In these the section of a symbol's number `section` has index `section - 1`."""
         if segment is None:
             return Rows(_lists.ALL_SECTIONS, self._live, (self._pointer,))
         front, size = (72, 80) if self.is_64 else (56, 68)
@@ -155,37 +155,37 @@ class Image:
         return Rows(_lists.SECTIONS, self._live, (self._pointer, place, count), table=lambda: (place + front, size, count))
 
     def section(self, segment: Union[str, bytes], name: Union[str, bytes]) -> Optional[Section]:
-        """The first section with these names of its own, such as "__TEXT" and "__text", or None. `data` are its bytes."""
+        """Returns the first section with these names of its own, such as "__TEXT" and "__text", or None. `data` are its bytes."""
         names = [part for raw in (bytes_of(segment), bytes_of(name)) for part in (raw, len(raw))]
         found = self._section(lib.gm_section_named, *names)
         return None if found is None else self.sections(self.segments()[found.segment])[found.number]
 
     def relocations(self, section: Section) -> Rows[Relocation]:
-        """The relocations of a section. One that can't be read has an `error`."""
+        """Returns the relocations of a section. One that can't be read has an `error`."""
         return Rows(_lists.RELOCATIONS, self._live, (self._pointer, section.reloff, section.nreloc), table=lambda: (section.reloff, 8, section.nreloc))
 
     def symbols(self) -> Rows[Symbol]:
-        """Its symbols. One that can't be read has an `error`."""
+        """Returns its symbols. One that can't be read has an `error`."""
         numbers = self._numbers
         return Rows(_lists.SYMBOLS, self._live, (self._pointer,),
                     table=lambda: (int(numbers.symbols_at), 16 if self.is_64 else 12, int(numbers.symbols)))
 
     def _symbol_rows(self) -> Rows[Tuple[Any, ...]]:
-        """The rows of `symbols()` within the bytes, as C writes them: their names are places."""
+        """Returns the rows of `symbols()` within the bytes, as C writes them: their names are places."""
         numbers = self._numbers
         return Rows(_lists.SYMBOL_ROWS, self._live, (self._pointer,),
                     table=lambda: (int(numbers.symbols_at), 16 if self.is_64 else 12, int(numbers.symbols))).in_bounds()
 
     def libraries(self) -> Rows[Library]:
-        """The libraries that it loads: number k has ordinal k + 1."""
+        """Returns the libraries that it loads. Number k has ordinal k + 1."""
         return Rows(_lists.LIBRARIES, self._live, (self._pointer,), lambda: int(self._numbers.libraries))
 
     def run_paths(self) -> Rows[str]:
-        """The paths on which its libraries are searched."""
+        """Returns the paths on which its libraries are searched."""
         return Rows(_lists.RUN_PATHS, self._live, (self._pointer,), lambda: int(self._numbers.run_paths))
 
     def ids(self) -> Rows[str]:
-        """The names of the image as a library; the last one counts."""
+        """Returns the names of the image as a library. The last one counts."""
         return Rows(_lists.IDS, self._live, (self._pointer,))
 
     @property
@@ -197,20 +197,20 @@ class Image:
         return name
 
     def function_starts(self) -> Iterator[FunctionStart]:
-        """The start addresses of its functions (LC_FUNCTION_STARTS); the last item may be the error that ends them."""
+        """Returns the start addresses of its functions (LC_FUNCTION_STARTS). The last item may be the error that ends them."""
         return rows_behind(_lists.FUNCTION_STARTS_BEHIND, self._live, self._pointer, s.gm_start_cursor())
 
     def data_in_code(self) -> Rows[DataInCode]:
-        """The data in its code (LC_DATA_IN_CODE). An entry that can't be read has an `error`."""
+        """Returns the data in its code (LC_DATA_IN_CODE). An entry that can't be read has an `error`."""
         return Rows(_lists.DATA_IN_CODE, self._live, (self._pointer,), table=lambda: self._table_of(LoadCommand.DATA_IN_CODE, 8, 8, 8))
 
     def indirect_symbols(self) -> Rows[IndirectSymbol]:
-        """Its table of indirect symbols. An entry that can't be read has an `error`."""
+        """Returns its table of indirect symbols. An entry that can't be read has an `error`."""
         return Rows(_lists.INDIRECT_SYMBOLS, self._live, (self._pointer,), table=lambda: self._table_of(LoadCommand.DYSYMTAB, 56, 4, 1))
 
     def _table_of(self, command: int, place: int, size: int, unit: int) -> Tuple[int, int, int]:
-        """The table of the last command of a number: at one place it gives the offset of the records, and next to it how many units they
-        are."""
+        """Returns the table that the last command of a number places. At `place` the command has the offset of the records, and next to it
+        how many units they are."""
         start = count = 0
         for offset, _, cmd, _ in Rows(_lists.COMMAND_ROWS, self._live, (self._pointer,)):
             if cmd == command:
@@ -218,28 +218,28 @@ class Image:
         return start, size, count // unit
 
     def symbol_slots(self) -> Iterator[SymbolSlot]:
-        """Its stubs and pointers that belong to symbols, section by section. One that can't be read has an `error`."""
+        """Returns its stubs and pointers that belong to symbols, section by section. One that can't be read has an `error`."""
         return in_growing_batches(_lists.SLOTS_BY_NUMBER, self._live, (self._pointer,))
 
     def slot_at(self, address: int) -> Optional[SymbolSlot]:
-        """The stub or pointer that holds an address, or None. One that can't be read raises `Refused`."""
+        """Returns the stub or pointer that holds an address, or None. One that can't be read raises `Refused`."""
         found = self._looked_up(lib.gm_slot_at, s.gm_slot(), bits64(address))
         return _lists.SLOTS_BY_NUMBER.items_of(self._live(), found)[0] if found.kind else None
 
     def symbol_provider(self, symbol: Symbol) -> Optional[SymbolProvider]:
-        """The provider of an undefined symbol, as the linker recorded it, or None if it didn't. An ordinal past the last library is an
-        `error`."""
+        """Returns the provider of an undefined symbol, as the linker recorded it, or None if it didn't. An ordinal past the last library is
+        an `error`."""
         self._live()
         given, found = s.gm_symbol(value=symbol.value, section=symbol.section, desc=symbol.desc, n_type=symbol.n_type), s.gm_provider()
         lib.gm_symbol_provider(self._pointer, ctypes.byref(given), ctypes.byref(found))
         return _lists.provider(found)
 
     def section_at(self, address: int) -> Optional[NumberedSection]:
-        """The first section that holds an address, or None."""
+        """Returns the first section that holds an address, or None."""
         return self._section(lib.gm_section_at, bits64(address))
 
     def section_of(self, number: int) -> Optional[NumberedSection]:
-        """The section of a symbol's number `section`, counted from 1 over all segments, or None. One that isn't in the bytes raises
+        """Returns the section of a symbol's number `section`, counted from 1 over all segments, or None. One that isn't in the bytes raises
         `Refused`."""
         return self._section(lib.gm_section_of, bits64(number))
 
@@ -247,44 +247,45 @@ class Image:
         return _lists.numbered_section(self._looked_up(call, s.gm_found_section(), *by))
 
     def _looked_up(self, call: Callable[..., Any], found: F, *by: Any) -> F:
-        """What a look-up finds, which may be nothing. A refused one raises `Refused`."""
+        """Returns what a look-up finds, which may be nothing. A refused one raises `Refused`."""
         held, error = self._live(), s.gm_error()
         if call(held.at, held.len, self._pointer, *by, ctypes.byref(found), None, ctypes.byref(error)):
             raise refused(error)
         return found
 
     def _said(self, call: Callable[..., Any], found: F, *by: Any) -> Optional[F]:
-        """What a call that returns a bool finds, or None."""
+        """Returns what a call that returns a bool finds, or None."""
         held = self._live()
         return found if call(held.at, held.len, self._pointer, *by, ctypes.byref(found)) else None
 
     def symbol(self, name: Union[str, bytes]) -> Optional[FoundSymbol]:
-        """The first symbol with a name that can be read, such as "_main", or None."""
+        """Returns the first symbol with a name that can be read, such as "_main", or None."""
         raw = bytes_of(name)
         return _lists.found_symbol(self._live(), self._looked_up(lib.gm_symbol_named, s.gm_found_symbol(), raw, len(raw)))
 
     def symbol_at(self, address: int) -> Optional[FoundSymbol]:
-        """The symbol that names an address, or None: of those that are defined in the section which holds the address, at or below it, the
-        one of the greatest value, and of several the last."""
+        """Returns the symbol that names an address, or None. It is one of those that are defined in the section which holds the address, at
+        the address or below it. Of these it has the greatest value, and of several with that value it is the last."""
         return _lists.found_symbol(self._live(), self._looked_up(lib.gm_symbol_at, s.gm_found_symbol(), bits64(address)))
 
     def symbol_map(self) -> SymbolMap:
-        """An index for many addresses, whose `at(address)` answers as `symbol_at`. It is built from all symbols, at each call anew."""
+        """Returns an index for many addresses, whose `at(address)` answers as `symbol_at`. Each call builds it anew from all symbols."""
         self._live()
         return SymbolMap(self)
 
     def function_at(self, address: int) -> Optional[Function]:
-        """The function that holds an address, by the starts of functions, or None. It ends at the next start, or with its section."""
+        """Returns the function that holds an address, by the starts of functions, or None. It ends at the next start, or with its
+        section."""
         found = self._looked_up(lib.gm_function_at, s.gm_found_function(), bits64(address))
         return Function(found.start, found.end) if found.is_found else None
 
     def address_of_offset(self, offset: int) -> Optional[int]:
-        """The address in memory of the byte at an offset after the image's first byte, or None if no segment has it."""
+        """Returns the address in memory of the byte at an offset after the image's first byte, or None if no segment has it."""
         found = self._said(lib.gm_address_of_offset, ctypes.c_uint64(), bits64(offset))
         return None if found is None else found.value
 
     def offset_of_address(self, address: int) -> Optional[int]:
-        """The offset after the image's first byte of what is at an address in memory, or None if the file doesn't have it."""
+        """Returns the offset after the image's first byte of what is at an address in memory, or None if the file doesn't have it."""
         found = self._said(lib.gm_offset_of_address, ctypes.c_uint64(), bits64(address))
         return None if found is None else found.value
 
@@ -295,7 +296,7 @@ class Image:
         return None if found is None else uuid.UUID(bytes=bytes(found.bytes))
 
     def build_versions(self) -> Rows[BuildVersion]:
-        """The platforms that it was built for (LC_BUILD_VERSION, LC_VERSION_MIN_MACOSX and the like). dyld takes the first."""
+        """Returns the platforms that it was built for (LC_BUILD_VERSION, LC_VERSION_MIN_MACOSX and the like). dyld takes the first."""
         return Rows(_lists.BUILD_VERSIONS, self._live, (self._pointer,))
 
     @property
@@ -340,77 +341,77 @@ class Image:
         return None if found is None else self._live().text(found.text, found.text_len)
 
     def dyld_environment(self) -> Rows[CommandText]:
-        """The variables that it sets for dyld (LC_DYLD_ENVIRONMENT). One that can't be read has an `error`."""
+        """Returns the variables that it sets for dyld (LC_DYLD_ENVIRONMENT). One that can't be read has an `error`."""
         return Rows(_lists.DYLD_ENVIRONMENT, self._live, (self._pointer,))
 
     def fileset_entries(self) -> Rows[FilesetEntry]:
-        """The images in it, if it is a fileset (LC_FILESET_ENTRY). One whose name can't be read has an `error`."""
+        """Returns the images in it, if it is a fileset (LC_FILESET_ENTRY). One whose name can't be read has an `error`."""
         return Rows(_lists.FILESET_ENTRIES, self._live, (self._pointer,))
 
     def linker_options(self) -> Rows[LinkerOption]:
-        """Its linker options (LC_LINKER_OPTION); the last item may be the error that ends them."""
+        """Returns its linker options (LC_LINKER_OPTION). The last item may be the error that ends them."""
         return Rows(_lists.LINKER_OPTIONS, self._live, (self._pointer,))
 
     def build_tools(self) -> Rows[BuildTool]:
-        """The tools that it was built with (LC_BUILD_VERSION); the last item may be the error that ends them."""
+        """Returns the tools that it was built with (LC_BUILD_VERSION). The last item may be the error that ends them."""
         return Rows(_lists.BUILD_TOOLS, self._live, (self._pointer,))
 
     def notes(self) -> Rows[Note]:
-        """Its notes (LC_NOTE). One that can't be read has an `error`."""
+        """Returns its notes (LC_NOTE). One that can't be read has an `error`."""
         return Rows(_lists.NOTES, self._live, (self._pointer,))
 
     def fixups(self) -> Iterator[Fixup]:
-        """The fixups of its chains (LC_DYLD_CHAINED_FIXUPS); the last item may be the error that ends them."""
+        """Returns the fixups of its chains (LC_DYLD_CHAINED_FIXUPS). The last item may be the error that ends them."""
         return rows_behind(_lists.FIXUPS_BEHIND, self._live, self._pointer, s.gm_fixup_cursor())
 
     def imports(self) -> Iterator[Binding]:
-        """What dyld binds: the places that take a symbol's address, from opcodes and then from chains. The last item may be the error
-        that ends them."""
+        """Returns what dyld binds: the places that take a symbol's address, from opcodes and then from chains. The last item may be the
+        error that ends them."""
         return rows_behind(_lists.BINDINGS_BEHIND, self._live, self._pointer, s.gm_binding_cursor())
 
     def bindings(self) -> Iterator[Binding]:
-        """The same as `imports()`, under the name that C has for it."""
+        """Returns the same as `imports()`, under the name that C has for it."""
         return self.imports()
 
     def opcode_imports(self) -> Iterator[Import]:
-        """The binds of LC_DYLD_INFO alone, as the Rust crate reads them. The last item may be the error that ends them."""
+        """Returns the binds of LC_DYLD_INFO alone, as the Rust crate reads them. The last item may be the error that ends them."""
         return rows_behind(_lists.IMPORTS_BEHIND, self._live, self._pointer, s.gm_bind_cursor())
 
     def weak_binds(self) -> Iterator[WeakBind]:
-        """Its weak binds, from LC_DYLD_INFO; the last item may be the error that ends them."""
+        """Returns its weak binds, from LC_DYLD_INFO. The last item may be the error that ends them."""
         return rows_behind(_lists.WEAK_BINDS_BEHIND, self._live, self._pointer, s.gm_bind_cursor())
 
     def rebases(self) -> Iterator[Rebase]:
-        """Its rebases, from opcodes and then from chains; the last item may be the error that ends them."""
+        """Returns its rebases, from opcodes and then from chains. The last item may be the error that ends them."""
         return rows_behind(_lists.REBASES_BEHIND, self._live, self._pointer, s.gm_rebase_cursor())
 
     def exports(self) -> Iterator[Export]:
-        """All exports, in the order of the trie. A fault of the trie raises `Refused` after the exports before it."""
+        """Returns all exports, in the order of the trie. A fault of the trie raises `Refused` after the exports before it."""
         return _exports.exports(self._live, self._pointer, self._library_names)
 
     def _library_names(self) -> Callable[[int], str]:
-        """What gives the name of the library with an ordinal, and of the image itself for 0. It keeps where the names are, not the names:
-        many may run on to one far end."""
+        """Returns a function that gives the name of the library with an ordinal, and of the image itself for 0. It keeps the places of the
+        names, and not the names: many may run on to one far end."""
         held, own, places = self._live(), self.name or "self", array("Q")
         for place, size, *_ in self._library_rows():
             places.extend((place, size))
         return lambda ordinal: held.text(*places[2 * ordinal - 2:2 * ordinal]) if ordinal else own
 
     def _library_rows(self) -> Rows[Tuple[Any, ...]]:
-        """The rows of `libraries()` as C writes them; each begins with the place and the length of the name."""
+        """Returns the rows of `libraries()` as C writes them. Each begins with the place and the length of the name."""
         return Rows(_lists.LIBRARY_ROWS, self._live, (self._pointer,), lambda: int(self._numbers.libraries))
 
     def _run_path_rows(self) -> Rows[Tuple[Any, ...]]:
-        """The same of `run_paths()`."""
+        """Returns the same for `run_paths()`."""
         return Rows(_lists.RUN_PATH_ROWS, self._live, (self._pointer,), lambda: int(self._numbers.run_paths))
 
     def _errors_after(self, kind: Kind[Any], cursor: ctypes.Structure) -> Iterator[Optional[str]]:
-        """The `error` of each item of a list that goes on from a cursor, which begins as zeros."""
+        """Returns the `error` of each item of a list that goes on from a cursor, which begins as zeros."""
         return rows_behind(kind.errors(), self._live, self._pointer, cursor)
 
     def _list_errors(self) -> Dict[str, Callable[[], Iterator[Optional[str]]]]:
-        """For each list that may have items which can't be read, by its name, what gives the `error` of each. A list of records ends with
-        the bytes."""
+        """Returns a function for each list that may have items which can't be read, by its name. It gives the `error` of each item. A list
+        of records ends with the bytes."""
         after, given = self._errors_after, (self._pointer,)
         return {
             "symbols": lambda: self.symbols().in_bounds().errors(),
@@ -430,18 +431,18 @@ class Image:
         }
 
     def find_export(self, name: str) -> Optional[Export]:
-        """The export of a name from the image, or None."""
+        """Returns the export of a name from the image, or None."""
         return _exports.find_export(self._live(), self._pointer, name)
 
     def exports_are_a_tree(self) -> bool:
-        """Whether all exports can be read, and no two paths of their trie lead to one node: then `exports` returns each once."""
+        """Returns whether all exports can be read, and no two paths of their trie lead to one node. Then `exports` returns each once."""
         code, error = _exports.are_a_tree(self._live(), self._pointer)
         if code == ErrorCode.NO_MEMORY:
             raise refused(error)
         return not code
 
     def layout_faults(self) -> Iterator[LayoutFault]:
-        """What lies where the format and its readers don't allow it, in the file that begins with the image."""
+        """Returns what lies where the format and its readers don't allow it, in the file that begins with the image."""
         return in_growing_batches(_lists.LAYOUT_FAULTS, self._live, (self._pointer,))
 
     @property
@@ -454,20 +455,20 @@ class Image:
         return Signature(held, said, lambda: _signature.as_signed(self._live(), self._pointer), self.signature_faults)
 
     def signature_faults(self) -> Iterator[SignatureFault]:
-        """The faults of its signature, also if no code directory counts; none if there is no signature."""
+        """Returns the faults of its signature, also if no code directory counts. Without a signature there are none."""
         return in_growing_batches(_lists.SIGNATURE_FAULTS, self._live, (self._pointer,))
 
     def to_dict(self) -> Dict[str, Any]:
-        """What its header says, with its place in the file, by the names of the attributes, for `json.dumps`."""
+        """Returns what its header says, with its place in the file, by the names of the attributes, for `json.dumps`."""
         names = ("arch", "fat_offset", "offset", "entry", "cputype", "cpusubtype", "filetype", "flags", "is_64", "is_little_endian")
         return {**{name: getattr(self, name) for name in names}, "error": None if self.error is None else self.error.words}
 
     def json(self) -> str:
-        """`to_dict()` as JSON, on one line."""
+        """Returns `to_dict()` as JSON, on one line."""
         return json.dumps(self.to_dict())
 
     def _place(self) -> Tuple[object, ...]:
-        """The identity of the image: two at one place in the same bytes, opened in the same mode, are equal."""
+        """Returns the identity of the image. Two at one place in the same bytes, opened in the same mode, are equal."""
         held = self._held
         return held.at, held.len, self.fat_offset, self.offset, self._numbers.is_lossy, self.error is None
 

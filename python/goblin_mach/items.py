@@ -1,4 +1,4 @@
-"""The items of the lists of a file and of its images. Each item is a tuple with names (`typing.NamedTuple`): numbers are `int`s, as in
+"""The items of the lists of a file and of its images. Each item is a tuple with names (`typing.NamedTuple`). Numbers are `int`s, as in
 the file, and the properties give their meaning."""
 
 from __future__ import annotations
@@ -19,8 +19,8 @@ from .symbol_enums import (
 class FatEntry(Item, NamedTuple("FatEntry", [
     ("cputype", int), ("cpusubtype", int), ("offset", int), ("size", int), ("align", int), ("error", Optional[str]),
 ])):
-    """A record of a fat file: where an image lies in it. `align` is a power of 2. It has an `error` if the image isn't all in the file, or
-    if the record isn't: then its numbers are 0."""
+    """A record of a fat file: where an image lies in it. `align` is an exponent of 2. The record has an `error` if the image isn't all in
+    the file. It also has one if the record isn't in the file; then its numbers are 0."""
 
     __slots__ = ()
 
@@ -49,7 +49,7 @@ class Member(Item, NamedTuple("Member", [
     ("name", Optional[str]), ("offset", int), ("start", int), ("data", memoryview), ("date", Optional[int]), ("uid", Optional[int]),
     ("gid", Optional[int]), ("mode", Optional[int]), ("name_error", Optional[str]), ("error", Optional[str]),
 ])):
-    """A member of an archive: `data` are its bytes, which begin at `start`, and `offset` is that of its header. A value of its header is
+    """A member of an archive. `data` are its bytes, which begin at `start`, and `offset` is that of its header. A value of its header is
     None if the field is no number. `name` is None if it can't be read, and `name_error` says why. A member with an `error` is no
     member: it says why no more can be read."""
 
@@ -79,13 +79,13 @@ class Command(Item, NamedTuple("Command", [("offset", int), ("size", int), ("cmd
 
     @property
     def fields(self) -> Dict[str, Any]:
-        """The fields of its record by their names in mach-o/loader.h, as far as the command's bytes hold them: numbers as in the file,
-        names and texts as `str`, or None if the text isn't in the command, and a UUID as `uuid.UUID`. Empty for a command that is not
+        """The fields of its record by their names in mach-o/loader.h, as far as the command's bytes hold them. Numbers are as in the file,
+        and a UUID is a `uuid.UUID`. Names and texts are `str`, or None if the text isn't in the command. Empty for a command that is not
         known."""
         return fields_of(self.cmd, self.data)
 
     def to_dict(self) -> Dict[str, Any]:
-        """Its fields by their names, with those of its record in `fields`."""
+        """Returns its fields by their names, with those of its record in `fields`."""
         return {**super().to_dict(), "fields": {name: plain(value) for name, value in self.fields.items()}}
 
 
@@ -118,7 +118,7 @@ class Section(Item, NamedTuple("Section", [
     ("name", bytes), ("segment", bytes), ("addr", int), ("size", int), ("offset", int), ("align", int), ("reloff", int), ("nreloc", int),
     ("flags", int), ("data", memoryview), ("error", Optional[str]),
 ])):
-    """A section of a segment. `align` is a power of 2. `data` are its bytes: all of them, or none."""
+    """A section of a segment. `align` is an exponent of 2. `data` are its bytes: all of them, or none."""
 
     __slots__ = ()
 
@@ -134,13 +134,13 @@ class Section(Item, NamedTuple("Section", [
 
 
 class Relocation(Item, NamedTuple("Relocation", [("address", int), ("info", int), ("error", Optional[str])])):
-    """A relocation of a section: at `address`, with everything else in the bits of `info`. Scattered relocations are not recognized."""
+    """A relocation of a section, at `address`. The bits of `info` have all other values. Scattered relocations are not recognized."""
 
     __slots__ = ()
 
     @property
     def number(self) -> int:
-        """The number of a symbol if `is_extern`, else of a section."""
+        """The number of a symbol if `is_extern`, or of a section if not."""
         return self.info & 0xFFFFFF
 
     @property
@@ -150,7 +150,7 @@ class Relocation(Item, NamedTuple("Relocation", [("address", int), ("info", int)
 
     @property
     def length(self) -> int:
-        """How many bytes it changes, as a power of 2."""
+        """How many bytes it changes, as an exponent of 2."""
         return self.info >> 25 & 3
 
     @property
@@ -164,7 +164,7 @@ class Relocation(Item, NamedTuple("Relocation", [("address", int), ("info", int)
         return self.info >> 28 & 15
 
     def type_for(self, cputype: int) -> RelocationType:
-        """Its type as an enum, for an image of this `cputype`."""
+        """Returns its type as an enum, for an image of this `cputype`."""
         return relocation_type(cputype, self.type_number)
 
 
@@ -235,7 +235,7 @@ class Library(Item, NamedTuple("Library", [
     ("is_weak", bool), ("is_reexport", bool), ("is_upward", bool), ("is_delayed", bool),
 ])):
     """A library that the image loads. `kind` is "required", "weak", "reexport", "upward" or "lazy", by its command. The last four fields
-    say how it is used; they are from the command's flags if it has some."""
+    say how it is used. They are from the command's flags if it has some."""
 
     __slots__ = ()
 
@@ -258,8 +258,8 @@ class DataInCode(Item, NamedTuple("DataInCode", [("offset", int), ("length", int
 
 
 class IndirectSymbol(Item, NamedTuple("IndirectSymbol", [("kind", str), ("symbol", Optional[int]), ("error", Optional[str])])):
-    """An entry of the table of indirect symbols. `kind` is "symbol", and `symbol` its index in `symbols`; or "local", "absolute" or
-    "local absolute", if no symbol names the target of a pointer."""
+    """An entry of the table of indirect symbols. If `kind` is "symbol", `symbol` is its index in `symbols`. `kind` is "local", "absolute"
+    or "local absolute" if no symbol names the target of a pointer."""
 
     __slots__ = ()
 
@@ -269,9 +269,9 @@ class SymbolSlot(Item, NamedTuple("SymbolSlot", [
     ("symbol", Optional[int]), ("name", Optional[str]), ("error", Optional[str]),
 ])):
     """A stub or a pointer that belongs to a symbol: `len` bytes at `address`, in section number `section` of segment number `segment`.
-    `kind` is "pointer", "lazy pointer", "stub", "lazy library pointer" or "thread-local pointer". `owner` is the kind of entry
-    `index` of the table of indirect symbols: "symbol", "local", "absolute" or "local absolute"; for a symbol `symbol` is its number
-    and `name` its name."""
+    `kind` is "pointer", "lazy pointer", "stub", "lazy library pointer" or "thread-local pointer". `owner` is the kind of entry `index`
+    of the table of indirect symbols: "symbol", "local", "absolute" or "local absolute". For a symbol `symbol` is its number and `name`
+    its name."""
 
     __slots__ = ()
 
@@ -287,7 +287,7 @@ class NumberedSection(Item, NamedTuple("NumberedSection", [
     ("align", int), ("reloff", int), ("nreloc", int), ("flags", int), ("reserved1", int), ("reserved2", int),
 ])):
     """A section that was looked up: number `number` of segment number `segment`. For pointers and stubs `reserved1` is the index of the
-    first in the table of indirect symbols, and for stubs `reserved2` is the size of each."""
+    first one in the table of indirect symbols. For stubs `reserved2` is the size of each."""
 
     __slots__ = ()
 
@@ -303,13 +303,13 @@ class NumberedSection(Item, NamedTuple("NumberedSection", [
 
 
 class LinkerOption(Item, NamedTuple("LinkerOption", [("text", str), ("command", int), ("error", Optional[str])])):
-    """A linker option, from the load command at `command`. None follows one with an `error`."""
+    """A linker option, from the load command at `command`. No option follows one with an `error`."""
 
     __slots__ = ()
 
 
 class BuildTool(Item, NamedTuple("BuildTool", [("tool", int), ("version", int), ("command", int), ("error", Optional[str])])):
-    """A tool that the image was built with, from the load command at `command`. None follows one with an `error`."""
+    """A tool that the image was built with, from the load command at `command`. No tool follows one with an `error`."""
 
     __slots__ = ()
 
@@ -325,13 +325,13 @@ class BuildTool(Item, NamedTuple("BuildTool", [("tool", int), ("version", int), 
 
 
 def version_text(version: int) -> str:
-    """A version of 16, 8 and 8 bits as X.Y.Z."""
+    """Returns a version of 16, 8 and 8 bits as X.Y.Z."""
     return f"{version >> 16}.{version >> 8 & 255}.{version & 255}"
 
 
 class BuildVersion(Item, NamedTuple("BuildVersion", [("platform", int), ("minos", int), ("sdk", int), ("command", int)])):
-    """A platform that the image was built for, from the load command at `command`: the oldest system that it runs on there, and the SDK
-    that it was built with."""
+    """A platform that the image was built for, from the load command at `command`. It has the oldest system that the image runs on there,
+    and the SDK that it was built with."""
 
     __slots__ = ()
 
@@ -352,7 +352,7 @@ class BuildVersion(Item, NamedTuple("BuildVersion", [("platform", int), ("minos"
 
 
 class Encryption(Item, NamedTuple("Encryption", [("offset", int), ("size", int), ("id", int)])):
-    """The part of an image that is encrypted: `size` bytes, `offset` bytes after its first byte. With an `id` of 0 it isn't yet."""
+    """The part of an image that is encrypted: `size` bytes, `offset` bytes after its first byte. If `id` is 0 it isn't encrypted yet."""
 
     __slots__ = ()
 
@@ -424,8 +424,8 @@ class Owner(Item, NamedTuple("Owner", [("part", str), ("command", int), ("index"
 
 
 class LayoutFault(Item, NamedTuple("LayoutFault", [("rule", str), ("owner", Owner), ("found", int), ("limit", int), ("other", Optional[Owner])])):
-    """A fault of layout, for the rule with this plain name: what is there and the limit that it breaks. docs/C.md says what these are
-    for each rule."""
+    """A fault of layout, for the rule with this plain name: what is there and the limit that it breaks. docs/C.md says what these are for
+    each rule."""
 
     __slots__ = ()
 

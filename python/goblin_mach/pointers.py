@@ -1,4 +1,4 @@
-"""What the dynamic linker writes into an image's memory, one item each, like those of `items`."""
+"""What the dynamic linker writes into an image's memory. Each is an item, like those of `items`."""
 
 from __future__ import annotations
 
@@ -11,7 +11,7 @@ class Fixup(Item, NamedTuple("Fixup", [
     ("address", int), ("segment", int), ("offset", int), ("kind", str), ("target", int), ("import_number", int), ("addend", int),
     ("is_signed", bool), ("key", int), ("diversity", int), ("is_address_diverse", bool), ("error", Optional[str]),
 ])):
-    """A pointer that dyld changes. `kind` is "rebase", "bind" or "number"; for a rebase `target` is an address, for a bind
+    """A pointer that dyld changes. `kind` is "rebase", "bind" or "number". For a rebase `target` is an address. For a bind
     `import_number` counts from 0."""
 
     __slots__ = ()
@@ -38,8 +38,8 @@ class Binding(Item, NamedTuple("Binding", [
 class WeakBind(Item, NamedTuple("WeakBind", [
     ("name", str), ("is_strong", bool), ("address", int), ("offset", int), ("addend", int), ("is_weak", bool), ("error", Optional[str]),
 ])):
-    """A place that takes the definition of a name that all images share, whatever was bound there before; or, if `is_strong`, a name
-    that the image defines itself and not weakly: then it has no place. `offset` is a file offset."""
+    """A place that takes the definition of a name that all images share, whatever was bound there before. If `is_strong`, it is a name
+    that the image itself defines, and not weakly; then it has no place. `offset` is a file offset."""
 
     __slots__ = ()
 
@@ -48,7 +48,7 @@ class Rebase(Item, NamedTuple("Rebase", [
     ("address", int), ("segment", int), ("offset", int), ("kind", str), ("target", int), ("is_signed", bool), ("key", int),
     ("diversity", int), ("is_address_diverse", bool), ("error", Optional[str]),
 ])):
-    """A place in memory whose number dyld adjusts by the slide of the image: `target` is the number before that. `kind` is "pointer", or
-    "absolute32" or "relative32" for 32 bits in code, and "none" for a fault."""
+    """A place in memory whose number dyld adjusts by the slide of the image. `target` is the number before that. `kind` is "pointer",
+    "absolute32" or "relative32" for 32 bits in code, or "none" for a fault."""
 
     __slots__ = ()

@@ -24,7 +24,7 @@ SLOTS = {
 
 
 def slot_name(slot: int) -> str:
-    """The name of a slot, or its number."""
+    """Returns the name of a slot, or its number."""
     return SLOTS.get(slot, f"slot 0x{slot:x}")
 
 
@@ -49,7 +49,7 @@ _WORDS: Dict[str, str] = {
 class SignatureFault(Item, NamedTuple("SignatureFault", [
     ("kind", str), ("slot", int), ("number", int), ("found", int), ("limit", int), ("error", Optional[str]),
 ])):
-    """Something that isn't as it was signed: a fault of the directory at a slot, or of a blob; `number` is that of the blob or the page,
+    """Something that isn't as it was signed: a fault of the directory at a slot, or of a blob. `number` is that of the blob or the page,
     or the special slot. docs/C.md says what `found` and `limit` are for each kind."""
 
     __slots__ = ()
@@ -62,8 +62,8 @@ class SignatureFault(Item, NamedTuple("SignatureFault", [
 
 class Signature:
     """The code directory that counts in a signature: the one that the system takes. A text that can't be read is None, and `errors` says
-    why. None of this says that the image is as it was signed: `is_as_signed()` does, and `faults()` lists what isn't. Who signed is
-    not checked."""
+    why. None of this says that the image is as it was signed. `is_as_signed()` says that, and `faults()` lists what isn't. Who signed
+    is not checked."""
 
     __slots__ = ("_ask", "_faults", "cdhash", "entitlements", "errors", "flags", "hash_type", "identifier", "limit", "page_size", "pages", "team", "version")
 
@@ -108,13 +108,13 @@ class Signature:
         return SignatureHash.of(self.hash_type)
 
     def to_dict(self) -> Dict[str, Any]:
-        """Its values by their names, with values that `json.dumps` takes: `cdhash` and `entitlements` are in hexadecimal."""
+        """Returns its values by their names, with values that `json.dumps` takes. `cdhash` and `entitlements` are in hexadecimal."""
         names = ("identifier", "team", "flags", "hash_type", "limit", "pages", "page_size", "version", "errors")
         return {**{name: getattr(self, name) for name in names}, "cdhash": self.cdhash.hex(),
                 "entitlements": None if self.entitlements is None else self.entitlements.hex()}
 
     def json(self) -> str:
-        """`to_dict()` as JSON, on one line."""
+        """Returns `to_dict()` as JSON, on one line."""
         return json.dumps(self.to_dict())
 
     @property
@@ -124,18 +124,18 @@ class Signature:
 
     @property
     def entitlements_plist(self) -> Optional[Dict[str, Any]]:
-        """The entitlements, parsed by `plistlib`, whose errors are raised; None if there are none."""
+        """The entitlements, parsed by `plistlib`, or None if there are none. Errors of `plistlib` are raised."""
         if self.entitlements is None:
             return None
         found: Dict[str, Any] = plistlib.loads(self.entitlements)
         return found
 
     def is_as_signed(self) -> bool:
-        """Whether everything is as it was signed: each page, and everything else that the signature seals."""
+        """Returns whether everything is as it was signed: each page, and all other parts that the signature seals."""
         return self._ask()
 
     def faults(self) -> Iterator[SignatureFault]:
-        """The faults of the signature, in order."""
+        """Returns the faults of the signature, in order."""
         return self._faults()
 
     def __repr__(self) -> str:
@@ -143,7 +143,7 @@ class Signature:
 
 
 def as_signed(held: Held, image: Any) -> bool:
-    """Whether an image is as it was signed."""
+    """Returns whether an image is as it was signed."""
     found, error = ctypes.c_uint32(), s.gm_error()
     if lib.gm_is_as_signed(held.at, held.len, image, ctypes.byref(found), None, ctypes.byref(error)):
         raise refused(error)
@@ -151,7 +151,7 @@ def as_signed(held: Held, image: Any) -> bool:
 
 
 def said_of(held: Held, image: Any) -> Optional[s.gm_signature]:
-    """The signature of an image, if it has one."""
+    """Returns the signature of an image, if it has one."""
     said, error = s.gm_signature(), s.gm_error()
     if lib.gm_code_signature(held.at, held.len, image, ctypes.byref(said), None, ctypes.byref(error)):
         raise refused(error)

@@ -193,5 +193,5 @@ RELOCATION_TYPES: Mapping[int, Type[RelocationType]] = MappingProxyType({
 
 
 def relocation_type(cputype: int, number: int) -> RelocationType:
-    """The type of a relocation with this number, for a cpu."""
+    """Returns the type of a relocation with this number, for a cpu."""
     return RELOCATION_TYPES.get(cputype, RelocationType).of(number)

@@ -15,7 +15,8 @@ if TYPE_CHECKING:
 
 
 def _first_sections(image: Image) -> Tuple[List[int], List[int]]:
-    """Addresses, and for each the number of the first section that holds it and what follows it, up to the next address; or 0."""
+    """Returns addresses. For each it returns the number of the first section that holds it and what follows up to the next address, or
+    0."""
     edges: List[Tuple[int, int, int]] = []  # the start of a section, its number, and its end
     before = 0
     for segment in image.segments():
@@ -40,7 +41,7 @@ def _first_sections(image: Image) -> Tuple[List[int], List[int]]:
 
 
 class SymbolMap:
-    """What `image.symbol_at` answers, for many addresses: the symbols are read once and sorted, and each answer is a search in that order.
+    """What `image.symbol_at` answers, for many addresses. The symbols are read once and sorted, and each answer is a search in that order.
     It has two numbers of 8 bytes for each symbol that is defined in a section, and no names. `len` is how many symbols these are."""
 
     __slots__ = ("_image", "_numbers", "_places", "_symbols")
@@ -60,7 +61,7 @@ class SymbolMap:
         return array("Q", (value for value, _ in rows)), array("Q", (index for _, index in rows))
 
     def at(self, address: int) -> Optional[FoundSymbol]:
-        """The symbol that names an address, as by `image.symbol_at`, or None."""
+        """Returns the symbol that names an address, as `image.symbol_at` does, or None."""
         self._image._live()
         place = bisect_right(self._places, bits64(address)) - 1
         values, indices = self._symbols.get(self._numbers[place], ((), ())) if place >= 0 else ((), ())

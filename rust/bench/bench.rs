@@ -1,7 +1,8 @@
-//! What the Rust programs share: their arguments, the answers, the clock and the printed line, as in least.c.
+//! What the Rust programs share, as least.c has it: their arguments, the answers, the clock and the printed line.
 use std::process::exit;
 
-/// Sums over the items of a call: `light` of addresses and lengths of names in each run, `sum` of a hash of each item in the first run.
+/// Sums over the items of a call. Each run makes `light`, the sum of addresses and lengths of names, or of both words of relocations. The
+/// first run also makes `sum`, the sum of a hash of each item.
 #[derive(Default)]
 pub struct Answer {
     pub items: u64,
@@ -54,7 +55,7 @@ impl Answer {
         self.fold(|| fnv(fnv(fnv_number(section), &u64::from(address).to_le_bytes()), &u64::from(info).to_le_bytes()));
     }
 
-    /// The answer of a call that only counts.
+    /// Sets the answer of a call that only counts.
     pub fn count(&mut self, items: usize) {
         self.items = items as u64;
         self.light = self.items;
@@ -71,7 +72,7 @@ fn now() -> f64 {
     unsafe extern "C" {
         safe fn clock_gettime(clock: i32, time: &mut Time) -> i32;
     }
-    // Processor time, which other processes change least.
+    // Uses processor time, which other processes change least.
     let mut time = Time { seconds: 0, nanoseconds: 0 };
     assert_eq!(clock_gettime(2, &mut time), 0);
     time.seconds as f64 * 1e9 + time.nanoseconds as f64
@@ -83,7 +84,7 @@ fn now() -> f64 {
     BEGUN.elapsed().as_secs_f64() * 1e9
 }
 
-/// Runs a call once with the hash, then without it for some seconds, and prints the least nanoseconds of a run, and the answer.
+/// Runs a call once with the hash, then without it for some seconds. Prints the least nanoseconds of a run, and the answer.
 pub fn bench(seconds: f64, mut run: impl FnMut(&mut Answer)) {
     let mut answer = |fold| {
         let mut answer = Answer { fold, ..Answer::default() };
@@ -105,7 +106,7 @@ pub fn bench(seconds: f64, mut run: impl FnMut(&mut Answer)) {
     println!("{least:.1} {} {} {:016x}", full.items, full.light, full.sum);
 }
 
-/// The arguments WORD, FILE and SECONDS; of the file its bytes.
+/// Returns the arguments WORD, FILE and SECONDS. Of the file it returns the bytes.
 pub fn arguments() -> (String, Vec<u8>, f64) {
     let words: Vec<String> = std::env::args().collect();
     let [_, word, file, seconds] = &words[..] else { usage("usage: bench WORD FILE SECONDS") };

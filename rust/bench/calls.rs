@@ -64,7 +64,7 @@ pub fn link_view(bytes: &[u8], answer: &mut Answer) -> Result<()> {
 
 type Call = fn(&MachO, &mut Answer) -> Result<()>;
 
-/// Times the call that the arguments name; `more` has calls that only one of the crates has.
+/// Times the call that the arguments name. `more` has calls that only one of the crates has.
 pub fn run(more: &[(&str, Call)]) {
     let (word, bytes, seconds) = crate::bench::arguments();
     let of_files = [("parse", parse as fn(&[u8], &mut Answer) -> Result<()>), ("link_view", link_view)];

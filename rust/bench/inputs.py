@@ -44,7 +44,7 @@ def mangled(*words):
 
 
 def names(count, rng):
-    """Names like those of a large library in C++, sorted."""
+    """Returns names like those of a large library in C++, sorted."""
     found = set()
     while len(found) < count:
         owner = mangled(*rng.sample(SPACES, rng.choice((1, 2))), "".join(rng.sample(WORDS, rng.choice((2, 2, 3)))))
@@ -56,7 +56,7 @@ def names(count, rng):
 
 # Tries: a node is [what its export says, or b"", its branches as (label, number of a node)].
 def trie_of(rows):
-    """The nodes of the trie of (name, what its export says), sorted by name, each before its branches."""
+    """Returns the nodes of a trie, each before its branches. The rows are (name, what its export says), sorted by name."""
     nodes = []
 
     def add(first, end, length):
@@ -81,7 +81,7 @@ def trie_of(rows):
 
 
 def trie_bytes(nodes):
-    """The bytes of a trie; each node comes before its branches."""
+    """Returns the bytes of a trie; each node comes before its branches."""
     heads = [(uleb(len(what)) + what if what else b"\0") + uleb(len(branches)) for what, branches in nodes]
     places, moved = [0] * len(nodes), True
     while moved:
@@ -114,7 +114,7 @@ def ordinal(library):
 
 
 def binds(count, rng):
-    """Binds of segment 1 in all forms, and how many bytes of the segment they take."""
+    """Returns binds of segment 1 in all forms, and how many bytes of the segment they take."""
     out, at, left = bytearray(b"\x51"), 0, count
     for turn, name in enumerate(rng.choices(names(max(1, count // 6), rng), k=count)):
         if left == 0:
@@ -160,7 +160,7 @@ def header(kind, commands, cpu=(0x01000007, 3)):
 
 
 def image(parts, used=0, more=(), cpu=(0x01000007, 3)):
-    """A library: __TEXT, __DATA of `used` bytes, __LINKEDIT with binds, lazy binds and a trie, and more commands."""
+    """Returns a library: __TEXT, __DATA of `used` bytes, __LINKEDIT with binds, lazy binds and a trie, and more commands."""
     parts = [padded(part) for part in parts]
     size, end = -(-max(used, 8) // PAGE) * PAGE, sum(map(len, parts))
     head = PAGE * (2 + len(b"".join(more)) // PAGE)
@@ -186,7 +186,7 @@ def full(count, rng, cpu=(0x01000007, 3)):
 
 
 def more_commands(count):
-    """Of ten commands four are libraries, two run paths, two segments of two sections, one a client and one a note."""
+    """Yields commands. Of ten, four are libraries, two run paths, two segments of two sections, one a client and one a note."""
     for at in range(count):
         if at % 10 < 4:
             yield library(0xC if at % 10 < 3 else 0x80000018, b"/System/Library/Frameworks/Part%d.framework/Part%d" % (at, at))
@@ -233,7 +233,7 @@ def fat(count, rng):
 
 
 def make(kind, count):
-    """The bytes of a file of a kind."""
+    """Returns the bytes of a file of a kind."""
     rng = random.Random("%s %d" % (kind, count))
     if kind == "binds":
         now, used = binds(count, rng)

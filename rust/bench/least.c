@@ -1,4 +1,4 @@
-// C that does the least work for the same answers as the Rust programs beside it, and tests nothing: only for files of inputs.py.
+// C that does the least work for the same answers as the Rust programs beside it. It tests nothing, and is only for files of inputs.py.
 //   least WORD FILE SECONDS
 #include <stdint.h>
 #include <stdio.h>
@@ -6,8 +6,8 @@
 #include <string.h>
 #include <time.h>
 
-// `light` is the sum of addresses and lengths of names, which each run makes, so that each item is used. `sum` is the sum of a hash of
-// each item, which only the first run makes.
+// Each run makes `light`, the sum of addresses and lengths of names, or of both words of relocations. By it each item is used. Only the first
+// run makes `sum`, the sum of a hash of each item.
 typedef struct { uint64_t items, light, sum; } Answer;
 typedef struct { const uint8_t *at; uint64_t length; } Text;
 typedef struct {
@@ -67,7 +67,7 @@ static void open_image(Image *image, const uint8_t *bytes) {
     }
 }
 
-// The trie, by a stack of nodes. With `list` each name is copied into a block of its own.
+// Walks the trie by a stack of nodes. With `list` it copies each name into a block of its own.
 typedef struct { const uint8_t *at; uint64_t left, length; } Node;
 typedef struct { uint64_t address, length; uint8_t *name; } Export;
 
@@ -210,7 +210,7 @@ static inline __attribute__((always_inline)) Answer run(int word, const uint8_t 
     return answer;
 }
 
-// Processor time, which other processes change least.
+// Returns processor time, which other processes change least.
 static double now(void) {
     struct timespec time;
     clock_gettime(CLOCK_PROCESS_CPUTIME_ID, &time);

@@ -1,5 +1,5 @@
 """Compares the Rust crate with goblin 0.2.1: names, constants, and what the examples and `Debug` print for each image of the repository.
-tools/rust-check does it."""
+tools/rust-check runs it."""
 import os
 import re
 import subprocess
@@ -10,33 +10,33 @@ GOBLIN = "/usr/share/cargo/registry/goblin-0.2.1"
 PROGRAMS = ("list", "nm", "commands")
 # Commands that goblin 0.2.1 doesn't know and calls LC_UNKNOWN.
 NEWER = ("LC_BUILD_VERSION", "LC_DYLD_CHAINED_FIXUPS", "LC_DYLD_EXPORTS_TRIE", "LC_FILESET_ENTRY", "LC_NOTE")
-# Constants whose numbers are other than goblin's: its records of libraries have 24 bytes, and it says 20.
+# Constants whose numbers differ from goblin's. Its records of libraries have 24 bytes, and it says 20.
 OTHER = ("::load_command::SIZEOF_DYLIB_COMMAND",)
 
 
 def uleb(theirs, ours):
-    """scroll calls the size of a LEB128 number `count`."""
+    """Renames the size of a LEB128 number, which scroll calls `count`."""
     return re.sub(r"(Uleb128 \{ value: \d+, )count:", r"\1size:", theirs), ours
 
 
 def newer(theirs, ours):
-    """goblin 0.2.1 has no name for the commands above."""
+    """Renames the commands above, for which goblin 0.2.1 has no name."""
     return theirs, re.sub(r"\b(?:%s)\b" % "|".join(NEWER), "LC_UNKNOWN", ours)
 
 
 def trie(theirs, ours):
-    """goblin 0.2.1 doesn't read the exports of LC_DYLD_EXPORTS_TRIE, so it lists none."""
+    """Drops the exports of an image for which goblin lists none. goblin 0.2.1 doesn't read the exports of LC_DYLD_EXPORTS_TRIE."""
     if "\nexport " in theirs:
         return theirs, ours
     return theirs, re.sub(r"(?m)^export .*\n", "", ours)
 
 
-# The differences that are known, by program. Each is stated in the documentation of its function.
+# The differences that are known, by program. The documentation of each function states its difference.
 KNOWN = {"list": (uleb, trie), "nm": (), "commands": (newer,)}
 
 
 def images():
-    """The images of the repository."""
+    """Returns the images of the repository."""
     found = []
     for folder, _, names in os.walk(os.path.join(TOP, "crates")):
         found += [os.path.join(folder, name) for name in names if name.endswith(".macho")]
@@ -44,14 +44,14 @@ def images():
 
 
 def ran(program, image):
-    """What a program prints for an image, or None if it refuses it."""
+    """Returns what a program prints for an image, or None if the program refuses the image."""
     done = subprocess.run([program, image], stdout=subprocess.PIPE, stderr=subprocess.DEVNULL, text=True, check=False)
     return done.stdout if done.returncode == 0 else None
 
 
 def outputs(theirs, ours):
-    """Runs the programs of two folders. Yields (what is compared, whether both are the same, what differs), and tells each difference that
-    is known and doesn't occur."""
+    """Runs the programs of two folders. Yields (what is compared, whether both are the same, what differs). Each known difference that doesn't
+    occur is yielded too, as one that fails."""
     unused = {(program, known) for program in PROGRAMS for known in KNOWN[program]}
     for program in PROGRAMS:
         for image in images():
@@ -69,12 +69,12 @@ def outputs(theirs, ours):
 
 
 def public(text, indent):
-    """The public names of a source, at an indent, as (kind, name)."""
+    """Returns the public names of a source, at an indent, as (kind, name)."""
     return re.findall(r"(?m)^%spub (fn|struct|enum|trait|const|type) (\w+)" % indent, text)
 
 
 def modules():
-    """The modules of goblin's `mach`, as (path, its public names)."""
+    """Yields the modules of goblin's `mach`, as (path, its public names)."""
     folder = os.path.join(GOBLIN, "src", "mach")
     for name in sorted(os.listdir(folder)):
         with open(os.path.join(folder, name), encoding="utf-8") as file:
@@ -86,7 +86,7 @@ def modules():
 
 
 def names():
-    """A Rust source that compiles only if the crate has goblin's names, and whose test passes only if it has goblin's constants."""
+    """Returns a Rust source that compiles only if the crate has goblin's names. Its test passes only if the crate has goblin's constants."""
     uses, same = [], []
     for module, found in modules():
         for kind, name in found:

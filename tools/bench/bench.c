@@ -1,9 +1,9 @@
-/* bench FILE.. times the calls of the C library on a file, each for about half a second: what an export, an import, a symbol .. of it costs.
+/* bench FILE.. times the calls of the C library on a file, each for about half a second. It shows what an export, an import, a symbol .. of it costs.
    bench --hostile FOLDER times them on files that are costly to read, written by shapes.py, and reports where the time per byte grows with size.
    docs/SPEED.md says how it is built and called, and has the results.
 
-   A file is an image, or a fat file or an archive; of the latter a run of a call visits all images that open. Two lists of the Rattle crate have no
-   call of their own in C, and so no line: iter_imports (gm_imports only gives batches) and link_view (it is gm_exports and gm_imports of each
+   A file is an image, a fat file or an archive. Of a fat file or an archive a run of a call visits all images that open. Two lists of the Rattle crate
+   have no call of their own in C, and no line here: iter_imports (gm_imports only gives batches) and link_view (it is gm_exports and gm_imports of each
    image). */
 #define _POSIX_C_SOURCE 200809L
 #include "goblin_mach.h"
@@ -89,7 +89,7 @@ typedef struct {
     gm_error error;
 } subject;
 
-/* what a run did: how many items it gave, and a sum over their contents, so that no run skips work */
+/* what a run did: its number of items, and a sum over their contents, which keeps a run from skipping work */
 typedef struct { uint64_t items, sum; size_t left; bool more; uint32_t code; } work;
 
 static void release(subject *s) {
@@ -97,13 +97,13 @@ static void release(subject *s) {
     for (size_t i = 0; i < sizeof blocks / sizeof *blocks; i++) free(blocks[i]);
 }
 
-/* How many rows a call may write: one if no item is left, which shows that there are more. */
+/* Returns how many rows a call may write. It is one if no item is left, which shows whether there are more. */
 static size_t cap_of(const subject *s, const work *w) {
     size_t cap = w->left < s->batch ? w->left : s->batch;
     return cap ? cap : 1;
 }
 
-/* Whether so many rows may be visited; if not, there are more than the limit. */
+/* Counts rows as visited; returns whether the limit allows them. If not, there are more items than the limit. */
 static bool takes(work *w, size_t rows) {
     w->more |= rows > w->left;
     w->left -= w->more ? 0 : rows;
@@ -126,7 +126,7 @@ static uint32_t refused(subject *s, uint32_t code) {
 
 #define OF o->bytes, o->len, &o->image
 
-/* the rows of a list that is called by number; those that can't be read are skipped */
+/* the rows of a list that is called by number; rows that can't be read are skipped */
 #define NUMBERED(list, row, is_read, sum) \
     static uint32_t list(subject *s, const opened *o, work *w) { \
         row *rows = s->rows; \
@@ -140,7 +140,7 @@ NUMBERED(segments, gm_segment, true, rows[i].vmsize)
 NUMBERED(libraries, gm_library, true, rows[i].name_len)
 NUMBERED(symbols, gm_symbol, rows[i].code == GM_OK, rows[i].value + rows[i].name_len)
 
-/* the rows of a list that is called with a cursor, up to one that can't be read */
+/* the rows of a list that is called with a cursor, up to a row that can't be read */
 #define BEHIND(list, row, place, sum) \
     static uint32_t list(subject *s, const opened *o, work *w) { \
         row *rows = s->rows; \
@@ -239,14 +239,14 @@ static uint32_t find_export(subject *s, const opened *o, work *w) {
     return GM_OK;
 }
 
-/* One item: whether all exports can be read, and no two paths of the trie meet. Paths that meet are no refusal here. */
+/* Adds one item: whether all exports can be read, and no two paths of the trie meet. Paths that meet are no refusal here. */
 static uint32_t tree(subject *s, const opened *o, work *w) {
     uint32_t code = gm_exports_are_a_tree(OF, NULL, &s->error);
     add(w, code);
     return code == GM_NO_MEMORY ? code : GM_OK;
 }
 
-/* One item: all rules of the layout. */
+/* Adds one item for all rules of the layout. */
 static uint32_t layout(subject *s, const opened *o, work *w) {
     gm_layout_fault fault;
     size_t n = 0;
@@ -257,7 +257,7 @@ static uint32_t layout(subject *s, const opened *o, work *w) {
 
 /* ---- a file and its images */
 
-/* Opens it as an image, if it is one. Refused memory is a fault, and so is any refusal if it `must` be an image. */
+/* Opens the bytes as an image, if they are one. Refused memory is a fault, and so is any refusal if they `must` be an image. */
 static uint32_t add_image(subject *s, const uint8_t *bytes, size_t len, bool must) {
     opened o = {.bytes = bytes, .len = len};
     uint32_t code = gm_open(bytes, len, 0, GM_STRICT, NULL, &o.image, &s->error);
@@ -281,7 +281,7 @@ static uint32_t entries(subject *s, work *w, bool opens) {
     return GM_OK;
 }
 
-/* The same for the members of an archive, whose data are in the bytes. */
+/* Visits the members of an archive, whose data are in the bytes, and opens them if requested. */
 static uint32_t members(subject *s, work *w, bool opens) {
     gm_archive_member *rows = s->rows;
     for (size_t first = 0, n; (n = gm_archive_members(s->bytes, s->len, first, rows, s->batch)) != 0; first += n)
@@ -294,7 +294,7 @@ static uint32_t members(subject *s, work *w, bool opens) {
     return GM_OK;
 }
 
-/* The whole file: its items are the load commands, the entries or the members. */
+/* Reads the whole file. Its items are the load commands, the entries or the members. */
 static uint32_t parse(subject *s, work *w) {
     if (s->kind == FAT) return entries(s, w, false);
     if (s->kind == ARCHIVE) return members(s, w, false);
@@ -304,7 +304,7 @@ static uint32_t parse(subject *s, work *w) {
     return code;
 }
 
-/* Opens the images of a file; the subject owns its bytes then. */
+/* Opens the images of a file. From then on the subject owns its bytes. */
 static uint32_t open_subject(subject *s, const settings *set, uint8_t *bytes, size_t len, uint64_t limit) {
     *s = (subject){.bytes = bytes, .len = len, .limit = (size_t)limit};
     s->batch = (size_t)given_or(set->batch, set->folder ? MOST_BATCH : 1000);
@@ -348,8 +348,8 @@ static work run(subject *s, size_t call) {
 
 static bool is_same(const work *a, const work *b) { return a->items == b->items && a->sum == b->sum && a->more == b->more && a->code == b->code; }
 
-/* Runs a call until so many milliseconds are over, and fills in the times in order; returns their number. Each run does what the first one did, which
-   may have had to make room for names; so there are at least two. */
+/* Runs a call until so many milliseconds are over. Fills in the times in order; returns their number. Each run does what the first one did, which may
+   have had to make room for names; therefore there are at least two. */
 static size_t timed(subject *s, size_t call, uint64_t ms, uint64_t *times, work *first) {
     uint64_t start = now(), before, after;
     size_t count = 0;
@@ -373,7 +373,7 @@ static int by_size(const void *a, const void *b) {
 
 /* ---- the lines of a file */
 
-/* Reads a file, at most MOST_BYTES of it; `-` is standard input. Returns NULL, after a line with the reason, if it can't be read. */
+/* Reads a file, at most MOST_BYTES of it; `-` is standard input. Returns NULL if it can't be read, after a line with the reason. */
 static uint8_t *read_file(const char *name, size_t *len) {
     FILE *file = strcmp(name, "-") ? fopen(name, "rb") : stdin;
     uint8_t *bytes = NULL;
@@ -403,7 +403,7 @@ static void write_line(const subject *s, size_t call, const work *w, const uint6
            (double)s->len * 1000 / (least > 0 ? least : 1));
 }
 
-/* Keeps the names of the first exports, which are looked up: few, as each look-up opens the image again. */
+/* Keeps the names of the first exports, which are looked up. They are few, as each look-up opens the image again. */
 static uint32_t keep_names(subject *s) {
     work w = {.left = s->limit < MOST_SOUGHT ? s->limit : MOST_SOUGHT};
     uint32_t code = GM_OK;
@@ -449,10 +449,11 @@ static int time_file(const settings *set, const char *name) {
 /* the calls on a shape: hundredths of a nanosecond per byte at each size, and the time at the last size */
 typedef struct { uint64_t cells[CALL_COUNT][MOST_SIZES], last[CALL_COUNT], last_open; } shape_rows;
 
-/* Whether a call that took so long may take too long at a size so many times as large, if its time grows with the square of the size. */
+/* Returns whether a call may take too long at a size so many times as large. It took `time` before, and may take time that grows with the square of
+   the size. */
 static bool is_over(uint64_t time, double times) { return time == NOT_RUN || (double)time * times * times > (double)LONGEST; }
 
-/* Returns the least time of some runs of a call, which may end with a fault. */
+/* Returns the least time of some runs of a call. A run may end with a fault. */
 static uint64_t least_run(subject *s, size_t call, uint64_t ms) {
     work first;
     size_t count = timed(s, call, ms, times_of_runs, &first);
@@ -462,7 +463,7 @@ static uint64_t least_run(subject *s, size_t call, uint64_t ms) {
     return least;
 }
 
-/* Selects one name to look up in each image, as long as that of the deep trie. */
+/* Selects one name to look up in each image. It is as long as that of the deep trie. */
 static void seek_long_name(subject *s) {
     char *text = resized(NULL, s->len / 8 + 1, 1);
     memset(text, 'a', s->len / 8);
@@ -490,7 +491,8 @@ static void measure(const settings *set, const char *file, size_t at, double tim
     release(&s);
 }
 
-/* Whether the last cell is more than one and a half times the one before, and at least a tenth of a nanosecond; true if it wasn't run. */
+/* Returns whether the last cell is more than one and a half times the one before, and at least a tenth of a nanosecond. A last cell that wasn't run
+   counts as grown. */
 static bool grows(const uint64_t *cells, size_t count) {
     if (count < 2 || cells[count - 1] == NOT_RUN) return count > 1;
     uint64_t before = cells[count - 2], after = cells[count - 1];
@@ -532,7 +534,7 @@ static size_t time_shape(const settings *set, const char *shape) {
     return write_rows(shape, &rows, set->size_count);
 }
 
-/* Returns the name of a shape, if the file is one of this size: SHAPE.SIZE. */
+/* Returns whether a file is one of this size, SHAPE.SIZE; if so, writes the name of the shape. */
 static bool is_shape(const char *file, uint64_t size, char *shape) {
     char end[MOST_NAME];
     size_t cut = (size_t)snprintf(end, sizeof end, ".%" PRIu64, size), len = strlen(file);
@@ -613,7 +615,7 @@ static settings understood(int count, char **words) {
     return set;
 }
 
-/* Runs the arguments, but for those that must be alone. */
+/* Times what the arguments name, except for those that must be alone. */
 static int timed_by(const settings *set) {
     if (set->folder) return time_shapes(set);
     int worst = FINE;

@@ -1,11 +1,11 @@
 #!/usr/bin/env python3
-"""Makes Mach-O files whose reading may cost more than their size, and an ordinary one, each of just as many bytes as is said.
+"""Makes Mach-O files whose reading may cost more than their size, and an ordinary one. Each has exactly as many bytes as requested.
 
     shapes.py SHAPE SIZE > FILE
     shapes.py --all FOLDER SIZE..    writes FOLDER/SHAPE.SIZE of each shape and each size
     shapes.py --names                prints the names of the shapes
 
-A size is 4,000 to 100,000,000 bytes: from 4,000 on each shape is what it is said to be. docs/SPEED.md has a table of the shapes."""
+A size is 4,000 to 100,000,000 bytes. From 4,000 bytes on each shape has its property. docs/SPEED.md has a table of the shapes."""
 import os
 import struct
 import sys
@@ -15,7 +15,7 @@ NOWHERE = 0x0FFFFFFF  # where a branch of a trie leads if it leads nowhere
 
 
 class Maker:
-    """Bytes, each written behind the others."""
+    """Bytes, each written after the others."""
 
     def __init__(self):
         self.bytes = bytearray()
@@ -68,11 +68,11 @@ class Maker:
         self.words(2, 24, at, symbols, names_at, names_length)
 
     def begin_binds(self, segment):
-        """Writes what binds begin with: a library, a type, a name and a segment. With the byte that ends them these are nine bytes."""
+        """Writes what binds begin with: a library, a type, a name and a segment. With the byte that ends the binds these are nine bytes."""
         self.text(b"\x11\x51\x40_a\0" + bytes([0x70 | segment, 0]))
 
     def pointer(self, value, is_bind, has_next):
-        """Writes a pointer of a chain; the next one is eight bytes behind it."""
+        """Writes a pointer of a chain. The next one is eight bytes after it."""
         self.words(value, is_bind << 31 | has_next << 20)
 
 
@@ -80,14 +80,14 @@ class Maker:
 
 
 class Chained:
-    """Chained fixups over a segment of data: that has so many bytes, starts and pages; so many imports, whose names have so many bytes."""
+    """Chained fixups over a segment of data. It has so many bytes, starts and pages, and so many imports, whose names have so many bytes."""
 
     def __init__(self, data, starts, pages, imports, names):
         self.data, self.starts, self.pages, self.imports = data, starts, pages, imports
         self.length = 62 + 2 * starts + 4 * imports + names
 
     def commands(self, made):
-        """Writes the header and the commands of an image that has nothing else, in 224 bytes."""
+        """Writes the header and the commands of an image that has no other parts, in 224 bytes."""
         made.header(4, 192)
         made.segment(b"__TEXT", 0, 0x1000, 0, 224)
         made.segment(b"__DATA", 0x1000, self.data, 224, self.data)
@@ -95,7 +95,7 @@ class Chained:
         made.words(0x80000034, 16, 224 + self.data, self.length)
 
     def begin(self, made):
-        """Writes what precedes the starts: the second of two segments has them, at 0x1000."""
+        """Writes what precedes the starts. The second of two segments has them, at 0x1000."""
         imports_at = 62 + 2 * self.starts
         made.words(0, 28, imports_at, imports_at + 4 * self.imports, self.imports, 1, 0)
         made.words(2, 0, 12)
@@ -172,7 +172,7 @@ def segments(made, size):
 
 
 def one_segment(made, libraries, binds_length, size):
-    """Writes a header, a segment of so many bytes and the command of binds, behind which so many libraries are to be written."""
+    """Writes a header, a segment of so many bytes and the command of binds. So many libraries must be written after them."""
     commands = 120 + 32 * libraries
     made.header(libraries + 2, commands)
     made.segment(b"__DATA", 0, size, 0, 0)
@@ -209,7 +209,7 @@ def trie_command(made, length):
 
 
 def begin_trie(made, nodes, first, step):
-    """Writes a root of so many nodes, each `step` bytes behind the one before."""
+    """Writes a root of so many nodes. Each lies `step` bytes after the one before."""
     made.text(b"\0")
     made.number(nodes)
     for node in range(nodes):
@@ -236,7 +236,7 @@ def trie_shared(made, size):
 
 
 def trie_overlaid(made, size):
-    """Makes lists whose count is the end of the number before it, which is where the branch before it leads."""
+    """Makes lists whose count is the end of the number before it. The branch before it leads there."""
     nodes, others = size // 33, (size - 200) // 12
     first = 5 + 5 * nodes
     trie_command(made, first + 14 * nodes + 4 + 5 * others)
@@ -272,7 +272,7 @@ def reexports_far(made, size):
 
 
 def symbols_of(made, size, step):
-    """Makes symbols whose names begin so many letters behind each other, within one text that is half of the file."""
+    """Makes symbols whose names begin `step` letters after each other, within one text that is half of the file."""
     symbols, letters = size // 32, size // 2 - 60
     made.header(1, 24)
     made.symbol_table(56, symbols, 56 + 16 * symbols, letters + 2)
@@ -313,7 +313,7 @@ def tables(made, size):
 
 
 class Plan:
-    """How many there are of what in an ordinary image of at most so many bytes, and where each list begins: each behind the one before."""
+    """What an ordinary image of at most so many bytes has: how many items of each kind, and where each list begins, after the one before."""
 
     def __init__(self, size):
         body = size - 1100
@@ -360,7 +360,7 @@ def plain_commands(made, plan):
 
 
 def plain_fixups(made, plan):
-    """Writes pointers, of which each fourth is bound, and the chained fixups."""
+    """Writes pointers, each fourth of them bound, and the chained fixups."""
     for index in range(plan.pointers):
         made.pointer(index % plan.imports, index % 4 == 0, has_next(index, plan.pointers))
     plan.chained.begin(made)
@@ -374,7 +374,7 @@ def plain_fixups(made, plan):
 
 
 def plain_trie(made, inner):
-    """Writes a trie of so many nodes of 16 branches: the nodes by their levels, each as one export, but for the first."""
+    """Writes a trie of so many nodes of 16 branches, ordered by their levels. Each node except the first is an export."""
     made.text(b"\x80\x80\0")
     for node in range(inner):
         made.text(b"\x10")

@@ -2,7 +2,7 @@
 import re
 
 CLAUSE = re.compile(r"(requires|ensures)(\*?)\s*([A-Za-z_0-9]*)\s*\{(.*)\}\s*\Z", re.S)
-# Predicates on the result: what each of their arguments is said of, and the name of the value that it is said of.
+# Predicates on the result: the form of the result that each argument speaks about, and the name of the value in it.
 WRAPPERS = {
     "IfOk": [("Ok", "x")], "OnOk": [("Ok", "")], "IfErr": [("Err", "e")], "OnErr": [("Err", "")], "IfSome": [("Some", "x")],
     "IfNone": [("None", "")], "MatchResult": [("Ok", "x"), ("Err", "e")], "MatchOption": [("None", ""), ("Some", "x")],
@@ -13,7 +13,7 @@ BINDERS = re.compile(r"(?:\((?:[A-Za-z_0-9]+ )+: [^()]*(?:\([^()]*\)[^()]*)*\)\s
 
 
 def split(text, marks):
-    """The parts of a formula between marks that are in no brackets; a blank counts as one mark."""
+    """Returns the parts of a formula between marks that are in no brackets, without empty parts."""
     found, depth, first = [], 0, 0
     for met in re.finditer(r'"(?:\\.|[^"\\])*"|.', text):
         depth += {"(": 1, "[": 1, "{": 1, ")": -1, "]": -1, "}": -1}.get(met.group(), 0)
@@ -24,12 +24,12 @@ def split(text, marks):
 
 
 def bare(text):
-    """A formula without brackets around all of it."""
+    """Returns a formula without brackets around all of it."""
     return text[1:-1].strip() if text.startswith("(") and text.endswith(")") and len(split(text, " ")) == 1 else text
 
 
 def phrase(text):
-    """A formula in words as far as they are short, and else as code."""
+    """Returns a formula in words as far as these are short, and the rest of it as code."""
     text = text.strip()
     if text in WHOLE:
         return WHOLE[text]
@@ -49,7 +49,7 @@ def phrase(text):
 
 
 def _case(head, value, text):
-    """What is said of one form of a result."""
+    """Returns the words for one form of a result."""
     bound = re.match(r"λ ([A-Za-z_0-9]+)\. ", text)
     if value and bound:
         value, text = bound.group(1), text[bound.end():]
@@ -59,24 +59,24 @@ def _case(head, value, text):
 
 
 def _premise(text):
-    """A premise: a condition, or names with their types."""
+    """Returns the words for a premise: a condition, or names with their types."""
     return "for each `%s`" % _names(text) if BINDERS.fullmatch(text) else "if " + phrase(bare(text))
 
 
 def _names(text):
-    """Names with their types, without the brackets."""
+    """Returns names with their types, without the brackets."""
     return "`, `".join(bare(part) for part in split(text, " "))
 
 
 def readable(clause):
-    """A clause as (whether it is a condition for callers, name, text), or None if it speaks to the prover alone."""
+    """Returns a clause as (whether it is a condition for callers, name, text), or None if it speaks to the prover alone."""
     kind, star, name, body = CLAUSE.match(clause).groups()
     body = re.sub(r"\.now\b", "", re.sub(r"\s+", " ", body)).strip()
     return None if star else (kind == "requires", name, phrase(body))
 
 
 def documentation(clauses, has_more):
-    """The lines that document clauses, below other documentation or not."""
+    """Returns the lines that document clauses. `has_more` says whether other documentation is above them."""
     found = [one for one in map(readable, clauses) if one]
     needs = "; ".join(text for is_need, _, text in found if is_need)
     lines = ([""] if has_more else []) + ["# Proved", ""]

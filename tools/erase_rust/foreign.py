@@ -1,8 +1,8 @@
-"""Passes for functions that C calls: in Rust they are plain ones, and a list of them is handed to the shim, which exports them."""
+"""Passes for functions that C calls. In Rust they are plain ones. The shim gets a list of them, and exports them."""
 
 
 def functions(stream):
-    """`#[unsafe(no_mangle)] pub extern "C" fn` is `pub fn`. Returns the places of these functions."""
+    """Makes `pub fn` of `#[unsafe(no_mangle)] pub extern "C" fn`; returns the places of these functions."""
     found = []
     for i in stream.each("extern"):
         function = stream.seek(i, "fn", ";", "{")
@@ -19,7 +19,7 @@ def functions(stream):
 
 
 def signature(stream, i):
-    """The name, the parameters and the result of the function at i, in one line."""
+    """Returns the name, the parameters and the result of the function at i, in one line."""
     parts = [" ".join(stream.words(*part[:2])).replace(" : ", ": ").replace("& ", "&").replace("[ ", "[").replace(" ]", "]")
              for part in stream.parts(stream.arguments(i))]
     result = stream.words(stream.close(stream.arguments(i)), stream.prev(stream.seek(i, "{")))[1:]
@@ -27,7 +27,7 @@ def signature(stream, i):
 
 
 def listed(found):
-    """The text of the list of functions: `found` has a pair of a path of modules and a signature for each."""
+    """Returns the text of the list of functions. `found` has a pair of a path of modules and a signature for each."""
     groups = {}
     for module, line in found:
         groups.setdefault("::".join(module), []).append(line)

@@ -1,5 +1,5 @@
-"""Tries the tool on small inputs. Each file of `golden` has a case: files of Rattle, each below a line `//// FILE`, and below a line
-`//// result` the files of Rust that they become, or the message with which the tool stops."""
+"""Tries the tool on small inputs. Each file of `golden` has a case: files of Rattle, each below a line `//// FILE`. Below a line
+`//// result` it has the files of Rust that they become, or the message with which the tool stops."""
 import glob
 import os
 import re
@@ -13,13 +13,13 @@ MARK = re.compile(r"^//// (\S+)\n", re.M)
 
 
 def files_of(text):
-    """The files of a text, as a dictionary from their names."""
+    """Returns the files of a text, as a dictionary from their names."""
     parts = MARK.split(text)
     return dict(zip(parts[1::2], parts[2::2]))
 
 
 def result(files):
-    """What the tool makes of files: files of Rust below lines with their names, or a message."""
+    """Returns what the tool makes of files: files of Rust below lines with their names, or a message."""
     with tempfile.TemporaryDirectory() as top:
         files = {"base/lib.rt": "", "more/lib.rt": "", "crates.conf": CONFIG, **files}
         write_files(top, {"crates/" + name.replace("/", "/src/", 1) if "/" in name else name: text for name, text in files.items()})
@@ -32,7 +32,7 @@ def result(files):
 
 
 def run(writes):
-    """Tries all cases, or writes what they result in; returns the status."""
+    """Tries all cases, or writes their results; returns the status."""
     failed, paths = 0, sorted(glob.glob(os.path.join(os.path.dirname(os.path.abspath(__file__)), "golden", "*.txt")))
     for path in paths:
         with open(path, encoding="utf-8") as file:

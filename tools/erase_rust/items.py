@@ -1,11 +1,11 @@
-"""Passes over items and types: what has no meaning in a program goes, and a few forms become Rust's."""
+"""Passes over items and types. What has no meaning in a program goes, and a few forms become Rust's."""
 from .known import ERASED_ATTRIBUTES, KEPT_ATTRIBUTES
 
 FORMATTERS = ("Formatter", "DebugStruct", "DebugList", "DebugTuple", "DebugMap")
 
 
 def ghosts(stream):
-    """Ghost items and fields go, with the comments right above them."""
+    """Removes ghost items and fields, with the documentation, comments and attributes right above them."""
     for i, token in enumerate(stream.tokens):
         if token.kind == "ghost":
             stream.remove(stream.above(i), i)
@@ -14,7 +14,7 @@ def ghosts(stream):
 
 
 def examples(stream):
-    """Code in documentation is Rattle, so it is marked as text."""
+    """Marks code in documentation as text, since it is Rattle."""
     is_open = False
     for token in stream.tokens:
         if token.kind in ("doc", "inner") and token.text[3:].strip().startswith("```"):
@@ -23,7 +23,7 @@ def examples(stream):
 
 
 def attributes(stream):
-    """What speaks to the prover goes, `Drop` goes out of derives, and `derive_where(X; ..)` becomes `derive(X)`."""
+    """Removes attributes for the prover, takes `Drop` out of derives, and makes `derive(X)` of `derive_where(X; ..)`."""
     for i in stream.each("#"):
         open_ = stream.next(i)
         if stream.text(open_) == "!":
@@ -41,7 +41,7 @@ def attributes(stream):
 
 
 def _derive(stream, i, name):
-    """Erases in one derive whose name is at `name`."""
+    """Erases in the derive whose name is at `name`."""
     body = stream.next(name)
     if stream.text(name) == "derive_where":
         stream.replace(name, name, "derive")
@@ -58,7 +58,7 @@ def _derive(stream, i, name):
 
 
 def tests(stream):
-    """Modules of tests go."""
+    """Removes modules of tests."""
     for i in stream.each("#"):
         if not stream.reads(i, "#", "[", "cfg", "(", "test", ")", "]"):
             continue
@@ -69,7 +69,7 @@ def tests(stream):
 
 
 def models(stream):
-    """`impl Model for ..` and `impl From<AllocFailed<..>> for ..` go."""
+    """Removes `impl Model for ..` and `impl From<AllocFailed<..>> for ..`."""
     for i in stream.each("impl"):
         if stream.text(stream.prev(i)) not in ("", "}", ";", "]"):
             continue
@@ -79,14 +79,14 @@ def models(stream):
 
 
 def finals(stream):
-    """`final fn` is `fn`."""
+    """Removes `final` before `fn` and `const`."""
     for i in stream.each("final"):
         if stream.text(stream.next(i)) in ("fn", "const"):
             stream.remove(i, i + 1)
 
 
 def clones(stream):
-    """`clone` of an impl returns no Result in Rust."""
+    """Makes `clone` of an impl return `Self` instead of a Result."""
     for i in stream.each("fn"):
         if not stream.reads(i, "fn", "clone", "("):
             continue
@@ -102,7 +102,7 @@ def clones(stream):
 
 
 def formatters(stream):
-    """Formatters have no parameter in Rust: `fn fmt<W: Write>(&self, f: &mut Formatter<W>)`."""
+    """Removes the parameter of formatters, since Rust's have none: `fn fmt<W: Write>(&self, f: &mut Formatter<W>)`."""
     for at, word in list(stream.generics()):
         if word != "fn":
             continue
@@ -121,7 +121,7 @@ def formatters(stream):
 
 
 def drops(stream):
-    """The bound `Drop` goes: each type of Rust may be dropped."""
+    """Removes the bound `Drop`, since each type of Rust may be dropped."""
     for i in stream.each("Drop"):
         before, after = stream.prev(i), stream.next(i)
         if stream.text(before) == "+":
@@ -140,7 +140,7 @@ def drops(stream):
 
 
 def labels(stream):
-    """Labels that only a proof names go."""
+    """Removes labels of loops that no `break` and no `continue` names. Only proofs name them."""
     used = {stream.text(stream.next(i)) for i in stream.each("break", "continue")}
     for i in stream.each():
         if stream.tokens[i].kind != "lifetime" or stream.text(stream.next(i)) != ":" or stream.text(i) in used:

@@ -1,4 +1,4 @@
-"""What the tool knows of Rattle and of its standard library. Whatever is not here, and is not defined in the project, stops it."""
+"""What the tool knows of Rattle and of its standard library. A name that is neither here nor defined in the project stops it."""
 
 # Words of Rust for which there is no rule.
 REFUSED_WORDS = {"async", "await", "dyn", "extern", "macro_rules", "static", "union", "yield"}
@@ -23,7 +23,7 @@ TYPES = {"Vec", "String", "Box", "Ordering", "Range", "Option", "Result", "str",
 TYPES |= {sign + bits for sign in "iu" for bits in ("8", "16", "32", "64", "128", "size")}
 FUNCTIONS = {"MAX", "from_be_bytes", "from_utf8", "from_utf8_unchecked"}
 
-# Where paths of std lead in Rust, by the longest beginning that is here. None is a name that is erased.
+# Where paths of std lead in Rust, by the longest beginning that is here. A path that leads to None is erased.
 SHIM = "crate::shim"
 PATHS = {
     **{"std::" + path: "core::" + path for path in ("fmt", "marker::PhantomData", "mem", "ops::Range", "result::Result", "slice::Iter")},
@@ -32,18 +32,18 @@ PATHS = {
     **dict.fromkeys(("std::alloc::AllocFailed", "std::alloc::Allocator", "std::alloc::Global", "std::marker::Model")),
 }
 
-# Traits of std, whose names a file may import for their methods alone.
+# Traits of std whose names a file may import for their methods alone.
 TRAITS = {"AsSlice", "ByteOrder", "Write"}
 
-# What Rust's prelude has with std, and not with alloc.
+# What Rust's prelude has with std, and doesn't have with alloc.
 PRELUDE = {"Box": "alloc::boxed::Box", "String": "alloc::string::String", "Vec": "alloc::vec::Vec"}
 
-# Methods that may be refused memory, by their traits in the shim. Their names there begin with `try_`, but for those in RENAMED.
+# Methods that may be refused memory, by their traits in the shim. The name there is `try_` and the name here, except for those in RENAMED.
 REFUSABLE = {
     "TryGrow": "append extend_from_slice insert push reserve resize", "TryList": "collect", "TrySort": "sort_by_cached_key sort_by_key",
     "TryShow": "to_string", "TryText": "push_str",
 }
 TRAIT_OF = {method: trait for trait, methods in REFUSABLE.items() for method in methods.split()}
 RENAMED = {"collect": "try_list", "reserve": "try_room"}
-# Functions that may be refused memory: the name in the shim that takes the place of the type.
+# Functions that may be refused memory, and the name in the shim that replaces the name of the type.
 MAKERS = {("String", "from_str"): "TryString", ("Vec", "with_capacity"): "TryVec"}

@@ -2,7 +2,8 @@
 
 
 def law_calls(stream, i):
-    """The names that the body of the function at i calls, if it has a clause, no self and no result, and else only calls; else None."""
+    """Returns the names that the body of the function at i calls, or None if the function can't be a law. A law has a clause, no self and
+    no result, and its body has only calls."""
     open_ = stream.arguments(i)
     if open_ is None or "self" in stream.words(open_, stream.close(open_)):
         return None
@@ -27,7 +28,7 @@ def law_calls(stream, i):
 
 
 def find_laws(streams):
-    """The names of all laws: of functions whose bodies call laws alone. A name that another function has too is none."""
+    """Returns the names of all laws. The body of a law calls laws alone. A name that another function has too is the name of no law."""
     calls, others = {}, set()
     for stream in streams:
         for i in stream.each("fn"):
@@ -43,7 +44,7 @@ def find_laws(streams):
 
 
 def remove_laws(stream, laws):
-    """Laws go, and calls of them."""
+    """Removes laws and calls of them."""
     for i in stream.each():
         if stream.text(i) == "fn" and stream.text(stream.next(i)) in laws and law_calls(stream, i) is not None:
             stream.remove(stream.item_start(i)[0], stream.item_end(i))

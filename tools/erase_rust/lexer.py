@@ -1,7 +1,7 @@
 """The tokens of Rattle: those of Rust, with one token for each ghost item and for each clause."""
 import re
 
-# Kinds of tokens that are text for a reader or for the prover, and no part of the program.
+# Kinds of tokens that are text for a reader or for the prover, and not part of the program.
 IDLE = frozenset(("space", "comment", "doc", "inner", "ghost", "clause"))
 
 PART = re.compile(
@@ -43,7 +43,7 @@ class Lexer:
         self.text, self.path, self.at, self.line, self.found = text, path, 0, 1, []
 
     def tokens(self):
-        """All tokens of the file, whose texts together are the file."""
+        """Returns all tokens of the file. Their texts together are the file."""
         while self.at < len(self.text):
             met = PART.match(self.text, self.at)
             if met is None:
@@ -67,14 +67,14 @@ class Lexer:
         raise Stop("%s:%d: %s" % (self.path, self.line, construct))
 
     def clause_end(self):
-        """The place after the clause that begins here."""
+        """Returns the place after the clause that begins here."""
         met = CLAUSE.match(self.text, self.at)
         if met is None:
             self.refuse("a clause of another form: " + self.shown())
         return self.block_end(met.end())
 
     def ghost_end(self):
-        """The place after the ghost item that begins here: `ghost use PATH;` or `ghost NAME [: {..}] [= {..}]` with `;` or `,`."""
+        """Returns the place after the ghost item that begins here: `ghost use PATH;` or `ghost NAME [: {..}] [= {..}]` with `;` or `,`."""
         met = GHOST.match(self.text, self.at)
         if met is None:
             self.refuse("a ghost item of another form: " + self.shown())
@@ -94,7 +94,7 @@ class Lexer:
         return at + 1
 
     def block_end(self, at):
-        """The place after the block of the prover's language that begins at a place."""
+        """Returns the place after the block of the prover's language that begins at a place."""
         depth = 0
         while at < len(self.text):
             char = self.text[at]
@@ -109,5 +109,5 @@ class Lexer:
         return self.refuse("a block without an end: " + self.shown())
 
     def shown(self):
-        """The beginning of the text from here, for a message."""
+        """Returns the beginning of the text from here, for a message."""
         return " ".join(self.text[self.at:self.at + 60].split())

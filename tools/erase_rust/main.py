@@ -12,7 +12,7 @@ FOLDERS = {"rust/crates.conf": "rust/goblin_mach/src/generated", "rust/tools.con
 
 
 def make(top):
-    """All files, as a dictionary from their paths below the top."""
+    """Returns all files, as a dictionary from their paths below the top."""
     made = {config: Project(top, os.path.join(top, config)).files() for config in FOLDERS}
     return {os.path.join(FOLDERS[config], name): text for config, files in made.items() for name, text in files.items()}
 

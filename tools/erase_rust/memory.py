@@ -1,4 +1,4 @@
-"""Passes for memory: the allocator goes out of types, signatures and calls, and what may be refused memory calls the shim."""
+"""Passes for memory. Types, signatures and calls lose the allocator. Calls that may be refused memory become calls of the shim."""
 from .known import MAKERS, RENAMED, TRAIT_OF
 
 LISTS = {"String": 0, "Vec": 1, "BTreeMap": 2, "IndexSet": 2}
@@ -21,7 +21,7 @@ class Allocators:
         self.of_calls()
 
     def _scopes(self, at, word):
-        """What each name of the generics at a place means, and where: (first, last, name, whether it is an allocator)."""
+        """Yields each name of the generics at a place as (first, last, name, whether it is an allocator). It means that from first to last."""
         stream = self.stream
         end = stream.item_end(stream.close(at))
         for first, last, _ in stream.parts(at):
@@ -30,19 +30,20 @@ class Allocators:
             yield at, end, words[0], is_one or word == "type" and self._is_of_alias(words[0], at)
 
     def _is_of_alias(self, name, at):
-        """Whether a name is the allocator of the list or text for which an alias is declared: its argument after the usual ones."""
+        """Returns whether a name is the allocator of the list or text for which an alias is declared. The allocator is the argument after
+        the usual ones."""
         of = self.stream.next(self.stream.seek(self.stream.close(at), "="))
         parts = self.stream.parts(self.stream.next(of)) if self.stream.text(of) in LISTS else []
         return len(parts) > LISTS.get(self.stream.text(of), 0) and self.stream.text(parts[-1][0]) == name
 
     def is_type(self, i):
-        """Whether the name at i is the type of an allocator."""
+        """Returns whether the name at i is the type of an allocator."""
         name = self.stream.text(i)
         inner = [scope for scope in self.scopes if scope[0] <= i <= scope[1] and scope[2] == name]
         return name == "Global" or bool(inner) and max(inner)[3]
 
     def of_types(self):
-        """Parameters and arguments of types."""
+        """Erases parameters and arguments of types."""
         stream = self.stream
         for at, _ in self.lists:
             parts = stream.parts(at)
@@ -52,18 +53,18 @@ class Allocators:
                 stream.remove_parts(i, [n for n, part in enumerate(stream.parts(i)) if self._is_argument(*part[:2])])
 
     def _is_argument(self, first, last):
-        """Whether an argument of a type is an allocator or a reference to one."""
+        """Returns whether an argument of a type is an allocator or a reference to one."""
         words = [word for word in self.stream.words(first, last) if word[0] not in "&'"]
         return words == [self.stream.text(last)] and self.is_type(last)
 
     def of_bounds(self):
-        """Bounds after `where`."""
+        """Erases bounds after `where`."""
         for i in self.stream.each("where"):
             parts = self.stream.where_parts(i)
             self.stream.remove_where(i, [n for n, part in enumerate(parts) if self.is_type(part[0])])
 
     def of_functions(self):
-        """Parameters of functions."""
+        """Erases parameters of functions."""
         stream = self.stream
         for i in stream.each("fn"):
             open_ = stream.arguments(i)
@@ -77,7 +78,7 @@ class Allocators:
                     stream.remove_part(parts, n)
 
     def of_fields(self):
-        """Fields of structs and of their values."""
+        """Erases fields of structs and of their values."""
         stream = self.stream
         for i in stream.each("{"):
             first = stream.next(i)
@@ -93,7 +94,7 @@ class Allocators:
                     stream.remove_part(parts, n)
 
     def of_calls(self):
-        """Arguments of calls."""
+        """Erases arguments of calls."""
         stream = self.stream
         for i in stream.each("("):
             parts = stream.parts(i) if self.names else []
@@ -106,8 +107,8 @@ class Allocators:
 
 
 def is_statement(stream, i, end):
-    """Whether the call of a method at i, which ends at `end`, is a statement. Then it returns nothing that can fail, since Rattle
-    refuses a Result that nothing uses."""
+    """Returns whether the call of a method at i, which ends at `end`, is a statement. Such a call returns nothing that can fail, since
+    Rattle refuses a Result that nothing uses."""
     if stream.text(stream.next(end)) != ";":
         return False
     k = stream.prev(i)
@@ -119,7 +120,7 @@ def is_statement(stream, i, end):
 
 
 def calls(stream):
-    """What may be refused memory calls the shim."""
+    """Replaces calls that may be refused memory by calls of the shim."""
     for i in stream.each():
         text, after = stream.text(i), stream.next(i)
         if not stream.is_name(i):
@@ -140,7 +141,7 @@ def calls(stream):
 
 
 def _vec(stream, i):
-    """`vec![in ALLOC; ITEM; LEN]?` is `try_vec(ITEM, LEN)?`."""
+    """Makes `try_vec(ITEM, LEN)?` of `vec![in ALLOC; ITEM; LEN]?`."""
     open_ = stream.next(stream.next(i))
     first = stream.seek(stream.next(open_), ";", "]")
     second = stream.seek(stream.next(first), ";", "]")
@@ -154,7 +155,7 @@ def _vec(stream, i):
 
 
 def proofs(stream):
-    """`prove!(X)` tests X in Rust, and text that is proved to be UTF-8 is made by the shim."""
+    """Makes `prove!(X)` a test of X. Has the shim make text that is proved to be UTF-8."""
     for i in stream.each("prove", "unsafe"):
         if stream.text(i) == "prove" and stream.text(stream.next(i)) == "!":
             stream.tokens[i].text = "assert" if stream.text(stream.prev(i)) == "=" else "debug_assert"
@@ -163,7 +164,7 @@ def proofs(stream):
 
 
 def _unsafe(stream, i):
-    """`unsafe { str::from_utf8_unchecked(X) }` is `proved_utf8(X)`."""
+    """Makes `proved_utf8(X)` of `unsafe { str::from_utf8_unchecked(X) }`."""
     open_ = stream.next(i)
     if not stream.reads(i, "unsafe", "{", "str", "::", "from_utf8_unchecked", "("):
         stream.refuse(i, "an unsafe block of another form")

@@ -9,7 +9,7 @@ NAMED = re.compile(r"\{([A-Za-z_]\w*)[:}]")
 
 
 class Paths:
-    """The paths of one file. `project` has the modules of all crates, the laws, the traits and what features guard."""
+    """The paths of one file. `project` has the modules of all crates, the laws, the traits, and what features guard."""
 
     def __init__(self, stream, project, crate, module):
         self.stream, self.project, self.crate = stream, project, crate
@@ -20,7 +20,7 @@ class Paths:
         self.has_bounds = any(token.gone and token.text == "Write" for token in stream.tokens)
 
     def _mentioned(self):
-        """The names that the file mentions outside of imports."""
+        """Returns the names that the file mentions outside of imports."""
         found, end = set(), 0
         for i in self.stream.each():
             if self.stream.text(i) == "use":
@@ -32,7 +32,7 @@ class Paths:
         return found
 
     def rewrite(self, path, i):
-        """The path in Rust of a path in Rattle, as a list of names, or None if it names what is erased."""
+        """Returns the path in Rust of a path in Rattle, as a list of names, or None if it names what is erased."""
         if path[0] == "crate" or path[0] in self.project.modules:
             crate = self.crate if path[0] == "crate" else path[0]
             return [self.project.roots[crate], "generated", self.project.modules[crate]] + path[1:]
@@ -45,7 +45,7 @@ class Paths:
         return self.stream.refuse(i, "a path of the standard library: " + "::".join(path))
 
     def in_code(self):
-        """Paths in code."""
+        """Rewrites paths in code."""
         stream = self.stream
         heads = {"crate"} | self.heads | set(self.project.modules)
         for i in stream.each():
@@ -61,7 +61,7 @@ class Paths:
             stream.replace(i, k, "::".join(new))
 
     def leaves(self, i, prefix=()):
-        """The leaves of the tree of a `use` at i, as (path, alias), and the place after it."""
+        """Returns the leaves of the tree of a `use` at i, as (path, alias), and the place after it."""
         stream, path = self.stream, list(prefix)
         while True:
             if stream.text(i) == "{":
@@ -83,7 +83,7 @@ class Paths:
         return [(path[:-1] if path[-1] == "self" else path, alias)], after
 
     def imports(self):
-        """Imports: names that are erased, and names that only proofs mention, go."""
+        """Rewrites imports. Names that are erased and names that only proofs mention go."""
         stream = self.stream
         for i in list(stream.each("use")):
             leaves, end = self.leaves(stream.next(i))
@@ -99,7 +99,7 @@ class Paths:
                 stream.remove(start, end)
 
     def _import(self, path, alias, i):
-        """What is imported of a leaf: (feature, module, name), or None if nothing is."""
+        """Returns what is imported of a leaf: (feature, module, name), or None if nothing is."""
         if path[-1] in self.project.laws:
             return None
         new = self.rewrite(path, i)
@@ -115,7 +115,7 @@ class Paths:
 
     @staticmethod
     def _grouped(kept, visibility):
-        """The lines that import what is kept: one for each module and feature."""
+        """Yields the lines that import what is kept: one for each module and feature."""
         groups = {}
         for feature, module, name in kept:
             groups.setdefault((feature, module), []).append(name)
@@ -126,7 +126,7 @@ class Paths:
             yield "%suse %s%s;" % (visibility, module + "::" if module else "", joined)
 
     def modules(self, base):
-        """The modules that the file declares, as (name, place of `mod`); those that a feature guards get its condition."""
+        """Yields the modules that the file declares, as (name, place of `mod`). Those that a feature guards get its condition."""
         for i in self.stream.each("mod"):
             name = self.stream.text(self.stream.next(i))
             if self.stream.text(self.stream.next(self.stream.next(i))) == ";":

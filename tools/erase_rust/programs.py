@@ -1,4 +1,4 @@
-"""Passes for programs. The handle of the runtime stays, as a value of the shim; the allocators that it lends go."""
+"""Passes for programs. The handle of the runtime becomes a value of the shim, and the allocators that it lends go."""
 
 # Where more paths of std and of the toolchain's crates lead in programs.
 PATHS = {
@@ -12,7 +12,7 @@ PATHS = {
 }
 TRAITS = {"Clock", "Env", "Files", "IsTerminal", "MetadataExt", "OpenFile", "Read"}
 
-# What Rattle's prelude has, and Rust's has not.
+# What Rattle's prelude has and Rust's hasn't.
 PRELUDE = {
     **dict.fromkeys(("Eprint", "eprint", "eprintln"), "crate::shim::rt::Eprint"),
     "HostRuntime": "crate::shim::rt::HostRuntime",
@@ -38,7 +38,7 @@ def erase(stream):
 
 
 def allocators(stream):
-    """`let NAME = rt.alloc();` goes, and so do the arguments `rt.alloc()` and the names that patterns give them. Returns the names of
+    """Removes `let NAME = rt.alloc();`, the arguments `rt.alloc()` and the names that patterns give them. Returns the names of
     allocators."""
     names = set()
     for i in stream.each("let", "("):
@@ -76,7 +76,7 @@ def _tuple(stream, name, value):
 
 
 def macros(stream):
-    """`format!(in ALLOC; ..)` is a macro of the shim."""
+    """Makes `format!(in ALLOC; ..)` a macro of the shim."""
     for i in stream.each("format"):
         open_ = stream.next(stream.next(i))
         if stream.text(stream.next(i)) != "!" or stream.text(stream.next(open_)) != "in":
@@ -89,14 +89,14 @@ def macros(stream):
 
 
 def failures(stream):
-    """`AllocFailed<T>`, which has the item that took no place, is `AllocError`."""
+    """Makes `AllocError` of `AllocFailed<T>`, which has the item that took no place."""
     for i in stream.each("AllocFailed"):
         if stream.text(stream.next(i)) == "<":
             stream.replace(i, stream.close(stream.next(i)), "crate::shim::AllocError")
 
 
 def collected(stream):
-    """`collect::<LIST>(ALLOC)` is `collect(ALLOC)`."""
+    """Makes `collect(ALLOC)` of `collect::<LIST>(ALLOC)`."""
     for i in stream.each("collect"):
         open_ = stream.next(stream.next(i))
         if stream.reads(i, "collect", "::", "<"):
@@ -104,7 +104,7 @@ def collected(stream):
 
 
 def entry(stream):
-    """`fn main` of a program is public."""
+    """Makes `fn main` of a program public."""
     for i in stream.each("fn"):
         if stream.reads(i, "fn", "main", "("):
             stream.tokens[i].before += "pub "

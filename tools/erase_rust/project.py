@@ -40,10 +40,16 @@ class Project:
             self.known_macros = MACROS | programs.MACROS
 
     def _configure(self, config, root):
-        """Reads the lines of the file of crates: `crate NAME [as MODULE] [when FEATURE]`, `library NAME [when FEATURE]` for one
-        of the toolchain, `program NAME`, `module CRATE PATH when FEATURE`, `rename CRATE PATH NAME as NEW`, `implies FEATURE FEATURE`
-        for a feature that turns another on, and `uses FILE of CRATE` for the crates of another such file. The crates are modules of
-        `root`."""
+        """Reads the lines of the file of crates. Its crates are modules of `root`. A line has one of these forms:
+
+          crate NAME [as MODULE] [when FEATURE]   a crate of this repository
+          library NAME [when FEATURE]             a library of the toolchain
+          program NAME                            a program, or a library of programs
+          module CRATE PATH when FEATURE          a module that a feature guards
+          rename CRATE PATH NAME as NEW           a function that gets another name
+          implies FEATURE FEATURE                 a feature that turns another on
+          uses FILE of CRATE                      the crates of another such file
+        """
         kinds = "crate|library|program|module|implies"
         with open(config, encoding="utf-8") as file:
             for number, line in enumerate(file, 1):
@@ -71,7 +77,7 @@ class Project:
                     self.programs.add(name)
 
     def _folder(self, kind, name):
-        """The folder of a crate's sources."""
+        """Returns the folder of a crate's sources."""
         if kind != "library":
             return os.path.join(self.top, "crates", name, "src")
         if shutil.which("rt") is None:
@@ -79,19 +85,19 @@ class Project:
         return os.path.join(os.path.dirname(os.path.realpath(shutil.which("rt"))), "..", "rattle", name, "src")
 
     def shown(self, crate, name):
-        """The path of a source in messages and in the file that is made of it."""
+        """Returns the path of a source, for messages and for the file that is made of it."""
         return os.path.join("crates" if self.folders[crate].startswith(self.top + os.sep) else "toolchain", crate, "src", name)
 
     def _named(self, keyword):
-        """The names that a keyword declares in all files."""
+        """Returns the names that a keyword declares in all files."""
         return {s.text(s.next(i)) for s in self.streams.values() for i in s.each(keyword)}
 
     def feature(self, path):
-        """The feature that guards a path, which begins with its crate, or None."""
+        """Returns the feature that guards a path, which begins with its crate, or None."""
         return next((self.features[tuple(path[:n])] for n in range(len(path), 0, -1) if tuple(path[:n]) in self.features), None)
 
     def files(self):
-        """All files of Rust, as a dictionary from their paths below the folder of generated sources."""
+        """Returns all files of Rust, as a dictionary from their paths below the folder of generated sources."""
         made = {}
         for crate, module in self._own():
             self.calls = []
@@ -106,11 +112,11 @@ class Project:
         return formatted(made)
 
     def _own(self):
-        """The crates that are made, with their modules, in the order of these."""
+        """Returns the crates that are made, with their modules, in the order of these."""
         return sorted((pair for pair in self.modules.items() if self.roots[pair[0]] == "crate"), key=lambda pair: pair[1])
 
     def _root(self):
-        """The file that declares the modules of all crates."""
+        """Returns the file that declares the modules of all crates."""
         lines = [HEAD % self.config, "#![forbid(unsafe_code)]", "// Names and parameters that only contracts or other crates use.",
                  "#![allow(dead_code, unused_imports, unused_variables)]", ""]
         for crate, module in self._own():
@@ -184,7 +190,7 @@ class Project:
                 stream.refuse(i, "the method " + text)
 
     def _written(self, stream):
-        """The text of a file, with its head and with what it imports of the shim and of alloc."""
+        """Returns the text of a file, with its head and with what it imports of the shim and of alloc."""
         used = {stream.text(i) for i in stream.each() if stream.is_name(i)}
         inner, rest = re.fullmatch(r"((?://![^\n]*\n|\n)*)(.*)", stream.written(), re.S).groups()
         prelude = {**PRELUDE, **programs.PRELUDE} if self.programs else PRELUDE
@@ -202,7 +208,7 @@ def write_files(folder, files):
 
 
 def read_files(folder):
-    """All files of a folder, as such a dictionary."""
+    """Returns all files of a folder, as such a dictionary."""
     found = {}
     for path in (os.path.join(place, name) for place, _, names in os.walk(folder) for name in names):
         with open(path, encoding="utf-8") as file:
@@ -211,7 +217,7 @@ def read_files(folder):
 
 
 def formatted(made):
-    """The files as rustfmt writes them."""
+    """Returns the files as rustfmt writes them."""
     if shutil.which("rustfmt") is None:
         raise Stop("rustfmt is not here: it is a part of the Rust toolchain")
     with tempfile.TemporaryDirectory() as room:

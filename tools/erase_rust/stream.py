@@ -1,4 +1,4 @@
-"""The tokens of a file, with what finds, removes and replaces some of them."""
+"""The tokens of a file, and functions that find, remove and replace some of them."""
 import re
 
 from .lexer import IDLE, Lexer, Stop
@@ -8,7 +8,7 @@ VISIBILITY = ("pub", "final", "const", "unsafe")
 
 
 class Stream:
-    """The tokens of a file. A place is an index of a token, and stays the same while tokens are removed and replaced."""
+    """The tokens of a file. A place is an index of a token. It stays the same while tokens are removed and replaced."""
 
     def __init__(self, text, path):
         self.path, self.tokens, self.shim = path, Lexer(text, path).tokens(), set()
@@ -30,37 +30,37 @@ class Stream:
         raise Stop("%s:%d: %s" % (self.path, self.tokens[min(i, len(self.tokens) - 1)].line, construct))
 
     def live(self, i):
-        """Whether the token at i is part of the program and not removed."""
+        """Returns whether the token at i is part of the program and not removed."""
         return not self.tokens[i].gone and self.tokens[i].kind not in IDLE
 
     def next(self, i):
-        """The next live token after i."""
+        """Returns the next live token after i."""
         i += 1
         while i < len(self.tokens) and not self.live(i):
             i += 1
         return i
 
     def prev(self, i):
-        """The last live token before i, or -1."""
+        """Returns the last live token before i, or -1."""
         i -= 1
         while i >= 0 and not self.live(i):
             i -= 1
         return i
 
     def text(self, i):
-        """The text of the token at i, or nothing outside the file."""
+        """Returns the text of the token at i, or nothing outside the file."""
         return self.tokens[i].text if 0 <= i < len(self.tokens) else ""
 
     def is_name(self, i):
-        """Whether the token at i is a name."""
+        """Returns whether the token at i is a name."""
         return 0 <= i < len(self.tokens) and self.tokens[i].kind == "name"
 
     def each(self, *texts):
-        """The places of the live tokens with one of these texts, or of all if there are no texts. What is removed meanwhile is left out."""
+        """Returns the places of the live tokens with one of these texts, or of all without texts. Tokens that are removed meanwhile are left out."""
         return (i for i, token in enumerate(self.tokens) if self.live(i) and (not texts or token.text in texts))
 
     def reads(self, i, *texts):
-        """Whether the live tokens from i on are these."""
+        """Returns whether the live tokens from i on are these."""
         for text in texts:
             if self.text(i) != text:
                 return False
@@ -68,11 +68,11 @@ class Stream:
         return True
 
     def words(self, first, last):
-        """The texts of the live tokens from first to last."""
+        """Returns the texts of the live tokens from first to last."""
         return [self.text(k) for k in range(first, last + 1) if self.live(k)]
 
     def seek(self, i, *texts):
-        """The first live token at i or after it with one of these texts, outside of brackets that open there."""
+        """Returns the first live token at i or after it with one of these texts, outside of brackets that open there."""
         while i < len(self.tokens) and self.text(i) not in texts:
             i = self.next(self.pair[i] if self.text(i) in PAIRS else i)
         if i >= len(self.tokens):
@@ -80,7 +80,7 @@ class Stream:
         return i
 
     def close(self, i):
-        """The bracket that closes the one at i. A `<` must be one that opens generics."""
+        """Returns the bracket that closes the one at i. A `<` must be one that opens generics."""
         if self.text(i) != "<":
             return self.pair[i]
         depth = 0
@@ -92,14 +92,14 @@ class Stream:
         return self.refuse(i, "generics without an end")
 
     def opens_generics(self, i):
-        """Whether the `<` at i opens generics: it follows a name or `::` without a space."""
+        """Returns whether the `<` at i opens generics: it follows a name or `::` without a space."""
         k = i - 1
         while k >= 0 and self.tokens[k].gone:
             k -= 1
         return self.text(i) == "<" and (self.is_name(k) or self.text(k) == "::")
 
     def parts(self, open_, close=None):
-        """The parts of a list between brackets, as (first, last, comma after it or None)."""
+        """Returns the parts of a list between brackets, as (first, last, comma after it or None)."""
         close = self.close(open_) if close is None else close
         found, first, last, k = [], None, None, self.next(open_)
         while k < close:
@@ -113,7 +113,7 @@ class Stream:
         return found + ([(first, last, None)] if first is not None else [])
 
     def item_start(self, i):
-        """Of the item whose keyword is at i: the first token with its documentation and attributes, and that without."""
+        """Returns two first tokens of the item whose keyword is at i: with its documentation and attributes, and without them."""
         head = i
         while True:
             k = self.prev(head)
@@ -125,7 +125,7 @@ class Stream:
                 return self.above(head), head
 
     def above(self, start):
-        """The first token of the documentation, comments and attributes above a token."""
+        """Returns the first token of the documentation, comments and attributes above a token."""
         while True:
             k = start - 1
             while k >= 0 and (self.tokens[k].gone or self.tokens[k].kind == "space" and self.tokens[k].text.count("\n") < 2):
@@ -138,19 +138,19 @@ class Stream:
                 return start
 
     def item_end(self, i):
-        """The last token of the item at i: its `;` or the `}` of its body."""
+        """Returns the last token of the item at i: its `;` or the `}` of its body."""
         k = self.seek(i, ";", "{")
         return self.close(k) if self.text(k) == "{" else k
 
     def generics(self):
-        """Where generics are declared: the place of each `<`, with the keyword of its item."""
+        """Yields the place of each `<` that declares generics, with the keyword of its item."""
         for i in self.each("fn", "struct", "enum", "type", "trait", "impl"):
             n = i if self.text(i) == "impl" else self.next(i)
             if self.text(self.next(n)) == "<" and self.is_name(n):
                 yield self.next(n), self.text(i)
 
     def arguments(self, i):
-        """The `(` of the parameters of the function whose `fn` is at i, or None for a type of functions."""
+        """Returns the `(` of the parameters of the function whose `fn` is at i, or None for a type of functions."""
         k = self.next(self.next(i))
         return (self.next(self.close(k)) if self.text(k) == "<" else k) if self.is_name(self.next(i)) else None
 
@@ -165,13 +165,13 @@ class Stream:
             token.gone = token.gone or token.kind == "comment"
 
     def replace(self, first, last, text):
-        """Puts a text in the place of the tokens from first to last."""
+        """Replaces the tokens from first to last by a text."""
         self.remove(first, last)
         token = self.tokens[first]
         token.kind, token.text, token.gone = "name", text, False
 
     def remove_space(self, i, lines=False):
-        """Removes the space at i, if there is one, and if it is within a line or lines may go too."""
+        """Removes the space at i, if there is one. A space with a line break goes only if `lines` is true."""
         if i < len(self.tokens) and self.tokens[i].kind == "space" and (lines or "\n" not in self.tokens[i].text):
             self.remove(i)
 
@@ -195,7 +195,7 @@ class Stream:
             self.remove(open_, close)
 
     def where_parts(self, i):
-        """The parts of the `where` at i, up to the `{` or `;` after it."""
+        """Returns the parts of the `where` at i, up to the `{` or `;` after it."""
         return self.parts(i, self.seek(i, "{", ";"))
 
     def remove_where(self, i, numbers):
@@ -207,7 +207,7 @@ class Stream:
             self.remove(i)
 
     def written(self):
-        """The text of what is left. A line of which nothing is left goes."""
+        """Returns the text of what is left. A line goes if all of it was removed."""
         text = "".join("\0" if t.gone else t.before + t.text for t in self.tokens)
         lines = [(line, line.replace("\0", "").rstrip()) for line in text.split("\n")]
         text = "\n".join(bare for line, bare in lines if bare or "\0" not in line)

@@ -12,7 +12,8 @@ KINDS = ("alike", "refuses", "answers", "otherwise", "crashes", "endless")
 
 
 class Said:
-    """What a reader says of a vector: lines as those of an answer, and its own message if it refuses. `end` names a process that didn't end well."""
+    """What a reader says of a vector: lines as those of an answer, and its own message if it refuses. `end` says how a process ended, if it
+    didn't end well."""
 
     def __init__(self, lines=(), message="", end=""):
         self.lines, self.message, self.end = list(lines), message, end
@@ -39,7 +40,7 @@ class Ran:
 
 
 def quoted(name):
-    """A name with the quotes and escapes of an answer; it is a text whose letters are bytes."""
+    """Returns a name with the quotes and escapes of an answer. The name is a text whose letters are bytes."""
     return '"' + re.sub(r'[^ -~]|["\\]', lambda found: f"\\x{ord(found[0]):02x}", name) + '"'
 
 
@@ -48,17 +49,17 @@ def is_error(line):
 
 
 def reduced(lines, left_out):
-    """Lines without what a reader doesn't show, and errors without their kind."""
+    """Returns lines without what a reader doesn't show, and errors without their kind."""
     return ["error" if is_error(line) else re.sub(left_out, "", line) for line in lines]
 
 
 def is_refusal(vector):
-    """Whether the answer has an error."""
+    """Returns whether the answer has an error."""
     return any(is_error(line) for line in vector.want or (*vector.first, *vector.last))
 
 
 def is_same(vector, lines, left_out):
-    """Whether lines are the wanted answer, but for what is left out."""
+    """Returns whether lines are the wanted answer, except for what is left out."""
     lines = reduced(lines, left_out)
     if vector.want:
         return lines == reduced(vector.want, left_out)
@@ -71,13 +72,13 @@ def before_error(lines):
 
 
 def begins_alike(vector, lines, left_out):
-    """Whether the items up to an error are those of the answer, as far as both have some."""
+    """Returns whether the items up to an error are those of the answer, as far as both have some."""
     wanted, got = before_error(reduced(vector.want or vector.first, left_out)), before_error(reduced(lines, left_out))
     return all(one == other for one, other in zip(wanted, got))
 
 
 def kind(vector, said, left_out=""):
-    """How a reader's answer differs: one of KINDS."""
+    """Returns how a reader's answer differs: one of KINDS."""
     if said.end:
         return said.end
     if is_same(vector, said.lines, left_out):

@@ -1,4 +1,5 @@
-"""Asks the tools of LLVM 19, and gives what they print as lines of answers. CALLS says what is left out of these, since no tool shows it."""
+"""Asks the tools of LLVM 19, and gives what they print as lines of answers. CALLS says what is left out of these lines, since no tool
+shows it."""
 import re
 import shutil
 
@@ -22,12 +23,12 @@ EXPORT = re.compile(r"(?:0x(?P<at>\w+)  |\[re-export\] )(?P<name>.*?)(?: \[(?P<w
 
 
 def hexadecimal(text):
-    """A hexadecimal number, after which a remark may follow."""
+    """Returns a hexadecimal number as answers have it. A remark may follow the number."""
     return f"{int(text.split()[0], 16):#x}"
 
 
 def decimal(text):
-    """A decimal number, after which a remark may follow, as a hexadecimal one."""
+    """Returns a decimal number as a hexadecimal one. A remark may follow the number."""
     return f"{int(text.split()[0]):#x}"
 
 
@@ -85,7 +86,7 @@ class Image:
 
 
 def name_of(command, key="name"):
-    """A name that lies in a command, before the place where it lies."""
+    """Returns a name that lies in a command, without the place that is printed after it."""
     return re.sub(r" \(offset \d+\)$", "", command.get(key))
 
 
@@ -122,7 +123,7 @@ def sections(image):
 
 
 def version(text):
-    """A version of 16, 8 and 8 bits."""
+    """Returns the number of a version of 16, 8 and 8 bits."""
     parts = [int(part) for part in text.split(".")] if text[0].isdigit() else [0xffff, 0xff, 0xff]
     return f"{(parts[0] << 16) + (parts[1] << 8) + (parts[2] if len(parts) > 2 else 0):#x}"
 
@@ -174,7 +175,7 @@ def symbols(text, _):
 
 
 def tables(text, heads):
-    """The rows of tables, each with the head of its table, which ends with a colon."""
+    """Yields the rows of tables, each with the head of its table, which ends with a colon."""
     head = None
     for row in text.split("\n"):
         if row in heads:
@@ -186,7 +187,7 @@ def tables(text, heads):
 
 
 def bound(text):
-    """The binds of both tables: whether they are lazy, and their parts."""
+    """Yields the binds of both tables: whether they are lazy, and their parts."""
     for head, row in tables(text, ("Bind table:", "Lazy bind table:")):
         found = (LAZY if head.startswith("Lazy") else BIND).fullmatch(row.rstrip())
         if found:
@@ -215,7 +216,7 @@ def bindings(text, _):
 
 
 def fixed(text):
-    """The rows of chained fixups."""
+    """Yields the rows of chained fixups."""
     for found in re.finditer(FIXED.pattern + "$", text, re.M):
         row = found.groupdict()
         if row["kind"] == "bind":
@@ -252,7 +253,7 @@ def rebases(text, _):
 
 
 def base_of(text):
-    """The address from which llvm-objdump counts: that of __TEXT."""
+    """Returns the address from which llvm-objdump counts: that of __TEXT."""
     return next((int(command.get("vmaddr"), 16) for command in Image(text).segments() if command.get("segname") == "__TEXT"), 0)
 
 
@@ -272,7 +273,7 @@ def exports(text, _):
 
 
 def find(text, vector):
-    """The export of a name."""
+    """Returns the export of a name."""
     wanted = f"export {quoted(vector.wanted_name.decode('latin-1'))} "
     return [next((line for line in exports(text, vector) if line.startswith(wanted)), "none")]
 
@@ -299,7 +300,7 @@ def slots(text, _):
 
 
 def words_of(at, symbol, fields, is_big):
-    """Both words of a relocation, of the fields that a tool shows."""
+    """Returns both words of a relocation, made of the fields that a tool shows."""
     relative, length, external, kind, scattered = fields
     if scattered:
         return 0x80000000 | relative << 30 | length << 28 | kind << 24 | at, symbol
@@ -309,7 +310,7 @@ def words_of(at, symbol, fields, is_big):
 
 
 def relocations(text, vector):
-    """The words of relocations. Which order of bytes the file has, no tool shows."""
+    """Yields the words of relocations. No tool shows the byte order of the file, so it is read from the file."""
     is_big = vector.bytes()[:1] == b"\xfe"
     for row in re.findall(r"^(\w{8}) (\d) +(\d) +(\w+|n/a) +(\d+) +(\d) +(\S+)$", text, re.M):
         at, symbol = int(row[0], 16), int(row[6], 16 if row[6].startswith("0x") else 10)
@@ -343,7 +344,7 @@ def archive_symbols(text, _):
 
 
 def of_image(parts):
-    """A parser of what `--private-headers` shows."""
+    """Returns a parser of what `--private-headers` shows."""
     def parse(text, _):
         image = Image(text)
         return list(parts(image)) if image.is_there else []
@@ -351,7 +352,7 @@ def of_image(parts):
 
 
 class Call:
-    """A tool with its options, what gives the lines of what it prints, and what is left out of an answer's lines."""
+    """A tool with its options, the function that makes lines of what it prints, and what is left out of an answer's lines."""
 
     def __init__(self, words, parse, left_out=r"(?!)", is_list=True):
         tool, *self.options = words.split()
@@ -401,13 +402,13 @@ CALLS = {
 
 
 def missing():
-    """Why LLVM can't be asked, or nothing."""
+    """Returns why LLVM can't be asked, or nothing if it can."""
     lacking = [tool for tool in TOOLS.values() if not shutil.which(tool)]
     return "missing: " + ", ".join(lacking) if lacking else ""
 
 
 def ask(vector, path):
-    """What LLVM says of a vector whose file is at a path."""
+    """Returns what LLVM says of a vector whose file is at a path."""
     call = CALLS[vector.call]
     ran = Ran([call.tool, *call.options, path])
     if ran.end:

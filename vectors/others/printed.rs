@@ -1,4 +1,5 @@
-//! Prints lines as those of an answer. A driver is run as `driver CALL FILE [NAME]`; an error is the line `error`, with the reader's words on stderr.
+//! Prints lines as those of an answer. A driver is run as `driver CALL FILE [NAME]`. An error is the line `error`, with the reader's words on
+//! stderr.
 use std::fmt::{Debug, Write};
 
 /// Lines that are printed at the end, or after the reader refuses.
@@ -12,7 +13,7 @@ impl Lines {
     }
 }
 
-/// A name in quotes, with escapes.
+/// Returns a name in quotes, with escapes.
 pub fn quoted(name: &[u8]) -> String {
     let mut text = String::from("\"");
     for &byte in name {
@@ -24,7 +25,7 @@ pub fn quoted(name: &[u8]) -> String {
     text + "\""
 }
 
-/// The words of the command line: the call, the file's bytes, and a name.
+/// Returns the words of the command line: the call, the file's bytes, and a name.
 pub fn arguments() -> (String, Vec<u8>, String) {
     let words: Vec<String> = std::env::args().collect();
     let name = words.get(3).cloned().unwrap_or_default();

@@ -1,4 +1,4 @@
-"""The readers that are asked, what each has of the calls, and what is left out of the lines of an answer because a reader doesn't give it."""
+"""The readers that are asked, the calls that each has, and what is left out of the lines of an answer since a reader doesn't give it."""
 import os
 import re
 import shutil
@@ -37,11 +37,11 @@ class Crate(Driver):
         return os.path.join(OUT, "debug", f"vectors_{self.name}")
 
     def title(self):
-        """The name and the version that is installed."""
+        """Returns the name and the version that is installed."""
         return " ".join(next(name for name in sorted(os.listdir(REGISTRY)) if re.fullmatch(self.name + r"-[\d.]+", name)).rsplit("-", 1))
 
     def missing(self):
-        """Why it can't be built, or nothing. Builds it."""
+        """Builds it; returns why it can't be built, or nothing."""
         if not shutil.which("cargo"):
             return "there is no cargo"
         if not os.path.isdir(REGISTRY) or not any(re.fullmatch(self.name + r"-[\d.]+", name) for name in os.listdir(REGISTRY)):

@@ -6,10 +6,10 @@ It follows the pages docs/FORMAT-*.md alone, and shares no code with the library
 from . import chains, files, image, layout, names, opcodes, signature, tables, trie
 from .reading import MOST_WORK, Fault, GaveUp, Work, limited
 
-# The calls over an opened image, which get it and the vector: those that give the lines of a list, and those that give a line.
+# Calls that get an opened image and the vector. Those of LISTS give the lines of a list, and those of SINGLES give a line.
 LISTS = {**image.LISTS, **tables.LISTS, **trie.LISTS, **opcodes.LISTS, **chains.LISTS, **signature.LISTS, **layout.LISTS}
 SINGLES = {**tables.SINGLES, **trie.SINGLES, **signature.SINGLES}
-# The same over the bytes of a file, which get these and the vector.
+# The same for calls that get the bytes of a file and the vector.
 FILE_LISTS = {**files.LISTS, **names.LISTS}
 FILE_SINGLES = {**files.SINGLES}
 
@@ -39,7 +39,8 @@ def _lines(vector):
 
 
 def _list(items):
-    """The lines of a list: a fault that is an item has a line, and one that is raised ends the list. None ends after a fault."""
+    """Yields the lines of a list. A fault that is an item has a line, and a fault that is raised ends the list. `end` doesn't follow a
+    fault."""
     is_fault = False
     try:
         for item in limited(items):

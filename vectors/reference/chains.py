@@ -11,10 +11,11 @@ STARTS = Layout("Starts", "size page_size:2 pointer_format:2 segment_offset:8 ma
 PAGE_SIZES = (0x1000, 0x4000)
 NO_FIXUP, SEVERAL, LAST = 0xffff, 0x8000, 0x8000
 
-# Of each format: the bytes of a pointer, the unit of `next`, how a pointer's bits are read, and what of it depends on the format.
+# A format: the bytes of a pointer, the unit of `next`, and the function that reads a pointer's bits. It also says whether targets count
+# from the base, and which bit is the last of an import's number.
 Format = namedtuple("Format", "width unit read from_base import_last")
 Pointer = namedtuple("Pointer", "next kind value addend auth")
-# Chains of a segment: its number, the segment, the record of its starts, and the place of that in the payload.
+# Chains of a segment: its number, the segment, the record of its starts, and the place of that record in the payload.
 Span = namedtuple("Span", "index segment starts place")
 Fixup = namedtuple("Fixup", "index segment offset pointer")
 
@@ -35,7 +36,7 @@ class Chains:
         return number(self.payload, place, width, self.order)
 
     def spans(self):
-        """The segments with chains, each tested when its turn comes."""
+        """Yields the segments with chains. Each is tested when its turn comes."""
         end_of_record = end_of_data = 0
         for index in range(self.count):
             start = self.number(self.header.starts_offset + 4 + 4 * index, 4)
@@ -53,7 +54,7 @@ class Chains:
             yield Span(index, segment, starts, place)
 
     def start(self, span, index):
-        """The two bytes of a start, which lie inside the size of the record."""
+        """Reads a start, whose two bytes must lie inside the size of the record."""
         require(22 + 2 * index + 2 <= span.starts.size)
         return self.number(span.place + 22 + 2 * index, 2)
 
@@ -79,7 +80,7 @@ class Chains:
                 yield fixup
 
     def chain(self, span, page, place):
-        """The fixups of one chain, by the place of the first in its page."""
+        """Yields the fixups of one chain, by the place of the first in its page."""
         shape = FORMATS[span.starts.pointer_format]
         more = True
         while more:
@@ -93,7 +94,7 @@ class Chains:
             more, place = pointer.next, place + pointer.next
 
     def import_of(self, index):
-        """The name, ordinal, addend of an import, and whether it is weak."""
+        """Returns the name, the ordinal and the addend of an import, and whether it is weak."""
         kind = self.header.imports_format
         size = {1: 4, 2: 8, 3: 16}[kind]
         record = read(self.payload, self.header.imports_offset + index * size, size)
@@ -119,7 +120,7 @@ def signed_above(value, greatest, less):
 
 
 def read_arm64e(word, shape, base, _):
-    """The pointers of formats 1, 7, 9, 10 and 12."""
+    """Reads a pointer of formats 1, 7, 9, 10 and 12."""
     after, is_bind, is_signed = bits(word, 51, 61) * shape.unit, bits(word, 62, 62), bits(word, 63, 63)
     auth = (bits(word, 49, 50), bits(word, 32, 47), bits(word, 48, 48)) if is_signed else None
     if is_bind:
@@ -132,7 +133,7 @@ def read_arm64e(word, shape, base, _):
 
 
 def read_64(word, shape, base, _):
-    """The pointers of formats 2 and 6."""
+    """Reads a pointer of formats 2 and 6."""
     after = bits(word, 51, 62) * shape.unit
     if bits(word, 63, 63):
         return Pointer(after, "bind", bits(word, 0, shape.import_last), bits(word, 24, 31), None)
@@ -141,7 +142,7 @@ def read_64(word, shape, base, _):
 
 
 def read_32(word, shape, _, greatest):
-    """The pointers of format 3; a target above the greatest valid one is a plain number."""
+    """Reads a pointer of format 3. A target above the greatest valid one is a plain number."""
     after = bits(word, 26, 30) * shape.unit
     if bits(word, 31, 31):
         return Pointer(after, "bind", bits(word, 0, shape.import_last), bits(word, 20, 25), None)

@@ -11,7 +11,7 @@ IMPORT_SIZES = {1: 4, 2: 8, 3: 16}
 # ---- lists that can't be read to their end
 
 def sum_of_floors(count, divisor, step, start):
-    """The sum of (start + i * step) // divisor over i below count, as Euclid's algorithm finds it."""
+    """Returns the sum of (start + i * step) // divisor over i below count, as Euclid's algorithm finds it."""
     total = 0
     while True:
         total += count * (count - 1) // 2 * (step // divisor) + count * (start // divisor)
@@ -23,7 +23,7 @@ def sum_of_floors(count, divisor, step, start):
 
 
 def leaves(state, count, step, starts):
-    """Whether one of so many places in a segment isn't good, and advances after them.
+    """Returns whether one of so many places in a segment isn't good. Advances the state past them.
 
     The places wrap. They are good up to the segment's end, and as far as the sums with `starts` of the segment have 64 bits."""
     segments, start = state.image.segments, state.offset
@@ -37,7 +37,7 @@ def leaves(state, count, step, starts):
 
 
 def has_fault(runs, starts=("vmaddr", "fileoff")):
-    """Whether a stream has a fault: of its instructions, or of a place."""
+    """Returns whether a stream has a fault: of its instructions, or of a place."""
     try:
         return any(count and leaves(state, count, step, starts) for state, count, step in runs)
     except Fault:
@@ -67,7 +67,7 @@ def stream_rows(laid):
 # ---- chained fixups
 
 class Payload:
-    """The data of chained fixups, which lie in the file. A test is whether something is good, what is found, and the limit."""
+    """The data of chained fixups, which lie in the file. A test says whether something is good, what is found, and the limit."""
 
     def __init__(self, laid, body):
         self.image, self.order = laid.image, laid.image.order
@@ -94,7 +94,7 @@ class Payload:
         yield self.ends(header.starts_offset + 4 + 4 * self.number(header.starts_offset))
 
     def segment_tests(self, start, segment):
-        """The tests of the starts of a segment, which the image may lack."""
+        """Gives the tests of the starts of a segment, which the image may lack."""
         yield segment is not None, start, 0
         place = self.header.starts_offset + start
         yield self.ends(place + STARTS.size)

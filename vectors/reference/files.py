@@ -49,7 +49,7 @@ class FatFile:
 
 
 def fat_file(data):
-    """Takes the table of a fat file of either width, which has no records without a whole header; None if the magic is another."""
+    """Reads the table of a fat file of either width; None if the magic is another. A table without a whole header has no records."""
     magic = int.from_bytes(data[:4], "big")
     return FatFile(data, magic == FAT_64) if len(data) >= 4 and magic in (FAT, FAT_64) else None
 
@@ -390,7 +390,7 @@ CONTAINER_RULES = ("records-out-of-file", "slice-out-of-file", "slice-in-records
 def sweep(ranges):
     """Gives pairs of ranges that share a place: one that begins before the furthest end so far, and the range with that end.
 
-    A range is its start, its end and its owner; those without bytes share nothing."""
+    A range is its start, its end and its owner. Ranges without bytes share nothing."""
     furthest = None
     for item in sorted((item for item in ranges if item[0] < item[1]), key=lambda item: item[0]):
         if furthest and item[0] < furthest[1]:
@@ -407,7 +407,7 @@ def image_cputype(data):
 
 
 def slices_again(archs):
-    """Gives, by cpu, each record that a record before is the same cpu as: its number, the cpu, and the first record's number."""
+    """Gives each record whose cpu an earlier record has: its number, the cpu, and the first record's number. Sorts them by cpu."""
     first = {}
     for cpu, index in sorted(((arch.cputype << 24) + (arch.cpusubtype & KIND_MASK), index) for index, arch in enumerate(archs)):
         earlier = first.setdefault(cpu, index)

@@ -1,7 +1,8 @@
 """Opening an image (docs/FORMAT-IMAGE.md, parts 3 to 7), and the lists of what its commands say.
 
-`open_image(data, offset, lossy)` returns an `Image` or raises a `Fault`. If several faults hold, one of the chain or
-the entry is reported before one of data, tables and texts, and else that of the first command. The fields of an `Image` are:
+`open_image(data, offset, lossy)` returns an `Image` or raises a `Fault`. If there are several faults, one of the chain or the
+entry is reported before one of data, tables and texts. Otherwise that of the first command is reported. The fields of an
+`Image` are:
 
 data, offset        the bytes of the file, and where the header is in them
 order, is_64        `<` or `>`, the byte order for `reading`; whether the image has 64 bits
@@ -51,7 +52,7 @@ class Segment:
 
 
 class Image:
-    """An opened image; the module says what its fields are."""
+    """An opened image. The module says what its fields are."""
 
     def __init__(self, data, offset, lossy):
         self.data, self.offset, self.lossy = data, offset, lossy
@@ -83,7 +84,7 @@ class Image:
             place += command.cmdsize
 
     def _take(self, command):
-        """Keeps what the command says; one that says nothing readable is refused, or left out in a lossy image."""
+        """Keeps what the command says. What can't be read is refused, or left out in a lossy image."""
         if command.name in ("LC_SEGMENT", "LC_SEGMENT_64"):
             self.segments.append(Segment(command, self._forgiven(self._segment_data, command.body, b"")))
         elif command.name == "LC_SYMTAB":
@@ -113,11 +114,11 @@ class Image:
         return body
 
     def _text_of(self, command):
-        """The text of a library or a run path; its offset is the first field of both records."""
+        """Reads the text of a library or a run path. Its offset is the first field of both records."""
         return text(self.data, command.offset + command.body[2])
 
     def _find_entry(self):
-        """Takes the entry of the first `LC_MAIN`, or else that of the first thread, which has to have one in any case."""
+        """Takes the entry of the first `LC_MAIN`; without one, that of the first thread. A thread must have an entry in any case."""
         thread, main = (next(self.of(name), None) for name in ("LC_UNIXTHREAD", "LC_MAIN"))
         self.entry, self.old_style_entry = self.instruction_pointer(thread) if thread else 0, thread is not None and main is None
         if main:
@@ -126,7 +127,7 @@ class Image:
             require(0 <= self.entry < WORD)
 
     def instruction_pointer(self, thread):
-        """The number that words of the state make; a word from `count` on is 0."""
+        """Returns the number that words of the state make. A word from `count` on is 0."""
         require(self.header.cputype in POINTER_WORDS)
         pointer = 0
         for shift, index in enumerate(POINTER_WORDS[self.header.cputype]):
@@ -148,25 +149,25 @@ class Image:
         return layout.read(self.data, segment.offset + SEGMENT_SIZE[self.is_64] + layout.size * index, self.order)
 
     def numbered_section(self, of, index):
-        """A section with its numbers; in place of its record may be a fault."""
+        """Returns a section with its numbers. A fault may replace its record."""
         return NumberedSection(of, index, attempt(self.section, self.segments[of], index))
 
     def numbered_sections(self):
         return (self.numbered_section(of, index) for of, segment in enumerate(self.segments) for index in range(segment.nsects))
 
     def readable_sections(self):
-        """Of each segment the sections before the first that isn't in the bytes."""
+        """Returns the sections of each segment before the first that isn't in the bytes."""
         return (section for of, segment in enumerate(self.segments)
                 for section in takewhile(lambda section: not isinstance(section.record, Fault),
                                          (self.numbered_section(of, index) for index in range(segment.nsects))))
 
     def section_bytes(self, record):
-        """How many bytes of a section lie in the file."""
+        """Returns how many bytes of a section lie in the file."""
         in_file = record.offset + record.size <= len(self.data) and record.flags & 0xff not in ZERO_FILL
         return record.size if in_file else 0
 
     def symbol(self, index):
-        """The record and the name of a symbol of the table."""
+        """Reads the record and the name of a symbol of the table."""
         layout = SYMBOL[self.is_64]
         record = layout.read(self.data, self.symtab.symoff + layout.size * index, self.order)
         return record, text(self.data, self.symtab.stroff + record.n_strx)
@@ -181,7 +182,7 @@ def open_image(data, offset=0, lossy=False):
 
 
 def read_command(data, place, order):
-    """Reads the load command at a place: its size first, and then the record that its number calls for."""
+    """Reads the load command at a place: its size first, and then the record that belongs to its number."""
     start = COMMAND_HEADER.read(data, place, order)
     require(start.cmdsize <= len(data) - place)
     name = COMMAND_NAMES.get(start.cmd)
@@ -213,7 +214,7 @@ def segments(image, _):
 
 
 def placed(record):
-    """The words that all lines of a section begin with."""
+    """Returns the words that all lines of a section begin with."""
     return f"{quoted(name_of_16(record.sectname))} of {quoted(name_of_16(record.segname))}"
 
 
@@ -250,7 +251,7 @@ def symbols(image, _):
 
 
 def use_of(image, command):
-    """The words for how a library is used: by the flags of its command if it has them, else by its kind."""
+    """Returns the words for how a library is used, by the flags of its command; without flags, by its kind."""
     body = command.body
     has_flags = (command.name in ("LC_LOAD_DYLIB", "LC_LOAD_WEAK_DYLIB") and command.cmdsize >= 28 and body.name == 28
                  and body.timestamp == USE_FLAGS_MARK)

@@ -95,14 +95,14 @@ class Laid:
         self.claims = [claim for claim in claims_of(self) if claim.start < claim.end]
 
     def last(self, *names):
-        """The last command of these names, or None."""
+        """Returns the last command of these names, or None."""
         return next((command for command in reversed(self.image.commands) if command.name in names), None)
 
     def lies_in_file(self, start, length):
         return start + length <= self.size
 
     def records(self, layout, part, command, start, count):
-        """The records of a command's table that are in the bytes, each with its owner."""
+        """Returns the records of a command's table that are in the bytes, each with its owner."""
         count = min(count, max(self.size - start, 0) // layout.size)
         return [(layout.read(self.data, start + layout.size * index, self.image.order), (part, command.offset, index))
                 for index in range(count)]

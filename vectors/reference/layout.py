@@ -1,7 +1,8 @@
 """The rules of layout: what lies where the format and its readers don't allow it. docs/FORMAT-IMAGE.md, part 9.
 
-A row is what a rule says of one thing: whether that is broken, the rule, the owner, what is found, the limit, and the other
-owner, if there is one. Each function gives the rows of its subject, those of one rule in order; `layout` sorts them by rule.
+A row is what a rule says of one thing: whether the rule is broken, the rule, the owner, what is found, the limit, and the other
+owner, if there is one. Each function gives the rows of its subject, and keeps those of one rule in order. `layout` sorts them by
+rule.
 """
 
 from .dyld_rules import chain_rows, stream_rows
@@ -30,7 +31,7 @@ LEAST_VERSIONS = ("LC_VERSION_MIN_MACOSX", "LC_VERSION_MIN_IPHONEOS", "LC_VERSIO
 ROUTINES = ("LC_ROUTINES", "LC_ROUTINES_64")
 ENTRIES = ("LC_MAIN", "LC_UNIXTHREAD")
 
-# The commands that have exactly the bytes of their record, and the sets of which one may occur.
+# The commands that have exactly the bytes of their record, and the sets. Of each set one command may occur.
 EXACT = {"LC_SYMTAB", "LC_DYSYMTAB", *DYLD_INFO, *LINKEDIT, "LC_UUID", "LC_MAIN", "LC_SOURCE_VERSION", *LEAST_VERSIONS,
          *ENCRYPTION, *ROUTINES, "LC_TWOLEVEL_HINTS", "LC_PREBIND_CKSUM", "LC_NOTE", "LC_SYMSEG"}
 SETS = [(name,) for name in ("LC_SYMTAB", "LC_DYSYMTAB", "LC_ID_DYLIB", "LC_LOAD_DYLINKER", "LC_ID_DYLINKER", "LC_UUID",
@@ -59,7 +60,7 @@ def shared(rule, ranges):
 
 
 def again(rule, things, numbers):
-    """Gives the rows of what was there before: things are pairs of what should differ and an owner."""
+    """Gives a row for each thing. It is broken if an earlier thing has the same key. A thing is a pair of a key and an owner."""
     first = {}
     for key, owner in things:
         earlier = first.setdefault(key, owner)
@@ -86,7 +87,7 @@ def record_size(command):
 
 
 def states_end(laid, command):
-    """Where the states of a thread end that lie in it, counted from the command."""
+    """Returns where the states that lie in a thread end, counted from the command."""
     place = 8
     while place + 8 <= command.cmdsize:
         end = place + 8 + 4 * number(laid.data, command.offset + place + 4, 4, laid.image.order)
@@ -97,7 +98,7 @@ def states_end(laid, command):
 
 
 def counted_size(laid, command):
-    """The size that a command has with what it counts."""
+    """Returns the size that a command has with what it counts."""
     if command.name in SEGMENTS:
         wide = command.name == "LC_SEGMENT_64"
         return SEGMENT_SIZE[wide] + SECTION[wide].size * command.body.nsects
@@ -310,7 +311,7 @@ SUBJECTS = (header_rows, command_rows, text_rows, entry_rows, claim_rows, segmen
 
 
 def layout(image, _):
-    """The faults of the file that begins with the image."""
+    """Gives the faults of the file that begins with the image."""
     laid = Laid(open_image(image.data[image.offset:], 0, image.lossy) if image.offset else image)
     return fault_lines((row for subject in SUBJECTS for row in subject(laid)), RULES)
 

@@ -1,4 +1,4 @@
-"""The names of numbers, as Apple's headers have them; those of cpus are the names of LLVM's tools."""
+"""The names of numbers, as Apple's headers have them. Names of cpus are those of LLVM's tools."""
 
 from .image import ARM, ARM64, ARM64_32, POWERPC, X86, X86_64
 from .records import COMMAND_NAMES
@@ -8,7 +8,7 @@ STAB, TYPE = 0xe0, 0x0e
 
 
 def numbered(names, start=0):
-    """Numbers names, of which `-` is none."""
+    """Numbers names. `-` takes a number, and is no name."""
     return {number: name for number, name in enumerate(names.split(), start) if name != "-"}
 
 
@@ -48,7 +48,7 @@ def prefixed(prefix, name):
 
 
 def header_flag_name(flag):
-    """The name of a number that is one bit."""
+    """Returns the name of a number that is one bit."""
     return prefixed("MH_", HEADER_FLAGS.get(flag.bit_length() - 1) if flag.bit_count() == 1 else None)
 
 
@@ -57,7 +57,7 @@ def symbol_type_name(kind):
 
 
 def cpu_name(cpu, subtype):
-    """The name of a cpu, by its subtype without the bits of its capabilities."""
+    """Returns the name of a cpu, by its subtype without the bits of its capabilities."""
     return CPUS.get(cpu, {}).get(subtype & 0x00ffffff)
 
 
@@ -67,7 +67,7 @@ def relocation_name(cpu, kind):
 
 
 def named(name):
-    """The call that gives the name of each number, or of each pair of numbers."""
+    """Returns the call that gives the name of each number, or of each pair of numbers."""
     return lambda _, vector: (" ".join([*map(hex, numbers), name(*numbers) or "none"]) for numbers in vector.numbers)
 
 

@@ -25,20 +25,20 @@ Instruction = namedtuple("Instruction", "opcode immediate operands after")
 
 
 def name_operand(data, place):
-    """A text and the place after it and its zero byte, whether or not that is there."""
+    """Reads a text; returns it and the place after it and its zero byte, whether or not that byte is there."""
     name = text(data, place)
     return name, place + len(name) + 1
 
 
 def ended_name_operand(data, place):
-    """A text that a zero byte has to end."""
+    """Reads a text that a zero byte has to end."""
     name, after = name_operand(data, place)
     require(after <= len(data))
     return name, after
 
 
 def instructions(data, start, end, operands, refused=()):
-    """The instructions of a range, each with its operands and the place after it; opcodes of `refused` are malformed."""
+    """Yields the instructions of a range, each with its operands and the place after it. Opcodes of `refused` are malformed."""
     place = start
     while place < end:
         byte = read(data, place, 1)[0]
@@ -51,7 +51,7 @@ def instructions(data, start, end, operands, refused=()):
 
 
 class State:
-    """The settings of a stream: what was not set is None, but for what `settings` give."""
+    """The settings of a stream. Flags, addend and offset that were not set are 0, and other settings None, except what `settings` give."""
 
     def __init__(self, image, **settings):
         self.image, self.settings = image, settings
@@ -66,7 +66,7 @@ class State:
         self.offset = (self.offset + by) % WORD
 
     def set(self, instruction):
-        """Takes what an instruction sets, if it is none that binds."""
+        """Takes what an instruction sets. One that binds sets nothing."""
         opcode, immediate, operands, _ = instruction
         if opcode == ORDINAL_IMM:
             self.library = immediate
@@ -84,7 +84,7 @@ class State:
             self.advance(operands[0])
 
     def binds(self, instruction):
-        """How many binds an instruction makes, and how far it advances after each."""
+        """Returns how many binds an instruction makes, and how far it advances after each."""
         opcode, immediate, operands, _ = instruction
         pointer = self.image.pointer
         count, skip = {BIND: (1, 0), BIND_ADVANCE: (1, *operands), BIND_SCALED: (1, immediate * pointer),
@@ -92,7 +92,7 @@ class State:
         return count, skip + pointer
 
     def rebases(self, instruction):
-        """How many rebases an instruction makes, and how far it advances after each."""
+        """Returns how many rebases an instruction makes, and how far it advances after each."""
         opcode, immediate, operands, _ = instruction
         count, skip = {REBASE_IMM_TIMES: (immediate, 0), REBASE_TIMES: (*operands, 0), REBASE_ADD: (1, *operands),
                        REBASE_SKIPPING: operands}.get(opcode, (0, 0))
@@ -105,7 +105,7 @@ class State:
             self.advance(step)
 
     def place(self, width):
-        """The words of the place; `width` bytes of it lie in the segment."""
+        """Returns the words of the place. `width` bytes from it on must lie in the segment."""
         segments = self.image.segments
         require(self.segment is not None and self.segment < len(segments))
         segment = segments[self.segment]
@@ -118,7 +118,7 @@ class State:
 
 
 def import_items(image, start, size, lazy):
-    """The imports of a stream, as the Rust crate reads them: a DONE begins anew, and nothing has to be set."""
+    """Yields the imports of a stream, as the Rust crate reads them. A DONE begins anew, and nothing has to be set."""
     state = State(image, library=0, name=b"", segment=0)
     sequence = 0
     for instruction in instructions(image.data, start, start + size, {**OPERANDS, NAME: (name_operand,)}):
@@ -144,7 +144,7 @@ def imports(image, _):
 
 
 def binding_runs(image, start, size, lazy):
-    """What dyld binds by a stream: for each instruction that binds the state, how many places it has, and their distance."""
+    """Yields what dyld binds by a stream: for each instruction that binds, the state, how many places it has, and their distance."""
     state = State(image, type=1 if lazy else None)
     refused = (0xd0, 0xe0, 0xf0) + ((BIND_ADVANCE, BIND_SCALED, BIND_TIMES) if lazy else ())
     for instruction in instructions(image.data, start, start + size, {**OPERANDS, NAME: (name_operand,)}, refused):
@@ -175,7 +175,7 @@ def opcode_bindings(image, _):
 
 
 def weak_runs(image, body):
-    """The same of the stream of weak binds; a strong name is a state with no place."""
+    """Yields the same for the stream of weak binds. A strong name is a state with no place."""
     end = body.weak_bind_off + body.weak_bind_size
     state = State(image, type=0)
     refused = (ORDINAL_IMM, ORDINAL_ULEB, ORDINAL_SPECIAL, 0xd0, 0xe0, 0xf0)
@@ -215,7 +215,7 @@ def set_for_rebases(state, instruction):
 
 
 def rebase_runs(image, body):
-    """The same of the stream of rebases."""
+    """Yields the same for the stream of rebases."""
     end = body.rebase_off + body.rebase_size
     state = State(image, type=0)
     for instruction in instructions(image.data[:end], body.rebase_off, end, REBASE_OPERANDS, range(0x90, 0x100)):

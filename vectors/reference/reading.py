@@ -22,7 +22,7 @@ class GaveUp(Exception):
 
 
 class Work:
-    """How much work is left of an answer's: a count in a file is none, but reading the same bytes again and again is."""
+    """How much work an answer may still take. A large count in a file is no work, but reading the same bytes again and again is."""
 
     left = MOST_WORK
 
@@ -64,7 +64,7 @@ def require(condition):
 
 
 def attempt(function, *arguments):
-    """Returns what the function returns, or the fault that it raises: the item of a list that goes on."""
+    """Returns what the function returns, or the fault that it raises. A list that goes on has that fault as an item."""
     try:
         return function(*arguments)
     except Fault as fault:
@@ -107,7 +107,7 @@ def text(data, place, end=None):
 
 
 def name_of_16(field):
-    """The name in a field of 16 bytes, whatever bytes it has."""
+    """Returns the name in a field of 16 bytes, whatever bytes it has."""
     return field.split(b"\0", 1)[0]
 
 
@@ -139,17 +139,17 @@ def sleb(data, place):
 
 
 def bits(word, first, last):
-    """The bits of a word from `first` to `last`, both included."""
+    """Returns the bits of a word from `first` to `last`, both included."""
     return word >> first & (1 << last - first + 1) - 1
 
 
 def signed(value, width):
-    """The number that `width` bits mean in two's complement."""
+    """Returns the number that `width` bits mean in two's complement."""
     return value - (1 << width) if value >> width - 1 else value
 
 
 class Layout:
-    """The fields of a record in order. `name` has 4 bytes, `name:2` as many as it says, `name:16s` 16 bytes as they are."""
+    """The fields of a record in order. `name` has 4 bytes, `name:2` as many as it says, `name:16s` 16 bytes unchanged."""
 
     CODES = {"": "I", "1": "B", "2": "H", "8": "Q"}
 
@@ -166,10 +166,10 @@ class Layout:
 
 
 def quoted(name):
-    """The name in quotes, as answers print it."""
+    """Returns the name in quotes, as answers print it."""
     return '"' + "".join(chr(byte) if 0x20 <= byte < 0x7f and byte not in b'"\\' else f"\\x{byte:02x}" for byte in name) + '"'
 
 
 def words(*parts):
-    """The parts of a line that aren't empty, with blanks between them."""
+    """Joins the parts of a line that aren't empty, with blanks between them."""
     return " ".join(part for part in parts if part)

@@ -9,7 +9,7 @@ _DYLD_INFO = ("rebase_off rebase_size bind_off bind_size weak_bind_off weak_bind
               "export_off export_size")
 _ROUTINES = "init_address init_module reserved1 reserved2 reserved3 reserved4 reserved5 reserved6"
 
-# The records of commands: the fields after `cmd` and `cmdsize`, with which all begin, and the commands that have them.
+# The records of commands: the fields after `cmd` and `cmdsize`, which all have, and the commands that have these fields.
 _COMMANDS = [
     ("segname:16s vmaddr vmsize fileoff filesize maxprot initprot nsects flags", "0x1 SEGMENT"),
     ("segname:16s vmaddr:8 vmsize:8 fileoff:8 filesize:8 maxprot initprot nsects flags", "0x19 SEGMENT_64"),

@@ -14,10 +14,10 @@ LAST_SPECIAL = 11
 MAGICS = {0: DIRECTORY_MAGIC, 2: 0xFADE0C01, 5: 0xFADE7171, 7: 0xFADE7172, 8: 0xFADE8181, 9: 0xFADE8181, 10: 0xFADE8181,
           11: 0xFADE8181, 0x10000: 0xFADE0B01, **dict.fromkeys(ALTERNATES, DIRECTORY_MAGIC)}
 
-# Of each hash type its function, its length and its rank.
+# The function, the length and the rank of each hash type.
 HASHES = {1: (hashlib.sha1, 20, 0), 2: (hashlib.sha256, 32, 2), 3: (hashlib.sha256, 20, 1), 4: (hashlib.sha384, 48, 3)}
 
-# The bytes of a directory's fields from a version on.
+# How many bytes a directory's fields have, from a version on.
 FIELDS = ((0x20500, 96), (0x20400, 88), (0x20300, 64), (0x20200, 52), (0x20100, 48), (0, 44))
 
 
@@ -44,7 +44,7 @@ class Signature:
 
     @cached_property
     def first_offsets(self):
-        """The offset of the first blob of each slot."""
+        """Returns the offset of the first blob of each slot."""
         return dict(reversed(self.index))
 
     def blob_of(self, slot):
@@ -98,7 +98,7 @@ class Directory:
         return number(self.data, place, size, ">")
 
     def later_word(self, place, size=4):
-        """Gives a field that the version may lack: then it is 0."""
+        """Gives a field that the version may lack. A field that it lacks is 0."""
         return self.word(place, size) if place < self.fields else 0
 
     @property
@@ -129,16 +129,16 @@ class Directory:
 
     @property
     def pages(self):
-        """How many pages the limit needs."""
+        """Returns how many pages the limit needs."""
         return -(-self.limit >> self.page_size) if self.page_size else min(self.limit, 1)
 
     def page(self, index):
-        """The range of a page."""
+        """Returns the range of a page."""
         size = 1 << self.page_size if self.page_size else self.limit
         return index * size, min((index + 1) * size, self.limit)
 
     def slot(self, index):
-        """The hash of code slot `index`, or of special slot `-index`."""
+        """Returns the hash of code slot `index`, or of special slot `-index`."""
         place = self.hash_offset + index * self.hash_size
         return self.data[place:place + self.hash_size]
 
@@ -176,7 +176,7 @@ def name_faults(slot, directory):
 
 
 def page_faults(slot, directory, data, start):
-    """Gives the faults of what is covered, of an image whose signature begins at `start`."""
+    """Gives the faults of the covered bytes of an image whose signature begins at `start`."""
     limit, scattered = directory.limit, directory.scatter_offset
     if limit < start and not scattered:
         yield fault("short", slot, 0, limit, start)
@@ -194,7 +194,7 @@ def page_faults(slot, directory, data, start):
 
 
 def special_kind(directory, special, there):
-    """Gives the kind of the fault of a special slot, or None. `there` is what is there, None or a fault."""
+    """Gives the kind of the fault of a special slot, or None. `there` is what the slot seals, None or a fault."""
     sealed = any(directory.slot(-special))
     if special > LAST_SPECIAL:
         return "unknown" if sealed else None
@@ -246,7 +246,7 @@ def signature_of(image):
 
 
 def plist_of(image):
-    """The bytes of the section that is sealed as `info.plist`, or None."""
+    """Returns the bytes of the section that is sealed as `info.plist`, or None."""
     for _, _, section in islice(image.readable_sections(), len(image.data)):
         if name_of_16(section.segname) == b"__TEXT" and name_of_16(section.sectname) == b"__info_plist":
             data = attempt(read, image.data, section.offset, section.size)

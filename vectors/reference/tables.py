@@ -67,7 +67,7 @@ def note(image, command):
 
 
 def entry(image, table, index):
-    """The entry of the table of indirect symbols: the words for one that is no symbol, or a symbol's number."""
+    """Reads an entry of the table of indirect symbols: a symbol's number, or the words for an entry that is no symbol."""
     word = number(image.data, table.indirectsymoff + 4 * index, 4, image.order)
     return SPECIAL_ENTRIES.get(word, word)
 
@@ -88,7 +88,7 @@ def has_slots(section):
 
 
 def slot_entry(image, table, record, index):
-    """The address of a slot and its entry; a fault of these ends the slots of the section."""
+    """Returns the address of a slot and its entry. A fault of these ends the slots of the section."""
     address = record.addr + index * slot_size(image, record)
     require(address < WORD)
     require(record.reserved1 + index < table.nindirectsyms)
@@ -96,7 +96,7 @@ def slot_entry(image, table, record, index):
 
 
 def slot_line(image, section, index, address, of):
-    """The line of a slot; a fault of its symbol is its own."""
+    """Returns the line of a slot. A fault of its symbol is a fault of this slot alone."""
     if not isinstance(of, str):
         require(image.symtab and of < image.symtab.nsyms)
         of = f"{of} {quoted(image.symbol(of)[1])}"
@@ -147,7 +147,7 @@ def slot_at(image, vector):
 
 
 def provider(image, record):
-    """Which library the linker wrote down for an undefined symbol."""
+    """Returns the line for the library that the linker wrote down for an undefined symbol."""
     kind = record.n_type & 0x0e
     undefined = not record.n_type & 0xe0 and (kind == 0x0c or kind == 0 and record.n_value == 0)
     if not image.header.flags & MH_TWOLEVEL or not undefined:
@@ -175,7 +175,7 @@ def section_at(image, vector):
 
 
 def section_of(image, vector):
-    """The section of a number, which counts those of all segments from 1."""
+    """Returns the line of the section of a number, which counts the sections of all segments from 1."""
     left = vector.number - 1
     for index, segment in enumerate(image.segments):
         if 0 <= left < segment.nsects:

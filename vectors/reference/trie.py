@@ -12,7 +12,7 @@ Trie = namedtuple("Trie", "data start end libs")
 
 
 def trie_of(image):
-    """The trie that the last command with one places; an empty range without a command, or if it isn't in the bytes."""
+    """Returns the trie that the last command with one places. The range is empty without a command, or if it isn't in the bytes."""
     body = image.last("LC_DYLD_INFO", "LC_DYLD_INFO_ONLY", "LC_DYLD_EXPORTS_TRIE")
     if not body:
         return Trie(image.data, 0, 0, image.libs)
@@ -22,7 +22,7 @@ def trie_of(image):
 
 
 def read_info(trie, flags, place):
-    """The words that an answer has after the name of an export."""
+    """Returns the words that an answer has after the name of an export."""
     value, place = uleb(trie.data, place)
     kind = flags % 4
     if kind != UNKNOWN_KIND and flags & REEXPORT:
@@ -35,7 +35,7 @@ def read_info(trie, flags, place):
 
 
 def read_node(trie, start):
-    """The words of a node's own export, or None, and its branches: labels and the starts of children."""
+    """Reads a node: the words of its own export, or None, and its branches, as labels and the starts of children."""
     size, place = uleb(trie.data, start)
     own, branches = None, place + size
     if size:
@@ -59,7 +59,7 @@ def read_branches(trie, place):
 
 
 def walk(image, _):
-    """All exports, depth first; a node that is met again refuses."""
+    """Yields all exports, depth first. Refuses a node that is met again."""
     trie, met = trie_of(image), set()
     opened = [(b"", b"", trie.start)]
     while opened:
@@ -81,7 +81,7 @@ def exports(image, _):
 
 
 def find(image, vector):
-    """Follows one branch as long as one alone fits and leads further on; then it searches, and knows which nodes it has met."""
+    """Follows one branch as long as it alone fits and leads further on. After that it searches, and knows which nodes it has met."""
     trie, met = trie_of(image), None
     opened = [(vector.wanted_name, trie.start)] if trie.start < trie.end else []
     while opened:

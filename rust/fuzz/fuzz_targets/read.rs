@@ -1,5 +1,5 @@
-//! A target for libFuzzer: reads an input in all ways, and compares those that must agree. It has libFuzzer's entry itself, so it needs no
-//! package; tools/rust-fuzz links clang's libFuzzer.
+//! A target for libFuzzer. It reads an input in all ways, and compares those that must agree. It has libFuzzer's entry itself and needs no
+//! package. tools/rust-fuzz links clang's libFuzzer.
 #![no_main]
 
 use goblin_mach::archive::Archive;
@@ -7,7 +7,7 @@ use goblin_mach::signature::image::{code_signature, signature_faults};
 use goblin_mach::write::{Form, create, fat_entries};
 use goblin_mach::{Error, LinkView, Mach, MachO, SingleArch, describe, layout, link_view};
 
-/// A result as a text, so that two can be compared.
+/// Returns a result as a text, so that two can be compared.
 fn told<T: std::fmt::Debug>(result: Result<T, Error>) -> String {
     match result {
         Ok(item) => format!("{item:?}"),
@@ -15,11 +15,11 @@ fn told<T: std::fmt::Debug>(result: Result<T, Error>) -> String {
     }
 }
 
-/// How many imports of an input are read: some bytes may say that there are millions.
+/// How many imports of an input are read, since some bytes may say that there are millions.
 const IMPORTS: usize = 50_000;
 
-/// Reads all of an image; of its symbols, which a header may say are billions, some. `left` is how many imports may be read; lists are not
-/// built if there are more.
+/// Reads all of an image. Of its symbols it reads some, since a header may say that they are billions. `left` is how many imports may be
+/// read. Lists are not built if there are as many or more.
 fn image(bytes: &[u8], image: &MachO, left: &mut usize) {
     *left -= image.iter_imports().take(*left).count();
     if *left == 0 {
@@ -105,10 +105,10 @@ fn read(bytes: &[u8]) {
     }
 }
 
-/// What libFuzzer calls with each input.
+/// Takes each input of libFuzzer.
 #[unsafe(no_mangle)]
 extern "C" fn LLVMFuzzerTestOneInput(bytes: *const u8, len: usize) -> i32 {
-    // SAFETY: libFuzzer passes an array and its length; of no bytes, the address may be anything.
+    // SAFETY: libFuzzer passes an array and its length. The address of no bytes may be anything.
     read(if len == 0 {
         &[]
     } else {

@@ -1,4 +1,4 @@
-// Answers a vector by LIEF: driver CALL FILE. LIEF says by exceptions of its own that it refuses; others count as crashes.
+// Answers a vector by LIEF: driver CALL FILE. LIEF refuses by exceptions of its own. Other exceptions count as crashes.
 #include <LIEF/MachO.hpp>
 #include <LIEF/logging.hpp>
 #include <LIEF/exception.hpp>
@@ -24,7 +24,7 @@ string quoted(const string &name) {
     return text + '"';
 }
 
-/// A name of 16 bytes, up to the first zero.
+/// Returns a name of 16 bytes in quotes, up to the first zero.
 string up_to_zero(const string &name) {
     return quoted(name.c_str());
 }
@@ -81,7 +81,7 @@ void libraries(const Binary &image) {
     }
 }
 
-/// Exports, without names, libraries and resolvers.
+/// Prints exports, without names, libraries and resolvers.
 void exports(const Binary &image) {
     constexpr uint64_t KIND = 3, REEXPORT = 8, STUB_AND_RESOLVER = 16;
     if (!image.has_dyld_info())

@@ -1,4 +1,4 @@
-//! Times goblin: bench WORD FILE SECONDS. Its walk of a trie calls itself, so a deep trie needs a large stack.
+//! Times goblin: bench WORD FILE SECONDS. Its walk of a trie calls itself, and needs a large stack for a deep trie.
 #[path = "../../bench.rs"]
 mod bench;
 #[path = "../../calls.rs"]

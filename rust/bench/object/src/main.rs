@@ -16,7 +16,7 @@ fn commands(bytes: &[u8]) -> Result<(Endianness, LoadCommandIterator<'_, Endiann
     Ok((endian, header.load_commands(endian, bytes, 0)?))
 }
 
-/// The symbols; each name is tested for UTF-8, as goblin does.
+/// Reads the symbols. It tests each name for UTF-8, as goblin does.
 fn symbols(bytes: &[u8], answer: &mut Answer) -> Result<()> {
     let (endian, mut commands) = commands(bytes)?;
     while let Some(command) = commands.next()? {
@@ -45,7 +45,7 @@ fn relocations(bytes: &[u8], answer: &mut Answer) -> Result<()> {
     Ok(())
 }
 
-/// Reads the record of each command, or the table of a fat file. It keeps nothing of them.
+/// Reads the record of each command, or the table of a fat file. It keeps none of them.
 fn parse(bytes: &[u8], answer: &mut Answer) -> Result<()> {
     let mut count = 0;
     if bytes.starts_with(&[0xca, 0xfe, 0xba, 0xbe]) {

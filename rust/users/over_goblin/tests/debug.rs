@@ -21,7 +21,7 @@ fn shown(value: impl Debug) -> String {
 }
 
 fn compare(theirs: &goblin::mach::MachO, ours: &goblin_mach::MachO) -> bool {
-    // goblin 0.2.1 doesn't know some commands, and then prints other than this crate.
+    // goblin 0.2.1 doesn't know some commands, and prints them in another way than this crate.
     let known = |shown: &String| !shown.contains("Unimplemented");
     let mut all = true;
     for (a, b) in theirs.load_commands.iter().zip(&ours.load_commands) {

@@ -8,7 +8,7 @@ use goblin::mach::exports::ExportInfo;
 use goblin::mach::{Mach, MachO};
 use printed::{Lines, quoted};
 
-/// The bytes of a name of 16 bytes, up to the first zero.
+/// Returns the bytes of a name of 16 bytes, up to the first zero.
 fn short(name: &[u8; 16]) -> &[u8] {
     &name[..name.iter().position(|&byte| byte == 0).unwrap_or(16)]
 }

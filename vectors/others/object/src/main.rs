@@ -64,7 +64,7 @@ fn kind_of_library(command: u32) -> &'static str {
     }
 }
 
-/// Answers the calls of which each command gives some lines. `counts` are those of segments and of libraries before the command.
+/// Adds the lines that a command gives to the answer of a call. `counts` are the numbers of segments and of libraries before the command.
 fn of_command<H: MachHeader<Endian = Order>>(
     call: &str, command: LoadCommandData<Order>, counts: &mut (usize, usize), order: Order, bytes: &[u8], lines: &mut Lines,
 ) -> Result<()> {
