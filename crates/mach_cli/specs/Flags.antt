@@ -2,7 +2,7 @@
 use Rattle.std.specs.Prelude.{◌≡◌, ◌==◌, ℕ, List, [], ◌∷◌, ◌++◌, codes, Bool, true, false, bit_and, bit_xor, Option, if◌then◌else◌}
 use Rattle.std.specs.Io.KnownBytes.{Appends}
 use Rattle.mach_base.specs.Named.{Named}
-use Rattle.mach_signature.specs.SignWords.{hexadecimal}
+use Rattle.mach_cli.specs.Listings.{hex_text}
 use Rattle.mach_cli.specs.declared.flags.FlagWord.{FlagWord}
 
 -- a bit and its name
@@ -43,7 +43,7 @@ before_text false = codes ","
 
 -- the bits without a name, as one number, if any are left
 abbrev pub other_flags_text : (is_first : Bool) → ℕ → List ℕ
-other_flags_text is_first rest = if rest == 0 then [] else before_text is_first ++ (codes "0x" ++ hexadecimal rest)
+other_flags_text is_first rest = if rest == 0 then [] else before_text is_first ++ hex_text rest
 
 -- the names of the bits that are set, in order, and then the bits without a name
 abbrev pub flag_words_text : (is_first : Bool) → List Named → ℕ → List ℕ
@@ -64,4 +64,4 @@ end_text flags = if flags == 0 then [] else codes ")"
 
 -- the number, and the names in parentheses; for 0 the number alone
 abbrev pub worded_flags_text : List Named → ℕ → List ℕ
-worded_flags_text words flags = (codes "0x" ++ hexadecimal flags) ++ (flag_words_text true words flags ++ end_text flags)
+worded_flags_text words flags = hex_text flags ++ (flag_words_text true words flags ++ end_text flags)
