@@ -114,6 +114,7 @@ fn is_painted_at(text: &[u8], at: usize) -> bool
 fn next_painted(text: &[u8]) -> usize
     ensures bound { result ≤ length text.now }
     ensures none { (i : ℕ) → i < result → is_painted_at text.now i ≡ false }
+    ensures first { result < length text.now → is_painted_at text.now result ≡ true }
 {
     'bytes: for at in 0..text.len() {
         if is_painted_at(text, at) {
