@@ -271,7 +271,7 @@ class Said:
     # antt's messages about an answer of another type than its goal, and about one with an unknown name.
     OTHER_TYPE = re.compile(
         r"the two types (?:first differ|differ|are) |expected type `|does not follow from what it read|is a declared record, built with"
-        r"|no occurrence of the path's"
+        r"|no occurrence of the path's|computed as a goal is, one side reads "
     )
     UNKNOWN_NAME = re.compile(
         r"is not in scope|has no |is no name|can be named|nearest:|depends? on|expected the end|cannot continue|operand is missing"
