@@ -7,8 +7,8 @@ the processors that no other proof uses.
 check: if an archive can't be built, a line says so, and nothing fails. What `rt` takes from an earlier run leaves no archive. Beside the archive is
 a stamp, a sum of all that the proof read and of the archive itself. It shows whether the archive still fits.
 
-With RT_JOBS `rt ci` gives each proof one job. Each library needs those below it, so that most of the time it would use one processor. Here a proof
-begins with as many jobs as there are processors for each proof that runs. A further job takes an eighth of the memory of the first."""
+With RT_JOBS `rt ci` gives each proof one job. Each library needs those below it, so that at times there is one proof to run. Here a proof begins
+with as many jobs as there are processors for each proof that runs."""
 import functools
 import hashlib
 import importlib.machinery
@@ -18,6 +18,7 @@ import subprocess
 import sys
 import tempfile
 import threading
+import time
 
 sys.dont_write_bytecode = True
 
@@ -84,13 +85,15 @@ def prove_static(rt, crate, flags, begun):
 class Shares:
     """The processors, which the proofs that run share."""
 
-    def __init__(self, processors):
-        self.processors, self.running, self.lock = processors, 0, threading.Lock()
+    def __init__(self, processors, seconds=3):
+        self.processors, self.seconds, self.running, self.lock = processors, seconds, 0, threading.Lock()
 
     def __enter__(self):
-        """Returns how many jobs a proof begins with. Proofs that began before it keep theirs."""
+        """Returns how many jobs a proof begins with, once those that begin at the same time have begun. Proofs that began before it keep theirs."""
         with self.lock:
             self.running += 1
+        time.sleep(self.seconds)
+        with self.lock:
             return max(1, self.processors // self.running)
 
     def __exit__(self, *_):

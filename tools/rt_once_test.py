@@ -77,7 +77,7 @@ class RunsOnce(unittest.TestCase):
         self.assert_passes(not KEEPS_VERDICTS, anew=False)
 
     def test_a_proof_begins_with_its_share_of_the_processors(self):
-        shares = rt_once.Shares(4)
+        shares = rt_once.Shares(4, seconds=0)
         with shares as first, shares as second, shares as third:
             self.assertEqual((first, second, third), (4, 2, 1))
         with shares as alone:
