@@ -1,13 +1,17 @@
 //! How a call shows the images of its files, as text or as JSON.
 
-ghost use Rattle.std.specs.Prelude.{◌≡◌};
+ghost use Rattle.std.specs.Prelude.{◌≡◌, true};
+ghost use Rattle.mach_cli.specs.Bounds.{limit_of};
+ghost use Rattle.mach_cli.specs.Calls.{is_json};
 ghost use Rattle.mach_cli.specs.ShownCalls.{files_of};
 
+use crate::call::Call;
 use crate::cpu::Cpu;
 use crate::files::Files;
 use crate::images_view::ImagesView;
 use crate::program::Program;
 use crate::sink::{Json, NmText, Text};
+use std::alloc::Global;
 
 /// How a call shows the images of its files: the lines of one view as text, or the objects of another as JSON.
 #[derive(Clone, Copy)]
@@ -29,6 +33,36 @@ pub struct ImageFiles<T, J> {
 }
 
 impl<T: Copy, J: Copy> ImageFiles<T, J> {
+    /// Returns how a call shows its files, with titles: the lines of one view, or with `--json` the objects of another; at most
+    /// `most` of a file if no limit is given.
+    pub fn of<O>(
+        program: Program,
+        call: &Call<'_, Global, O>,
+        most: usize,
+        lines: T,
+        objects: J,
+    ) -> Self
+        ensures { let c = call.now in result ≡ record {
+          program = program;
+          cpu = c.cpu;
+          limit = limit_of c.limit most;
+          is_json = is_json c.format;
+          has_titles = true;
+          lines = lines;
+          objects = objects;
+        } }
+    {
+        ImageFiles {
+            program,
+            cpu: call.cpu,
+            limit: call.limit.unwrap_or(most),
+            is_json: call.format.is_json(),
+            has_titles: true,
+            lines,
+            objects,
+        }
+    }
+
     /// Returns how the files are shown: part by part, without titles if objects are shown.
     pub fn files(&self) -> Files
         ensures { result ≡ files_of self.now }

@@ -103,7 +103,7 @@ pub use crate::parts::name::PartName;
 pub use crate::parts::selection::{is_for, is_missed};
 pub use crate::parts::shown::{ShownPart, shown_part};
 pub use crate::parts::{Parts, parts_of};
-pub use crate::program::Program;
+pub use crate::program::{Output, Program};
 pub use crate::progress::Progress;
 pub use crate::refusal::{Refusal, complain, refusal_of};
 pub use crate::section_names::{AllStretches, SegmentStretches};

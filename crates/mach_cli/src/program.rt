@@ -6,16 +6,20 @@ ghost use Rattle.mach_cli.specs.FileTitles.{IsUnreadStatus};
 ghost use Rattle.mach_cli.specs.Statuses.{IsStatus};
 
 use crate::call::{Call, Request, understand};
+use crate::color::Color;
 use crate::complaint::{Complaint, Trouble};
 use crate::label::Label;
 use crate::misuse::Misuse;
 use crate::names::Names;
-use crate::options::{Options, OwnOptions};
+use crate::options::{Format, Options, OwnOptions};
 use crate::output::say;
+use crate::painted::Painted;
 use crate::refusal::{Refusal, complain};
+use crate::terminal::ForTerminal;
+use crate::titled::Titled;
 use crate::word::{Word, call_words};
 use std::alloc::{AllocError, Global};
-use std::io::{ErrorKind, Read};
+use std::io::{BufWriter, ErrorKind, IsTerminal, Printer, Read};
 use std::{fs, io};
 
 /// What a program says about itself.
@@ -32,6 +36,9 @@ pub struct Program {
     /// The words that it knows: its options and its commands.
     pub known: &'static [&'static str],
 }
+
+/// Standard output: coloured or not, without control characters if it is a terminal, and with titles.
+pub type Output<'r> = BufWriter<Titled<ForTerminal<Painted<Printer<'r, HostRuntime>>>>>;
 
 impl Program {
     /// Returns the arguments of a call; the first is the program's name. If memory runs out that is reported, and the error is
@@ -63,6 +70,24 @@ impl Program {
             Ok(Request::Nothing(misuse)) => Err(self.bad_usage(rt, misuse)),
             Err(AllocError) => Err(self.out_of_memory(rt)),
         }
+    }
+
+    /// Returns standard output for this form, coloured if `color` says so. If memory runs out that is reported, and the error is
+    /// the exit status.
+    pub fn output<'r>(
+        &self,
+        rt: &'r HostRuntime,
+        color: Color,
+        format: Format,
+    ) -> Result<Output<'r>, u8>
+        ensures { IfErr result (λ status. status ≡ 1) }
+    {
+        let painted = Painted::new(io::writer(rt), color.is_for(rt, format));
+        let inner = ForTerminal::new(painted, rt.stdout().is_terminal());
+        let Ok(out) = BufWriter::new(rt.alloc(), Titled::new(rt.alloc(), inner)) else {
+            return Err(self.out_of_memory(rt));
+        };
+        Ok(out)
     }
 
     // Prints a text, and returns the exit status.

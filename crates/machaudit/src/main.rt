@@ -24,10 +24,8 @@ mod text;
 use crate::audits::Audits;
 use crate::options::{DEFAULT_LIMIT, Options};
 use crate::output::NAME;
-use mach_cli::{Call, Files, ForTerminal, Misuse, Painted, Program, SharedOnly, Titled};
+use mach_cli::{Call, Files, Misuse, Program, SharedOnly};
 use std::alloc::{AllocError, Global};
-use std::io;
-use std::io::{BufWriter, IsTerminal};
 use std::process::ExitCode;
 
 const PROGRAM: Program = Program {
@@ -83,11 +81,7 @@ fn audit_files(rt: &HostRuntime, call: &Call<'_, Global, SharedOnly>) -> Result<
         },
         only,
     };
-    let painted = Painted::new(io::writer(rt), call.color.is_for(rt, call.format));
-    let output = ForTerminal::new(painted, rt.stdout().is_terminal());
-    let Ok(mut lines) = BufWriter::new(rt.alloc(), Titled::new(rt.alloc(), output)) else {
-        return Err(PROGRAM.out_of_memory(rt));
-    };
+    let mut lines = PROGRAM.output(rt, call.color, call.format)?;
     let shown = Files {
         program: PROGRAM,
         cpu: call.cpu,

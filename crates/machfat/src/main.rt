@@ -39,13 +39,12 @@ ghost use Rattle.mach_fat_writer.specs.declared.form.Form.TheVariants.{Bits32, B
 
 use arguments::{WIDE, Width};
 use commands::{NAME, run_extract};
-use mach_cli::{Call, Cpu, Files, Misuse, Options, Others, Painted, Program, Titled};
+use mach_cli::{Call, Cpu, Files, Misuse, Options, Others, Program, Titled};
 use mach_fat_writer::Form;
 use made::{one_file, run_create, run_remove, run_replace};
 use new_file::is_same_file;
 use shown::{Selected, Shown};
 use std::alloc::{AllocError, Global};
-use std::io;
 use std::io::{BufWriter, Write};
 use std::process::ExitCode;
 use thin::{cpu_in, run_thin};
@@ -112,16 +111,7 @@ fn start(rt: &HostRuntime) -> Result<u8, u8> {
     };
     let is_wide = call.own.is_wide;
     match shown_by(word, call.format.is_json()) {
-        Some(shown) if !is_wide => show_files(
-            rt,
-            Selected {
-                shown,
-                limit: call.limit.unwrap_or(DEFAULT_LIMIT),
-            },
-            given,
-            &call.others,
-            call.color.is_for(rt, call.format),
-        ),
+        Some(shown) if !is_wide => show_files(rt, &call, shown, given),
         _ => match misplaced(&call, word) {
             Some(misuse) => Err(FOR_WRITES.bad_usage(rt, misuse)),
             None => write_file(rt, word, form_for(is_wide), given),
@@ -173,23 +163,19 @@ fn write_file(rt: &HostRuntime, word: &str, form: Form, given: &[&str]) -> Resul
     }
 }
 
-// Shows files in order, painted or not, and returns the worst status.
+// Shows files in order, and returns the worst status.
 fn show_files(
     rt: &HostRuntime,
-    selected: Selected,
+    call: &Call<'_, Global, Width>,
+    shown: Shown,
     files: &[&str],
-    others: &Others<'_, Global>,
-    is_painted: bool,
 ) -> Result<u8, u8> {
-    if files.is_empty() && others.is_empty() {
+    if files.is_empty() && call.others.is_empty() {
         return Err(PROGRAM.bad_usage(rt, Misuse::Missing("FILE")));
     }
-    let painted = Painted::new(io::writer(rt), is_painted);
-    let output = Titled::new(rt.alloc(), painted);
-    let Ok(mut out) = BufWriter::new(rt.alloc(), output) else {
-        return Err(PROGRAM.out_of_memory(rt));
-    };
-    show(rt, selected, files, others, &mut out)
+    let limit = call.limit.unwrap_or(DEFAULT_LIMIT);
+    let mut out = PROGRAM.output(rt, call.color, call.format)?;
+    show(rt, Selected { shown, limit }, files, &call.others, &mut out)
 }
 
 // Shows what is selected of files in order, and returns the worst status. The status of a failed write is an error.

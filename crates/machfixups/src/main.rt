@@ -53,11 +53,10 @@ mod target_symbols;
 
 use fixup_view::FixupLines;
 use json::FixupObjects;
-use mach_cli::{Call, ForTerminal, ImageFiles, Misuse, Options, Others, Painted, Program, Titled};
+use mach_cli::{Call, ImageFiles, Misuse, Options, Others, Program, Titled};
 use rows::Selection;
 use std::alloc::Global;
-use std::io;
-use std::io::{BufWriter, IsTerminal, Write};
+use std::io::{BufWriter, Write};
 use std::process::ExitCode;
 
 // How many lines of a file are printed if no limit is given.
@@ -107,11 +106,7 @@ fn show_files(rt: &HostRuntime, call: &Call<'_, Global, Selection>) -> Result<u8
     if files.is_empty() && others.is_empty() {
         return Err(PROGRAM.bad_usage(rt, Misuse::Missing("FILE")));
     }
-    let painted = Painted::new(io::writer(rt), call.color.is_for(rt, call.format));
-    let output = ForTerminal::new(painted, rt.stdout().is_terminal());
-    let Ok(mut out) = BufWriter::new(rt.alloc(), Titled::new(rt.alloc(), output)) else {
-        return Err(PROGRAM.out_of_memory(rt));
-    };
+    let mut out = PROGRAM.output(rt, call.color, call.format)?;
     show(rt, &shown_by(call), files, others, &mut out)
 }
 
@@ -126,15 +121,8 @@ fn shown_by(call: &Call<'_, Global, Selection>) -> ImageFiles<FixupLines, FixupO
     ensures objects { result.objects ≡ record { selection = call.now.own } }
 {
     let selection = call.own;
-    ImageFiles {
-        program: PROGRAM,
-        cpu: call.cpu,
-        limit: call.limit.unwrap_or(DEFAULT_LIMIT),
-        is_json: call.format.is_json(),
-        has_titles: true,
-        lines: FixupLines { selection },
-        objects: FixupObjects { selection },
-    }
+    let (lines, objects) = (FixupLines { selection }, FixupObjects { selection });
+    ImageFiles::of(PROGRAM, call, DEFAULT_LIMIT, lines, objects)
 }
 
 // Shows files in order, and returns the worst status.

@@ -58,12 +58,9 @@ mod word;
 use crate::selection::{Selection, has_small_letters, selection_of};
 use crate::word::Choice;
 use json::InfoObjects;
-use mach_cli::{
-    Call, ForTerminal, ImageFiles, Misuse, Options, Others, Painted, Program, SharedOnly, Titled,
-};
+use mach_cli::{Call, ImageFiles, Misuse, Options, Others, Program, SharedOnly, Titled};
 use std::alloc::Global;
-use std::io;
-use std::io::{BufWriter, IsTerminal, Write};
+use std::io::{BufWriter, Write};
 use std::process::ExitCode;
 use views::InfoLines;
 
@@ -145,11 +142,7 @@ fn answer(rt: &HostRuntime, call: &Call<'_, Global, SharedOnly>) -> Result<u8, u
     if let Some(misuse) = misspelled(rt, selection) {
         return Err(PROGRAM.bad_usage(rt, misuse));
     }
-    let painted = Painted::new(io::writer(rt), call.color.is_for(rt, call.format));
-    let output = ForTerminal::new(painted, rt.stdout().is_terminal());
-    let Ok(mut out) = BufWriter::new(rt.alloc(), Titled::new(rt.alloc(), output)) else {
-        return Err(PROGRAM.out_of_memory(rt));
-    };
+    let mut out = PROGRAM.output(rt, call.color, call.format)?;
     show(
         rt,
         &shown_by(call, selection.choice),
@@ -184,15 +177,8 @@ fn shown_by(
     ensures call { (result.cpu ≡ call.now.cpu) × (result.limit ≡ limit_of call.now.limit 10000000) × (result.is_json ≡ is_json call.now.format) }
     ensures view { (result.lines ≡ record { choice = choice }) × (result.objects ≡ record { choice = choice }) }
 {
-    ImageFiles {
-        program: PROGRAM,
-        cpu: call.cpu,
-        limit: call.limit.unwrap_or(DEFAULT_LIMIT),
-        is_json: call.format.is_json(),
-        has_titles: true,
-        lines: InfoLines { choice },
-        objects: InfoObjects { choice },
-    }
+    let (lines, objects) = (InfoLines { choice }, InfoObjects { choice });
+    ImageFiles::of(PROGRAM, call, DEFAULT_LIMIT, lines, objects)
 }
 
 // Shows files in order, and returns the worst status.

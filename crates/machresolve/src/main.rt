@@ -32,11 +32,8 @@ mod report;
 use crate::arguments::{DEFAULT_LIMIT, selected_cpu};
 use crate::inputs::Given;
 use crate::output::{NAME, run};
-use mach_cli::{
-    Color, Cpu, ForTerminal, Format, Misuse, Options, Painted, Program, Progress, SharedOnly,
-};
-use std::io;
-use std::io::{BufWriter, IsTerminal};
+use mach_cli::{Color, Cpu, Format, Misuse, Options, Program, Progress, SharedOnly};
+use std::io::IsTerminal;
 use std::process::ExitCode;
 
 const PROGRAM: Program = Program {
@@ -113,11 +110,7 @@ fn resolve_files(
             return Err(PROGRAM.out_of_memory(rt));
         }
     }
-    let painted = Painted::new(io::writer(rt), color.is_for(rt, Format::Text));
-    let output = ForTerminal::new(painted, rt.stdout().is_terminal());
-    let Ok(mut out) = BufWriter::new(rt.alloc(), output) else {
-        return Err(PROGRAM.out_of_memory(rt));
-    };
+    let mut out = PROGRAM.output(rt, color, Format::Text)?;
     let program = Given {
         path: program,
         bytes: bytes.as_slice(),

@@ -40,13 +40,11 @@ mod text;
 use arguments::Entitlements;
 use entitlements::{NAME, run_entitlements};
 use json::SignatureObjects;
-use mach_cli::{
-    Call, Cpu, ForTerminal, ImageFiles, Misuse, Options, Others, Painted, Program, Titled,
-};
+use mach_cli::{Call, Cpu, ImageFiles, Misuse, Options, Others, Program, Titled};
 use signature_view::SignatureLines;
 use std::alloc::{Allocator, Global};
 use std::io;
-use std::io::{BufWriter, IsTerminal, Write};
+use std::io::{BufWriter, Write};
 use std::process::ExitCode;
 
 const PROGRAM: Program = Program {
@@ -91,11 +89,7 @@ fn answer(rt: &HostRuntime, call: &Call<'_, Global, Entitlements>) -> Result<u8,
     if files.is_empty() && others.is_empty() {
         return Err(PROGRAM.bad_usage(rt, Misuse::Missing("FILE")));
     }
-    let painted = Painted::new(io::writer(rt), call.color.is_for(rt, call.format));
-    let output = ForTerminal::new(painted, rt.stdout().is_terminal());
-    let Ok(mut out) = BufWriter::new(rt.alloc(), Titled::new(rt.alloc(), output)) else {
-        return Err(PROGRAM.out_of_memory(rt));
-    };
+    let mut out = PROGRAM.output(rt, call.color, call.format)?;
     show_files(rt, &shown_by(call), files, others, &mut out)
 }
 
@@ -117,15 +111,7 @@ fn shown_by(call: &Call<'_, Global, Entitlements>) -> ImageFiles<SignatureLines,
     ensures view { (result.lines ≡ record {}) × (result.objects ≡ record {}) }
     ensures names { (result.program.name.now ≡ codes "machsign") × (result.has_titles ≡ true) }
 {
-    ImageFiles {
-        program: PROGRAM,
-        cpu: call.cpu,
-        limit: call.limit.unwrap_or(usize::MAX),
-        is_json: call.format.is_json(),
-        has_titles: true,
-        lines: SignatureLines,
-        objects: SignatureObjects,
-    }
+    ImageFiles::of(PROGRAM, call, usize::MAX, SignatureLines, SignatureObjects)
 }
 
 // Shows the selected images of files in order, then those of the files named in other ways, and returns the worst status. The

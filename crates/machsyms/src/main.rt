@@ -47,12 +47,10 @@ mod nm;
 use arguments::{SymbolOptions, names_files};
 use json::SymbolObjectsOf;
 use mach_cli::{
-    AddressLinesOf, AddressObjectsOf, Call, ForTerminal, ImageFiles, Misuse, Options, Others,
-    Painted, Program, Titled,
+    AddressLinesOf, AddressObjectsOf, Call, ImageFiles, Misuse, Options, Others, Program, Titled,
 };
 use std::alloc::Global;
-use std::io;
-use std::io::{BufWriter, IsTerminal, Write};
+use std::io::{BufWriter, Write};
 use std::process::ExitCode;
 use symbol_view::SymbolLinesOf;
 
@@ -109,11 +107,7 @@ fn show_files(rt: &HostRuntime, call: &Call<'_, Global, SymbolOptions>) -> Resul
     if files.is_empty() && others.is_empty() {
         return Err(PROGRAM.bad_usage(rt, Misuse::Missing("FILE")));
     }
-    let painted = Painted::new(io::writer(rt), call.color.is_for(rt, call.format));
-    let output = ForTerminal::new(painted, rt.stdout().is_terminal());
-    let Ok(mut out) = BufWriter::new(rt.alloc(), Titled::new(rt.alloc(), output)) else {
-        return Err(PROGRAM.out_of_memory(rt));
-    };
+    let mut out = PROGRAM.output(rt, call.color, call.format)?;
     match call.address {
         Some(address) => show_at(rt, &shown_at(call, address), files, others, &mut out),
         None => show(rt, &shown_by(call), files, others, &mut out),
@@ -130,14 +124,11 @@ fn shown_by(call: &Call<'_, Global, SymbolOptions>) -> ImageFiles<SymbolLinesOf,
     ensures objects { let o = call.now.own in result.objects ≡ record { letters = o.letters; is_raw = o.is_raw } }
 {
     let SymbolOptions { letters, is_raw } = call.own;
+    let lines = SymbolLinesOf { letters, is_raw };
+    let objects = SymbolObjectsOf { letters, is_raw };
     ImageFiles {
-        program: PROGRAM,
-        cpu: call.cpu,
-        limit: call.limit.unwrap_or(usize::MAX),
-        is_json: call.format.is_json(),
         has_titles: !names_files(letters),
-        lines: SymbolLinesOf { letters, is_raw },
-        objects: SymbolObjectsOf { letters, is_raw },
+        ..ImageFiles::of(PROGRAM, call, usize::MAX, lines, objects)
     }
 }
 
@@ -152,27 +143,22 @@ fn shown_at(
     ensures lines { let o = call.now.own in result.lines ≡ record { address = address; has_file = names_files o.letters; is_raw = o.is_raw } }
     ensures objects { result.objects ≡ record { address = address } }
 {
-    let ImageFiles {
-        program,
-        cpu,
-        limit,
-        is_json,
-        has_titles,
-        lines: SymbolLinesOf { letters, is_raw },
-        ..
-    } = shown_by(call);
+    let SymbolOptions { letters, is_raw } = call.own;
+    let has_file = names_files(letters);
+    let lines = AddressLinesOf {
+        address,
+        has_file,
+        is_raw,
+    };
     ImageFiles {
-        program,
-        cpu,
-        limit,
-        is_json,
-        has_titles,
-        lines: AddressLinesOf {
-            address,
-            has_file: names_files(letters),
-            is_raw,
-        },
-        objects: AddressObjectsOf { address },
+        has_titles: !has_file,
+        ..ImageFiles::of(
+            PROGRAM,
+            call,
+            usize::MAX,
+            lines,
+            AddressObjectsOf { address },
+        )
     }
 }
 

@@ -1,6 +1,7 @@
 //! Streams, and a buffer in front of a writer.
 use super::AllocError;
 use super::rt::HostRuntime;
+use core::marker::PhantomData;
 use std::fs::File;
 
 pub(crate) use std::io::{Error, ErrorKind, Read, Result, Write};
@@ -40,9 +41,22 @@ impl Stream {
     }
 }
 
+/// Standard output, as what prints lends it.
+pub(crate) struct Printer<'r, P>(Stream, PhantomData<&'r P>);
+
 /// Standard output.
-pub(crate) fn writer(_rt: &HostRuntime) -> Stream {
-    Stream::new(1)
+pub(crate) fn writer(_rt: &HostRuntime) -> Printer<'_, HostRuntime> {
+    Printer(Stream::new(1), PhantomData)
+}
+
+impl<P> Write for Printer<'_, P> {
+    fn write(&mut self, buf: &[u8]) -> Result<usize> {
+        self.0.write(buf)
+    }
+
+    fn flush(&mut self) -> Result<()> {
+        self.0.flush()
+    }
 }
 
 impl Read for Stream {

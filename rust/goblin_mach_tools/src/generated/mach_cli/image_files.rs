@@ -2,6 +2,7 @@
 //! How a call shows the images of its files, as text or as JSON.
 #![forbid(unsafe_code)]
 
+use crate::generated::mach_cli::call::Call;
 use crate::generated::mach_cli::cpu::Cpu;
 use crate::generated::mach_cli::files::Files;
 use crate::generated::mach_cli::images_view::ImagesView;
@@ -28,6 +29,24 @@ pub struct ImageFiles<T, J> {
 }
 
 impl<T: Copy, J: Copy> ImageFiles<T, J> {
+    /// Returns how a call shows its files, with titles: the lines of one view, or with `--json` the objects of another; at most
+    /// `most` of a file if no limit is given.
+    ///
+    /// # Proved
+    ///
+    /// - `let c = call in result ≡ record { program = program; cpu = c.cpu; limit = limit_of c.limit most; is_json = is_json c.format; has_titles = true; lines = lines; objects = objects; }`
+    pub fn of<O>(program: Program, call: &Call<'_, O>, most: usize, lines: T, objects: J) -> Self {
+        ImageFiles {
+            program,
+            cpu: call.cpu,
+            limit: call.limit.unwrap_or(most),
+            is_json: call.format.is_json(),
+            has_titles: true,
+            lines,
+            objects,
+        }
+    }
+
     /// Returns how the files are shown: part by part, without titles if objects are shown.
     ///
     /// # Proved

@@ -107,7 +107,7 @@ pub use crate::generated::mach_cli::parts::name::PartName;
 pub use crate::generated::mach_cli::parts::selection::{is_for, is_missed};
 pub use crate::generated::mach_cli::parts::shown::{ShownPart, shown_part};
 pub use crate::generated::mach_cli::parts::{Parts, parts_of};
-pub use crate::generated::mach_cli::program::Program;
+pub use crate::generated::mach_cli::program::{Output, Program};
 pub use crate::generated::mach_cli::progress::Progress;
 pub use crate::generated::mach_cli::refusal::{Refusal, complain, refusal_of};
 pub use crate::generated::mach_cli::section_names::{AllStretches, SegmentStretches};

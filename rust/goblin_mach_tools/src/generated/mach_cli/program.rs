@@ -7,16 +7,20 @@ use crate::shim::rt::HostRuntime;
 use alloc::vec::Vec;
 
 use crate::generated::mach_cli::call::{Call, Request, understand};
+use crate::generated::mach_cli::color::Color;
 use crate::generated::mach_cli::complaint::{Complaint, Trouble};
 use crate::generated::mach_cli::label::Label;
 use crate::generated::mach_cli::misuse::Misuse;
 use crate::generated::mach_cli::names::Names;
-use crate::generated::mach_cli::options::{Options, OwnOptions};
+use crate::generated::mach_cli::options::{Format, Options, OwnOptions};
 use crate::generated::mach_cli::output::say;
+use crate::generated::mach_cli::painted::Painted;
 use crate::generated::mach_cli::refusal::{Refusal, complain};
+use crate::generated::mach_cli::terminal::ForTerminal;
+use crate::generated::mach_cli::titled::Titled;
 use crate::generated::mach_cli::word::{Word, call_words};
 use crate::shim::AllocError;
-use crate::shim::io::{ErrorKind, Read};
+use crate::shim::io::{BufWriter, ErrorKind, IsTerminal, Printer, Read};
 use crate::shim::{fs, io};
 
 /// What a program says about itself.
@@ -33,6 +37,9 @@ pub struct Program {
     /// The words that it knows: its options and its commands.
     pub known: &'static [&'static str],
 }
+
+/// Standard output: coloured or not, without control characters if it is a terminal, and with titles.
+pub type Output<'r> = BufWriter<Titled<ForTerminal<Painted<Printer<'r, HostRuntime>>>>>;
 
 impl Program {
     /// Returns the arguments of a call; the first is the program's name. If memory runs out that is reported, and the error is
@@ -68,6 +75,26 @@ impl Program {
             Ok(Request::Nothing(misuse)) => Err(self.bad_usage(rt, misuse)),
             Err(AllocError) => Err(self.out_of_memory(rt)),
         }
+    }
+
+    /// Returns standard output for this form, coloured if `color` says so. If memory runs out that is reported, and the error is
+    /// the exit status.
+    ///
+    /// # Proved
+    ///
+    /// - if `Err(status)`: `status ≡ 1`
+    pub fn output<'r>(
+        &self,
+        rt: &'r HostRuntime,
+        color: Color,
+        format: Format,
+    ) -> Result<Output<'r>, u8> {
+        let painted = Painted::new(io::writer(rt), color.is_for(rt, format));
+        let inner = ForTerminal::new(painted, rt.stdout().is_terminal());
+        let Ok(out) = BufWriter::new(Titled::new(inner)) else {
+            return Err(self.out_of_memory(rt));
+        };
+        Ok(out)
     }
 
     // Prints a text, and returns the exit status.

@@ -26,15 +26,11 @@ mod output;
 mod signature_text;
 mod text;
 
-use crate::generated::mach_cli::{
-    Call, Files, ForTerminal, Misuse, Painted, Program, SharedOnly, Titled,
-};
+use crate::generated::mach_cli::{Call, Files, Misuse, Program, SharedOnly};
 use crate::generated::machaudit::audits::Audits;
 use crate::generated::machaudit::options::{DEFAULT_LIMIT, Options};
 use crate::generated::machaudit::output::NAME;
 use crate::shim::AllocError;
-use crate::shim::io;
-use crate::shim::io::{BufWriter, IsTerminal};
 use std::process::ExitCode;
 
 const PROGRAM: Program = Program {
@@ -90,11 +86,7 @@ fn audit_files(rt: &HostRuntime, call: &Call<'_, SharedOnly>) -> Result<u8, u8> 
         },
         only,
     };
-    let painted = Painted::new(io::writer(rt), call.color.is_for(rt, call.format));
-    let output = ForTerminal::new(painted, rt.stdout().is_terminal());
-    let Ok(mut lines) = BufWriter::new(Titled::new(output)) else {
-        return Err(PROGRAM.out_of_memory(rt));
-    };
+    let mut lines = PROGRAM.output(rt, call.color, call.format)?;
     let shown = Files {
         program: PROGRAM,
         cpu: call.cpu,

@@ -32,11 +32,8 @@ mod verify;
 // The list of an archive: a line for each member, and one for each symbol of its index.
 mod archive;
 
-use crate::generated::mach_cli::{
-    Call, Cpu, Files, Misuse, Options, Others, Painted, Program, Titled,
-};
+use crate::generated::mach_cli::{Call, Cpu, Files, Misuse, Options, Others, Program, Titled};
 use crate::shim::AllocError;
-use crate::shim::io;
 use crate::shim::io::{BufWriter, Write};
 use arguments::{WIDE, Width};
 use commands::{NAME, run_extract};
@@ -109,16 +106,7 @@ fn start(rt: &HostRuntime) -> Result<u8, u8> {
     };
     let is_wide = call.own.is_wide;
     match shown_by(word, call.format.is_json()) {
-        Some(shown) if !is_wide => show_files(
-            rt,
-            Selected {
-                shown,
-                limit: call.limit.unwrap_or(DEFAULT_LIMIT),
-            },
-            given,
-            &call.others,
-            call.color.is_for(rt, call.format),
-        ),
+        Some(shown) if !is_wide => show_files(rt, &call, shown, given),
         _ => match misplaced(&call, word) {
             Some(misuse) => Err(FOR_WRITES.bad_usage(rt, misuse)),
             None => write_file(rt, word, form_for(is_wide), given),
@@ -170,23 +158,19 @@ fn write_file(rt: &HostRuntime, word: &str, form: Form, given: &[&str]) -> Resul
     }
 }
 
-// Shows files in order, painted or not, and returns the worst status.
+// Shows files in order, and returns the worst status.
 fn show_files(
     rt: &HostRuntime,
-    selected: Selected,
+    call: &Call<'_, Width>,
+    shown: Shown,
     files: &[&str],
-    others: &Others<'_>,
-    is_painted: bool,
 ) -> Result<u8, u8> {
-    if files.is_empty() && others.is_empty() {
+    if files.is_empty() && call.others.is_empty() {
         return Err(PROGRAM.bad_usage(rt, Misuse::Missing("FILE")));
     }
-    let painted = Painted::new(io::writer(rt), is_painted);
-    let output = Titled::new(painted);
-    let Ok(mut out) = BufWriter::new(output) else {
-        return Err(PROGRAM.out_of_memory(rt));
-    };
-    show(rt, selected, files, others, &mut out)
+    let limit = call.limit.unwrap_or(DEFAULT_LIMIT);
+    let mut out = PROGRAM.output(rt, call.color, call.format)?;
+    show(rt, Selected { shown, limit }, files, &call.others, &mut out)
 }
 
 // Shows what is selected of files in order, and returns the worst status. The status of a failed write is an error.

@@ -46,11 +46,8 @@ mod rows;
 mod stored_pointers;
 mod target_symbols;
 
-use crate::generated::mach_cli::{
-    Call, ForTerminal, ImageFiles, Misuse, Options, Others, Painted, Program, Titled,
-};
-use crate::shim::io;
-use crate::shim::io::{BufWriter, IsTerminal, Write};
+use crate::generated::mach_cli::{Call, ImageFiles, Misuse, Options, Others, Program, Titled};
+use crate::shim::io::{BufWriter, Write};
 use fixup_view::FixupLines;
 use json::FixupObjects;
 use rows::Selection;
@@ -102,26 +99,15 @@ fn show_files(rt: &HostRuntime, call: &Call<'_, Selection>) -> Result<u8, u8> {
     if files.is_empty() && others.is_empty() {
         return Err(PROGRAM.bad_usage(rt, Misuse::Missing("FILE")));
     }
-    let painted = Painted::new(io::writer(rt), call.color.is_for(rt, call.format));
-    let output = ForTerminal::new(painted, rt.stdout().is_terminal());
-    let Ok(mut out) = BufWriter::new(Titled::new(output)) else {
-        return Err(PROGRAM.out_of_memory(rt));
-    };
+    let mut out = PROGRAM.output(rt, call.color, call.format)?;
     show(rt, &shown_by(call), files, others, &mut out)
 }
 
 // Returns how a call shows its files: the selected lists, as lines or as objects.
 fn shown_by(call: &Call<'_, Selection>) -> ImageFiles<FixupLines, FixupObjects> {
     let selection = call.own;
-    ImageFiles {
-        program: PROGRAM,
-        cpu: call.cpu,
-        limit: call.limit.unwrap_or(DEFAULT_LIMIT),
-        is_json: call.format.is_json(),
-        has_titles: true,
-        lines: FixupLines { selection },
-        objects: FixupObjects { selection },
-    }
+    let (lines, objects) = (FixupLines { selection }, FixupObjects { selection });
+    ImageFiles::of(PROGRAM, call, DEFAULT_LIMIT, lines, objects)
 }
 
 // Shows files in order, and returns the worst status.

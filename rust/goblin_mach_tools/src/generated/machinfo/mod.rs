@@ -52,12 +52,11 @@ mod selection;
 mod word;
 
 use crate::generated::mach_cli::{
-    Call, ForTerminal, ImageFiles, Misuse, Options, Others, Painted, Program, SharedOnly, Titled,
+    Call, ImageFiles, Misuse, Options, Others, Program, SharedOnly, Titled,
 };
 use crate::generated::machinfo::selection::{Selection, has_small_letters, selection_of};
 use crate::generated::machinfo::word::Choice;
-use crate::shim::io;
-use crate::shim::io::{BufWriter, IsTerminal, Write};
+use crate::shim::io::{BufWriter, Write};
 use json::InfoObjects;
 use std::process::ExitCode;
 use views::InfoLines;
@@ -140,11 +139,7 @@ fn answer(rt: &HostRuntime, call: &Call<'_, SharedOnly>) -> Result<u8, u8> {
     if let Some(misuse) = misspelled(rt, selection) {
         return Err(PROGRAM.bad_usage(rt, misuse));
     }
-    let painted = Painted::new(io::writer(rt), call.color.is_for(rt, call.format));
-    let output = ForTerminal::new(painted, rt.stdout().is_terminal());
-    let Ok(mut out) = BufWriter::new(Titled::new(output)) else {
-        return Err(PROGRAM.out_of_memory(rt));
-    };
+    let mut out = PROGRAM.output(rt, call.color, call.format)?;
     show(
         rt,
         &shown_by(call, selection.choice),
@@ -173,15 +168,8 @@ fn shown_by(
     call: &Call<'_, SharedOnly>,
     choice: Option<Choice>,
 ) -> ImageFiles<InfoLines, InfoObjects> {
-    ImageFiles {
-        program: PROGRAM,
-        cpu: call.cpu,
-        limit: call.limit.unwrap_or(DEFAULT_LIMIT),
-        is_json: call.format.is_json(),
-        has_titles: true,
-        lines: InfoLines { choice },
-        objects: InfoObjects { choice },
-    }
+    let (lines, objects) = (InfoLines { choice }, InfoObjects { choice });
+    ImageFiles::of(PROGRAM, call, DEFAULT_LIMIT, lines, objects)
 }
 
 // Shows files in order, and returns the worst status.

@@ -34,13 +34,12 @@ mod refusal;
 mod report;
 
 use crate::generated::mach_cli::{
-    Color, Cpu, ForTerminal, Format, Misuse, Options, Painted, Program, Progress, SharedOnly,
+    Color, Cpu, Format, Misuse, Options, Program, Progress, SharedOnly,
 };
 use crate::generated::machresolve::arguments::{DEFAULT_LIMIT, selected_cpu};
 use crate::generated::machresolve::inputs::Given;
 use crate::generated::machresolve::output::{NAME, run};
-use crate::shim::io;
-use crate::shim::io::{BufWriter, IsTerminal};
+use crate::shim::io::IsTerminal;
 use std::process::ExitCode;
 
 const PROGRAM: Program = Program {
@@ -120,11 +119,7 @@ fn resolve_files(
             return Err(PROGRAM.out_of_memory(rt));
         }
     }
-    let painted = Painted::new(io::writer(rt), color.is_for(rt, Format::Text));
-    let output = ForTerminal::new(painted, rt.stdout().is_terminal());
-    let Ok(mut out) = BufWriter::new(output) else {
-        return Err(PROGRAM.out_of_memory(rt));
-    };
+    let mut out = PROGRAM.output(rt, color, Format::Text)?;
     let program = Given {
         path: program,
         bytes: bytes.as_slice(),

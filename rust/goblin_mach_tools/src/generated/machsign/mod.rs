@@ -31,11 +31,9 @@ mod signed;
 mod special;
 mod text;
 
-use crate::generated::mach_cli::{
-    Call, Cpu, ForTerminal, ImageFiles, Misuse, Options, Others, Painted, Program, Titled,
-};
+use crate::generated::mach_cli::{Call, Cpu, ImageFiles, Misuse, Options, Others, Program, Titled};
 use crate::shim::io;
-use crate::shim::io::{BufWriter, IsTerminal, Write};
+use crate::shim::io::{BufWriter, Write};
 use arguments::Entitlements;
 use entitlements::{NAME, run_entitlements};
 use json::SignatureObjects;
@@ -84,11 +82,7 @@ fn answer(rt: &HostRuntime, call: &Call<'_, Entitlements>) -> Result<u8, u8> {
     if files.is_empty() && others.is_empty() {
         return Err(PROGRAM.bad_usage(rt, Misuse::Missing("FILE")));
     }
-    let painted = Painted::new(io::writer(rt), call.color.is_for(rt, call.format));
-    let output = ForTerminal::new(painted, rt.stdout().is_terminal());
-    let Ok(mut out) = BufWriter::new(Titled::new(output)) else {
-        return Err(PROGRAM.out_of_memory(rt));
-    };
+    let mut out = PROGRAM.output(rt, call.color, call.format)?;
     show_files(rt, &shown_by(call), files, others, &mut out)
 }
 
@@ -112,15 +106,7 @@ fn write_entitlements(rt: &HostRuntime, cpu: Cpu, files: &[&str]) -> Result<u8, 
 
 // Returns how a call shows its files: the signatures of the selected images, as lines or as objects.
 fn shown_by(call: &Call<'_, Entitlements>) -> ImageFiles<SignatureLines, SignatureObjects> {
-    ImageFiles {
-        program: PROGRAM,
-        cpu: call.cpu,
-        limit: call.limit.unwrap_or(usize::MAX),
-        is_json: call.format.is_json(),
-        has_titles: true,
-        lines: SignatureLines,
-        objects: SignatureObjects,
-    }
+    ImageFiles::of(PROGRAM, call, usize::MAX, SignatureLines, SignatureObjects)
 }
 
 // Shows the selected images of files in order, then those of the files named in other ways, and returns the worst status. The

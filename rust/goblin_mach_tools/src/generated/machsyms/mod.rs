@@ -37,11 +37,9 @@ mod text;
 mod nm;
 
 use crate::generated::mach_cli::{
-    AddressLinesOf, AddressObjectsOf, Call, ForTerminal, ImageFiles, Misuse, Options, Others,
-    Painted, Program, Titled,
+    AddressLinesOf, AddressObjectsOf, Call, ImageFiles, Misuse, Options, Others, Program, Titled,
 };
-use crate::shim::io;
-use crate::shim::io::{BufWriter, IsTerminal, Write};
+use crate::shim::io::{BufWriter, Write};
 use arguments::{SymbolOptions, names_files};
 use json::SymbolObjectsOf;
 use std::process::ExitCode;
@@ -100,11 +98,7 @@ fn show_files(rt: &HostRuntime, call: &Call<'_, SymbolOptions>) -> Result<u8, u8
     if files.is_empty() && others.is_empty() {
         return Err(PROGRAM.bad_usage(rt, Misuse::Missing("FILE")));
     }
-    let painted = Painted::new(io::writer(rt), call.color.is_for(rt, call.format));
-    let output = ForTerminal::new(painted, rt.stdout().is_terminal());
-    let Ok(mut out) = BufWriter::new(Titled::new(output)) else {
-        return Err(PROGRAM.out_of_memory(rt));
-    };
+    let mut out = PROGRAM.output(rt, call.color, call.format)?;
     match call.address {
         Some(address) => show_at(rt, &shown_at(call, address), files, others, &mut out),
         None => show(rt, &shown_by(call), files, others, &mut out),
@@ -114,14 +108,11 @@ fn show_files(rt: &HostRuntime, call: &Call<'_, SymbolOptions>) -> Result<u8, u8
 // Returns how a call shows its files: the symbols that letters select, as lines or as objects.
 fn shown_by(call: &Call<'_, SymbolOptions>) -> ImageFiles<SymbolLinesOf, SymbolObjectsOf> {
     let SymbolOptions { letters, is_raw } = call.own;
+    let lines = SymbolLinesOf { letters, is_raw };
+    let objects = SymbolObjectsOf { letters, is_raw };
     ImageFiles {
-        program: PROGRAM,
-        cpu: call.cpu,
-        limit: call.limit.unwrap_or(usize::MAX),
-        is_json: call.format.is_json(),
         has_titles: !names_files(letters),
-        lines: SymbolLinesOf { letters, is_raw },
-        objects: SymbolObjectsOf { letters, is_raw },
+        ..ImageFiles::of(PROGRAM, call, usize::MAX, lines, objects)
     }
 }
 
@@ -130,27 +121,22 @@ fn shown_at(
     call: &Call<'_, SymbolOptions>,
     address: u64,
 ) -> ImageFiles<AddressLinesOf, AddressObjectsOf> {
-    let ImageFiles {
-        program,
-        cpu,
-        limit,
-        is_json,
-        has_titles,
-        lines: SymbolLinesOf { letters, is_raw },
-        ..
-    } = shown_by(call);
+    let SymbolOptions { letters, is_raw } = call.own;
+    let has_file = names_files(letters);
+    let lines = AddressLinesOf {
+        address,
+        has_file,
+        is_raw,
+    };
     ImageFiles {
-        program,
-        cpu,
-        limit,
-        is_json,
-        has_titles,
-        lines: AddressLinesOf {
-            address,
-            has_file: names_files(letters),
-            is_raw,
-        },
-        objects: AddressObjectsOf { address },
+        has_titles: !has_file,
+        ..ImageFiles::of(
+            PROGRAM,
+            call,
+            usize::MAX,
+            lines,
+            AddressObjectsOf { address },
+        )
     }
 }
 
