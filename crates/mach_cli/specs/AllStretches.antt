@@ -55,7 +55,7 @@ part_with address parts = at_number parts (first_holder address 0 (map (λ p. p.
 abbrev pub section_with : ℕ → List Stretch → Option (List ℕ)
 section_with address sections = option_map stretch_name (at_number sections (first_holder address 0 sections))
 
--- ---- what the code's values stand for
+-- ---- what the code's values mean
 
 abbrev pub part_view : {A : Type 0} → declared.SegmentStretches A → SegmentStretches
 part_view p = record { memory = p.memory; sections = p.sections.items.items }

@@ -234,7 +234,7 @@ object_rows p parts symbols libs table lists = rows_shown true (shown_picks p) (
 abbrev pub rows_in_order : PointerRows → List (Result PointerRow Fault)
 rows_in_order rows = rows.rebases ++ (rows.binds ++ (rows.weak ++ rows.chains))
 
--- ---- what the code's values stand for
+-- ---- what the code's values mean
 
 abbrev pub fixups_table_view : Option ChainedFixups → Option Fixups
 fixups_table_view table = option_map fixups_view table

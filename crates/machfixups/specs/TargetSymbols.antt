@@ -62,7 +62,7 @@ nearest_in_section ss items (Some h) a = nearest_of (section_number ss h) a item
 abbrev pub symbol_over : List SegmentView → List (Result (List ℕ × Nlist) Fault) → ℕ → Option PointerSymbol
 symbol_over ss items a = nearest_in_section ss items (nameable_section_at ss a) a
 
--- ---- what the code's values stand for
+-- ---- what the code's values mean
 
 abbrev pub target_symbol_view : TargetSymbol → PointerSymbol
 target_symbol_view s = record { name = s.name.now; distance = s.distance }

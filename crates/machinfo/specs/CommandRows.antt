@@ -86,7 +86,7 @@ rows_of_commands le cputype commands = flat_map (rows_of_command le cputype) com
 abbrev pub HasCommandRows : List ℕ → ℕ → List CommandRowView → Type 0
 HasCommandRows bytes o items = OfFacts bytes o (λ f. items ≡ rows_of_commands f.ctx.le f.header.cputype (numbered_commands_from f.bytes 0 f.commands))
 
--- ---- what the code's values stand for
+-- ---- what the code's values mean
 
 abbrev pub width_of_record : SectionRecord → Container
 width_of_record (records.Narrow s) = Little

@@ -100,7 +100,7 @@ abbrev pub HasExportFields : List ℕ → List (Result (List FieldView) Fault) �
 HasExportFields bytes fields =
     (answer : Result (List Entry) Fault) × HasExportsOrFault bytes 0 answer × (fields ≡ fields_of_exports (export_items answer))
 
--- ---- what the code's values stand for
+-- ---- what the code's values mean
 
 abbrev pub exported_fields : Exported → List FieldView
 exported_fields x = export_fields x.name.now (info_of x.info.now)

@@ -81,7 +81,7 @@ library_facts f = map (λ library. Ok (library_fact library)) (libraries_in f.ct
 abbrev pub path_facts : Facts → List (Result FactView Fault)
 path_facts f = map (λ path. Ok (path_fact path)) f.run_paths
 
--- ---- what the code's values stand for
+-- ---- what the code's values mean
 
 abbrev pub fact_view : Fact → FactView
 fact_view (facts.Uuid bytes) = uuid_fact bytes

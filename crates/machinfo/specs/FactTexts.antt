@@ -66,7 +66,7 @@ fact_object (tool_fact tool) = tool_object tool
 fact_object (library_fact library) = fields_object (library_fields library)
 fact_object (path_fact path) = json_string path
 
--- ---- what the code's values stand for
+-- ---- what the code's values mean
 
 abbrev pub fact_shown : Fact → List ℕ
 fact_shown fact = fact_text (fact_view fact)

@@ -69,7 +69,7 @@ pub record HasImportFields (bytes : List ℕ) (fields : List (Result (List Field
   pub has_items : HasBindings bytes 0 items
   pub shown : fields ≡ fields_of_imports (parts_of (length bytes) segments) items
 
--- ---- what the code's values stand for
+-- ---- what the code's values mean
 
 abbrev pub shown_import_view : Import → List FieldView
 shown_import_view x = imported_fields (text_in x.segment) (text_in x.section) (binding_view x.binding)

@@ -29,7 +29,7 @@ numbered_commands_from bytes n (c ∷ cs) = numbered_command bytes n c ∷ numbe
 abbrev pub HasNumberedCommands : List ℕ → ℕ → List NumberedCommandView → Type 0
 HasNumberedCommands bytes o items = OfFacts bytes o (λ f. items ≡ numbered_commands_from f.bytes 0 f.commands)
 
--- ---- what the code's values stand for
+-- ---- what the code's values mean
 
 abbrev pub numbered_command_view : NumberedCommand → NumberedCommandView
 numbered_command_view it = numbered_command it.bytes.now it.number (command_of it.command.now)

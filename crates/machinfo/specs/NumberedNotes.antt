@@ -52,7 +52,7 @@ numbered_notes_from bytes number (c ∷ cs) = led_by (noted_by bytes number c) (
 abbrev pub HasNumberedNotes : List ℕ → ℕ → List (Result NumberedNoteView Fault) → Type 0
 HasNumberedNotes bytes o items = OfFacts bytes o (λ f. items ≡ numbered_notes_from f.bytes 0 f.commands)
 
--- ---- what the code's values stand for
+-- ---- what the code's values mean
 
 abbrev pub numbered_note_view : NumberedNote → NumberedNoteView
 numbered_note_view n = record { number = n.number; place = n.place; note = note_view n.note }

@@ -115,7 +115,7 @@ HasPart part bytes o items past =
     (point : EntryPoint) × HasEntryPoint bytes o point
     × OfFacts bytes o (λ f. ArePartRows part point.address f items × (past ≡ past_of_part part f))
 
--- ---- what the code's values stand for
+-- ---- what the code's values mean
 
 abbrev pub entry_symbol_view : EntrySymbol → List ℕ × ℕ
 entry_symbol_view s = (s.name.now, s.distance)

@@ -42,7 +42,7 @@ symbols_past_in (Some table) = table.nsyms - (table_in_bounds table).nsyms
 abbrev pub HasProvidedSymbols : List ℕ → ℕ → List (Result ProvidedView Fault) → Type 0
 HasProvidedSymbols bytes o items = OfFacts bytes o (λ f. items ≡ provided_in f.header.flags f.libs f.symbols)
 
--- ---- what the code's values stand for
+-- ---- what the code's values mean
 
 abbrev pub provided_view : Provided → ProvidedView
 provided_view p = record { name = p.name.now; provider = provider_view p.provider }

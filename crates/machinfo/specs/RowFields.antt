@@ -213,7 +213,7 @@ has_names _ = false
 abbrev pub lines_form : Word → List FieldView → List ℕ
 lines_form word = if has_names word then fields_pairs else fields_line
 
--- ---- what the code's values stand for
+-- ---- what the code's values mean
 
 abbrev pub fields_shown : Row → List FieldView
 fields_shown row = row_fields (list_row_view row)

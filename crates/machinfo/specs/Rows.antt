@@ -37,7 +37,7 @@ pub data RowView : Type 0 where
   part_row : (row : PartRowView) → RowView
   verdict_row : (finding : Finding) → RowView
 
--- ---- what the code's values stand for
+-- ---- what the code's values mean
 
 abbrev pub list_row_view : Row → RowView
 list_row_view (rows.Command row) = command_row (command_row_view row)

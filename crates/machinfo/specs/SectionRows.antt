@@ -36,7 +36,7 @@ abbrev pub section_rows_in : (before n : ℕ) → List SegmentView → List (Res
 section_rows_in before n [] = []
 section_rows_in before n (s ∷ ss) = section_rows_from before n s 0 ++ section_rows_in (counted_on before s.command.nsects) (n + 1) ss
 
--- ---- what the code's values stand for
+-- ---- what the code's values mean
 
 -- the same, but for the first k sections of the first segment
 abbrev pub section_rows_after : (before n k : ℕ) → List SegmentView → List (Result SectionRow Fault)

@@ -243,7 +243,7 @@ finding_fields it =
     ∷ wide_field 22 (field_of (codes "name") (text (finding_words it.verdict).0) 1)
     ∷ []
 
--- ---- what the code's values stand for
+-- ---- what the code's values mean
 
 abbrev pub finding_read : Result Finding Error → Result Finding Fault
 finding_read item = read_as (λ it. it) item

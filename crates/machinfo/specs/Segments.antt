@@ -42,7 +42,7 @@ section_object s =
     codes "{\"address\":"
     ++ (decimal s.addr ++ (codes ",\"name\":" ++ (name_or_null (result_ok (text_at s.sectname 0)) ++ (codes ",\"size\":" ++ (decimal s.size ++ codes "}")))))
 
--- ---- what the code's values stand for
+-- ---- what the code's values mean
 
 abbrev pub sections_named : SectionList → List (Result Section Fault)
 sections_named it = without_data (sections_left it.sections)

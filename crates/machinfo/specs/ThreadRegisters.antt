@@ -88,7 +88,7 @@ words_of_state values = take (number_among values 3) (state_words values)
 abbrev pub thread_registers : (cputype n : ℕ) → List Value → List RegisterView
 thread_registers cputype n values = registers_by (layout_of cputype (number_among values 2)) n (words_of_state values)
 
--- ---- what the code's values stand for
+-- ---- what the code's values mean
 
 abbrev pub register_view : Register → RegisterView
 register_view r = record { command = r.command; word = r.word; name = text_in r.name; value = r.value }

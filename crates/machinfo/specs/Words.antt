@@ -131,7 +131,7 @@ IsMisspelled choice (first ∷ []) misuse = ⊥
 IsMisspelled choice (first ∷ next ∷ others) misuse =
     (misuse ≡ UnknownWord first) × (choice ≡ None) × (list_all is_small_letter first.now ≡ true)
 
--- ---- what the code's values stand for
+-- ---- what the code's values mean
 
 abbrev pub selection_view : Selection → Option Choice × List (Bor (List ℕ))
 selection_view s = (s.choice, s.files.now)
