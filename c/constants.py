@@ -66,6 +66,7 @@ GROUPS = [
     ("where the chain of a page starts", r"DYLD_CHAINED_PTR_START_\w+"),
     ("`hash_type` of a gm_signature", r"CS_HASHTYPE_\w+"),
     ("the bits of `flags` of a gm_signature", r"CS_\w+"),
+    ("verdicts on how an image is hardened: `verdict` of a gm_verdict, and what it means that it holds", r"VERDICT_\w+"),
 ]
 
 # What no source of the library has, by the header of the format that defines it.
@@ -180,8 +181,8 @@ VM_PROT_EXECUTE u32 0x4 running
 NUMBERS = {
     "archive.rt": [(rf"ArchiveForm::{form} => (\d+),", f"GM_ARCHIVE_{name}")
                    for form, name in (("NoArchive", "NONE"), ("Gnu", "GNU"), ("Bsd", "BSD"), ("Thin", "THIN"))],
-    "find.rt": [(r"fn no_export\(\)[^}]*\}[^}]*kind: (\d+)", "GM_NO_EXPORT"), (r"::Regular \{[^}]*\} => gm_export \{[^}]*kind: (\d+)", "GM_ADDRESS"),
-                (r"::Reexport \{.*?kind: (\d+)", "GM_REEXPORTED"), (r"::Stub \{.*?kind: (\d+)", "GM_STUB")],
+    "find.rt": [(r"None => gm_export \{[^}]*kind: (\d+)", "GM_NO_EXPORT"), (r"::Regular \{ \.\. \} => (\d+),", "GM_ADDRESS"),
+                (r"::Reexport \{ \.\. \} => (\d+),", "GM_REEXPORTED"), (r"::Stub \{ \.\. \} => (\d+),", "GM_STUB")],
     "fixups.rt": [(r"FixupKind::Rebase [^=]*=> \((\d+),", "GM_REBASE"), (r"FixupKind::Bind [^=]*=> \((\d+),", "GM_BIND"),
                   (r"FixupKind::Value [^=]*=> \((\d+),", "GM_NUMBER")],
     "bindings.rt": [(r"Provider::Library [^=]*=> \((\d+),", "GM_OF_LIBRARY"), (r"Provider::Itself => \((\d+),", "GM_OF_ITSELF"),
@@ -189,6 +190,8 @@ NUMBERS = {
                     (r"Provider::WeakLookup => \((\d+),", "GM_OF_ANY_WEAK")],
     "rebases.rt": [(r"RebaseKind::Pointer => (\d+),", "GM_REBASE_POINTER"), (r"RebaseKind::TextAbsolute32 => (\d+),", "GM_REBASE_TEXT_ABSOLUTE"),
                    (r"RebaseKind::TextRelative32 => (\d+),", "GM_REBASE_TEXT_RELATIVE")],
+    "requirements.rt": [(rf"(\d+) => Some\(RequirementType::{kind}\)", f"GM_REQUIREMENT_{kind.upper()}")
+                        for kind in ("Host", "Guest", "Designated", "Library", "Plugin")],
     "signature.rt": [*((rf"{kind}\b.*?fault_row\((\d+),", f"GM_SIGNATURE_{name}") for kind, name in (
                          ("SignatureFault::Blob", "BLOB"), ("SignatureFault::Magic", "MAGIC"), ("SignatureFault::Refused", "DIRECTORY"),
                          ("DirectoryFault::Identifier", "IDENTIFIER"), ("DirectoryFault::Team", "TEAM"), ("DirectoryFault::Short", "SHORT"),
@@ -197,10 +200,13 @@ NUMBERS = {
                          ("Unknown", "UNKNOWN"), ("Unsealed", "UNSEALED"), ("Changed", "SPECIAL"), ("Absent", "ABSENT")))],
 }
 
-# The functions of names, each with its argument. After it is the function in the sources that returns the names, or the constant whose group
+# The verdicts on how an image is hardened are in the second of these crates by name and meaning, and in the first one by number.
+VERDICTS = "crates/goblin_mach_c/src/security.rt", "crates/mach_audit/src/security.rt"
+
+# The functions of names, each with its argument. After it are the functions in the sources that return the names, or the constant whose group
 # it names. The last text is the prefix that is left out of a name.
 NAMED = [
-    ("const char *gm_command_name(uint32_t cmd)", "cmd_to_str", ""),
+    ("const char *gm_command_name(uint32_t cmd)", "table_name command_name", ""),
     ("const char *gm_file_type_name(uint32_t filetype)", "filetype_to_str", ""),
     ("const char *gm_header_flag_name(uint32_t flag)", "flag_to_str", ""),
     ("const char *gm_platform_name(uint32_t platform)", "PLATFORM_MACOS", "PLATFORM_"),
@@ -239,6 +245,16 @@ def pointer_formats(path, text):
         yield name, ("u16", number, words_of(re.sub(r"`(\w+)`", lambda it: f"`{called[it[1]]}`", words)))
 
 
+def verdicts():
+    """Returns the number, the name and the meaning of each verdict, by the name of its constant."""
+    numbered, worded = (sources(path.split("/")[1])[pathlib.Path(path)] for path in VERDICTS)
+    numbers = dict(re.findall(r"Verdict::(\w+) => (\d+),", numbered))
+    words = re.findall(r'Verdict::(\w+) => \(\s*"([^"]*)",\s*"([^"]*)",?\s*\),', worded)
+    if [numbers.get(verdict) for verdict, _, _ in words] != [str(number) for number in range(1, len(numbers) + 1)]:
+        refuse("a verdict has no number or no words")
+    return {"VERDICT_" + name.upper().replace("-", "_"): (numbers[verdict], name, meaning) for verdict, name, meaning in words}
+
+
 def more():
     """Yields the constants of MORE."""
     for line in MORE.strip().splitlines():
@@ -264,6 +280,7 @@ def constants():
     for name, row in more():
         if found.setdefault(name, row) is not row:
             refuse(f"{name} of MORE stands elsewhere too")
+    found.update((name, ("u32", number, meaning)) for name, (number, _, meaning) in verdicts().items())
     return {name: row for name, row in found.items() if not re.fullmatch(LEFT_OUT, name)}
 
 
@@ -337,8 +354,8 @@ def arms(function):
     """Returns the constants and the names that a function of the sources returns."""
     texts = [text for crate in CRATES for text in sources(crate).values()]
     body = [it for text in texts for it in re.findall(rf"^(?:pub )?fn {function}\(.*?^}}", text, re.M | re.S)]
-    rows = re.findall(r"(\w+) =>\s*\"([^\"]*)\",", body[0] if len(body) == 1 else refuse(f"{len(body)} functions are {function}"))
-    if rows.pop()[0] != "_" or len(rows) + 1 != body[0].count("=>"):
+    rows = re.findall(r"([A-Z]\w+) =>\s*(?:Some\()?\"([^\"]*)\"\)?,", body[0] if len(body) == 1 else refuse(f"{len(body)} functions are {function}"))
+    if len(re.findall(r"\b_ =>", body[0])) != 1 or len(rows) + 1 != body[0].count("=>"):
         refuse(f"an arm of {function} isn't read")
     return rows
 
@@ -348,13 +365,19 @@ def names(found):
     groups = grouped(found)
     lines = ["/* Written by c/constants.py. The names of numbers, as the sources of the library have them. */"]
     for head, of, left_out in NAMED:
-        rows = arms(of) if of not in found else []
+        rows = [row for function in of.split() for row in arms(function)] if of not in found else []
         first = rows[0][0] if rows else of
         group = next(names for names in groups.values() if first in names)
         rows += [(name, name[len(left_out):]) for name in group if not rows or name in dict(more())]
         lines += ["", head + " {", f"    switch ({head[:-1].split(' ')[-1]}) {{", *(f"    case GM_{name}: return \"{text}\";" for name, text in rows)]
         lines += ["    default: return NULL;", "    }", "}"]
-    return "".join(line + "\n" for line in [*lines, *kind_names()])
+    return "".join(line + "\n" for line in [*lines, *kind_names(), *verdict_words("name", 1), *verdict_words("meaning", 2)])
+
+
+def verdict_words(what, field):
+    """Returns the function of the names of verdicts, or of their meanings."""
+    return ["", f"const char *gm_verdict_{what}(uint32_t verdict) {{", "    switch (verdict) {",
+            *(f'    case GM_{name}: return "{row[field]}";' for name, row in verdicts().items()), "    default: return NULL;", "    }", "}"]
 
 
 def kind_names():

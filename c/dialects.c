@@ -21,7 +21,7 @@ static uint32_t width_of(uint32_t cmd) {
 int main(void) {
     gm_segment segment = {{0}, 0, 0, 0, 0, 0, 0, GM_VM_PROT_READ, GM_VM_PROT_READ | GM_VM_PROT_EXECUTE, 0, GM_SG_NORELOC};
     gm_symbol symbol = {0, 0, 0, GM_NO_SECT, GM_OK, GM_N_WEAK_DEF | GM_N_NO_DEAD_STRIP, GM_N_SECT | GM_N_EXT, 0};
-    gm_export found = {0, 0, GM_EXPORT_SYMBOL_FLAGS_REEXPORT, 0, 0, GM_REEXPORTED, 0};
+    gm_export found = {0, 0, 0, GM_EXPORT_SYMBOL_FLAGS_REEXPORT, 0, 0, GM_REEXPORTED, 0};
     if (!is_code(&segment) || !is_of_section(&symbol) || !is_brought(&found) || width_of(GM_LC_SEGMENT_64) != 64) return 1;
     gm_arena arena = {NULL, 0, 0, 0};
     gm_memory memory = gm_arena_memory(&arena);

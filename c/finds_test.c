@@ -41,9 +41,10 @@ static void symbol_at(const given *g, const gm_symbol *symbols, uint64_t count, 
     for (uint64_t i = 0; in.is_found && i < count; i++) {
         const gm_symbol *s = &symbols[i];
         if (s->code || s->n_type & GM_N_STAB || (s->n_type & GM_N_TYPE) != GM_N_SECT || s->value > address) continue;
-        if (gm_section_of(OF, s->section, &of, NULL, &e) || !of.is_found || of.segment != in.segment || of.number != in.number) continue;
+        if (gm_section_of(OF, s->section, &of, NULL, &e) || !of.is_found || of.number != in.number) continue;
         if (best == UINT64_MAX || s->value >= symbols[best].value) best = i;
     }
+    memset(&found, 0x5a, sizeof found);
     if (gm_symbol_at(OF, address, &found, NULL, &e)) DIE("no symbol: %s", e.text);
     if (best == UINT64_MAX ? memcmp(&found, &none, sizeof found) != 0
                            : !found.is_found || found.index != best || found.symbol.value != symbols[best].value || found.symbol.name != symbols[best].name
@@ -66,20 +67,52 @@ static void function_at(const given *g, const gm_function_start *starts, uint64_
     found_functions += found.is_found;
 }
 
+/* Checks all symbols that have the name of one, in batches of two. */
+static void all_named(const given *g, const gm_symbol *symbols, uint64_t count, const gm_symbol *one) {
+    gm_found_symbol rows[2];
+    gm_error e;
+    uint64_t first = 0, written = 0, at = 0;
+    for (uint64_t i = 0; i < count; i++) {
+        if (symbols[i].code || symbols[i].name_len != one->name_len || memcmp(g->bytes + symbols[i].name, g->bytes + one->name, one->name_len)) continue;
+        if (at == written) {
+            memset(rows, 0x5a, sizeof rows);
+            if (gm_symbols_named(OF, (const char *)g->bytes + one->name, one->name_len, first, rows, 2, &written, NULL, &e)) DIE("no symbols: %s", e.text);
+            first += written;
+            at = 0;
+        }
+        const gm_found_symbol wanted = {symbols[i], i, 0, 1, 0};
+        if (at >= written || memcmp(&rows[at++], &wanted, sizeof wanted)) DIE("symbol %" PRIu64 " of a name", i);
+    }
+    if (at != written || gm_symbols_named(OF, (const char *)g->bytes + one->name, one->name_len, first, rows, 2, &written, NULL, &e) || written) DIE(
+        "a symbol too many");
+}
+
 static void symbols_named(const given *g, const gm_symbol *symbols, uint64_t count) {
+    for (uint64_t i = 0; i < count && i < LOOKED; i++)
+        if (!symbols[i].code) all_named(g, symbols, count, &symbols[i]);
     for (uint64_t i = 0; i < count && i < LOOKED; i++) {
-        if (symbols[i].code) continue;
+        if (symbols[i].code || symbols[i].n_type & GM_N_STAB) continue;
         const char *name = (const char *)g->bytes + symbols[i].name;
         uint64_t len = symbols[i].name_len, first = 0;
-        while (symbols[first].code || symbols[first].name_len != len || memcmp(g->bytes + symbols[first].name, name, len)) first++;
+        while (symbols[first].code || symbols[first].n_type & GM_N_STAB || symbols[first].name_len != len ||
+               memcmp(g->bytes + symbols[first].name, name, len))
+            first++;
         gm_found_symbol found;
         if (gm_symbol_named(OF, name, len, &found, NULL, NULL) || !found.is_found || found.index != first || found.distance) DIE("another symbol %.*s",
             (int)len, name);
     }
     gm_found_symbol found;
     gm_error e;
-    if (gm_symbol_named(OF, "there is no such name", 21, &found, NULL, &e) || found.is_found) DIE("a symbol of no name");
+    static const gm_found_symbol none;
+    memset(&found, 0x5a, sizeof found);
+    if (gm_symbol_named(OF, "there is no such name", 21, &found, NULL, &e) || memcmp(&found, &none, sizeof found)) DIE("a symbol of no name");
+    memset(&found, 0x5a, sizeof found);
+    if (gm_symbol_at(OF, UINT64_MAX, &found, NULL, &e) || found.symbol.reserved || found.reserved) DIE("a reserved byte of a symbol");
     if (gm_symbol_named(OF, "\xff", 1, &found, NULL, &e) != GM_MALFORMED || e.code != GM_MALFORMED) DIE("a name that is no text");
+    uint64_t written = 7;
+    if (gm_symbols_named(OF, "\xff", 1, 0, &found, 1, &written, NULL, &e) != GM_MALFORMED || written != 7) DIE("symbols of no text");
+    if (gm_symbols_named(OF, "a", 1, 0, NULL, 0, &written, NULL, &e) != GM_NO_ROWS || written != 7) DIE("an array of no rows");
+    if (gm_symbols_named(OF, "there is no such name", 21, 0, &found, 1, &written, NULL, &e) || written) DIE("symbols of no name");
     for (uint64_t k = 1;; k++) {
         counted c = {0, k, 0};
         gm_memory m = {&c, take, give};
@@ -97,10 +130,12 @@ static void parts(const given *g, const gm_symbol *symbols, uint64_t symbol_coun
     static gm_segment segments[MANY];
     static gm_numbered_section all[MANY];
     uint64_t count = gm_segments(OF, 0, segments, MANY), n = 0, known = gm_all_sections(OF, 0, all, MANY);
-    bool ended = false;
+    uint64_t base = 0;
+    bool ended = false, has_base = false;
     for (uint64_t i = 0; i < count; i++) {
         gm_segment named = {0};
         const char *name = (const char *)segments[i].name;
+        if (!has_base && !memcmp(name, "__TEXT\0", 7)) has_base = true, base = segments[i].vmaddr;
         uint64_t len = name_len(segments[i].name), first = 0, number, from = segments[i].fileoff, to = segments[i].vmaddr;
         while (name_len(segments[first].name) != len || memcmp(segments[first].name, name, len)) first++;
         if (!gm_segment_named(OF, name, len, &named) || memcmp(&named, &segments[first], sizeof named)) DIE("another segment %.16s", name);
@@ -126,7 +161,8 @@ static void parts(const given *g, const gm_symbol *symbols, uint64_t symbol_coun
             if (n == MANY) return;
             ended = s.code != GM_OK;
             if (n >= known || memcmp(&all[n].section, &s, sizeof s)) DIE("another section %" PRIu64 " of all", n);
-            if (!ended && (all[n].command != segments[i].command || all[n].number != k + 1)) DIE("section %" PRIu64 " of another segment", n);
+            if (!ended && (all[n].command != segments[i].command || all[n].index != k)) DIE("section %" PRIu64 " of another segment", n);
+            if (all[n].number != n + 1 || all[n].reserved) DIE("section %" PRIu64 " of another number", n);
             if (ended) break;
             gm_found_section found;
             gm_error e;
@@ -144,6 +180,7 @@ static void parts(const given *g, const gm_symbol *symbols, uint64_t symbol_coun
         if (ended) break;
     }
     if (n + (uint64_t)ended < known) DIE("too many sections of all");
+    if (!ended && count < MANY && g->image.base != base) DIE("the base is %" PRIx64, g->image.base);
 }
 
 /* ---- what single commands say, by their bytes */
@@ -230,7 +267,11 @@ typedef struct { const given *g; uint64_t count, stop; } visits;
 static int visit(void *user, const gm_listed_export *item, const char *name) {
     visits *v = user;
     gm_export one;
+    const gm_export *e = &item->what;
+    uint64_t from = (e->flags & GM_EXPORT_SYMBOL_FLAGS_KIND_MASK) == GM_EXPORT_SYMBOL_FLAGS_KIND_ABSOLUTE && e->kind == GM_ADDRESS ? 0 : v->g->image.base;
     if (strlen(name) != item->name_len) DIE("a name without its zero byte");
+    if (e->kind == GM_REEXPORTED ? e->address || e->offset || e->resolver : e->address != from + e->offset) DIE("export %s is at another address", name);
+    if (e->kind != GM_STUB && e->resolver) DIE("export %s has a resolver", name);
     if (v->count < 20 && !gm_find_export(v->g->bytes, v->g->len, &v->g->image, name, item->name_len, &one, NULL, 0, NULL, 0, NULL, NULL)
         && gm_exports_are_a_tree(v->g->bytes, v->g->len, &v->g->image, NULL, NULL) == GM_OK
         && (one.kind != item->what.kind || one.address != item->what.address))
@@ -334,6 +375,18 @@ static void check_images(bool is_64) {
         uint32_t code = gm_image_for(bytes, sizeof bytes, asked[i].cputype, asked[i].cpusubtype, &one, &e);
         if (code != asked[i].code || e.code != code || (code ? one.offset != 7 : one.offset != asked[i].offset)) DIE("image %" PRIu64 ": code %u", i, code);
     }
+    gm_fat_entry64 cut;
+    gm_error why;
+    if (gm_image_for(bytes, sizeof bytes, GM_CPU_TYPE_X86_64, 3, &cut, &why) != GM_SHORT
+        || strcmp(why.text, "entry 3 is out of the file: it ends at 0x12d, the file at 0x12c")) DIE("the words %s", why.text);
+    if (is_64) {
+        uint8_t far[40];
+        memcpy(far, bytes, sizeof far);
+        put(far + 4, 1, 4);
+        put(far + 16, UINT64_MAX, 8);
+        if (gm_image_for(far, sizeof far, GM_CPU_TYPE_ARM64, GM_CPU_SUBTYPE_ANY, &cut, &why) != GM_SHORT
+            || strcmp(why.text, "entry 0 is out of the file: it ends at 0xffffffffffffffff, the file at 0x28")) DIE("the words %s", why.text);
+    }
     gm_fat_entry64 rows[5];
     gm_fat_entry narrow[5];
     if (gm_fat_entries64(bytes, sizeof bytes, 0, rows, 5) != 4 || rows[2].code || rows[3].code != GM_SHORT
@@ -354,8 +407,13 @@ static void check_texts(void) {
             "\\x1b[2J\\x0a"},
         {"\x7f", 1, "\\x7f"}, {"\xc3\xa4", 2, "\xc3\xa4"}, {"\xc2\x85", 2, "\\xc2\\x85"}, {"\xe2\x80\xae", 3, "\\xe2\\x80\\xae"}, {"\xe2\x80\xa6", 3,
             "\xe2\x80\xa6"},
-        {"\xe2\x81\xa9x", 4, "\\xe2\\x81\\xa9x"}, {"\xff", 1, "\\xff"}, {"\xc3", 1, "\\xc3"}, {"\xed\xa0\x80", 3, "\\xed\\xa0\\x80"}, {"\xf0\x9f\x98\x80", 4,
-            "\xf0\x9f\x98\x80"},
+        {"\xe2\x81\xa9x", 4, "\\xe2\\x81\\xa9x"}, {"\xff", 1, "\\xff"}, {"\xc2\xac", 2, "\xc2\xac"}, {"\xc2\xad", 2, "\\xc2\\xad"},
+        {"\xd8\x9c", 2, "\\xd8\\x9c"}, {"\xd8\x9d", 2, "\xd8\x9d"}, {"\xe1\xa0\x8e", 3, "\\xe1\\xa0\\x8e"}, {"\xe2\x80\x8a", 3, "\xe2\x80\x8a"},
+        {"\xe2\x80\x8b", 3, "\\xe2\\x80\\x8b"}, {"\xe2\x80\x90", 3, "\xe2\x80\x90"}, {"\xe2\x81\xa0", 3, "\\xe2\\x81\\xa0"},
+        {"\xe2\x81\xaf", 3, "\\xe2\\x81\\xaf"}, {"\xe2\x81\xb0", 3, "\xe2\x81\xb0"}, {"\xef\xbb\xbf", 3, "\\xef\\xbb\\xbf"},
+        {"\xef\xbf\xb9", 3, "\\xef\\xbf\\xb9"}, {"\xef\xbf\xbc", 3, "\xef\xbf\xbc"}, {"\xf3\xa0\x80\x81", 4, "\\xf3\\xa0\\x80\\x81"},
+        {"\xf3\xa0\x80\xa0", 4, "\\xf3\\xa0\\x80\\xa0"}, {"\xf3\xa0\x81\xbf", 4, "\\xf3\\xa0\\x81\\xbf"}, {"\xf3\xa0\x82\x80", 4, "\xf3\xa0\x82\x80"},
+        {"\xc3", 1, "\\xc3"}, {"\xed\xa0\x80", 3, "\\xed\\xa0\\x80"}, {"\xf0\x9f\x98\x80", 4, "\xf0\x9f\x98\x80"},
         {"\xf4\x90\x80\x80", 4, "\\xf4\\x90\\x80\\x80"}, {"\xe0\x9f\xbf", 3, "\\xe0\\x9f\\xbf"}, {"\xc0\x80", 2, "\\xc0\\x80"}};
     for (uint64_t i = 0; i < sizeof rows / sizeof *rows; i++)
         for (uint64_t cap = 0; cap < 24; cap++) {

@@ -106,8 +106,8 @@ static void dylib(FILE *to, const given *g, uint64_t ordinal) {
     if (!ordinal) fputs("self", to);
     else if (gm_libraries(OF, ordinal - 1, &l, 1)) text(to, g, l.name, l.name_len);
 }
-BEHIND(imports, gm_import, gm_bind_cursor)
-LIST(imports, gm_import, imports(g, first, rows, cap),
+BEHIND(opcode_imports, gm_import, gm_bind_cursor)
+LIST(opcode_imports, gm_import, opcode_imports(g, first, rows, cap),
      fprintf(to, "%u %" PRIu64 " %" PRIx64 " %" PRId64 " %" PRIx64 " %" PRIu64 " %u %u 0x%" PRIx64 " ", r->code, r->library, r->offset, r->addend,
              r->start_of_sequence_offset, r->size, r->is_weak, r->is_lazy, r->address);
      dylib(to, g, r->library); fputc(' ', to); text(to, g, r->name, r->name_len))
@@ -135,14 +135,14 @@ static uint64_t slots(const given *g, uint64_t first, gm_slot *rows, uint64_t ca
     return code ? 0 : count;
 }
 LIST(slots, gm_slot, slots(g, first, rows, cap),
-     fprintf(to, "%" PRIx64 " %" PRIu64 " %" PRIu64 " %u %u %u %u %u %u ", r->address, r->len, r->segment, r->section, r->kind, r->index, r->owner, r->symbol,
-         r->code);
+     fprintf(to, "%" PRIx64 " %" PRIu64 " %" PRIu64 " %u %u %u %u %u %u ", r->address, r->len, r->segment, r->section_index, r->kind, r->index, r->owner,
+         r->symbol, r->code);
      text(to, g, r->name, r->name_len))
 LIST(linker_options, gm_linker_option, gm_linker_options(OF, first, rows, cap),
      fprintf(to, "%" PRIx64 " %u ", r->command, r->code); text(to, g, r->text, r->text_len))
 LIST(build_tools, gm_build_tool, gm_build_tools(OF, first, rows, cap), fprintf(to, "%" PRIx64 " %u %x %u", r->command, r->tool, r->version, r->code))
 LIST(all_sections, gm_numbered_section, gm_all_sections(OF, first, rows, cap),
-     fprintf(to, "%" PRIx64 " %u %.16s %.16s %" PRIx64 " %" PRIx64 " %u", r->command, r->number, (const char *)r->section.name,
+     fprintf(to, "%" PRIx64 " %" PRIu64 " %u %.16s %.16s %" PRIx64 " %" PRIx64 " %u", r->command, r->number, r->index, (const char *)r->section.name,
              (const char *)r->section.segment, r->section.addr, r->section.size, r->section.code))
 LIST(build_versions, gm_build_version, gm_build_versions(OF, first, rows, cap),
      fprintf(to, "%" PRIx64 " %u %x %x", r->command, r->platform, r->minos, r->sdk))
@@ -188,6 +188,19 @@ LIST(signature, gm_signature, signature(g, first, rows, cap),
 LIST(signature_faults, gm_signature_fault, signature_faults(g, first, rows, cap),
      fprintf(to, "%s %x %u %" PRIx64 " %" PRIx64 " %u", gm_signature_kind(r->kind), r->slot, r->index, r->found, r->limit, r->code))
 
+/* ---- verdicts on how it is hardened */
+
+static uint64_t security(const given *g, uint64_t first, gm_verdict *rows, uint64_t cap) {
+    uint64_t count = UINT64_MAX;
+    gm_error e;
+    uint32_t code = gm_security(OF, first, rows, cap, &count, NULL, &e);
+    if (code && (count != UINT64_MAX || code != e.code)) DIE("a refusal changed the count, or has another code");
+    return code ? 0 : count;
+}
+LIST(security, gm_verdict, security(g, first, rows, cap),
+     if (r->holds > 1 || (r->code && r->holds)) DIE("a verdict that holds and isn't known");
+     fprintf(to, "%s %u %u", gm_verdict_name(r->verdict), r->holds, r->code))
+
 /* ---- faults of layout, of an image and of a fat file's table: the lines of machaudit */
 
 typedef uint32_t told(const given *g, uint64_t first, gm_layout_fault *out, uint64_t cap, uint64_t *count, const gm_memory *memory, gm_error *e);
@@ -229,15 +242,15 @@ typedef struct {
 } list;
 #define ONE(name, row) {#name, sizeof(row), rows_##name, line_##name}
 static const list lists[] = {ONE(commands, gm_command), ONE(segments, gm_segment), ONE(symbols, gm_symbol), ONE(libraries, gm_library),
-                             ONE(run_paths, gm_run_path), ONE(fixups, gm_fixup), ONE(imports, gm_import), ONE(bindings, gm_binding), ONE(entries, gm_fat_entry),
-                             ONE(sections, gm_section), ONE(relocations, gm_relocation), ONE(layout, gm_layout_fault),
+                             ONE(run_paths, gm_run_path), ONE(fixups, gm_fixup), ONE(opcode_imports, gm_import), ONE(bindings, gm_binding),
+                             ONE(entries, gm_fat_entry), ONE(sections, gm_section), ONE(relocations, gm_relocation), ONE(layout, gm_layout_fault),
                               ONE(table, gm_layout_fault), ONE(ids, gm_id), ONE(weak_binds, gm_weak_bind), ONE(rebases, gm_rebase),
                              ONE(function_starts, gm_function_start),
                              ONE(data_in_code, gm_data_in_code_entry), ONE(indirect_symbols, gm_indirect_symbol), ONE(slots, gm_slot),
                              ONE(linker_options, gm_linker_option), ONE(build_tools, gm_build_tool), ONE(notes, gm_note),
                              ONE(all_sections, gm_numbered_section), ONE(build_versions, gm_build_version), ONE(dyld_environment, gm_command_text),
                              ONE(fileset_entries, gm_fileset_entry),
-                             ONE(signature, gm_signature), ONE(signature_faults, gm_signature_fault)};
+                             ONE(signature, gm_signature), ONE(signature_faults, gm_signature_fault), ONE(security, gm_verdict)};
 enum { LISTS = sizeof lists / sizeof *lists, LIMIT = 400 };
 
 static const list *named(const char *name) {
@@ -364,7 +377,7 @@ static void finds(const given *g, const char *name, uint64_t name_len) {
 
 /* Checks faults with memory that is refused at each request, and out of an arena. */
 static void tells(told *call, const given *g) {
-    enum { CAP = 8, USED = offsetof(gm_layout_fault, other_part) + 4 };
+    enum { CAP = 8, USED = sizeof(gm_layout_fault) };
     static _Alignas(16) uint8_t room[1 << 20];
     gm_layout_fault all[CAP], again[CAP], before[CAP];
     uint64_t count = UINT64_MAX, count_again;
@@ -395,37 +408,58 @@ static void tells(told *call, const given *g) {
     tested++;
 }
 
-/* Checks the signature with memory that is refused at each request. It has faults exactly if the image isn't as it was signed. */
+/* Checks the signature with memory that is refused at each request. It has faults exactly if the image isn't as it was signed. Whether the
+   entitlements agree is said of each signature that can be read, and there are verdicts on each image. */
 static void says(const given *g) {
+    enum { VERDICTS = 20 };
     gm_signature_fault all[8], again[8];
+    gm_verdict verdicts[VERDICTS], verdicts_again[VERDICTS];
     gm_signature said, said_again;
     gm_error e = {0}, f = {0};
-    uint32_t is = 7, is_again;
-    uint64_t count = 0;
+    uint32_t is = 7, is_again, agree = 7, agree_again;
+    uint64_t count = 0, found = 0;
     memset(&said, 0x5a, sizeof said);
     memset(all, 0x5a, sizeof all);
-    const uint32_t codes[] = {gm_code_signature(OF, &said, NULL, &e), gm_is_as_signed(OF, &is, NULL, &e), gm_signature_faults(OF, 0, all, 8, &count, NULL, &e)};
+    memset(verdicts, 0x5a, sizeof verdicts);
+    const uint32_t codes[] = {gm_code_signature(OF, &said, NULL, &e), gm_is_as_signed(OF, &is, NULL, &e), gm_signature_faults(OF, 0, all, 8, &count, NULL, &e),
+                              gm_entitlements_agree(OF, &agree, NULL, &e), gm_security(OF, 0, verdicts, VERDICTS, &found, NULL, &e)};
+    if (codes[4] || found != (g->image.is_64 ? 18 : 19)) DIE("an image without all verdicts");
+    for (uint64_t k = 0; k < found; k++) {
+        if (verdicts[k].verdict != k + (g->image.is_64 ? 2 : 1) || !gm_verdict_meaning(verdicts[k].verdict)) DIE("a verdict of another number");
+        uint32_t verdict = verdicts[k].verdict;
+        int is_of_blob = verdict == GM_VERDICT_CMS || verdict == GM_VERDICT_ENTITLEMENTS || verdict == GM_VERDICT_GET_TASK_ALLOW;
+        if (verdicts[k].code && (verdict < GM_VERDICT_SIGNED || (!codes[0] && !is_of_blob))) DIE("a verdict that can't be read");
+        if (verdict == GM_VERDICT_SIGNED && verdicts[k].holds != (!codes[0] && said.is_signed)) DIE("signed, and no signature; or not");
+    }
     if (codes[1] != codes[2] || (codes[1] && (is != 7 || count))) DIE("a refusal changed what is said of a signature");
+    if (codes[3] != codes[2] || (codes[3] ? agree != 7 : agree > GM_ENTITLEMENTS_UNREADABLE_DER)) DIE("no agreement of a signature that can be read");
     if (!codes[1] && (is > 1 || (is && count) || (!is && !count && said.is_signed))) DIE("as signed, and faults; or neither");
     if (!codes[0] && codes[1]) DIE("a directory of a signature that can't be read");
     for (uint64_t k = 1, refused = 1; refused; k++) {
         refused = 0;
-        for (int call = 0; call < 3; call++) {
+        for (int call = 0; call < 5; call++) {
             counted c = {0, k, 0};
             gm_memory m = {&c, take, give};
             uint64_t count_again = 0;
-            is_again = 7;
+            is_again = agree_again = 7;
             memset(&said_again, 0x5a, sizeof said_again);
             memset(again, 0x5a, sizeof again);
+            memset(verdicts_again, 0x5a, sizeof verdicts_again);
             uint32_t code = call == 0 ? gm_code_signature(OF, &said_again, &m, &f)
-                          : call == 1 ? gm_is_as_signed(OF, &is_again, &m, &f) : gm_signature_faults(OF, 0, again, 8, &count_again, &m, &f);
+                          : call == 1 ? gm_is_as_signed(OF, &is_again, &m, &f)
+                          : call == 2 ? gm_signature_faults(OF, 0, again, 8, &count_again, &m, &f)
+                          : call == 3 ? gm_entitlements_agree(OF, &agree_again, &m, &f)
+                                      : gm_security(OF, 0, verdicts_again, VERDICTS, &count_again, &m, &f);
             if (c.held) DIE("a block was kept");
             if (code == GM_NO_MEMORY) {
                 refused = 1;
-                if (f.code != code || is_again != 7 || count_again || *(uint8_t *)&said_again != 0x5a || *(uint8_t *)again != 0x5a)
+                if (f.code != code || is_again != 7 || agree_again != 7 || count_again || *(uint8_t *)&said_again != 0x5a || *(uint8_t *)again != 0x5a
+                    || *(uint8_t *)verdicts_again != 0x5a)
                     DIE("refused memory left something of a signature");
             } else if (code != codes[call] || (call == 0 && memcmp(&said, &said_again, sizeof said)) || (call == 1 && is != is_again)
-                       || (call == 2 && (count != count_again || memcmp(all, again, sizeof all)))) DIE("memory changed what is said of a signature");
+                       || (call == 2 && (count != count_again || memcmp(all, again, sizeof all))) || (call == 3 && agree != agree_again)
+                       || (call == 4 && (found != count_again || memcmp(verdicts, verdicts_again, sizeof verdicts))))
+                DIE("memory changed what is said of a signature");
         }
     }
     tested++;
@@ -527,7 +561,7 @@ static char *export_lines(const given *g, uint64_t cap, uint64_t some, bool of_l
                 text(to, g, x->what.target_len ? x->target : 0, x->what.target_len);
                 fprintf(to, " %.*s\n", (int)x->name_len, r.names + x->name);
                 same_as_found(g, x, r.names);
-            } else fprintf(to, "0x%" PRIx64 " %.*s\n", x->what.kind == GM_ADDRESS ? x->what.address : 0, (int)x->name_len, r.names + x->name);
+            } else fprintf(to, "0x%" PRIx64 " %.*s\n", x->what.kind == GM_ADDRESS ? x->what.offset : 0, (int)x->name_len, r.names + x->name);
         }
         if (code) {
             if (walk.code != code || export_batch(g, &walk, &r, &b, NULL) != code || b.count) DIE("a refused walk went on");
@@ -1076,7 +1110,7 @@ static void slots_by_bytes(const given *g) {
             if (!len) { if (rows[n++].code != GM_MALFORMED) DIE("a stub of no size"); continue; }
             uint64_t addr = s.code == GM_OK ? s.addr : 0;
             for (uint64_t j = 0; s.code == GM_OK && j < size / len && n < many; j++) {
-                if (rows[n].code == GM_OK && (rows[n].segment != i || rows[n].section != k)) DIE("a slot of another section");
+                if (rows[n].code == GM_OK && (rows[n].segment != i || rows[n].section_index != k)) DIE("a slot of another section");
                 if (!slot_by_bytes(g, &rows[n++], addr + (j + 1) * len, len, (uint64_t)first + j, kind)) break;
             }
             if (s.code != GM_OK) return; /* (the library's own tests cover the rows of sections that lie partly in the file) */
@@ -1089,7 +1123,7 @@ static void slots_by_bytes(const given *g) {
         if (rows[n].code) continue;
         uint64_t within = rows[n].address + rows[n].len - 1;
         if (gm_section_at(OF, within, &in, NULL, &e) || !in.is_found) DIE("a slot in no section");
-        if (in.segment != rows[n].segment || in.number != rows[n].section) continue;
+        if (in.segment != rows[n].segment || in.index != rows[n].section_index) continue;
         if (gm_slot_at(OF, within, &again, NULL, &e) || memcmp(&again, &rows[n], sizeof again)) DIE("another slot of an address");
     }
 }
@@ -1106,7 +1140,7 @@ static void finds_by_bytes(const given *g) {
     for (uint64_t i = 0; gm_segments(OF, i, &segment, 1); i++)
         for (uint64_t k = 0; k < LIMIT && gm_sections(OF, segment.command, segment.sections, k, &s, 1); k++, number++) {
             uint32_t code = gm_section_of(OF, number, &found, NULL, &e);
-            if (code ? code != e.code : !found.is_found || found.segment != i || found.number != k) DIE("section %" PRIu64, number);
+            if (code ? code != e.code : !found.is_found || found.segment != i || found.index != k || found.number != number) DIE("section %" PRIu64, number);
             if (code || s.code) continue;
             if (memcmp(found.name, s.name, 16) || memcmp(found.segment_name, s.segment, 16) || found.addr != s.addr || found.size != s.size
                 || found.offset != s.offset || found.align != s.align || found.reloff != s.reloff || found.nreloc != s.nreloc || found.flags != s.flags)
@@ -1167,11 +1201,12 @@ static void check(const uint8_t *bytes, uint64_t len) {
         same_in_batches(named("ids"), &g);
         same_in_batches(named("signature"), &g);
         same_in_batches(named("signature_faults"), &g);
+        same_in_batches(named("security"), &g);
         says(&g);
         check_tables(&g);
         check_exports(&g);
         fixups_refused(&g);
-        imports_refused(&g);
+        opcode_imports_refused(&g);
         bindings_refused(&g);
         tells(told_of_image, &g);
         lies_behind(&g);
@@ -1309,12 +1344,15 @@ static void check_names(void) {
         {gm_code_name(GM_NO_IMAGE), "no image for the cpu"}, {gm_code_name(GM_NO_IMAGE + 1), NULL},
         {gm_kind_name(gm_kind(NULL, 0)), "an empty file"}, {gm_kind_name(GM_KIND_FAT_64), "a fat file of 64 bits"}, {gm_kind_name(GM_KIND_UNKNOWN), NULL},
         {gm_kind_name(GM_KIND_BITCODE + 1), NULL}, {gm_code_name(UINT32_MAX), NULL},
+        {gm_verdict_name(GM_VERDICT_PIE), "pie"}, {gm_verdict_meaning(GM_VERDICT_PIE), "loaded at a random address"}, {gm_verdict_name(0), NULL},
+        {gm_verdict_name(GM_VERDICT_GET_TASK_ALLOW + 1), NULL}, {gm_verdict_meaning(UINT32_MAX), NULL},
         {gm_cpu_name(GM_CPU_TYPE_ARM64, GM_CPU_SUBTYPE_ARM64E | UINT32_C(0x80000000)), "arm64e"}, {gm_cpu_name(GM_CPU_TYPE_ARM64, 1), NULL},
         {gm_cpu_name(GM_CPU_TYPE_X86_64, GM_CPU_SUBTYPE_X86_64_H), "x86_64h"}, {gm_cpu_name(GM_CPU_TYPE_ARM, GM_CPU_SUBTYPE_ARM_V7S), "armv7s"},
         {gm_cpu_name(GM_CPU_TYPE_POWERPC64, 0), "ppc64"}, {gm_cpu_name(GM_CPU_ARCH_ABI64, 0), NULL}, {gm_cpu_name(0, 0), NULL},
         {gm_file_type_name(GM_MH_EXECUTE), "EXECUTE"}, {gm_file_type_name(0), NULL}, {gm_file_type_name(GM_MH_GPU_DYLIB + 1), NULL},
         {gm_header_flag_name(GM_MH_PIE), "MH_PIE"}, {gm_header_flag_name(GM_MH_DYLIB_IN_CACHE), "MH_DYLIB_IN_CACHE"}, {gm_header_flag_name(3), NULL},
         {gm_command_name(GM_LC_MAIN), "LC_MAIN"}, {gm_command_name(GM_LC_REQ_DYLD), NULL}, {gm_command_name(GM_LC_MAIN ^ GM_LC_REQ_DYLD), NULL},
+        {gm_command_name(GM_LC_ATOM_INFO), "LC_ATOM_INFO"}, {gm_command_name(GM_LC_TARGET_TRIPLE + 1), NULL},
         {gm_symbol_type_name(GM_N_SECT | GM_N_EXT), "N_SECT"}, {gm_symbol_type_name(GM_N_FUN), "N_FUN"}, {gm_symbol_type_name(GM_N_EXT), "N_UNDF"},
         {gm_symbol_type_name(4), NULL}, {gm_symbol_type_name(0x21), NULL},
         {gm_relocation_name(GM_CPU_TYPE_ARM64_32, GM_ARM64_RELOC_ADDEND), "ARM64_RELOC_ADDEND"},
@@ -1401,6 +1439,7 @@ static void damage(const uint8_t *bytes, uint64_t len) {
     uint64_t number;
     gm_symbol_at(bytes, len, &g.image, made_up(len), &one, NULL, &e);
     gm_symbol_named(bytes, len, &g.image, "_a", chance() % 3, &one, NULL, &e);
+    gm_symbols_named(bytes, len, &g.image, "_a", chance() % 3, chance() % 2 ? 0 : made_up(len), &one, 1, &number, NULL, &e);
     gm_section_named(bytes, len, &g.image, "__TEXT", chance() % 7, "__text", chance() % 7, &section, NULL, &e);
     gm_function_at(bytes, len, &g.image, made_up(len), &function, NULL, &e);
     gm_segment_named(bytes, len, &g.image, "__TEXT", chance() % 7, &g.segment);
@@ -1410,6 +1449,9 @@ static void damage(const uint8_t *bytes, uint64_t len) {
     gm_source_version(bytes, len, &g.image, &number);
     gm_encryption(bytes, len, &g.image, &part);
     gm_dylinker(bytes, len, &g.image, &path);
+    uint32_t agreement;
+    gm_entitlements_agree(bytes, len, &g.image, &agreement, NULL, &e);
+    gm_requirement_text(bytes, len, &g.image, chance() % 7, library, chance() % 5, &number, NULL, &e);
     for (uint64_t i = 0; i < LISTS; i++) {
         uint64_t first = chance() % 2 ? 0 : made_up(len), cap = chance() % 5;
         uint8_t *out = malloc(cap * lists[i].size + !cap);
@@ -1427,7 +1469,7 @@ static void print_exports(const given *g, const char *names) {
         gm_error e;
         uint64_t n = strcspn(at, ",");
         if (gm_find_export(OF, at, n, &found, NULL, 0, NULL, 0, NULL, &e)) printf("refused: %s\n", e.text);
-        else if (found.kind == GM_ADDRESS) printf("0x%" PRIx64 " %.*s\n", found.address, (int)n, at);
+        else if (found.kind == GM_ADDRESS) printf("0x%" PRIx64 " %.*s\n", found.offset, (int)n, at);
         if (!at[n]) break;
     }
 }
@@ -1478,10 +1520,14 @@ static int print_names(void) {
     return 0;
 }
 
-/* Checks what no clause of the library promises: the texts of errors. */
+static void has_words(const gm_error *e, const char *text) {
+    if (strcmp(e->text, text)) DIE("'%s', and not '%s'", e->text, text);
+}
+
+/* Checks the texts of errors of the bytes. */
 static void check_words(void) {
     static const struct { uint8_t bytes[31]; uint32_t code; const char *text; } rows[] = {
-        {{0xcf, 0xfa, 0xed, 0xfe}, GM_MALFORMED, "malformed: a header is 32 bytes"},
+        {{0xcf, 0xfa, 0xed, 0xfe}, GM_MALFORMED, "malformed: the file ends in its header"},
         {{0, 0, 0xca, 0xfe}, GM_BAD_MAGIC, "bad magic 0xcafe"},
     };
     for (uint64_t n = 0; n < sizeof rows / sizeof *rows; n++) {
@@ -1489,8 +1535,28 @@ static void check_words(void) {
         gm_error e;
         memset(&e, 1, sizeof e);
         uint32_t code = gm_open(rows[n].bytes, sizeof rows[n].bytes, 0, GM_STRICT, NULL, &image, &e);
-        if (code != rows[n].code || code != e.code || strcmp(e.text, rows[n].text)) DIE("'%s', and not '%s'", e.text, rows[n].text);
+        if (code != rows[n].code || code != e.code) DIE("code %u, and not %u", code, rows[n].code);
+        has_words(&e, rows[n].text);
     }
+}
+
+/* Checks the words of refusals that are no errors of the bytes. Those of an array of no rows are checked where it is refused. */
+static void check_refusals(const given *g) {
+    gm_error e;
+    gm_fat_entry64 entry;
+    if (gm_image_for(g->bytes, g->len, 0, 0, &entry, &e) != GM_NO_IMAGE) DIE("an image for another cpu");
+    has_words(&e, "the file has no image for this cpu");
+    uint64_t needed;
+    if (gm_write_fat(NULL, 0, NULL, 0, 0, NULL, 0, &needed, NULL, &e) != GM_NO_SPACE) DIE("a file without room");
+    has_words(&e, "there is too little room for the file");
+    const uint8_t cut[8] = {0xca, 0xfe, 0xba, 0xbe, 0, 0, 0, 1};
+    if (gm_image_for(cut, sizeof cut, 0, GM_CPU_SUBTYPE_ANY, &entry, &e) != GM_SHORT) DIE("an entry without a record");
+    has_words(&e, "the file ends in the record of entry 0");
+    gm_export_walk refused = {.code = GM_MALFORMED};
+    gm_export_room room = {0};
+    gm_export_batch batch;
+    if (gm_exports(g->bytes, g->len, &g->image, &refused, &room, &batch, NULL, &e) != GM_MALFORMED) DIE("a walk that was refused before");
+    has_words(&e, "it was refused before");
 }
 
 /* Checks a fat file whose header says so many records, with so many bytes of them. So many entries must be reported, and the last may be cut. */
@@ -1547,6 +1613,167 @@ static void check_symbols(void) {
     free(bytes);
 }
 
+/* Checks the verdicts on an image without commands: those that its header says, by the bits of flags and by the cpu. */
+static void check_security(void) {
+    static const struct { uint32_t magic, cputype, cpusubtype, flags, holds; } rows[] = {
+        {0xfeedface, 7, 3, 0, 0}, {0xfeedface, 7, 3, GM_MH_NO_HEAP_EXECUTION, GM_VERDICT_NO_HEAP_EXECUTION}, {0xfeedfacf, 7, 3, GM_MH_NO_HEAP_EXECUTION, 0},
+        {0xfeedfacf, 7, 3, GM_MH_PIE, GM_VERDICT_PIE}, {0xfeedface, 7, 3, GM_MH_ALLOW_STACK_EXECUTION, GM_VERDICT_STACK_EXECUTION},
+        {0xfeedfacf, GM_CPU_TYPE_ARM64, UINT32_C(0x80000002), 0, GM_VERDICT_POINTER_AUTHENTICATION}, {0xfeedfacf, GM_CPU_TYPE_ARM64, 0, 0, 0}};
+    for (uint64_t n = 0; n < sizeof rows / sizeof *rows; n++) {
+        const uint32_t header[] = {rows[n].magic, rows[n].cputype, rows[n].cpusubtype, 2, 0, 0, rows[n].flags, 0};
+        uint8_t bytes[sizeof header];
+        given g = {.bytes = bytes, .len = sizeof bytes};
+        gm_verdict found[20];
+        uint64_t count = 7;
+        memcpy(bytes, header, sizeof bytes);
+        if (gm_open(bytes, sizeof bytes, 0, GM_STRICT, NULL, &g.image, NULL)) DIE("a header that doesn't open");
+        says(&g);
+        if (gm_security(bytes, sizeof bytes, &g.image, 0, NULL, 0, &count, NULL, NULL) != GM_NO_ROWS || count != 7) DIE("verdicts without room");
+        if (gm_security(bytes, sizeof bytes, &g.image, 0, found, 20, &count, NULL, NULL)) DIE("no verdicts");
+        for (uint64_t k = 0; k < count; k++)
+            if (found[k].code || found[k].holds != (found[k].verdict == rows[n].holds || found[k].verdict == GM_VERDICT_STRIPPED))
+                DIE("verdict %s of row %" PRIu64 ": %u", gm_verdict_name(found[k].verdict), n, found[k].holds);
+    }
+}
+
+typedef struct { uint32_t slot, magic; const char *at; uint64_t len; } given_blob;
+static void put_big(uint8_t *to, uint64_t number) {
+    memcpy(to, (uint8_t[]){number >> 24 & 255, number >> 16 & 255, number >> 8 & 255, number & 255}, 4);
+}
+
+/* Returns an image whose signature has these blobs, each with a content. It leaves out those whose content is NULL. */
+static uint8_t *image_of_blobs(const given_blob *blobs, uint64_t count, uint64_t *whole) {
+    enum { FRONT = 48 };
+    const uint32_t front[] = {0xfeedfacf, 0x0100000c, 0, 2, 1, 16, 0, 0, 0x1d, 16, FRONT, 0};
+    uint64_t held = 0, contents = 0;
+    for (uint64_t i = 0; i < count; i++)
+        if (blobs[i].at) held++, contents += 8 + blobs[i].len;
+    uint64_t at = 12 + 8 * held, size = at + contents, k = 0;
+    uint8_t *bytes = calloc(1, FRONT + size), *made = bytes + FRONT;
+    memcpy(bytes, front, FRONT);
+    memcpy(bytes + 44, (uint8_t[]){size & 255, size >> 8 & 255}, 2);
+    put_big(made, 0xfade0cc0);
+    put_big(made + 4, size);
+    put_big(made + 8, held);
+    for (uint64_t i = 0; i < count; i++) {
+        if (!blobs[i].at) continue;
+        put_big(made + 12 + 8 * k, blobs[i].slot);
+        put_big(made + 16 + 8 * k++, at);
+        put_big(made + at, blobs[i].magic);
+        put_big(made + at + 4, 8 + blobs[i].len);
+        memcpy(made + at + 8, blobs[i].at, blobs[i].len);
+        at += 8 + blobs[i].len;
+    }
+    *whole = FRONT + size;
+    return bytes;
+}
+
+/* The same of entitlements in XML and in DER. */
+static uint8_t *image_of_entitlements(const char *xml, const char *der, uint64_t der_len, uint64_t *whole) {
+    return image_of_blobs((const given_blob[]){{5, 0xfade7171, xml, xml ? strlen(xml) : 0}, {7, 0xfade7172, der, der_len}}, 2, whole);
+}
+
+/* Requests a text of a requirement in exactly so many bytes, and compares it, its length and what a refusal leaves unchanged. */
+static void requirement_is(const given *g, uint32_t type, uint32_t code, const char *text) {
+    uint64_t length = strlen(text);
+    for (uint64_t cap = 0; cap <= length + 1; cap++) {
+        char *out = malloc(cap + !cap);
+        uint64_t needed = 7777;
+        gm_error e = {0};
+        memset(out, 0x5a, cap);
+        uint32_t found = gm_requirement_text(OF, type, cap ? out : NULL, cap, &needed, NULL, &e);
+        if (found != (code || cap >= length ? code : GM_NO_SPACE) || found != e.code) DIE("a requirement of type %u: code %u", type, found);
+        if (needed != (code ? 7777 : length)) DIE("a requirement of type %u needs %" PRIu64, type, needed);
+        if (found == GM_NO_SPACE) has_words(&e, "there is too little room for the text");
+        uint64_t put = found ? 0 : length;
+        if (memcmp(out, text, put)) DIE("a requirement of type %u: another text", type);
+        for (uint64_t i = put; i < cap; i++)
+            if (out[i] != 0x5a) DIE("a byte after the text was written");
+        free(out);
+    }
+}
+
+/* Checks texts of requirements: one that is simple, one that isn't, one that can't be read, and those that aren't there. */
+static void check_requirements(void) {
+    static const char index[] = "\0\0\0\3\0\0\0\3\0\0\0\x24\0\0\0\4\0\0\0\x3c\0\0\0\5\x7f\0\0\0"
+                                "\xfa\xde\x0c\0\0\0\0\x18\0\0\0\1\0\0\0\2\0\0\0\2id\0\0"
+                                "\xfa\xde\x0c\0\0\0\0\x10\0\0\0\2\0\0\0\0";
+    given g = {0};
+    uint8_t *bytes = image_of_blobs((const given_blob[]){{2, 0xfade0c01, index, sizeof index - 1}}, 1, &g.len);
+    g.bytes = bytes;
+    if (gm_open(bytes, g.len, 0, GM_STRICT, NULL, &g.image, NULL)) DIE("requirements that don't open");
+    requirement_is(&g, GM_REQUIREMENT_DESIGNATED, GM_OK, "identifier \"id\"");
+    requirement_is(&g, GM_REQUIREMENT_LIBRARY, GM_OK, "not simple: fade0c00000000100000000200000000");
+    requirement_is(&g, GM_REQUIREMENT_HOST, GM_OK, "");
+    requirement_is(&g, GM_REQUIREMENT_PLUGIN, GM_SHORT, "");
+    requirement_is(&g, 0, GM_MALFORMED, "");
+    requirement_is(&g, 6, GM_MALFORMED, "");
+    for (uint64_t k = 1;; k++) {
+        counted c = {0, k, 0};
+        gm_memory m = {&c, take, give};
+        char out[64] = {0};
+        uint64_t needed = 7;
+        uint32_t code = gm_requirement_text(bytes, g.len, &g.image, GM_REQUIREMENT_LIBRARY, out, sizeof out, &needed, &m, NULL);
+        if (c.held) DIE("a block was kept");
+        if (code == GM_NO_MEMORY && (needed != 7 || *out)) DIE("refused memory left something of a text");
+        if (code == GM_NO_MEMORY) continue;
+        if (code || needed != 44 || memcmp(out, "not simple: fade", 16)) DIE("memory changed a text");
+        if (k < 3) DIE("a text without memory");
+        break;
+    }
+    bytes[48 + 20] = 0;
+    requirement_is(&g, GM_REQUIREMENT_HOST, GM_MALFORMED, "");
+    bytes[48] = 0;
+    requirement_is(&g, GM_REQUIREMENT_HOST, GM_BAD_MAGIC, "");
+    free(bytes);
+    bytes = image_of_entitlements(NULL, NULL, 0, &g.len);
+    g.bytes = bytes;
+    if (gm_open(bytes, g.len, 0, GM_STRICT, NULL, &g.image, NULL)) DIE("no requirements that don't open");
+    requirement_is(&g, GM_REQUIREMENT_DESIGNATED, GM_OK, "");
+    free(bytes);
+}
+
+/* Checks whether entitlements agree: for each of the numbers, for blobs that can't be read, and for a signature that can't. */
+static void check_entitlements(void) {
+    static const char a[] = "<plist version=\"1.0\"><dict><key>a</key><true/></dict></plist>";
+    static const char b[] = "<plist version=\"1.0\"><dict><key>b</key><true/></dict></plist>";
+    static const char der[] = "\x70\x0d\x02\x01\x01\xb0\x08\x30\x06\x0c\x01" "a" "\x01\x01\xff";
+    static const struct { const char *xml, *der; uint64_t der_len; int damage; uint32_t want; } rows[] = {
+        {NULL, NULL, 0, 0, GM_ENTITLEMENTS_NONE}, {a, der, 15, 0, GM_ENTITLEMENTS_AGREE}, {b, der, 15, 0, GM_ENTITLEMENTS_DIFFER},
+        {a, NULL, 0, 0, GM_ENTITLEMENTS_ONLY_XML}, {"<plist", NULL, 0, 0, GM_ENTITLEMENTS_ONLY_XML}, {NULL, der, 15, 0, GM_ENTITLEMENTS_ONLY_DER},
+        {"<plist", der, 15, 0, GM_ENTITLEMENTS_UNREADABLE_XML}, {"", "", 0, 0, GM_ENTITLEMENTS_UNREADABLE_XML},
+        {a, der, 14, 0, GM_ENTITLEMENTS_UNREADABLE_DER}, {a, "", 0, 0, GM_ENTITLEMENTS_UNREADABLE_DER},
+        {a, der, 15, 1, GM_ENTITLEMENTS_UNREADABLE_XML}, {a, der, 15, 2, GM_ENTITLEMENTS_UNREADABLE_DER},
+        {a, der, 15, 3, GM_ENTITLEMENTS_UNREADABLE_XML}, {a, NULL, 0, 1, GM_ENTITLEMENTS_UNREADABLE_XML},
+        {NULL, der, 15, 1, GM_ENTITLEMENTS_UNREADABLE_DER}};
+    for (uint64_t n = 0; n < sizeof rows / sizeof *rows; n++) {
+        given g = {0};
+        uint8_t *bytes = image_of_entitlements(rows[n].xml, rows[n].der, rows[n].der_len, &g.len);
+        uint32_t agreement = 7;
+        gm_error e = {0};
+        g.bytes = bytes;
+        for (int k = 0; k < 2; k++)
+            if (rows[n].damage >> k & 1) memset(bytes + 48 + 12 + 8 * k + 4, 0x7f, 4);
+        if (gm_open(g.bytes, g.len, 0, GM_STRICT, NULL, &g.image, NULL)) DIE("entitlements that don't open");
+        if (gm_entitlements_agree(g.bytes, g.len, &g.image, &agreement, NULL, &e) || agreement != rows[n].want || e.code)
+            DIE("entitlements of row %" PRIu64 ": %u, and not %u", n, agreement, rows[n].want);
+        says(&g);
+        bytes[48] = 0;
+        agreement = 7;
+        if (gm_entitlements_agree(g.bytes, g.len, &g.image, &agreement, NULL, &e) != GM_BAD_MAGIC || agreement != 7 || e.code != GM_BAD_MAGIC)
+            DIE("entitlements of a signature that can't be read");
+        says(&g);
+        free(bytes);
+    }
+    given g = {0};
+    uint8_t *bytes = image_of_symbols((const uint8_t[17]){0}, 17, 1, &g.len);
+    uint32_t agreement = 7;
+    g.bytes = bytes;
+    if (gm_open(g.bytes, g.len, 0, GM_STRICT, NULL, &g.image, NULL) || gm_entitlements_agree(g.bytes, g.len, &g.image, &agreement, NULL, NULL)
+        || agreement != GM_ENTITLEMENTS_NONE) DIE("entitlements without a signature");
+    free(bytes);
+}
+
 /* memory whose functions call the library themselves, out of malloc, of themselves, or of an arena */
 typedef struct { const uint8_t *bytes; uint64_t len, depth, calls; } calling;
 static void call_within(calling *c);
@@ -1593,7 +1820,7 @@ static void check_edges(void) {
     gm_start_cursor s = {0};
     uint64_t count = 5;
     const uint32_t codes[] = {gm_fixups(g.bytes, g.len, &g.image, &f, NULL, 0, &count, NULL, &e),
-                              gm_imports(g.bytes, g.len, &g.image, &i, NULL, 0, &count, NULL, &e),
+                              gm_opcode_imports(g.bytes, g.len, &g.image, &i, NULL, 0, &count, NULL, &e),
                               gm_bindings(g.bytes, g.len, &g.image, &b, NULL, 0, &count, NULL, NULL),
                               gm_weak_binds(g.bytes, g.len, &g.image, &w, NULL, 0, &count, NULL, NULL),
                               gm_rebases(g.bytes, g.len, &g.image, &r, NULL, 0, &count, NULL, NULL),
@@ -1604,6 +1831,7 @@ static void check_edges(void) {
                               gm_container_faults(g.bytes, g.len, 0, NULL, 0, &count, NULL, NULL)};
     for (uint64_t n = 0; n < sizeof codes / sizeof *codes; n++)
         if (codes[n] != GM_NO_ROWS || count != 5) DIE("call %" PRIu64 " with an array of no rows: %u", n, codes[n]);
+    has_words(&e, "the array has room for no row");
     gm_export_walk walk = {0};
     gm_export_room room = {NULL, 0, NULL, 0, NULL, 0, NULL, 0};
     gm_export_batch batch;
@@ -1615,6 +1843,7 @@ static void check_edges(void) {
     if (gm_exports(g.bytes, g.len, &g.image, &walk, &room, &batch, NULL, NULL) || batch.end != GM_NO_ROOM || batch.needed != 9)
         DIE("exports with no room for a name");
     if (gm_open(g.bytes, g.len, 0, GM_STRICT, NULL, &g.image, NULL)) DIE("an image that opened");
+    check_refusals(&g);
     check_within(&g);
     free(bytes);
 }
@@ -1631,6 +1860,9 @@ int main(int argc, char **argv) {
     check_cut();
     check_symbols();
     check_edges();
+    check_entitlements();
+    check_security();
+    check_requirements();
     check_shared();
     check(NULL, 0);
     for (int i = 2 + of_damage; i < argc; i++) {

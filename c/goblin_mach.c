@@ -190,7 +190,7 @@ uint64_t gm_relocations(const uint8_t *bytes, uint64_t len, const gm_image *imag
                        const gm_memory *memory, gm_error *error) \
         WITH_MEMORY(gmr_##name(BYTES, len, image, from, AT(out), cap, count, TOLD))
 BEHIND(fixups, gm_fixup, gm_fixup_cursor *)
-BEHIND(imports, gm_import, gm_bind_cursor *)
+BEHIND(opcode_imports, gm_import, gm_bind_cursor *)
 BEHIND(bindings, gm_binding, gm_binding_cursor *)
 BEHIND(weak_binds, gm_weak_bind, gm_bind_cursor *)
 BEHIND(rebases, gm_rebase, gm_rebase_cursor *)
@@ -198,6 +198,7 @@ BEHIND(function_starts, gm_function_start, gm_start_cursor *)
 BEHIND(layout_faults, gm_layout_fault, uint64_t)
 BEHIND(slots, gm_slot, uint64_t)
 BEHIND(signature_faults, gm_signature_fault, uint64_t)
+BEHIND(security, gm_verdict, uint64_t)
 
 /* what is looked up in an image by a number */
 #define SOUGHT(name, number, row) \
@@ -215,6 +216,11 @@ uint32_t gm_symbol_named(const uint8_t *bytes, uint64_t len, const gm_image *ima
                          const gm_memory *memory, gm_error *error)
     WITH_MEMORY(gmr_symbol_named(BYTES, len, image, AT((char *)name), name_len, symbol, TOLD))
 
+uint32_t gmr_symbols_named(const uint8_t *, uint64_t, const gm_image *, const char *, uint64_t, uint64_t, gm_found_symbol *, uint64_t, uint64_t *, gm_error *);
+uint32_t gm_symbols_named(const uint8_t *bytes, uint64_t len, const gm_image *image, const char *name, uint64_t name_len, uint64_t first,
+                          gm_found_symbol *out, uint64_t cap, uint64_t *count, const gm_memory *memory, gm_error *error)
+    WITH_MEMORY(gmr_symbols_named(BYTES, len, image, AT((char *)name), name_len, first, AT(out), cap, count, TOLD))
+
 uint32_t gmr_section_named(const uint8_t *, uint64_t, const gm_image *, const char *, uint64_t, const char *, uint64_t, gm_found_section *, gm_error *);
 uint32_t gm_section_named(const uint8_t *bytes, uint64_t len, const gm_image *image, const char *segment, uint64_t segment_len, const char *name,
                           uint64_t name_len, gm_found_section *section, const gm_memory *memory, gm_error *error)
@@ -227,6 +233,12 @@ uint32_t gm_section_named(const uint8_t *bytes, uint64_t len, const gm_image *im
         WITH_MEMORY(gmr_##name(BYTES, len, image, said, TOLD))
 SAID(code_signature, gm_signature)
 SAID(is_as_signed, uint32_t)
+SAID(entitlements_agree, uint32_t)
+
+uint32_t gmr_requirement_text(const uint8_t *, uint64_t, const gm_image *, uint32_t, char *, uint64_t, uint64_t *, gm_error *);
+uint32_t gm_requirement_text(const uint8_t *bytes, uint64_t len, const gm_image *image, uint32_t type, char *out, uint64_t cap, uint64_t *needed,
+                             const gm_memory *memory, gm_error *error)
+    WITH_MEMORY(gmr_requirement_text(BYTES, len, image, type, AT(out), cap, needed, TOLD))
 
 void gmr_symbol_provider(const gm_image *, const gm_symbol *, gm_provider *);
 void gm_symbol_provider(const gm_image *image, const gm_symbol *symbol, gm_provider *found) { gmr_symbol_provider(image, symbol, found); }
@@ -326,12 +338,23 @@ static uint64_t char_len(const uint8_t *s, uint64_t left) {
     return len;
 }
 
-/* Returns whether a character isn't shown: a control character, one for the direction of text, or the end of a line. */
-static bool is_hidden(const uint8_t *s, uint64_t len) {
-    if (len == 1) return s[0] < 0x20 || s[0] == 0x7f;
-    if (len == 2) return s[0] == 0xc2 && s[1] < 0xa0;
-    return len == 3 && s[0] == 0xe2 && ((s[1] == 0x80 && (is_within(s[2], 0x8e, 0x8f) || is_within(s[2], 0xa8, 0xae))) ||
-                                        (s[1] == 0x81 && is_within(s[2], 0xa6, 0xa9)));
+/* Returns the number of the first character of UTF-8, which has `len` bytes. */
+static uint32_t char_at(const uint8_t *s, uint64_t len) {
+    uint32_t number = len == 1 ? s[0] : s[0] & (0x7fu >> len);
+    for (uint64_t i = 1; i < len; i++) number = number << 6 | (s[i] & 0x3f);
+    return number;
+}
+
+/* Returns whether a character shows nothing itself: one of the general categories Cc, Zl and Zp of the Unicode Character Database, or one that is
+   ignorable by default (Default_Ignorable_Code_Point) and of the category Cf. The programs escape the same ones. */
+static bool is_hidden(uint32_t number) {
+    static const uint32_t ranges[][2] = {
+        {0x0, 0x1f}, {0x7f, 0x9f}, {0xad, 0xad}, {0x61c, 0x61c}, {0x180e, 0x180e}, {0x200b, 0x200f}, {0x2028, 0x202e}, {0x2060, 0x206f},
+        {0xfeff, 0xfeff}, {0xfff9, 0xfffb}, {0xe0001, 0xe0001}, {0xe0020, 0xe007f},
+    };
+    for (size_t i = 0; i < sizeof ranges / sizeof *ranges; i++)
+        if (ranges[i][0] <= number && number <= ranges[i][1]) return true;
+    return false;
 }
 
 /* Writes a byte as an escape. */
@@ -348,11 +371,11 @@ uint64_t gm_text(char *out, uint64_t cap, const void *name, uint64_t name_len) {
     uint64_t needed = 1, written = 0;
     while (name_len && s[name_len - 1] == 0) name_len--;
     for (uint64_t at = 0, len; at < name_len; at += len) {
-        char put[12];
+        char put[16];
         uint64_t size = 0, shown = char_len(s + at, name_len - at);
         len = shown ? shown : 1;
         if (s[at] == '\\') put[size++] = '\\', put[size++] = '\\';
-        else if (shown && !is_hidden(s + at, len)) memcpy(put, s + at, (size_t)(size = len));
+        else if (shown && !is_hidden(char_at(s + at, len))) memcpy(put, s + at, (size_t)(size = len));
         else
             for (uint64_t i = 0; i < len; i++, size += 4) escape(put + size, s[at + i]);
         if (needed + size <= cap && written + 1 == needed) {

@@ -91,7 +91,7 @@ static uint64_t relocations(const given *g) { return inner(g, 1); }
         return found; \
     }
 BEHIND(fixups, gm_fixup, gm_fixup_cursor)
-BEHIND(imports, gm_import, gm_bind_cursor)
+BEHIND(opcode_imports, gm_import, gm_bind_cursor)
 BEHIND(bindings, gm_binding, gm_binding_cursor)
 BEHIND(weak_binds, gm_weak_bind, gm_bind_cursor)
 BEHIND(rebases, gm_rebase, gm_rebase_cursor)
@@ -119,11 +119,27 @@ static uint64_t signature_faults(const given *g) {
     while (goes_on() && !gm_signature_faults(OF, found, rows, ROWS, &n, NULL, &e) && n) found += n;
     return found;
 }
+static uint64_t requirements(const given *g) {
+    static char text[1 << 22];
+    uint64_t found = 0, needed;
+    gm_error e;
+    for (uint32_t type = GM_REQUIREMENT_HOST; goes_on() && type <= GM_REQUIREMENT_PLUGIN; type++)
+        found += !gm_requirement_text(OF, type, text, sizeof text, &needed, NULL, &e) && needed;
+    return found;
+}
+static uint64_t security(const given *g) {
+    static gm_verdict rows[ROWS];
+    uint64_t found = 0, n;
+    gm_error e;
+    while (goes_on() && !gm_security(OF, found, rows, ROWS, &n, NULL, &e) && n) found += n;
+    return found;
+}
 static uint64_t signature(const given *g) {
     gm_signature said;
     uint32_t is = 0;
     gm_error e;
-    return (!gm_code_signature(OF, &said, NULL, &e) && said.is_signed) + (!gm_is_as_signed(OF, &is, NULL, &e) && is);
+    return (!gm_code_signature(OF, &said, NULL, &e) && said.is_signed) + (!gm_is_as_signed(OF, &is, NULL, &e) && is)
+        + (!gm_entitlements_agree(OF, &is, NULL, &e) && is);
 }
 
 /* Looks up by an address or a number: addresses in some order, and numbers up to as many. */
@@ -155,6 +171,7 @@ static uint64_t parts_at(const given *g) {
         found += !gm_symbol_at(OF, address, &symbol, NULL, &e) && symbol.is_found;
         found += !gm_function_at(OF, address, &function, NULL, &e) && function.is_found;
         found += !gm_symbol_named(OF, name, len, &symbol, NULL, &e) && symbol.is_found;
+        found += !gm_symbols_named(OF, name, len, 0, &symbol, 1, &number, NULL, &e) && number;
         found += !gm_section_named(OF, name, len, name, len, &section, NULL, &e) && section.is_found;
         found += gm_segment_named(OF, name, len, &segment);
         found += gm_address_of_offset(OF, address, &number) + gm_offset_of_address(OF, address, &number);
@@ -265,8 +282,8 @@ static const struct { const char *name; uint64_t (*call)(const given *); } all[]
     CALL(entries), CALL(container), CALL(open_all), CALL(entries64), CALL(members), CALL(archive_symbols), CALL(archive_find), CALL(write_fat), CALL(image_for),
     CALL(commands), CALL(segments), CALL(sections), CALL(relocations), CALL(symbols), CALL(libraries),
     CALL(run_paths), CALL(ids), CALL(data_in_code), CALL(indirect_symbols), CALL(linker_options), CALL(build_tools), CALL(notes), CALL(find), CALL(exports),
-    CALL(tree), CALL(fixups), CALL(imports), CALL(bindings), CALL(weak_binds), CALL(rebases), CALL(function_starts), CALL(slots), CALL(slot_at),
-    CALL(layout), CALL(signature), CALL(signature_faults), CALL(all_sections), CALL(build_versions), CALL(dyld_environment), CALL(fileset_entries),
+    CALL(tree), CALL(fixups), CALL(opcode_imports), CALL(bindings), CALL(weak_binds), CALL(rebases), CALL(function_starts), CALL(slots), CALL(slot_at),
+    CALL(layout), CALL(signature), CALL(signature_faults), CALL(security), CALL(requirements), CALL(all_sections), CALL(build_versions), CALL(dyld_environment), CALL(fileset_entries),
     CALL(said), CALL(parts_at), CALL(exports_each)};
 
 /* Reads the bytes of a file, at most 4 MB of them. Returns whether it can be read. */

@@ -1,6 +1,6 @@
 #!/usr/bin/env python3
-"""many_rows.py FOLDER: writes an image with 1,000 symbols, imports and exports and 200 sections to FOLDER/many. The lines that the examples
-of docs/C.md print for it are in FOLDER/symbols, commands, sections, imports, bindings, exports, faults, memory and create. An archive with
+"""many_rows.py FOLDER: writes an image with 1,000 symbols, imports and exports and 200 sections to FOLDER/many. The lines that the programs
+of c/examples and docs/C.md print for it are in FOLDER/symbols, commands, sections, imports, bindings, exports, faults, memory and create. An archive with
 the image is FOLDER/many.a, and the lines for it are in FOLDER/members. A fat file of 20 entries, each of them the image, is FOLDER/fat, and
 the lines for it are in FOLDER/entries."""
 import struct

@@ -56,6 +56,10 @@ const char *gm_command_name(uint32_t cmd) {
     case GM_LC_DYLD_EXPORTS_TRIE: return "LC_DYLD_EXPORTS_TRIE";
     case GM_LC_DYLD_CHAINED_FIXUPS: return "LC_DYLD_CHAINED_FIXUPS";
     case GM_LC_FILESET_ENTRY: return "LC_FILESET_ENTRY";
+    case GM_LC_ATOM_INFO: return "LC_ATOM_INFO";
+    case GM_LC_FUNCTION_VARIANTS: return "LC_FUNCTION_VARIANTS";
+    case GM_LC_FUNCTION_VARIANT_FIXUPS: return "LC_FUNCTION_VARIANT_FIXUPS";
+    case GM_LC_TARGET_TRIPLE: return "LC_TARGET_TRIPLE";
     default: return NULL;
     }
 }
@@ -253,6 +257,56 @@ const char *gm_kind_name(uint32_t kind) {
     case GM_KIND_IMAGE: return "an image";
     case GM_KIND_FAT: return "a fat file";
     case GM_KIND_FAT_64: return "a fat file of 64 bits";
+    default: return NULL;
+    }
+}
+
+const char *gm_verdict_name(uint32_t verdict) {
+    switch (verdict) {
+    case GM_VERDICT_NO_HEAP_EXECUTION: return "no-heap-execution";
+    case GM_VERDICT_PIE: return "pie";
+    case GM_VERDICT_STACK_EXECUTION: return "stack-execution";
+    case GM_VERDICT_POINTER_AUTHENTICATION: return "pointer-authentication";
+    case GM_VERDICT_STACK_CANARY: return "stack-canary";
+    case GM_VERDICT_WRITABLE_CODE: return "writable-code";
+    case GM_VERDICT_WRITABLE_CODE_ALLOWED: return "writable-code-allowed";
+    case GM_VERDICT_RESTRICTED: return "restricted";
+    case GM_VERDICT_CHAINED_FIXUPS: return "chained-fixups";
+    case GM_VERDICT_RELATIVE_RUN_PATHS: return "relative-run-paths";
+    case GM_VERDICT_ENCRYPTED: return "encrypted";
+    case GM_VERDICT_STRIPPED: return "stripped";
+    case GM_VERDICT_SIGNED: return "signed";
+    case GM_VERDICT_AD_HOC: return "ad-hoc";
+    case GM_VERDICT_CMS: return "cms";
+    case GM_VERDICT_HARDENED_RUNTIME: return "hardened-runtime";
+    case GM_VERDICT_LIBRARY_VALIDATION: return "library-validation";
+    case GM_VERDICT_ENTITLEMENTS: return "entitlements";
+    case GM_VERDICT_GET_TASK_ALLOW: return "get-task-allow";
+    default: return NULL;
+    }
+}
+
+const char *gm_verdict_meaning(uint32_t verdict) {
+    switch (verdict) {
+    case GM_VERDICT_NO_HEAP_EXECUTION: return "execution refused on the heap";
+    case GM_VERDICT_PIE: return "loaded at a random address";
+    case GM_VERDICT_STACK_EXECUTION: return "execution allowed on the stack";
+    case GM_VERDICT_POINTER_AUTHENTICATION: return "for arm64e, which signs pointers";
+    case GM_VERDICT_STACK_CANARY: return "code that checks its stack by canaries";
+    case GM_VERDICT_WRITABLE_CODE: return "a segment both writable and executable";
+    case GM_VERDICT_WRITABLE_CODE_ALLOWED: return "a segment that may become both";
+    case GM_VERDICT_RESTRICTED: return "dyld is to ignore environment variables";
+    case GM_VERDICT_CHAINED_FIXUPS: return "pointers in chains of fixups";
+    case GM_VERDICT_RELATIVE_RUN_PATHS: return "a run path that begins with neither / nor @";
+    case GM_VERDICT_ENCRYPTED: return "a part is encrypted";
+    case GM_VERDICT_STRIPPED: return "no local symbols";
+    case GM_VERDICT_SIGNED: return "a code directory";
+    case GM_VERDICT_AD_HOC: return "signed without an identity";
+    case GM_VERDICT_CMS: return "a CMS message, which says who signed";
+    case GM_VERDICT_HARDENED_RUNTIME: return "started in the hardened runtime";
+    case GM_VERDICT_LIBRARY_VALIDATION: return "only libraries of its team or of the system";
+    case GM_VERDICT_ENTITLEMENTS: return "entitlements in the signature";
+    case GM_VERDICT_GET_TASK_ALLOW: return "debuggers may attach to it";
     default: return NULL;
     }
 }

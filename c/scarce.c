@@ -1,11 +1,12 @@
-/* tools/rows loads this into a program by LD_PRELOAD if a row requests memory, a clock or renames that fail. The environment says which:
+/* tools/rows loads this into a program by LD_PRELOAD if a row requests memory, a clock, renames or changes of permissions that fail. The environment says which:
      SCARCE_GROWTH=N, N..   the Nth growth of memory is refused, or the Nth and all later ones
      SCARCE_SPARED=N        the first N growths are neither counted nor refused
      SCARCE_HEAP=N          a growth is refused after which the program would hold more than N bytes
      SCARCE_CLOCK=STEP,..   each reading of the monotonic clock is so many nanoseconds after the previous one, by these steps in turn
      SCARCE_CLOCK=none      that clock can't be read
      SCARCE_RENAMES=none    no file can be renamed
-     SCARCE_TOLD=FD         a letter is written to FD once the first growth, reading or rename was affected: g, c or r;
+     SCARCE_MODES=none      of no open file can the permissions be changed
+     SCARCE_TOLD=FD         a letter is written to FD once the first growth, reading, rename or change was affected: g, c, r or m;
                             and h once the bytes that the program holds are counted
    A growth is a call of the C library's allocator from the program's own code, which the return address shows. What the C library requests by
    itself, before `main` or within a call, is neither counted nor refused. A block counts with all its usable bytes. */
@@ -18,6 +19,7 @@
 #include <stdint.h>
 #include <stdlib.h>
 #include <string.h>
+#include <sys/stat.h>
 #include <sys/syscall.h>
 #include <time.h>
 #include <unistd.h>
@@ -29,7 +31,7 @@ enum { MOST = 16 };
 static uintptr_t own_from, own_upto;
 static uint64_t refused, spared, growths, now, steps[MOST];
 static uint64_t count, readings, most, held;
-static bool all_behind, is_heap, no_clock, no_renames;
+static bool all_behind, is_heap, no_clock, no_renames, no_modes;
 static int told = -1;
 
 /* Finds where the program's own code is. The first of all objects is the program. */
@@ -47,7 +49,8 @@ static int find_own(struct dl_phdr_info *info, uint64_t size, void *nothing) {
 
 __attribute__((constructor)) static void begin(void) {
     const char *growth = getenv("SCARCE_GROWTH"), *heap = getenv("SCARCE_HEAP"), *clock = getenv("SCARCE_CLOCK");
-    const char *renames = getenv("SCARCE_RENAMES"), *fd = getenv("SCARCE_TOLD"), *first = getenv("SCARCE_SPARED");
+    const char *renames = getenv("SCARCE_RENAMES"), *modes = getenv("SCARCE_MODES");
+    const char *fd = getenv("SCARCE_TOLD"), *first = getenv("SCARCE_SPARED");
     char *rest;
     dl_iterate_phdr(find_own, NULL);
     if (growth) refused = strtoull(growth, &rest, 10), all_behind = *rest == '.';
@@ -55,12 +58,13 @@ __attribute__((constructor)) static void begin(void) {
     if (heap) most = strtoull(heap, &rest, 10), is_heap = true;
     no_clock = clock && strcmp(clock, "none") == 0;
     no_renames = renames != NULL;
+    no_modes = modes != NULL;
     for (; clock && !no_clock && *clock && count < MOST; clock = *rest ? rest + 1 : rest) steps[count++] = strtoull(clock, &rest, 10);
     if (fd) told = atoi(fd);
 }
 
 static void tell(char letter) {
-    static char before[4];
+    static char before[5];
     char *free_place = memchr(before, 0, sizeof before);
     if (told < 0 || !free_place || memchr(before, letter, sizeof before)) return;
     *free_place = letter;
@@ -153,3 +157,9 @@ static int renamed(long answer) {
 int rename(const char *from, const char *to) { return AT((SYS_renameat2, AT_FDCWD, from, AT_FDCWD, to, 0)); }
 int renameat(int there, const char *from, int here, const char *to) { return AT((SYS_renameat2, there, from, here, to, 0)); }
 int renameat2(int there, const char *from, int here, const char *to, unsigned how) { return AT((SYS_renameat2, there, from, here, to, how)); }
+
+int fchmod(int file, mode_t mode) {
+    if (!no_modes) return (int)syscall(SYS_fchmod, file, mode);
+    tell('m');
+    return errno = EPERM, -1;
+}

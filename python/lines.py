@@ -20,7 +20,7 @@ def _commands(image: Image) -> Iterator[str]:
 
 def _segments(image: Image) -> Iterator[str]:
     for s in image.segments():
-        yield (f"{s.name.decode('utf-8', 'surrogateescape')} {s.vmaddr:x} {s.vmsize:x} {s.fileoff:x} {s.filesize:x} {s.command} {len(s.data)} "
+        yield (f"{s.name} {s.vmaddr:x} {s.vmsize:x} {s.fileoff:x} {s.filesize:x} {s.command} {len(s.data)} "
                f"{s.maxprot:x} {s.initprot:x} {s.nsects} {s.flags:x}")
 
 
@@ -53,7 +53,7 @@ def _indirect_symbols(image: Image) -> Iterator[str]:
 
 def _slots(image: Image) -> Iterator[str]:
     for s in image.symbol_slots():
-        yield (f"{s.address:x} {s.len} {s.segment} {s.section} {goblin_mach.SLOTS.index(s.kind)} {s.index} {goblin_mach.INDIRECT.index(s.owner)} "
+        yield (f"{s.address:x} {s.len} {s.segment} {s.section_index} {goblin_mach.SLOTS.index(s.kind)} {s.index} {goblin_mach.INDIRECT.index(s.owner)} "
                f"{s.symbol or 0} {code_of(s.error)} {s.name or ''}")
 
 
@@ -80,10 +80,10 @@ def _fixups(image: Image) -> Iterator[str]:
 
 def _exports(image: Image) -> Iterator[str]:
     for e in image.exports():
-        yield f"0x{e.address if e.kind == goblin_mach.EXPORTS[1] else 0:x} {e.name}"
+        yield f"0x{e.offset if e.kind == goblin_mach.EXPORTS[1] else 0:x} {e.name}"
 
 
-def _imports(image: Image) -> Iterator[str]:
+def _opcode_imports(image: Image) -> Iterator[str]:
     names = ["self"] + [library.name for library in image.libraries()]
     for i in image.opcode_imports():
         yield (f"{code_of(i.error)} {i.library} {i.offset:x} {i.addend} {i.start_of_sequence_offset:x} {i.size} {int(i.is_weak)} {int(i.is_lazy)} "
@@ -121,6 +121,11 @@ def _signature_faults(image: Image) -> Iterator[str]:
         yield f"{f.kind} {f.slot:x} {f.number} {f.found:x} {f.limit:x} {code_of(f.error)}"
 
 
+def _security(image: Image) -> Iterator[str]:
+    for name, holds in image.security().items():
+        yield f"{name} {int(bool(holds))} {'?' if holds is None else 0}"
+
+
 def _layout(image: Image) -> Iterator[str]:
     for fault in image.layout_faults():
         yield str(fault)
@@ -142,13 +147,14 @@ LINES: Dict[str, Callable[[Image], Iterator[str]]] = {
     "notes": _notes,
     "fixups": _fixups,
     "exports": _exports,
-    "imports": _imports,
+    "opcode_imports": _opcode_imports,
     "bindings": _bindings,
     "weak_binds": _weak_binds,
     "rebases": _rebases,
     "layout": _layout,
     "signature": _signature,
     "signature_faults": _signature_faults,
+    "security": _security,
 }
 """For each word, what is printed for an image."""
 
@@ -170,7 +176,7 @@ def _archive_symbols(file: File) -> Iterator[str]:
 
 def _entries(file: File) -> Iterator[str]:
     for e in goblin_mach.fat_entries(file._whole()):
-        yield f"{e.cputype:x} {e.cpusubtype:x} {e.offset} {e.size} {e.align} {code_of(e.error)}"
+        yield f"{e.cputype:x} {e.cpusubtype:x} {e.offset} {e.size} {e.align} {goblin_mach.ErrorCode.SHORT if e.error else 0:d}"
 
 
 WHOLE: Dict[str, Callable[[File], Iterator[str]]] = {"members": _members, "archive_symbols": _archive_symbols, "entries": _entries}

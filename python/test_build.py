@@ -64,9 +64,16 @@ class Wheel(unittest.TestCase):
         left_out = shutil.ignore_patterns("*.so*", "__pycache__", "build", "dist", "*.egg-info", "test_*")
         shutil.copytree(HERE, self.source, ignore=left_out)
 
-    def made(self):
+    def build(self, library=None):
+        """Builds a wheel, with what GOBLIN_MACH_LIBRARY says of its library, and returns the status and what the tools said."""
+        kept = {name: value for name, value in os.environ.items() if name != "GOBLIN_MACH_LIBRARY"}
+        environment = kept if library is None else {**kept, "GOBLIN_MACH_LIBRARY": library}
+        words = ("-m", "build", "--no-isolation", "--wheel", "--outdir", self.room, self.source)
+        return run(PYTHON, *words, cwd=self.room, env=environment)
+
+    def made(self, library=None):
         """Returns the name of a wheel that is built, and the names of its files."""
-        status, said = run(PYTHON, "-m", "build", "--no-isolation", "--wheel", "--outdir", self.room, self.source, cwd=self.room)
+        status, said = self.build(library)
         self.assertEqual(status, 0, said)
         (name,) = (name for name in os.listdir(self.room) if name.endswith(".whl"))
         with zipfile.ZipFile(os.path.join(self.room, name)) as wheel:
@@ -89,9 +96,38 @@ class Wheel(unittest.TestCase):
         self.assertEqual((status, said), (0, f"{installed}/goblin_mach/libgoblin_mach.so {goblin_mach.__version__}\n"))
 
     def test_without_the_library_is_for_every_system(self):
-        name, files = self.made()
+        name, files = self.made("none")
         self.assertEqual(name, f"goblin_mach-{goblin_mach.__version__}-py3-none-any.whl")
         self.assertIn("goblin_mach/py.typed", files)
+        self.assertFalse([each for each in files if "libgoblin_mach" in each])
+
+    def test_has_the_library_that_is_named(self):
+        path = os.path.join(self.room, "named.so")
+        with open(path, "wb") as file:
+            file.write(b"a library")
+        name, files = self.made(path)
+        self.assertTrue(name.startswith(f"goblin_mach-{goblin_mach.__version__}-py3-none-linux_"), name)
+        self.assertIn("goblin_mach/libgoblin_mach.so", files)
+        with open(os.path.join(self.room, "installed/goblin_mach/libgoblin_mach.so"), "rb") as file:
+            self.assertEqual(file.read(), b"a library")
+
+    def test_has_the_licences(self):
+        _, files = self.made("none")
+        for name in ("LICENSE", "LICENSE-hashes"):
+            self.assertTrue([each for each in files if each.endswith(f".dist-info/{name}")], files)
+
+    def test_is_refused_in_words(self):
+        carried = os.path.join(self.source, "goblin_mach/libgoblin_mach.so")
+        for library, words in ((None, "the sources of the library are not beside this folder"), ("/nowhere.so", "there is no such file")):
+            status, said = self.build(library)
+            self.assertNotEqual(status, 0, library)
+            self.assertIn(words, said)
+            self.assertIn("GOBLIN_MACH_LIBRARY=PATH", said)
+        with open(carried, "wb"):
+            pass
+        status, said = self.build("none")
+        self.assertNotEqual(status, 0)
+        self.assertIn(f"here is {carried}", said)
 
 
 if __name__ == "__main__":

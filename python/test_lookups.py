@@ -39,8 +39,13 @@ def section_at(image, address):
     return next(((k, each) for k, each in numbered(image) if each.addr <= address < each.addr + each.size), (None, None))
 
 
+def symbols_named(image, name):
+    return ((k, symbol) for k, symbol in enumerate(image.symbols().in_bounds()) if not symbol.error and symbol.name == name)
+
+
 def symbol_named(image, name):
-    return next(((k, symbol) for k, symbol in enumerate(image.symbols().in_bounds()) if not symbol.error and symbol.name == name), None)
+    """Returns the index of the first symbol with a name that is no debugging entry, with the symbol, or None."""
+    return next(((k, symbol) for k, symbol in symbols_named(image, name) if not symbol.n_type & 0xE0), None)
 
 
 def symbol_at(image, address):
@@ -74,7 +79,7 @@ def offset_of_address(image, address):
 
 
 def is_text(name):
-    return name.decode("utf-8", "replace").encode() == name
+    return not any("\udc80" <= each <= "\udcff" for each in name)
 
 
 def addresses(image):
@@ -137,6 +142,8 @@ class LookUps(unittest.TestCase):
         for name in names | {"", "_nothing"}:
             found, wanted = image.symbol(name), symbol_named(image, name)
             self.assertEqual(None if found is None else (found.index, found.symbol, found.distance), None if wanted is None else (*wanted, 0), name)
+            self.assertEqual([(each.index, each.symbol, each.distance) for each in image.symbols_named(name)],
+                             [(*each, 0) for each in symbols_named(image, name)], name)
         for address in addresses(image):
             found, wanted = image.symbol_at(address), symbol_at(image, address)
             self.assertEqual(None if found is None else (found.index, found.symbol, found.distance),
@@ -194,6 +201,28 @@ class LookUps(unittest.TestCase):
                 with self.assertRaises(ValueError):
                     call(wrong)
 
+    def test_of_numbers_that_are_not_whole(self):
+        file = goblin_mach.open(values.SIGNED)
+        image = file[0]
+        calls = (image.symbol_at, image.symbol_map().at, image.function_at, image.section_at, image.section_of, image.slot_at, image.address_of_offset,
+                 image.offset_of_address, image.symbols().__getitem__, file.__getitem__, lambda offset: goblin_mach.Image(image.data, offset),
+                 lambda mode: goblin_mach.Image(image.data, 0, mode), goblin_mach.CpuType.of, goblin_mach.HeaderFlags.of)
+        for call in calls:
+            for wrong in (0.0, 1.5, "1", None):
+                if not isinstance(wrong, str) or call != file.__getitem__:
+                    with self.assertRaises(TypeError):
+                        call(wrong)
+
+    def test_skips_entries_for_a_debugger(self):
+        """Tests that a symbol is found by its name though an entry for a debugger has the name too, and comes first."""
+        rows, texts = [(0x20, 0, 0), (0x24, 1, 7), (0x0F, 1, 0x1000), (0x01, 0, 0)], b"\0_a\0_b\0"
+        body = b"".join(struct.pack("<IBBHQ", 4 if k == 1 else 1, n_type, section, 0, value) for k, (n_type, section, value) in enumerate(rows))
+        image = goblin_mach.Image(made.image(made.command(2, struct.pack("<4I", 56, len(rows), 56 + len(body), len(texts))), behind=body + texts))
+        self.compare(image)
+        self.assertEqual((image.symbol("_a").index, image.symbol("_a").value, image.symbol("_b")), (2, 0x1000, None))
+        self.assertEqual([each.index for each in image.symbols_named("_a")], [0, 2, 3])
+        self.assertEqual([each.index for each in image.symbols_named(b"_b")], [1])
+
     def hostile(self):
         """Yields damaged copies of the samples, and images that claim 2^32 - 1 records."""
         for path in values.SAMPLES:
@@ -240,6 +269,7 @@ class Kinds(unittest.TestCase):
 
     def test_names_that_are_escaped(self):
         for name, wanted in (("_a", "_a"), ("_\\", "_\\\\"), ("\x1b[2J\n", "\\x1b[2J\\x0a"), ("\udcff", "\\xff"), ("\u202e", "\\xe2\\x80\\xae"),
+                             ("\u061c", "\\xd8\\x9c"), ("\xad\u200b", "\\xc2\\xad\\xe2\\x80\\x8b"), ("\U000e0041", "\\xf3\\xa0\\x81\\x81"),
                              (b"\xff\x7f", "\\xff\\x7f"), ("\u20ac", "\u20ac"), ("", "")):
             self.assertEqual(goblin_mach.escaped(name), wanted)
 

@@ -13,6 +13,7 @@ import struct
 import subprocess
 import sys
 import tempfile
+import threading
 import types
 import unittest
 
@@ -205,6 +206,18 @@ class Lists(made.Case):
                       image.dyld_environment, image.fileset_entries, image.notes, image.sections):
             self.assertTrue(lists()._kind.grows, lists.__name__)
 
+    def test_in_several_threads(self):
+        with goblin_mach.open(os.path.join(TOP, "crates/machsyms/data/objects.macho")) as file:
+            image, found = file[0], []
+            wanted = list(image.symbols())
+            each = [threading.Thread(target=lambda: found.extend(list(image.symbols()) == wanted for _ in range(200))) for _ in range(8)]
+            for thread in each:
+                thread.start()
+            for thread in each:
+                thread.join()
+        self.assertGreater(len(wanted), 1)
+        self.assertEqual(found, [True] * 1600)
+
     def test_of_errors_alone(self):
         names = ("symbols", "data_in_code", "indirect_symbols", "linker_options", "build_tools", "notes", "sections")
         for path in values.SAMPLES:
@@ -219,7 +232,7 @@ class Lists(made.Case):
         image = goblin_mach.Image(made.image(made.segment(b"__A", raw, 5)))
         (segment,) = image.segments()
         sections = image.sections(segment)
-        self.assertEqual((len(sections), sections[4].name, [each.name for each in sections[1:3]]), (5, b"s4", [b"s1", b"s2"]))
+        self.assertEqual((len(sections), sections[4].name, [each.name for each in sections[1:3]]), (5, "s4", ["s1", "s2"]))
         relocations = image.relocations(sections[0])
         self.assertEqual((len(relocations), relocations[2] in relocations), (3, True))
 
@@ -276,7 +289,7 @@ class Items(unittest.TestCase):
         self.assertEqual((symbol, symbol._replace(value=5).value, symbol._asdict()["name"]), (goblin_mach.Symbol("_a", 4096, 1, 15, 0, None), 5, "_a"))
         with self.assertRaises(AttributeError):
             symbol.value = 1
-        segment = goblin_mach.Segment(b"__T", 0, 0, 0, 0, 7, 5, 0x10, memoryview(bytes(12)), 0, 0)
+        segment = goblin_mach.Segment("__T", 0, 0, 0, 0, 7, 5, 0x10, memoryview(bytes(12)), 0, 0)
         self.assertIn("data=<12 bytes>", repr(segment))
         self.assertEqual((segment.initial_protection.letters, segment.max_protection.letters, segment.segment_flags.names), ("r-x", "rwx", ("READ_ONLY",)))
 
@@ -307,7 +320,7 @@ class Items(unittest.TestCase):
         section = goblin_mach.Section(b"", b"", 0, 0, 0, 0, 0, 0, 0x80000402, memoryview(b""), None)
         self.assertEqual((section.type, section.attributes.names),
                          (goblin_mach.SectionType.CSTRING_LITERALS, ("SOME_INSTRUCTIONS", "PURE_INSTRUCTIONS")))
-        export = goblin_mach.Export("_a", "address", 0, 0, 0x25, None, None)
+        export = goblin_mach.Export("_a", "address", 0, 0, None, 0x25, None, None)
         self.assertEqual((export.export_kind, export.export_flags.names), (goblin_mach.ExportKind.THREAD_LOCAL, ("WEAK_DEFINITION", "0x20")))
         self.assertIs(goblin_mach.Command(0, 8, 0x80000028, memoryview(b"")).load_command, goblin_mach.LoadCommand.MAIN)
         entry = goblin_mach.FatEntry(ARM64, 0x80000002, 0, 0, 0, None)
@@ -416,14 +429,17 @@ class Loading(made.Case):
     def test_in_order(self):
         folder = os.path.join(self.room, "system")
         plain, soname = self.put("system/libgoblin_mach.so"), self.put("system/libgoblin_mach.so.0.3")
-        built = self.put("top/build/libgoblin_mach.so.0.3.0")
+        built, older = self.put("top/build/lib/libgoblin_mach.so.0.3.0"), self.put("top/build/libgoblin_mach.so.0.3.0")
         self.assertEqual(self.loads(LD_LIBRARY_PATH=folder), "libgoblin_mach.so.0.3")
         with open(os.path.join(self.top, "python/pyproject.toml"), "w", encoding="utf-8"):
             pass
         self.assertEqual(self.loads(LD_LIBRARY_PATH=folder), built)
         beside = self.put("top/python/goblin_mach/libgoblin_mach.so.0.3")
         self.assertEqual(self.loads(LD_LIBRARY_PATH=folder), beside)
-        for path in (beside, built, soname):
+        for path in (beside, built):
+            os.remove(path)
+        self.assertEqual(self.loads(LD_LIBRARY_PATH=folder), older)
+        for path in (older, soname):
             os.remove(path)
         self.assertEqual(self.loads(LD_LIBRARY_PATH=folder), "libgoblin_mach.so")
         os.remove(plain)

@@ -49,19 +49,29 @@ class Pages(unittest.TestCase):
         self.assertGreaterEqual(len(BLOCK.findall(read("docs/PYTHON.md"))), 7)
         self.assertGreaterEqual(len(BLOCK.findall(read("README.md"))), 1)
 
-    def test_the_page_names_what_the_package_gives(self):
-        page = read("docs/PYTHON.md")
-        told = {name for name in goblin_mach.__all__ if not re.search(rf"\b{name}s?\b", page)}
-        self.assertEqual(told - UNTOLD, set())
-        fields = {f"{item.__name__}.{name}" for item in ITEMS for name in item._fields if f"`{name}`" not in page}
-        self.assertEqual(fields, set())
+    def test_docstrings_are_the_reference(self):
+        """Tests that each class and call has a docstring, and that a class's docstring names each of its fields."""
+        lacking = []
+        for name in sorted(goblin_mach.__all__):
+            item = getattr(goblin_mach, name)
+            if isinstance(item, type):
+                lacking += lacks_of_class(name, item)
+            elif callable(item) and not item.__doc__:
+                lacking.append(name)
+        self.assertEqual(lacking, [])
 
 
-# Names that the page leaves to their table: the subtypes and relocation types of each cpu, and constants for the words of lists.
-UNTOLD = {name for name in goblin_mach.__all__ if re.match(r"\w+(Subtype|Relocation)$", name)} | {
-    "ERRORS", "NO_MEMORY", "BATCH", "FIXUPS", "PROVIDERS", "REBASES", "KINDS", "INDIRECT", "SLOTS", "EXPORTS", "Mode",
-}
-ITEMS = [item for item in map(vars(goblin_mach).get, goblin_mach.__all__) if isinstance(item, type) and issubclass(item, tuple)]
+def lacks_of_class(name, item):
+    """Returns what a class has and its docstrings don't: itself, its public calls, and its fields and attributes by name."""
+    text = vars(item).get("__doc__") or ""
+    fields = [*getattr(item, "_fields", ()), *vars(item).get("__annotations__", {})]
+    lacking = [] if text else [name]
+    lacking += [f"{name}.{field}" for field in fields if not field.startswith("_") and f"`{field}`" not in text]
+    for call, value in vars(item).items():
+        if not call.startswith("_") and (isinstance(value, (property, classmethod)) or callable(value)) and not value.__doc__:
+            lacking.append(f"{name}.{call}")
+    return lacking
+
 
 if __name__ == "__main__":
     unittest.main()

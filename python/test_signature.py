@@ -50,9 +50,10 @@ def signature_of(*blobs):
     return big(0xFADE0CC0, at, len(blobs)) + index + b"".join(content for _, content in blobs)
 
 
-def signed(entitlements=ENTITLEMENTS, **more):
-    """Returns an image with a signature that has a team and, if they are given, entitlements."""
-    others = [] if entitlements is None else [(5, blob(0xFADE7171, entitlements))]
+def signed(entitlements=ENTITLEMENTS, der=None, requirements=None, **more):
+    """Returns an image with a signature that has a team and, if they are given, requirements and entitlements in XML and in DER."""
+    given = ((2, 0xFADE0C01, requirements), (5, 0xFADE7171, entitlements), (7, 0xFADE7172, der))
+    others = [(slot, blob(magic, content)) for slot, magic, content in given if content is not None]
     sealed = dict(others)
     size = len(signature_of((0, directory(code(0), sealed, **more)), *others))
     image = code(size)
@@ -82,6 +83,42 @@ class Signatures(unittest.TestCase):
         self.assertEqual(self.image(signed(entitlements=b"")).signature.entitlements, b"")
         with self.assertRaises(Exception):
             self.image(signed(entitlements=b"no list")).signature.entitlements_plist
+
+    def test_whether_entitlements_agree(self):
+        xml, der = plistlib.dumps({"a": True}), b"\x70\x0d\x02\x01\x01\xb0\x08\x30\x06\x0c\x01a\x01\x01\xff"
+        for entitlements, in_der, says, agree in (
+                (None, None, "none", None), (xml, der, "same", True), (ENTITLEMENTS, der, "different", False), (xml, None, "only XML", None),
+                (None, der, "only DER", None), (b"<plist", der, "unreadable XML", False), (xml, der[:-1], "unreadable DER", False)):
+            with self.subTest(says):
+                found = self.image(signed(entitlements, in_der)).signature
+                self.assertEqual((found.entitlements_agreement, found.entitlements_agree, found.is_as_signed()), (says, agree, True))
+                self.assertIn(found.entitlements_agreement, goblin_mach.AGREEMENTS)
+
+    def test_requirements(self):
+        whole, other = blob(0xFADE0C00, big(1, 6, 2, 2) + b"id\0\0" + big(3)), blob(0xFADE0C00, big(2, 0))
+        given = big(3, 3, 36, 5, 36 + len(whole), 4, 36) + whole + other
+        found = self.image(signed(requirements=given)).signature
+        self.assertEqual(found.requirements, {"designated": 'identifier "id" and anchor apple', "library": 'identifier "id" and anchor apple',
+                                              "plugin": "not simple: " + other.hex()})
+        self.assertLessEqual(set(found.requirements), set(goblin_mach.REQUIREMENTS))
+        self.assertEqual(self.image(signed()).signature.requirements, {})
+        for wrong, number in ((big(2, 3, 36), goblin_mach.ErrorCode.MALFORMED), (big(1, 1, 0x10000) + whole, goblin_mach.ErrorCode.SHORT)):
+            with self.assertRaises(goblin_mach.Refused) as met:
+                self.image(signed(requirements=wrong)).signature.requirements
+            self.assertEqual(met.exception.code, number)
+
+    def test_verdicts(self):
+        held = self.image(signed(flags=0x12002)).security()
+        self.assertEqual([name for name, holds in held.items() if holds],
+                         ["stripped", "signed", "ad-hoc", "hardened-runtime", "library-validation", "entitlements", "get-task-allow"])
+        self.assertEqual((len(held), list(held)[0], set(held.values())), (18, "pie", {True, False}))
+        unread = self.image(code(12) + big(0xFADE0CC1, 12, 0)).security()
+        self.assertEqual([name for name, holds in unread.items() if holds is None],
+                         ["signed", "ad-hoc", "cms", "hardened-runtime", "library-validation", "entitlements", "get-task-allow"])
+        no_directory = self.image(code(12) + big(0xFADE0CC0, 12, 0)).security()
+        self.assertEqual((no_directory["signed"], no_directory["cms"], no_directory["stripped"]), (None, False, True))
+        narrow = self.image(little(0xFEEDFACE, 7, 3, 2, 0, 0, 0x1200000, 0)).security()
+        self.assertEqual([name for name, holds in narrow.items() if holds], ["no-heap-execution", "pie", "stripped"])
 
     def test_a_name_that_cannot_be_read(self):
         found = self.image(signed(names=b"id\0\xff\xff\0")).signature
@@ -126,6 +163,10 @@ class Signatures(unittest.TestCase):
             self.assertTrue(found.is_as_signed())
         with self.assertRaises(ValueError):
             found.is_as_signed()
+        with self.assertRaises(ValueError):
+            found.entitlements_agree
+        with self.assertRaises(ValueError):
+            found.requirements
         with self.assertRaises(ValueError):
             list(found.faults())
         self.assertEqual(found.identifier, "libanswer.dylib")

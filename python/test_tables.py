@@ -163,7 +163,8 @@ class Tables(unittest.TestCase):
     def test_sections_that_are_sought(self):
         for p, image in self.of_both():
             found = image.section_at(0x1020)
-            self.assertEqual((found.segment, found.number, found.name, found.segment_name, found.reserved2), (0, 1, b"__stubs", b"__TEXT", 6))
+            self.assertEqual((found.number, found.segment, found.index, found.name, found.segment_name, found.reserved2),
+                             (2, 0, 1, "__stubs", "__TEXT", 6))
             self.assertEqual(found.type.name, "SYMBOL_STUBS")
             self.assertEqual(image.section_of(2), found)
             self.assertEqual(image.section_of(4), image.section_at(0x2000 + 8 * p))

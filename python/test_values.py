@@ -81,12 +81,44 @@ class Json(unittest.TestCase):
         self.assertEqual((segment["name"], segment["data"][:8], len(segment["data"])), ("__TEXT", "cffaedfe", 2 * 0x4000))
         fault = goblin_mach.LayoutFault("r", goblin_mach.Owner("part", 1, 2), 3, 4, None)
         self.assertEqual(fault.to_dict()["owner"], {"part": "part", "command": 1, "index": 2})
+        self.assertEqual([each.to_dict()["name"] for each in goblin_mach.open(OBJECTS)[0].segments()], [None])
+        nameless = goblin_mach.Section("", "__T", 0, 0, 0, 0, 0, 0, 0, memoryview(b""), None).to_dict()
+        self.assertEqual((nameless["name"], nameless["segment"]), (None, "__T"))
         entry = goblin_mach.fat_entries(open_bytes(OBJECTS))[0].to_dict()
         self.assertEqual((entry["cputype"], entry["offset"], entry["error"]), (0x01000007, 0x50, None))
 
     def test_of_a_signature(self):
         said = json.loads(image_of(SIGNED).signature.json())
         self.assertEqual((said["identifier"], said["cdhash"], said["flags"]), ("libanswer.dylib", "e5c637506db686803b79a8344ffe86b79740bd95", 0x20002))
+
+    def test_of_an_entry_that_is_cut_off(self):
+        """Tests the words of a file that lost its end, and of one that ends in its table."""
+        data = open_bytes(OBJECTS)
+        entries = list(goblin_mach.fat_entries(data))
+        last = len(entries) - 1
+        cut = data[:entries[last].offset + entries[last].size - 1]
+        words = f"entry {last} is out of the file: it ends at {len(cut) + 1:#x}, the file at {len(cut):#x}"
+        image = list(goblin_mach.parse(cut))[last]
+        self.assertEqual((image.error.code, str(image.error), goblin_mach.fat_entries(cut)[last].error), (goblin_mach.ErrorCode.SHORT, words, words))
+        self.assertEqual([each.error for each in goblin_mach.fat_entries(data[:40])], [
+            f"entry 0 is out of the file: it ends at {entries[0].offset + entries[0].size:#x}, the file at 0x28",
+            "the file ends in the record of entry 1"])
+        far = struct.pack(">4I2Q2I", 0xCAFEBABF, 1, 0x01000007, 3, (1 << 64) - 1, 2, 0, 0)
+        self.assertEqual(goblin_mach.fat_entries(far)[0].error, "entry 0 is out of the file: it ends at 0xffffffffffffffff, the file at 0x28")
+
+    def test_of_addresses_of_exports(self):
+        """Tests that an export's address is one: the base plus its offset, but for an absolute one."""
+        trie = b"\0\3a\0\x0bb\0\x0fc\0\x13" + b"\2\0\x10\0" + b"\2\2\x20\0" + b"\3\x10\x30\x40\0"
+        image = goblin_mach.Image(made.image(made.segment(b"__TEXT"), made.command(0x22, struct.pack("<10I", *8 * [0], 32 + 72 + 48, len(trie))),
+                                             behind=trie))
+        vmaddr = image.segment("__TEXT").vmaddr
+        self.assertEqual((image.base, image.to_dict()["base"]), (vmaddr, vmaddr))
+        found = {each.name: each for each in image.exports()}
+        self.assertEqual({name: (each.address, each.offset, each.resolver) for name, each in found.items()},
+                         {"a": (vmaddr + 0x10, 0x10, None), "b": (0x20, 0x20, None), "c": (vmaddr + 0x30, 0x30, vmaddr + 0x40)})
+        self.assertEqual([image.find_export(name) for name in "abc"], [found[name] for name in "abc"])
+        renamed = next(each for each in image_of(LIBRARY).exports() if each.kind == "re-export")
+        self.assertEqual((renamed.address, renamed.offset, renamed.resolver), (None, None, None))
 
     def test_of_an_image_that_is_refused(self):
         (_, bad), = goblin_mach.parse(made.fat(bytes(64))).images()
@@ -156,7 +188,7 @@ class Parts(unittest.TestCase):
         self.assertEqual((section.addr, section.offset, section.size, type(section.data)), (0x280, 0x280, 8, memoryview))
         self.assertEqual(bytes(section.data), open_bytes(SIGNED)[0x280:0x288])
         self.assertEqual((image.section("__TEXT", "__data"), image.section("__DATA", "__text")), (None, None))
-        self.assertEqual([each.name for each in image.sections()], [b"__text", b"__unwind_info"])
+        self.assertEqual([each.name for each in image.sections()], ["__text", "__unwind_info"])
 
     def test_the_first_of_several(self):
         raw = b"".join(struct.pack("<16s16s2Q8I", name, b"__A", at, 0, 0, 0, 0, 0, 0, 0, 0, 0) for name, at in ((b"s", 1), (b"t", 2), (b"s", 3)))
@@ -181,7 +213,7 @@ class NotMachO(made.Case):
     WORDS = [
         (b"", "not Mach-O: an empty file"), (b"\x7fELF\2\1\1", "not Mach-O: an ELF file"), (b"MZ\x90", "not Mach-O: a PE or DOS program"),
         (b"\xca\xfe\xba\xbe\0\0\0\x34" + bytes(3000), "not Mach-O: a Java class"), (b"BC\xc0\xde", "not Mach-O: LLVM bitcode"),
-        (b"\xde\xc0\x17\x0b", "not Mach-O: LLVM bitcode"), (b"hello", "bad magic 0x68656c6c"), (b"hi", "malformed: a magic is 4 bytes"),
+        (b"\xde\xc0\x17\x0b", "not Mach-O: LLVM bitcode"), (b"hello", "bad magic 0x68656c6c"), (b"hi", "malformed: the file ends in its magic"),
         (b"\xca\xfe\xba\xbe", "bad magic 0xcafebabe"),
     ]
 

@@ -37,7 +37,7 @@ def each(items, line):
     try:
         for item in items:
             is_read = getattr(item, "is_read", not getattr(item, "error", None))
-            yield line(item) if is_read else error(item.error)
+            yield line(item) if is_read else error("short" if isinstance(item, FatEntry) else item.error)
     except Refused as refused:
         yield why(refused)
     if next(iter(items), None) is not None:
@@ -145,7 +145,7 @@ def note(image, it):
 
 def slot(it):
     symbol = f"{it.symbol} {quoted(it.name)}" if it.owner == "symbol" else hyphened(it.owner)
-    return (f"slot {hyphened(it.kind)} at {it.address:#x} size {it.len} segment {it.segment} section {it.section} index {it.index} "
+    return (f"slot {hyphened(it.kind)} at {it.address:#x} size {it.len} segment {it.segment} section {it.section_index} index {it.index} "
             f"of {symbol}")
 
 
@@ -160,7 +160,7 @@ def export(it):
         # The target is the name there, even if it is the same.
         what = f"of {quoted(it.library)}" + ("" if it.target == it.name else f" as {quoted(it.target)}")
     else:
-        what = f"at {it.address:#x}" if it.kind == "address" else f"stub {it.address:#x} resolver {it.resolver:#x}"
+        what = f"at {it.offset:#x}" if it.kind == "address" else f"stub {it.offset:#x} resolver {(it.resolver - it.address + it.offset) % (1 << 64):#x}"
     return f"export {quoted(it.name)} {what} flags {it.flags:#x}"
 
 
@@ -280,7 +280,7 @@ def signature_faults(image):
 
 
 def as_signed(image):
-    """Returns whether it is as it was signed. If no code directory counts, the signature is refused, and that is a fault of it."""
+    """Returns whether nothing differs from the signature. If no code directory counts, the signature is refused, and that is a fault of it."""
     try:
         found = image.signature
     except Refused:
@@ -378,7 +378,7 @@ def found(item, line):
 
 
 def numbered_section(it):
-    return (f"found {quoted(it.name)} of {quoted(it.segment_name)} segment {it.segment} section {it.number} at {it.addr:#x} size {it.size:#x} "
+    return (f"found {quoted(it.name)} of {quoted(it.segment_name)} segment {it.segment} section {it.index} at {it.addr:#x} size {it.size:#x} "
             f"offset {it.offset:#x} align {it.align} relocations {it.nreloc} at {it.reloff:#x} flags {it.flags:#x} "
             f"reserved {it.reserved1:#x} {it.reserved2:#x}")
 

@@ -8,7 +8,9 @@ check: if an archive can't be built, a line says so, and nothing fails. What `rt
 a stamp, a sum of all that the proof read and of the archive itself. It shows whether the archive still fits.
 
 With RT_JOBS `rt ci` gives each proof one job. Each library needs those below it, so that at times there is one proof to run. Here a proof begins
-with as many jobs as there are processors for each proof that runs."""
+with as many jobs as there are processors for each proof that runs. The one with the most work after it, its own included, begins with half of the
+processors at least. No proof gets more jobs than the free memory holds."""
+import contextlib
 import functools
 import hashlib
 import importlib.machinery
@@ -82,34 +84,66 @@ def prove_static(rt, crate, flags, begun):
     return status
 
 
+# What a job of a proof takes at most, in kB.
+EACH = 4_500_000
+
+
+def free_memory():
+    """Returns the free memory in kB."""
+    times = os.path.join(os.path.dirname(os.path.abspath(__file__)), "times")
+    return int(subprocess.run([times, "memory"], check=True, capture_output=True, text=True).stdout)
+
+
+def lines_after(crates):
+    """Returns for each crate, lowest first, how many lines the longest chain has that begins with it."""
+    after = {}
+    for crate in reversed(crates):
+        after[crate.name] = after.get(crate.name, 0) + crate.count(rb"\n")
+        for below in crate.below():
+            after[below.name] = max(after.get(below.name, 0), after[crate.name])
+    return after
+
+
 class Shares:
     """The processors, which the proofs that run share."""
 
-    def __init__(self, processors, seconds=3):
-        self.processors, self.seconds, self.running, self.lock = processors, seconds, 0, threading.Lock()
+    def __init__(self, processors, memory=free_memory, seconds=3):
+        self.processors, self.memory, self.seconds, self.running, self.lock = processors, memory, seconds, {}, threading.Lock()
 
-    def __enter__(self):
-        """Returns how many jobs a proof begins with, once those that begin at the same time have begun. Proofs that began before it keep theirs."""
-        with self.lock:
-            self.running += 1
-        time.sleep(self.seconds)
-        with self.lock:
-            return max(1, self.processors // self.running)
+    def jobs(self, after):
+        """Returns how many jobs a proof gets that has so much work after it."""
+        share = self.processors // len(self.running)
+        if after == max(self.running.values()):
+            share = max(share, self.processors // 2)
+        return max(1, min(share, self.memory() // EACH))
 
-    def __exit__(self, *_):
+    @contextlib.contextmanager
+    def of(self, after):
+        """Gives how many jobs a proof begins with, once those that begin at the same time have begun. Proofs that began before it keep theirs."""
+        key = object()
         with self.lock:
-            self.running -= 1
+            self.running[key] = after
+        try:
+            time.sleep(self.seconds)
+            with self.lock:
+                jobs = self.jobs(after)
+            yield jobs
+        finally:
+            with self.lock:
+                del self.running[key]
 
 
 def main(words):
     rt = toolchain()
     shares = Shares(int(os.environ.get("RT_JOBS") or 0))
-    begun = {it.name: sources_of(rt, it) for it in rt.rtlib.crates_below(os.getcwd()) if it.is_static}
+    crates = rt.rtlib.crates_below(os.getcwd())
+    begun = {it.name: sources_of(rt, it) for it in crates if it.is_static}
+    after = lines_after(crates)
     ci = rt.Crate.ci
 
     @functools.wraps(ci)
     def ci_in_share(crate, flags, tests):
-        with shares as jobs:
+        with shares.of(0 if tests else after[crate.name]) as jobs:
             at = flags.index("--jobs") + 1
             flags = [*flags[:at], str(max(jobs, int(flags[at]))), *flags[at + 1 :]]
             return prove_static(rt, crate, flags, begun) if crate.is_static and not tests else ci(crate, flags, tests)

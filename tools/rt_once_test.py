@@ -1,5 +1,6 @@
 #!/usr/bin/env python3
 """Tests rt_once.py on a repository of one static library with one function, in a temporary folder: one run of a wrong body, and two of a right one."""
+import contextlib
 import os
 import subprocess
 import sys
@@ -29,6 +30,19 @@ def keeps_verdicts():
 
 
 KEEPS_VERDICTS = keeps_verdicts()
+
+
+class Lines:
+    """A crate with so many lines."""
+
+    def __init__(self, name, lines):
+        self.name, self.lines, self.lower = name, lines, []
+
+    def count(self, _):
+        return self.lines
+
+    def below(self):
+        return self.lower
 
 
 class RunsOnce(unittest.TestCase):
@@ -76,12 +90,26 @@ class RunsOnce(unittest.TestCase):
         self.write("crates/trial_once/src/lib.rt", SOURCE.replace("BODY", "number"))
         self.assert_passes(not KEEPS_VERDICTS, anew=False)
 
+    def jobs_of(self, *after, memory=99):
+        """Returns the jobs of proofs that begin one after the other and run side by side, with memory for so many jobs."""
+        shares = rt_once.Shares(4, memory=lambda: memory * rt_once.EACH, seconds=0)
+        with contextlib.ExitStack() as running:
+            return [running.enter_context(shares.of(it)) for it in after]
+
     def test_a_proof_begins_with_its_share_of_the_processors(self):
-        shares = rt_once.Shares(4, seconds=0)
-        with shares as first, shares as second, shares as third:
-            self.assertEqual((first, second, third), (4, 2, 1))
-        with shares as alone:
-            self.assertEqual(alone, 4)
+        self.assertEqual(self.jobs_of(9, 8, 7), [4, 2, 1])
+
+    def test_the_longest_chain_gets_half_of_the_processors(self):
+        self.assertEqual(self.jobs_of(1, 1, 1, 9, 2), [4, 2, 2, 2, 1])
+
+    def test_a_proof_gets_no_more_jobs_than_memory_holds(self):
+        self.assertEqual(self.jobs_of(9, memory=3), [3])
+        self.assertEqual(self.jobs_of(9, memory=0), [1])
+
+    def test_a_chain_is_as_long_as_its_longest_part(self):
+        low, high, top, other = (Lines(name, lines) for name, lines in (("low", 5), ("high", 20), ("top", 1), ("other", 7)))
+        high.lower, top.lower, other.lower = [low], [low, high], [low]
+        self.assertEqual(rt_once.lines_after([low, high, top, other]), {"low": 26, "high": 21, "top": 1, "other": 7})
 
 
 if __name__ == "__main__":

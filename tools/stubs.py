@@ -102,7 +102,9 @@ class Body:
         indent = found[1]
         end = next((row for row in range(head + 1, len(lines)) if lines[row] == indent + "}"), head)
         is_open = lambda row: lines[row].endswith("{") and (row == head or lines[row] == indent + "{" or lines[row].startswith(indent + ")"))
-        is_none = lambda row: lines[row].endswith((";", "{}")) or row == head and lines[row].endswith("}")
+        # (A clause may have a line that ends with a semicolon. It goes on in the next one, which is indented deeper than the head.)
+        ends = lambda row: lines[row].endswith(";") and not lines[row + 1].startswith(indent + " ")
+        is_none = lambda row: ends(row) or lines[row].endswith("{}") or row == head and lines[row].endswith("}")
         opens = next((row for row in range(head, end) if is_none(row) or is_open(row)), None)
         return None if opens is None or is_none(opens) else cls(lines, head, opens, end)
 
@@ -262,20 +264,24 @@ def check(rt, crate, trials, names):
     return ran.returncode, ran.stdout.rstrip("\n").split("\n")
 
 
+# antt's messages about an answer of another type than its goal, and about one with an unknown name.
+OTHER_TYPE = re.compile(
+    r"the two types (?:first differ|differ|are) |expected type `|does not follow from what it read|is a declared record, built with"
+    r"|no occurrence of the path's|computed as a goal is, one side reads "
+)
+UNKNOWN_NAME = re.compile(r"is not in scope|has no |is no name|can be named|nearest:|depends? on|expected the end|cannot continue|operand is missing")
+
+
+def is_of_lost_name(error):
+    return bool(UNKNOWN_NAME.search(error)) and not OTHER_TYPE.search(error)
+
+
 class Said:
     """What one check says of some bodies between stubs."""
 
     NOT_PROVED = re.compile(r"not proved|no proof")
     ONLY_ITS_CALL = re.compile(r"(?:not proved|no proof)[;:] it (?:calls|passes)")
     ERROR = re.compile(r"(?:\./)?(\S+?):\d+:\d+: error: ")
-    # antt's messages about an answer of another type than its goal, and about one with an unknown name.
-    OTHER_TYPE = re.compile(
-        r"the two types (?:first differ|differ|are) |expected type `|does not follow from what it read|is a declared record, built with"
-        r"|no occurrence of the path's|computed as a goal is, one side reads "
-    )
-    UNKNOWN_NAME = re.compile(
-        r"is not in scope|has no |is no name|can be named|nearest:|depends? on|expected the end|cannot continue|operand is missing"
-    )
 
     def __init__(self, rt, crate, trials, names):
         status, self.lines = check(rt, crate, trials, names)
@@ -316,7 +322,7 @@ class Said:
     def is_of_another_type(self, trial, answer):
         place = rf"(?:\./)?proofs/{re.escape(file_of(trial.asked))}/Answers\.antt:\d+:\d+: error: `{re.escape(answer)}`: (.*)"
         errors = [it[1] for it in (re.match(place, line) for line in self.lines) if it]
-        return any(map(self.OTHER_TYPE.search, errors)) and not any(map(self.UNKNOWN_NAME.search, errors))
+        return any(map(OTHER_TYPE.search, errors)) and not any(map(UNKNOWN_NAME.search, errors))
 
 
 def refused(rt, trials, names):

@@ -24,14 +24,14 @@ static void answer_header(asked *a) {
 
 /* Says all imports, or only why one can't be read. */
 static void answer_imports(asked *a) {
-    static const list imports = LIST("imports", imports, gm_import, CODE_OF(gm_import));
+    static const list imports = LIST("imports", opcode_imports, gm_import, CODE_OF(gm_import));
     gm_import rows[ROWS];
     size_t count = ROWS;
     uint32_t code = GM_OK;
     place at;
     memset(&at, 0, sizeof at);
     while (!code && count == ROWS) {
-        code = imports_rows(a, &at, rows, &count);
+        code = opcode_imports_rows(a, &at, rows, &count);
         if (!code && count) code = rows[count - 1].code;
     }
     if (code) say_error(a, code);
@@ -41,8 +41,8 @@ static void answer_imports(asked *a) {
 static void put_export(asked *a, const void *name, size_t len, const gm_export *what, const void *library, const void *target) {
     PUT("export ");
     put_name(a, name, len);
-    if (what->kind == GM_ADDRESS) PUT(" at 0x%" PRIx64, what->address);
-    else if (what->kind == GM_STUB) PUT(" stub 0x%" PRIx64 " resolver 0x%" PRIx64, what->address, what->resolver);
+    if (what->kind == GM_ADDRESS) PUT(" at 0x%" PRIx64, what->offset);
+    else if (what->kind == GM_STUB) PUT(" stub 0x%" PRIx64 " resolver 0x%" PRIx64, what->offset, what->resolver - a->image.base);
     else {
         PUT(" of ");
         put_name(a, library, what->library_len);
@@ -160,7 +160,7 @@ static void say_section(asked *a, uint32_t code, const gm_found_section *found) 
     put_name16(a, found->name);
     PUT(" of ");
     put_name16(a, found->segment_name);
-    PUT(" segment %zu section %" PRIu32 " at 0x%" PRIx64 " size 0x%" PRIx64, found->segment, found->number, found->addr, found->size);
+    PUT(" segment %zu section %" PRIu32 " at 0x%" PRIx64 " size 0x%" PRIx64, found->segment, found->index, found->addr, found->size);
     PUT(" offset 0x%" PRIx32 " align %" PRIu32 " relocations %" PRIu32 " at 0x%" PRIx32, found->offset, found->align, found->nreloc, found->reloff);
     PUT(" flags 0x%" PRIx32 " reserved 0x%" PRIx32 " 0x%" PRIx32, found->flags, found->reserved1, found->reserved2);
     end_line(a);

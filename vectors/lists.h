@@ -275,12 +275,12 @@ static const char *const kinds_of_slots[] = {"(no slot)", "pointer", "lazy-point
 BY_NUMBER_OR_REFUSED(slots, gm_slot, IMAGE_OF)
 LINE(slots, gm_slot,
      PUT("slot %s at 0x%" PRIx64 " size %" PRIu64, r->kind <= GM_SLOT_THREAD_LOCAL_POINTER ? kinds_of_slots[r->kind] : "(no kind)", r->address, r->len);
-     PUT(" segment %zu section %" PRIu32 " index %" PRIu32 " of ", r->segment, r->section, r->index);
+     PUT(" segment %zu section %" PRIu32 " index %" PRIu32 " of ", r->segment, r->section_index, r->index);
      if (r->owner != GM_INDIRECT_SYMBOL) PUT("%s", r->owner <= GM_INDIRECT_LOCAL_ABSOLUTE ? owners[r->owner] : "(no kind)");
      else PUT("%" PRIu32 " ", r->symbol), put_text(a, r->name, r->name_len))
 
-BY_CURSOR(imports, gm_import, binds)
-LINE(imports, gm_import,
+BY_CURSOR(opcode_imports, gm_import, binds)
+LINE(opcode_imports, gm_import,
      PUT("import ");
      put_text(a, r->name, r->name_len);
      PUT(" of ");
@@ -391,7 +391,7 @@ static const list lists_of_images[] = {
     LIST("build-tools", build_tools, gm_build_tool, CODE_OF(gm_build_tool)),
     LIST("notes", notes, gm_note, CODE_OF(gm_note)),
     LIST("slots", slots, gm_slot, CODE_OF(gm_slot)),
-    LIST("iter-imports", imports, gm_import, CODE_OF(gm_import)),
+    LIST("iter-imports", opcode_imports, gm_import, CODE_OF(gm_import)),
     LIST("bindings", bindings, gm_binding, CODE_OF(gm_binding)),
     LIST("weak-binds", weak_binds, gm_weak_bind, CODE_OF(gm_weak_bind)),
     LIST("rebases", rebases, gm_rebase, CODE_OF(gm_rebase)),

@@ -14,8 +14,11 @@
 
    Calls that return a bool write what they find to *found and return true, or return false and leave *found unchanged.
 
-   Sizes, offsets and counts have 64 bits for every compiler. A field `reserved` has no meaning. The names of numbers, such as GM_LC_MAIN for a
-   command's, and calls that return them as texts are at the end. */
+   Sizes, offsets and counts have 64 bits for every compiler. A field `reserved` has no meaning: calls write 0 to it, and read none. The names of
+   numbers, such as GM_LC_MAIN for a command's, and calls that return them as texts are at the end.
+
+   The number of a section is that by which symbols name it (n_sect of mach-o/nlist.h): it counts from 1 over all sections that the segments claim.
+   A field `index` counts from 0. Every address is one in memory, before sliding. */
 #ifndef GOBLIN_MACH_H
 #define GOBLIN_MACH_H
 #include <stdbool.h>
@@ -74,8 +77,8 @@ uint64_t gm_fat_entries64(const uint8_t *bytes, uint64_t len, uint64_t first, gm
 
 /* Finds the one image for a cpu: `size` bytes at bytes + offset. The bytes are a fat file of 32 or 64 bits, or a thin file, which is an image
    itself. Of a `cpusubtype` only the bits that are no capabilities are compared. With GM_CPU_SUBTYPE_ANY all fit. Of several entries the first
-   counts. The call is refused with GM_SHORT if that entry isn't all in the file. It is refused with GM_NO_IMAGE if there is none, also if the bytes
-   are neither kind of file. A refused call leaves *found unchanged. */
+   counts. The call is refused with GM_SHORT if that entry isn't all in the file, and the text says where both end. It is refused with GM_NO_IMAGE if
+   there is none, also if the bytes are neither kind of file. A refused call leaves *found unchanged. */
 uint32_t gm_image_for(const uint8_t *bytes, uint64_t len, uint32_t cputype, uint32_t cpusubtype, gm_fat_entry64 *found, gm_error *error);
 
 /* ---- a fat file written from parts of a buffer, each for another cpu: `len` bytes from `offset` on. In the file each part follows the one
@@ -134,6 +137,7 @@ uint32_t gm_archive_member_named(const uint8_t *bytes, uint64_t len, const char 
 typedef struct gm_image {
     uint64_t offset;                                                /* its offset in the bytes */
     uint64_t entry;                                                 /* the address of its entry point, or 0 */
+    uint64_t base;                                                  /* the address of its first byte: of the first segment __TEXT, or 0 */
     uint64_t first_command, commands;                               /* the offset of its commands, and how many they are */
     uint64_t segments, libraries, run_paths, symbols;               /* how many the call of that name returns */
     uint64_t symbols_at, names_at;                                  /* the offsets of its symbols and of their names */
@@ -185,12 +189,12 @@ typedef struct gm_section {
 uint64_t gm_sections(const uint8_t *bytes, uint64_t len, const gm_image *image, uint64_t command, uint32_t sections, uint64_t first, gm_section *out,
                      uint64_t cap);
 
-/* The sections of all segments in order, each with the offset of its segment's command and its number there, from 1. They end with the first that
-   can't be read. The section at index `k` has number `k + 1` in the `section` of a gm_symbol. */
+/* The sections of all segments in order, each with its number, the offset of its segment's command and its index there. They end with the first that
+   can't be read. The section at index `k` of this list has number `k + 1`. */
 typedef struct gm_numbered_section {
     gm_section section;
-    uint64_t command;
-    uint32_t number, reserved;
+    uint64_t command, number;
+    uint32_t index, reserved;
 } gm_numbered_section;
 uint64_t gm_all_sections(const uint8_t *bytes, uint64_t len, const gm_image *image, uint64_t first, gm_numbered_section *out, uint64_t cap);
 
@@ -203,8 +207,9 @@ uint64_t gm_relocations(const uint8_t *bytes, uint64_t len, const gm_image *imag
    rest is as in the record. If the record can't be read all other fields are 0. */
 typedef struct gm_symbol {
     uint64_t value;
-    uint64_t name, name_len, section;
-    uint32_t code; /* GM_OK, or why it or its name can't be read */
+    uint64_t name, name_len;
+    uint64_t section; /* the number of its section, or 0 */
+    uint32_t code;    /* GM_OK, or why it or its name can't be read */
     uint16_t desc;
     uint8_t n_type, reserved;
 } gm_symbol;
@@ -319,14 +324,14 @@ typedef struct gm_note {
 } gm_note;
 uint64_t gm_notes(const uint8_t *bytes, uint64_t len, const gm_image *image, uint64_t first, gm_note *out, uint64_t cap);
 
-/* ---- its slots: the stubs and the pointers that belong to symbols, `len` bytes at `address` in memory, in section number `section` of segment
-   number `segment` */
+/* ---- its slots: the stubs and the pointers that belong to symbols, `len` bytes at `address` in memory, in the section that has index
+   `section_index` for gm_sections of the segment that has index `segment` for gm_segments */
 typedef struct gm_slot {
     uint64_t address, len;
     uint64_t segment, name, name_len; /* for GM_INDIRECT_SYMBOL: its symbol's name is `name_len` bytes at bytes + name */
-    uint32_t section, kind;         /* kind: GM_SLOT_POINTER and the following ones */
-    uint32_t index, owner, symbol;  /* the index of its entry for gm_indirect_symbols, and that entry's `kind` and `symbol` */
-    uint32_t code;                  /* GM_OK, or why it can't be read, nor those after it in its section if they have no entry */
+    uint32_t section_index, kind;     /* kind: GM_SLOT_POINTER and the following ones */
+    uint32_t index, owner, symbol;    /* the index of its entry for gm_indirect_symbols, and that entry's `kind` and `symbol` */
+    uint32_t code;                    /* GM_OK, or why it can't be read, nor those after it in its section if they have no entry */
 } gm_slot;
 enum { GM_NO_SLOT, GM_SLOT_POINTER, GM_SLOT_LAZY_POINTER, GM_SLOT_STUB, GM_SLOT_LAZY_LIBRARY_POINTER, GM_SLOT_THREAD_LOCAL_POINTER };
 
@@ -349,19 +354,20 @@ typedef struct gm_provider {
 } gm_provider;
 void gm_symbol_provider(const gm_image *image, const gm_symbol *symbol, gm_provider *found);
 
-/* ---- a section that is looked up: number `number` of segment number `segment`, with its whole record; all 0 if `is_found` is 0 */
+/* ---- a section that is looked up, with its number and its whole record: at index `index` of the segment that has index `segment` for gm_segments;
+   all 0 if `is_found` is 0 */
 typedef struct gm_found_section {
     uint8_t name[16], segment_name[16];
     uint64_t addr, size;
-    uint64_t segment;
-    uint32_t number, offset, align, reloff, nreloc, flags;
+    uint64_t segment, number;
+    uint32_t index, offset, align, reloff, nreloc, flags;
     uint32_t reserved1, reserved2; /* for pointers and stubs: the index of the first for gm_indirect_symbols; for stubs the size of each */
     uint32_t is_found, reserved;
 } gm_found_section;
 
-/* Finds the first section that holds an address, among those in the bytes; and the one with the number `section` of a gm_symbol. Numbers count from
-   1 over all segments. Both open the image again, and allocate memory while they run. A refused call leaves *section unchanged. The second is
-   also refused if that section isn't in the bytes. */
+/* Finds the first section that holds an address, among those in the bytes; and the section of a number, such as the `section` of a gm_symbol. Both
+   open the image again, and allocate memory while they run. A refused call leaves *section unchanged. The second is also refused if that section
+   isn't in the bytes. */
 uint32_t gm_section_at(const uint8_t *bytes, uint64_t len, const gm_image *image, uint64_t address, gm_found_section *section, const gm_memory *memory,
                        gm_error *error);
 uint32_t gm_section_of(const uint8_t *bytes, uint64_t len, const gm_image *image, uint64_t number, gm_found_section *section, const gm_memory *memory,
@@ -375,17 +381,23 @@ uint32_t gm_section_named(const uint8_t *bytes, uint64_t len, const gm_image *im
 typedef struct gm_found_symbol {
     gm_symbol symbol;
     uint64_t index;
-    uint64_t distance; /* of gm_symbol_at: the address less the symbol's value; of gm_symbol_named 0 */
+    uint64_t distance; /* of gm_symbol_at: the address less the symbol's value; of a name 0 */
     uint32_t is_found, reserved;
 } gm_found_symbol;
 
-/* Finds the first symbol with a name, among those whose names can be read; and the symbol that names an address. The latter is one of the defined ones
-   in the section that holds the address, at the address or below it. Of these it has the greatest value, and of several with that value it is the
-   last. Both open the image again, and allocate memory while they run. A refused call leaves *symbol unchanged. */
+/* Finds the first symbol with a name, among those whose names can be read and which are no entries for a debugger; and the symbol that names an
+   address. The latter is one of the defined ones in the section that holds the address, at the address or below it. Of these it has the greatest
+   value, and of several with that value it is the last. Both open the image again, and allocate memory while they run. A refused call leaves *symbol unchanged. */
 uint32_t gm_symbol_named(const uint8_t *bytes, uint64_t len, const gm_image *image, const char *name, uint64_t name_len, gm_found_symbol *symbol,
                          const gm_memory *memory, gm_error *error);
 uint32_t gm_symbol_at(const uint8_t *bytes, uint64_t len, const gm_image *image, uint64_t address, gm_found_symbol *symbol, const gm_memory *memory,
                       gm_error *error);
+
+/* Writes all symbols with a name from index `first` of these on, entries for a debugger too, and how many it wrote to *count. Symbols whose names can't
+   be read are skipped. It opens the image again, allocates memory while it runs, and visits the symbols before: request many at a time. With a `cap` of
+   0 it is refused with GM_NO_ROWS. A refused call leaves the array and *count unchanged. */
+uint32_t gm_symbols_named(const uint8_t *bytes, uint64_t len, const gm_image *image, const char *name, uint64_t name_len, uint64_t first,
+                          gm_found_symbol *out, uint64_t cap, uint64_t *count, const gm_memory *memory, gm_error *error);
 
 /* Finds the function that holds an address, by the starts of functions. It begins at the greatest start at or below the address, in the section that
    holds the address. It ends at the next start, or at the end of the section. All is 0 if `is_found` is 0. The call opens the image again, and
@@ -397,9 +409,12 @@ typedef struct gm_found_function {
 uint32_t gm_function_at(const uint8_t *bytes, uint64_t len, const gm_image *image, uint64_t address, gm_found_function *function,
                         const gm_memory *memory, gm_error *error);
 
-/* ---- one name among its exports: addresses count from the image's start */
+/* ---- one name among its exports */
 typedef struct gm_export {
-    uint64_t address, resolver, flags;
+    uint64_t address;  /* the `base` of the image plus `offset`; of an absolute export (GM_EXPORT_SYMBOL_FLAGS_KIND_ABSOLUTE) `offset` */
+    uint64_t offset;   /* its number in the trie; of a stub that of the stub. A re-export has neither: both are 0 */
+    uint64_t resolver; /* of a stub: the address of its resolver, or 0 */
+    uint64_t flags;
     uint64_t library_len, target_len; /* for a re-export: the lengths of the library's name and of the name there; 0: the same name */
     uint32_t kind, reserved;
 } gm_export;
@@ -486,8 +501,9 @@ typedef struct gm_fixup_cursor { uint64_t chains[4]; uint32_t stage, reserved; }
 uint32_t gm_fixups(const uint8_t *bytes, uint64_t len, const gm_image *image, gm_fixup_cursor *cursor, gm_fixup *out, uint64_t cap, uint64_t *count,
                    const gm_memory *memory, gm_error *error);
 
-/* ---- its imports, from the binds of LC_DYLD_INFO: the name of one is `name_len` bytes at bytes + name. Its library has ordinal `library`, which
-   is 0 for the image itself. */
+/* ---- its imports by opcodes only (the binds of LC_DYLD_INFO), as the Rust crate's `imports` reads them: gm_bindings has what dyld binds, chains too.
+   Images with chained fixups have none. The name of one is `name_len` bytes at bytes + name. Its library has ordinal `library`, which is 0 for the
+   image itself. */
 typedef struct gm_import {
     uint64_t address, offset; /* of the pointer to bind: in memory, and in the file */
     int64_t addend;
@@ -499,10 +515,11 @@ typedef struct gm_import {
     uint32_t code, reserved;    /* code: GM_OK, or why no further ones can be read */
 } gm_import;
 typedef struct gm_bind_cursor { uint64_t binds[12]; uint32_t stage, reserved; } gm_bind_cursor;
-uint32_t gm_imports(const uint8_t *bytes, uint64_t len, const gm_image *image, gm_bind_cursor *cursor, gm_import *out, uint64_t cap, uint64_t *count,
-                    const gm_memory *memory, gm_error *error);
+uint32_t gm_opcode_imports(const uint8_t *bytes, uint64_t len, const gm_image *image, gm_bind_cursor *cursor, gm_import *out, uint64_t cap,
+                           uint64_t *count, const gm_memory *memory, gm_error *error);
 
-/* ---- its bindings, from the opcodes of LC_DYLD_INFO and then from the chains: the name of one is `name_len` bytes at bytes + name */
+/* ---- its bindings, which are what dyld binds: from the opcodes of LC_DYLD_INFO and then from the chains. The name of one is `name_len` bytes at
+   bytes + name. */
 typedef struct gm_binding {
     uint64_t address, offset; /* of the pointer to bind: in memory, and in the file */
     int64_t addend;
@@ -548,7 +565,7 @@ uint32_t gm_rebases(const uint8_t *bytes, uint64_t len, const gm_image *image, g
    `limit` are for each rule. */
 typedef struct gm_layout_fault {
     uint64_t found, limit;               /* what is there, and the limit that it breaks */
-    uint64_t command, index;             /* the owner: the offset of its command or record, and its number there, or 0 */
+    uint64_t command, index;             /* the owner: the offset of its command or record, and its place there, or 0: of a section from 1 */
     uint64_t other_command, other_index; /* the same for the other owner, if two disagree */
     uint32_t rule, part, other_part;     /* GM_LAYOUT_.., and GM_PART_..: other_part is GM_PART_NONE if there is no other owner */
     uint32_t reserved;
@@ -587,7 +604,8 @@ typedef struct gm_layout_fault {
     X(EXPORT_TRIE, "export trie") X(SIGNATURE, "signature") X(SPLIT_INFO, "split info") X(FUNCTION_STARTS, "function starts") \
     X(DATA_IN_CODE, "data in code") X(SIGNATURE_REQUIREMENTS, "signature requirements") X(LINKER_HINTS, "linker hints") \
     X(CHAINED_FIXUPS, "chained fixups") X(IMPORTS, "imports") X(ENCRYPTED, "encrypted") X(NOTE, "note") \
-    X(TWOLEVEL_HINTS, "twolevel hints") X(GDB_SYMBOLS, "gdb symbols") X(BINDS, "binds") X(ENTRY, "entry") X(SLICE, "slice")
+    X(TWOLEVEL_HINTS, "twolevel hints") X(GDB_SYMBOLS, "gdb symbols") X(BINDS, "binds") X(ENTRY, "entry") X(SLICE, "slice") \
+    X(ATOM_INFO, "atom info") X(FUNCTION_VARIANTS, "function variants") X(FUNCTION_VARIANT_FIXUPS, "function variant fixups")
 #define GM_LAYOUT_RULE(name, words) GM_LAYOUT_##name,
 #define GM_LAYOUT_PART(name, words) GM_PART_##name,
 enum { GM_LAYOUT_NONE, GM_LAYOUT_RULES(GM_LAYOUT_RULE) };
@@ -628,7 +646,7 @@ typedef struct gm_signature {
    can't be read, if two directories have the same hash type, or if there is no directory. A refused call leaves *signature unchanged. */
 uint32_t gm_code_signature(const uint8_t *bytes, uint64_t len, const gm_image *image, gm_signature *signature, const gm_memory *memory, gm_error *error);
 
-/* what isn't as it was signed: a fault of a kind, of the directory at a slot or of a blob. docs/C.md says what `found` and `limit` are for each
+/* what doesn't match the signature: a fault of a kind, of the directory at a slot or of a blob. docs/C.md says what `found` and `limit` are for each
    kind. */
 typedef struct gm_signature_fault {
     uint64_t found, limit;
@@ -654,14 +672,50 @@ const char *gm_signature_kind(uint32_t kind);
 uint32_t gm_signature_faults(const uint8_t *bytes, uint64_t len, const gm_image *image, uint64_t first, gm_signature_fault *out, uint64_t cap, uint64_t *count,
                              const gm_memory *memory, gm_error *error);
 
-/* Writes to *as_signed whether the image has a signature and is as it was signed, as 1 or 0. It opens the image again, allocates memory while it
+/* Writes to *as_signed whether the image has a signature and nothing differs from it, as 1 or 0. It opens the image again, allocates memory while it
    runs, and hashes the covered bytes. It is also refused if the signature can't be read. A refused call leaves *as_signed unchanged. Who signed
    is not checked. */
 uint32_t gm_is_as_signed(const uint8_t *bytes, uint64_t len, const gm_image *image, uint32_t *as_signed, const gm_memory *memory, gm_error *error);
 
+/* ---- whether its entitlements in XML and in DER say the same, whatever the order of their keys. NONE: there are none, or no command places a
+   signature. ONLY_: there are none in the other notation, and these aren't read. UNREADABLE_: these, or their blob, can't be read; it is
+   UNREADABLE_XML if neither can. */
+enum { GM_ENTITLEMENTS_NONE, GM_ENTITLEMENTS_AGREE, GM_ENTITLEMENTS_DIFFER, GM_ENTITLEMENTS_ONLY_XML, GM_ENTITLEMENTS_ONLY_DER,
+       GM_ENTITLEMENTS_UNREADABLE_XML, GM_ENTITLEMENTS_UNREADABLE_DER };
+
+/* Writes whether the entitlements of the signature in XML and in DER say the same to *agreement, as a number whose name begins with
+   GM_ENTITLEMENTS_. No code directory is needed, and no hash is looked at. It opens the image again, and allocates memory while it runs. It is also
+   refused if the signature can't be read. A refused call leaves *agreement unchanged. It takes up to 1 MB of stack. */
+uint32_t gm_entitlements_agree(const uint8_t *bytes, uint64_t len, const gm_image *image, uint32_t *agreement, const gm_memory *memory, gm_error *error);
+
+/* ---- the requirements of its signature: conditions on the code that hosts this one, on what this one hosts, on this code, on its libraries and on its
+   plug-ins. The designated one says what is another version of the same code. */
+enum { GM_REQUIREMENT_HOST = 1, GM_REQUIREMENT_GUEST, GM_REQUIREMENT_DESIGNATED, GM_REQUIREMENT_LIBRARY, GM_REQUIREMENT_PLUGIN };
+
+/* Writes the text of the first requirement of a type to the start of `out`, without a zero byte after it, and its length to *needed. The length is 0 if
+   there is none, or no signature. The text is the condition as csreq writes it, or "not simple: " and the bytes in hexadecimal digits. It is
+   ASCII on one line. If `cap` is too small, perhaps on purpose, the call is refused with GM_NO_SPACE, and *needed is written. It is also refused if
+   the signature, the index of its requirements or the requirement can't be read, and with GM_MALFORMED for another `type`. Every refusal leaves
+   `out` unchanged, and these also *needed. It opens the image again, and allocates memory for that and for the text while it runs. It takes up to
+   0.5 MB of stack. */
+uint32_t gm_requirement_text(const uint8_t *bytes, uint64_t len, const gm_image *image, uint32_t type, char *out, uint64_t cap, uint64_t *needed,
+                             const gm_memory *memory, gm_error *error);
+
+/* ---- verdicts on how it is hardened: GM_VERDICT_PIE and the like, whose comments say what it means that one holds */
+typedef struct gm_verdict {
+    uint32_t verdict, holds; /* holds: 0 or 1 */
+    uint32_t code;           /* GM_OK, or why what it needs of the signature can't be read; then it isn't known, and `holds` is 0 */
+} gm_verdict;
+
+/* Writes the verdicts from index `first` on, and how many it wrote to *count. An image of 32 bits has all of them, in the order of their numbers. One of
+   64 bits has all but GM_VERDICT_NO_HEAP_EXECUTION. It opens the image again, and allocates memory while it runs. With a `cap` of 0 it is refused
+   with GM_NO_ROWS. A refused call leaves the array and *count unchanged. It takes up to 1 MB of stack. */
+uint32_t gm_security(const uint8_t *bytes, uint64_t len, const gm_image *image, uint64_t first, gm_verdict *out, uint64_t cap, uint64_t *count,
+                     const gm_memory *memory, gm_error *error);
+
 /* ---- a name as a text for C: a copy of it in `out` that fits on a line, as the programs print it, and ends with a zero byte. A backslash is \\,
-   and each byte of a control character, of a mark that changes the direction of text, and of what isn't UTF-8 is \xNN. Zero bytes at the end of
-   a name are left out. Returns the bytes that the whole text needs, with its zero byte. If `cap` is less, the text is cut before an escape or a
+   and each byte of a character that shows nothing (of control, of the direction of text and the like), and of what isn't UTF-8 is \xNN. Zero bytes at
+   the end of a name are left out. Returns the bytes that the whole text needs, with its zero byte. If `cap` is less, the text is cut before an escape or a
    character that doesn't fit. */
 uint64_t gm_text(char *out, uint64_t cap, const void *name, uint64_t name_len);
 
@@ -675,6 +729,8 @@ const char *gm_command_name(uint32_t cmd);                            /* "LC_SEG
 const char *gm_symbol_type_name(uint8_t n_type);                      /* "N_SECT", by the bits of GM_N_TYPE; "N_FUN" for an entry for a debugger */
 const char *gm_relocation_name(uint32_t cputype, uint32_t type);      /* "ARM64_RELOC_BRANCH26", by `info >> 28` */
 const char *gm_platform_name(uint32_t platform);                      /* "MACOS" */
+const char *gm_verdict_name(uint32_t verdict);                        /* "pie", as machinfo prints it */
+const char *gm_verdict_meaning(uint32_t verdict);                     /* "loaded at a random address" */
 
 /* ---- constants: written by c/constants.py */
 /* the magic numbers: `magic` of a gm_image, and the first four bytes of a fat file */
@@ -813,6 +869,10 @@ const char *gm_platform_name(uint32_t platform);                      /* "MACOS"
 #define GM_LC_VERSION_MIN_WATCHOS      UINT32_C(0x30) /* the oldest watchOS that the image runs on */
 #define GM_LC_NOTE                     UINT32_C(0x31) /* the place of data with an owner */
 #define GM_LC_BUILD_VERSION            UINT32_C(0x32) /* the platform and the versions that the image was built for */
+#define GM_LC_ATOM_INFO                UINT32_C(0x36) /* the place of what the linker knows of each atom */
+#define GM_LC_FUNCTION_VARIANTS        UINT32_C(0x37) /* the place of the variants of functions, of which dyld selects one by the cpu */
+#define GM_LC_FUNCTION_VARIANT_FIXUPS  UINT32_C(0x38) /* the place of the pointers to such functions */
+#define GM_LC_TARGET_TRIPLE            UINT32_C(0x39) /* the target triple that the image was compiled for */
 #define GM_LC_REQ_DYLD                 UINT32_C(0x80000000) /* the bit of a command number that the dynamic linker must understand */
 #define GM_LC_LOAD_WEAK_DYLIB          UINT32_C(0x80000018) /* a library that may be missing */
 #define GM_LC_RPATH                    UINT32_C(0x8000001c) /* a path on which libraries are searched */
@@ -1084,6 +1144,26 @@ const char *gm_platform_name(uint32_t platform);                      /* "MACOS"
 #define GM_CS_REQUIRE_LV       UINT32_C(0x2000) /* libraries must be the system's or of the same team */
 #define GM_CS_RUNTIME          UINT32_C(0x10000) /* the hardened runtime */
 #define GM_CS_LINKER_SIGNED    UINT32_C(0x20000) /* the linker signed it */
+/* verdicts on how an image is hardened: `verdict` of a gm_verdict, and what it means that it holds */
+#define GM_VERDICT_NO_HEAP_EXECUTION      UINT32_C(1) /* execution refused on the heap */
+#define GM_VERDICT_PIE                    UINT32_C(2) /* loaded at a random address */
+#define GM_VERDICT_STACK_EXECUTION        UINT32_C(3) /* execution allowed on the stack */
+#define GM_VERDICT_POINTER_AUTHENTICATION UINT32_C(4) /* for arm64e, which signs pointers */
+#define GM_VERDICT_STACK_CANARY           UINT32_C(5) /* code that checks its stack by canaries */
+#define GM_VERDICT_WRITABLE_CODE          UINT32_C(6) /* a segment both writable and executable */
+#define GM_VERDICT_WRITABLE_CODE_ALLOWED  UINT32_C(7) /* a segment that may become both */
+#define GM_VERDICT_RESTRICTED             UINT32_C(8) /* dyld is to ignore environment variables */
+#define GM_VERDICT_CHAINED_FIXUPS         UINT32_C(9) /* pointers in chains of fixups */
+#define GM_VERDICT_RELATIVE_RUN_PATHS     UINT32_C(10) /* a run path that begins with neither / nor @ */
+#define GM_VERDICT_ENCRYPTED              UINT32_C(11) /* a part is encrypted */
+#define GM_VERDICT_STRIPPED               UINT32_C(12) /* no local symbols */
+#define GM_VERDICT_SIGNED                 UINT32_C(13) /* a code directory */
+#define GM_VERDICT_AD_HOC                 UINT32_C(14) /* signed without an identity */
+#define GM_VERDICT_CMS                    UINT32_C(15) /* a CMS message, which says who signed */
+#define GM_VERDICT_HARDENED_RUNTIME       UINT32_C(16) /* started in the hardened runtime */
+#define GM_VERDICT_LIBRARY_VALIDATION     UINT32_C(17) /* only libraries of its team or of the system */
+#define GM_VERDICT_ENTITLEMENTS           UINT32_C(18) /* entitlements in the signature */
+#define GM_VERDICT_GET_TASK_ALLOW         UINT32_C(19) /* debuggers may attach to it */
 /* ---- end */
 
 /* The layout that the library gives each struct (x86-64 Linux), and its numbers. A compiler that sees other ones refuses this header. */
@@ -1142,6 +1222,7 @@ GM_FIELD(gm_archive_symbol, reserved, 28, 4);
 GM_SIZE(gm_archive_symbol, 32);
 GM_FIELD(gm_bind_cursor, binds, 0, 96);
 GM_FIELD(gm_bind_cursor, stage, 96, 4);
+GM_FIELD(gm_bind_cursor, reserved, 100, 4);
 GM_SIZE(gm_bind_cursor, 104);
 GM_FIELD(gm_binding, address, 0, 8);
 GM_FIELD(gm_binding, offset, 8, 8);
@@ -1172,6 +1253,7 @@ GM_SIZE(gm_build_version, 24);
 GM_FIELD(gm_command, offset, 0, 8);
 GM_FIELD(gm_command, size, 8, 8);
 GM_FIELD(gm_command, cmd, 16, 4);
+GM_FIELD(gm_command, reserved, 20, 4);
 GM_SIZE(gm_command, 24);
 GM_FIELD(gm_command_text, command, 0, 8);
 GM_FIELD(gm_command_text, text, 8, 8);
@@ -1192,13 +1274,14 @@ GM_FIELD(gm_error, code, 0, 4);
 GM_FIELD(gm_error, text, 4, 124);
 GM_SIZE(gm_error, 128);
 GM_FIELD(gm_export, address, 0, 8);
-GM_FIELD(gm_export, resolver, 8, 8);
-GM_FIELD(gm_export, flags, 16, 8);
-GM_FIELD(gm_export, library_len, 24, 8);
-GM_FIELD(gm_export, target_len, 32, 8);
-GM_FIELD(gm_export, kind, 40, 4);
-GM_FIELD(gm_export, reserved, 44, 4);
-GM_SIZE(gm_export, 48);
+GM_FIELD(gm_export, offset, 8, 8);
+GM_FIELD(gm_export, resolver, 16, 8);
+GM_FIELD(gm_export, flags, 24, 8);
+GM_FIELD(gm_export, library_len, 32, 8);
+GM_FIELD(gm_export, target_len, 40, 8);
+GM_FIELD(gm_export, kind, 48, 4);
+GM_FIELD(gm_export, reserved, 52, 4);
+GM_SIZE(gm_export, 56);
 GM_FIELD(gm_export_batch, count, 0, 8);
 GM_FIELD(gm_export_batch, names_len, 8, 8);
 GM_FIELD(gm_export_batch, needed, 16, 8);
@@ -1254,9 +1337,11 @@ GM_FIELD(gm_fixup, key, 44, 4);
 GM_FIELD(gm_fixup, diversity, 48, 4);
 GM_FIELD(gm_fixup, is_address_diverse, 52, 4);
 GM_FIELD(gm_fixup, code, 56, 4);
+GM_FIELD(gm_fixup, reserved, 60, 4);
 GM_SIZE(gm_fixup, 64);
 GM_FIELD(gm_fixup_cursor, chains, 0, 32);
 GM_FIELD(gm_fixup_cursor, stage, 32, 4);
+GM_FIELD(gm_fixup_cursor, reserved, 36, 4);
 GM_SIZE(gm_fixup_cursor, 40);
 GM_FIELD(gm_found_function, start, 0, 8);
 GM_FIELD(gm_found_function, end, 8, 8);
@@ -1268,17 +1353,18 @@ GM_FIELD(gm_found_section, segment_name, 16, 16);
 GM_FIELD(gm_found_section, addr, 32, 8);
 GM_FIELD(gm_found_section, size, 40, 8);
 GM_FIELD(gm_found_section, segment, 48, 8);
-GM_FIELD(gm_found_section, number, 56, 4);
-GM_FIELD(gm_found_section, offset, 60, 4);
-GM_FIELD(gm_found_section, align, 64, 4);
-GM_FIELD(gm_found_section, reloff, 68, 4);
-GM_FIELD(gm_found_section, nreloc, 72, 4);
-GM_FIELD(gm_found_section, flags, 76, 4);
-GM_FIELD(gm_found_section, reserved1, 80, 4);
-GM_FIELD(gm_found_section, reserved2, 84, 4);
-GM_FIELD(gm_found_section, is_found, 88, 4);
-GM_FIELD(gm_found_section, reserved, 92, 4);
-GM_SIZE(gm_found_section, 96);
+GM_FIELD(gm_found_section, number, 56, 8);
+GM_FIELD(gm_found_section, index, 64, 4);
+GM_FIELD(gm_found_section, offset, 68, 4);
+GM_FIELD(gm_found_section, align, 72, 4);
+GM_FIELD(gm_found_section, reloff, 76, 4);
+GM_FIELD(gm_found_section, nreloc, 80, 4);
+GM_FIELD(gm_found_section, flags, 84, 4);
+GM_FIELD(gm_found_section, reserved1, 88, 4);
+GM_FIELD(gm_found_section, reserved2, 92, 4);
+GM_FIELD(gm_found_section, is_found, 96, 4);
+GM_FIELD(gm_found_section, reserved, 100, 4);
+GM_SIZE(gm_found_section, 104);
 GM_FIELD(gm_found_symbol, symbol, 0, 40);
 GM_FIELD(gm_found_symbol, index, 40, 8);
 GM_FIELD(gm_found_symbol, distance, 48, 8);
@@ -1294,24 +1380,26 @@ GM_FIELD(gm_id, name_len, 8, 8);
 GM_SIZE(gm_id, 16);
 GM_FIELD(gm_image, offset, 0, 8);
 GM_FIELD(gm_image, entry, 8, 8);
-GM_FIELD(gm_image, first_command, 16, 8);
-GM_FIELD(gm_image, commands, 24, 8);
-GM_FIELD(gm_image, segments, 32, 8);
-GM_FIELD(gm_image, libraries, 40, 8);
-GM_FIELD(gm_image, run_paths, 48, 8);
-GM_FIELD(gm_image, symbols, 56, 8);
-GM_FIELD(gm_image, symbols_at, 64, 8);
-GM_FIELD(gm_image, names_at, 72, 8);
-GM_FIELD(gm_image, magic, 80, 4);
-GM_FIELD(gm_image, cputype, 84, 4);
-GM_FIELD(gm_image, cpusubtype, 88, 4);
-GM_FIELD(gm_image, filetype, 92, 4);
-GM_FIELD(gm_image, flags, 96, 4);
-GM_FIELD(gm_image, is_lossy, 100, 4);
-GM_FIELD(gm_image, is_old_style_entry, 104, 4);
-GM_FIELD(gm_image, is_little_endian, 108, 4);
-GM_FIELD(gm_image, is_64, 112, 4);
-GM_SIZE(gm_image, 120);
+GM_FIELD(gm_image, base, 16, 8);
+GM_FIELD(gm_image, first_command, 24, 8);
+GM_FIELD(gm_image, commands, 32, 8);
+GM_FIELD(gm_image, segments, 40, 8);
+GM_FIELD(gm_image, libraries, 48, 8);
+GM_FIELD(gm_image, run_paths, 56, 8);
+GM_FIELD(gm_image, symbols, 64, 8);
+GM_FIELD(gm_image, symbols_at, 72, 8);
+GM_FIELD(gm_image, names_at, 80, 8);
+GM_FIELD(gm_image, magic, 88, 4);
+GM_FIELD(gm_image, cputype, 92, 4);
+GM_FIELD(gm_image, cpusubtype, 96, 4);
+GM_FIELD(gm_image, filetype, 100, 4);
+GM_FIELD(gm_image, flags, 104, 4);
+GM_FIELD(gm_image, is_lossy, 108, 4);
+GM_FIELD(gm_image, is_old_style_entry, 112, 4);
+GM_FIELD(gm_image, is_little_endian, 116, 4);
+GM_FIELD(gm_image, is_64, 120, 4);
+GM_FIELD(gm_image, reserved, 124, 4);
+GM_SIZE(gm_image, 128);
 GM_FIELD(gm_image_uuid, bytes, 0, 16);
 GM_SIZE(gm_image_uuid, 16);
 GM_FIELD(gm_import, address, 0, 8);
@@ -1325,6 +1413,7 @@ GM_FIELD(gm_import, size, 56, 8);
 GM_FIELD(gm_import, is_weak, 64, 4);
 GM_FIELD(gm_import, is_lazy, 68, 4);
 GM_FIELD(gm_import, code, 72, 4);
+GM_FIELD(gm_import, reserved, 76, 4);
 GM_SIZE(gm_import, 80);
 GM_FIELD(gm_indirect_symbol, kind, 0, 4);
 GM_FIELD(gm_indirect_symbol, symbol, 4, 4);
@@ -1339,6 +1428,7 @@ GM_FIELD(gm_layout_fault, other_index, 40, 8);
 GM_FIELD(gm_layout_fault, rule, 48, 4);
 GM_FIELD(gm_layout_fault, part, 52, 4);
 GM_FIELD(gm_layout_fault, other_part, 56, 4);
+GM_FIELD(gm_layout_fault, reserved, 60, 4);
 GM_SIZE(gm_layout_fault, 64);
 GM_FIELD(gm_library, name, 0, 8);
 GM_FIELD(gm_library, name_len, 8, 8);
@@ -1359,8 +1449,8 @@ GM_FIELD(gm_listed_export, name, 0, 8);
 GM_FIELD(gm_listed_export, name_len, 8, 8);
 GM_FIELD(gm_listed_export, library, 16, 8);
 GM_FIELD(gm_listed_export, target, 24, 8);
-GM_FIELD(gm_listed_export, what, 32, 48);
-GM_SIZE(gm_listed_export, 80);
+GM_FIELD(gm_listed_export, what, 32, 56);
+GM_SIZE(gm_listed_export, 88);
 GM_FIELD(gm_note, command, 0, 8);
 GM_FIELD(gm_note, owner, 8, 8);
 GM_FIELD(gm_note, owner_len, 16, 8);
@@ -1371,9 +1461,10 @@ GM_FIELD(gm_note, reserved, 44, 4);
 GM_SIZE(gm_note, 48);
 GM_FIELD(gm_numbered_section, section, 0, 80);
 GM_FIELD(gm_numbered_section, command, 80, 8);
-GM_FIELD(gm_numbered_section, number, 88, 4);
-GM_FIELD(gm_numbered_section, reserved, 92, 4);
-GM_SIZE(gm_numbered_section, 96);
+GM_FIELD(gm_numbered_section, number, 88, 8);
+GM_FIELD(gm_numbered_section, index, 96, 4);
+GM_FIELD(gm_numbered_section, reserved, 100, 4);
+GM_SIZE(gm_numbered_section, 104);
 GM_FIELD(gm_open_node, left, 0, 8);
 GM_FIELD(gm_open_node, place, 8, 8);
 GM_FIELD(gm_open_node, name_len, 16, 8);
@@ -1461,7 +1552,7 @@ GM_FIELD(gm_slot, len, 8, 8);
 GM_FIELD(gm_slot, segment, 16, 8);
 GM_FIELD(gm_slot, name, 24, 8);
 GM_FIELD(gm_slot, name_len, 32, 8);
-GM_FIELD(gm_slot, section, 40, 4);
+GM_FIELD(gm_slot, section_index, 40, 4);
 GM_FIELD(gm_slot, kind, 44, 4);
 GM_FIELD(gm_slot, index, 48, 4);
 GM_FIELD(gm_slot, owner, 52, 4);
@@ -1471,6 +1562,7 @@ GM_SIZE(gm_slot, 64);
 GM_FIELD(gm_start_cursor, place, 0, 8);
 GM_FIELD(gm_start_cursor, address, 8, 8);
 GM_FIELD(gm_start_cursor, stage, 16, 4);
+GM_FIELD(gm_start_cursor, reserved, 20, 4);
 GM_SIZE(gm_start_cursor, 24);
 GM_FIELD(gm_symbol, value, 0, 8);
 GM_FIELD(gm_symbol, name, 8, 8);
@@ -1479,7 +1571,12 @@ GM_FIELD(gm_symbol, section, 24, 8);
 GM_FIELD(gm_symbol, code, 32, 4);
 GM_FIELD(gm_symbol, desc, 36, 2);
 GM_FIELD(gm_symbol, n_type, 38, 1);
+GM_FIELD(gm_symbol, reserved, 39, 1);
 GM_SIZE(gm_symbol, 40);
+GM_FIELD(gm_verdict, verdict, 0, 4);
+GM_FIELD(gm_verdict, holds, 4, 4);
+GM_FIELD(gm_verdict, code, 8, 4);
+GM_SIZE(gm_verdict, 12);
 GM_FIELD(gm_weak_bind, address, 0, 8);
 GM_FIELD(gm_weak_bind, offset, 8, 8);
 GM_FIELD(gm_weak_bind, addend, 16, 8);
@@ -1499,6 +1596,13 @@ GM_IS(GM_OF_ITSELF, 1);
 GM_IS(GM_OF_PROGRAM, 2);
 GM_IS(GM_OF_ANY, 3);
 GM_IS(GM_OF_ANY_WEAK, 4);
+GM_IS(GM_ENTITLEMENTS_NONE, 0);
+GM_IS(GM_ENTITLEMENTS_AGREE, 1);
+GM_IS(GM_ENTITLEMENTS_DIFFER, 2);
+GM_IS(GM_ENTITLEMENTS_ONLY_XML, 3);
+GM_IS(GM_ENTITLEMENTS_ONLY_DER, 4);
+GM_IS(GM_ENTITLEMENTS_UNREADABLE_XML, 5);
+GM_IS(GM_ENTITLEMENTS_UNREADABLE_DER, 6);
 GM_IS(GM_OK, 0);
 GM_IS(GM_MALFORMED, 1);
 GM_IS(GM_BAD_MAGIC, 2);
@@ -1548,6 +1652,11 @@ GM_IS(GM_LOSSY, 1);
 GM_IS(GM_REBASE_POINTER, 1);
 GM_IS(GM_REBASE_TEXT_ABSOLUTE, 2);
 GM_IS(GM_REBASE_TEXT_RELATIVE, 3);
+GM_IS(GM_REQUIREMENT_HOST, 1);
+GM_IS(GM_REQUIREMENT_GUEST, 2);
+GM_IS(GM_REQUIREMENT_DESIGNATED, 3);
+GM_IS(GM_REQUIREMENT_LIBRARY, 4);
+GM_IS(GM_REQUIREMENT_PLUGIN, 5);
 GM_IS(GM_SIGNATURE_BLOB, 1);
 GM_IS(GM_SIGNATURE_MAGIC, 2);
 GM_IS(GM_SIGNATURE_DIRECTORY, 3);

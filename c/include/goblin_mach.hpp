@@ -216,13 +216,15 @@ public:
     // ---- lists that open the image again: by a cursor, and by index
     auto function_starts() const { return after<gm_function_start, gm_start_cursor>(gm_function_starts); }
     auto fixups() const { return after<gm_fixup, gm_fixup_cursor>(gm_fixups); }
-    auto imports() const { return after<gm_import, gm_bind_cursor>(gm_imports); }
+    // The binds of opcodes only: bindings() has what dyld binds, chains too.
+    auto opcode_imports() const { return after<gm_import, gm_bind_cursor>(gm_opcode_imports); }
     auto bindings() const { return after<gm_binding, gm_binding_cursor>(gm_bindings); }
     auto weak_binds() const { return after<gm_weak_bind, gm_bind_cursor>(gm_weak_binds); }
     auto rebases() const { return after<gm_rebase, gm_rebase_cursor>(gm_rebases); }
     auto slots() const { return counted<gm_slot>(gm_slots); }
     auto layout_faults() const { return counted<gm_layout_fault>(gm_layout_faults); }
     auto signature_faults() const { return counted<gm_signature_fault>(gm_signature_faults); }
+    auto security() const { return counted<gm_verdict>(gm_security); }
 
     // ---- what single commands say
     auto uuid() const { return said<gm_image_uuid>(gm_uuid); }

@@ -1,4 +1,4 @@
-"""Reads Apple's Mach-O images with the proved library libgoblin_mach.so.
+"""Reads Apple's Mach-O images with the proved library libgoblin_mach.so. `help(goblin_mach.Image)` and the like are the reference.
 
     import goblin_mach
     with goblin_mach.open("a.out") as file:
@@ -35,7 +35,7 @@ from .items import (
     SymbolProvider, SymbolSlot,
 )
 from .pointers import Binding, Fixup, Import, Rebase, WeakBind
-from .signature import Signature, SignatureFault
+from .signature import AGREEMENTS, REQUIREMENTS, Signature, SignatureFault
 from .symbol_map import SymbolMap
 from .symbol_enums import (
     RELOCATION_TYPES, Arm64Relocation, ArmRelocation, ExportFlags, ExportKind, GenericRelocation, PowerPcRelocation, ReferenceType, RelocationType,
@@ -55,6 +55,8 @@ __all__ = [
     "FunctionStart", "DataInCode", "IndirectSymbol", "SymbolSlot", "SymbolProvider", "NumberedSection", "LinkerOption", "BuildTool", "Note",
     "Item", "BuildVersion", "CommandText", "Encryption", "FilesetEntry", "FoundSymbol", "Function", "SymbolMap",
     "Mode", "STRICT", "LOSSY", "ErrorCode", "ERRORS", "NO_MEMORY", "BATCH", "FIXUPS", "PROVIDERS", "REBASES", "KINDS", "INDIRECT", "SLOTS", "EXPORTS",
+    "AGREEMENTS",
+    "REQUIREMENTS",
     "CpuType", "CpuSubtype", "CPU_SUBTYPES", "X86Subtype", "X86_64Subtype", "ArmSubtype", "Arm64Subtype", "Arm64_32Subtype", "PowerPcSubtype",
     "FileType", "HeaderFlags", "LoadCommand", "Protection", "SegmentFlags", "SectionType", "SectionAttributes", "Platform", "Tool", "DataKind",
     "SignatureFlags", "SignatureHash",

@@ -13,7 +13,7 @@ from ._rows import BATCH
 from .items import Export
 
 EXPORTS = (None, "address", "re-export", "stub")
-REEXPORT = 2
+REEXPORT, STUB = 2, 3
 MORE, END, NO_ROOM, NAME_SHORT, STACK_SHORT, REFUSED = range(6)
 _ROW = s.unpacker(s.gm_listed_export)
 _NODE = sizeof(s.gm_open_node)
@@ -49,6 +49,11 @@ def _longer(old: ctypes.Array[c_char], count: int) -> ctypes.Array[c_char]:
     return new
 
 
+def _places(kind: int, address: int, offset: int, resolver: int) -> Tuple[Optional[int], Optional[int], Optional[int]]:
+    """Returns the address, the offset and the resolver's address of an export of a kind, each if it has one."""
+    return None if kind == REEXPORT else address, None if kind == REEXPORT else offset, resolver if kind == STUB else None
+
+
 def exports(live: Callable[[], Held], numbers: Any, libraries: Callable[[], Callable[[int], str]]) -> Iterator[Export]:
     """Yields all exports, in the order of the trie. `libraries` returns a function that gives the name of a library by its ordinal."""
     held, known, new = live(), None, tuple.__new__
@@ -56,13 +61,13 @@ def exports(live: Callable[[], Held], numbers: Any, libraries: Callable[[], Call
     for room in _batches(held, numbers):
         names = bytes(memoryview(room.names)[:room.batch.names_len])
         rows = memoryview(room.out)[:room.batch.count * _ROW.size]
-        for name, name_len, library, target, address, resolver, flags, _, target_len, kind, _ in _ROW.iter_unpack(rows):
+        for name, name_len, library, target, address, offset, resolver, flags, _, target_len, kind, _ in _ROW.iter_unpack(rows):
             words, brought, there = names[name:name + name_len].decode("utf-8", "surrogateescape"), None, None
             if kind == REEXPORT:
                 if known is None:
                     known = libraries()
                 brought, there = known(library), text(view[target:target + target_len]) or words
-            yield new(Export, (words, EXPORTS[kind], address, resolver, flags, brought, there))
+            yield new(Export, (words, EXPORTS[kind], *_places(kind, address, offset, resolver), flags, brought, there))
             if life.closed:
                 life.check()
 
@@ -105,10 +110,11 @@ def find_export(held: Held, numbers: Any, name: str) -> Optional[Export]:
     kind = EXPORTS[found.kind]
     if kind is None:
         return None
+    places = _places(found.kind, found.address, found.offset, found.resolver)
     if found.kind != REEXPORT:
-        return Export(name, kind, found.address, found.resolver, found.flags, None, None)
+        return Export(name, kind, *places, found.flags, None, None)
     there = text(target.raw[:found.target_len]) or name
-    return Export(name, kind, found.address, found.resolver, found.flags, text(library.raw[:found.library_len]), there)
+    return Export(name, kind, *places, found.flags, text(library.raw[:found.library_len]), there)
 
 
 def are_a_tree(held: Held, numbers: Any) -> Tuple[int, s.gm_error]:

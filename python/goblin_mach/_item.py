@@ -4,7 +4,7 @@ from __future__ import annotations
 
 import json
 import uuid
-from typing import Any, Dict
+from typing import Any, Dict, Tuple
 
 
 def _shown(value: object) -> str:
@@ -15,12 +15,10 @@ def _shown(value: object) -> str:
 
 
 def plain(value: Any) -> Any:
-    """Returns a value as JSON takes it. An item becomes its dict, and a name (`bytes`) a `str` with surrogates for what isn't UTF-8.
-    Other bytes of the file (a `memoryview`) become hexadecimal, and a UUID its text."""
+    """Returns a value as JSON takes it. An item becomes its dict. Bytes of the file (a `memoryview`) become hexadecimal, and a UUID its
+    text."""
     if isinstance(value, Item):
         return value.to_dict()
-    if isinstance(value, bytes):
-        return value.decode("utf-8", "surrogateescape")
     if isinstance(value, memoryview):
         return value.hex()
     return str(value) if isinstance(value, uuid.UUID) else value
@@ -30,10 +28,13 @@ class Item:
     """An item of a list: a tuple with names."""
 
     __slots__ = ()
+    _optional: Tuple[str, ...] = ()
+    """The fields with a name that is empty if there is none."""
 
     def to_dict(self: Any) -> Dict[str, Any]:
-        """Returns its fields by their names, with values that `json.dumps` takes. Names are `str`, and bytes are in hexadecimal."""
-        return {name: plain(value) for name, value in zip(self._fields, self)}
+        """Returns its fields by their names, with values that `json.dumps` takes. Bytes are in hexadecimal, and an empty name of a segment or
+        a section is None."""
+        return {name: None if value == "" and name in self._optional else plain(value) for name, value in zip(self._fields, self)}
 
     def json(self) -> str:
         """Returns `to_dict()` as JSON, on one line."""

@@ -4,13 +4,17 @@ from __future__ import annotations
 
 import ctypes
 import glob
+import operator
 import os
 import sys
 from ctypes import POINTER, c_bool, c_char_p, c_uint32, c_uint64, c_void_p
-from typing import Any, Dict, List, Sequence, Tuple, Union
+from typing import TYPE_CHECKING, Any, Dict, List, Sequence, Tuple, Union
 
 from . import _structs as s
 from .errors import Refused
+
+if TYPE_CHECKING:
+    from typing import SupportsIndex
 
 FITS = (0, 3)
 """MAJOR and MINOR of the library versions that this package is written for; others may have other structs and calls."""
@@ -26,14 +30,15 @@ def _in_folder(folder: str) -> List[str]:
 
 def places() -> List[str]:
     """Returns the places where the library is searched, in order. If GOBLIN_MACH is set it names the only place. Otherwise the library is
-    searched beside this file, as in a wheel that includes it. After that it is searched in build/ of the repository that contains the
-    package, and where the system's loader looks."""
+    searched beside this file, as in a wheel that includes it. After that it is searched in build/lib and build of the repository that
+    contains the package, and where the system's loader looks."""
     named = os.environ.get("GOBLIN_MACH")
     if named:
         return [named]
     top = os.path.dirname(os.path.dirname(HERE))
-    built = _in_folder(os.path.join(top, "build")) if os.path.exists(os.path.join(top, "python", "pyproject.toml")) else []
-    return [*_in_folder(HERE), *built, *([SONAME] if NAME.endswith(".so") else []), NAME]
+    is_checkout = os.path.exists(os.path.join(top, "python", "pyproject.toml"))
+    built = [path for name in (os.path.join("build", "lib"), "build") for path in _in_folder(os.path.join(top, name))]
+    return [*_in_folder(HERE), *(built if is_checkout else []), *([SONAME] if NAME.endswith(".so") else []), NAME]
 
 
 def _open_first(paths: Sequence[str]) -> ctypes.CDLL:
@@ -75,6 +80,7 @@ def _prototypes() -> Dict[str, Tuple[Any, List[Any]]]:
         "gm_section_at": (c_uint32, [*held, image, c_uint64, POINTER(s.gm_found_section), c_void_p, error]),
         "gm_section_named": (c_uint32, [*held, image, *name, *name, POINTER(s.gm_found_section), c_void_p, error]),
         "gm_symbol_named": (c_uint32, [*held, image, *name, POINTER(s.gm_found_symbol), c_void_p, error]),
+        "gm_symbols_named": (c_uint32, [*held, image, *name, *by_number, count, c_void_p, error]),
         "gm_symbol_at": (c_uint32, [*held, image, c_uint64, POINTER(s.gm_found_symbol), c_void_p, error]),
         "gm_function_at": (c_uint32, [*held, image, c_uint64, POINTER(s.gm_found_function), c_void_p, error]),
         "gm_segment_named": (c_bool, [*held, image, *name, POINTER(s.gm_segment)]),
@@ -91,6 +97,10 @@ def _prototypes() -> Dict[str, Tuple[Any, List[Any]]]:
         "gm_code_signature": (c_uint32, [*held, image, POINTER(s.gm_signature), c_void_p, error]),
         "gm_signature_faults": (c_uint32, [*held, image, *by_number, count, c_void_p, error]),
         "gm_is_as_signed": (c_uint32, [*held, image, POINTER(c_uint32), c_void_p, error]),
+        "gm_entitlements_agree": (c_uint32, [*held, image, POINTER(c_uint32), c_void_p, error]),
+        "gm_requirement_text": (c_uint32, [*held, image, c_uint32, c_char_p, c_uint64, count, c_void_p, error]),
+        "gm_security": (c_uint32, [*held, image, *by_number, count, c_void_p, error]),
+        "gm_verdict_name": (c_char_p, [c_uint32]),
         "gm_signature_kind": (c_char_p, [c_uint32]),
         "gm_layout_rule": (c_char_p, [c_uint32]),
         "gm_layout_part": (c_char_p, [c_uint32]),
@@ -98,7 +108,7 @@ def _prototypes() -> Dict[str, Tuple[Any, List[Any]]]:
     for call in ("commands", "segments", "all_sections", "symbols", "libraries", "run_paths", "ids", "data_in_code", "indirect_symbols",
                  "linker_options", "build_tools", "build_versions", "dyld_environment", "fileset_entries", "notes"):
         calls["gm_" + call] = c_uint64, [*held, image, *by_number]
-    for call, cursor in (("fixups", s.gm_fixup_cursor), ("imports", s.gm_bind_cursor), ("bindings", s.gm_binding_cursor),
+    for call, cursor in (("fixups", s.gm_fixup_cursor), ("opcode_imports", s.gm_bind_cursor), ("bindings", s.gm_binding_cursor),
                          ("weak_binds", s.gm_bind_cursor), ("rebases", s.gm_rebase_cursor), ("function_starts", s.gm_start_cursor)):
         calls["gm_" + call] = c_uint32, [*held, image, POINTER(cursor), c_void_p, c_uint64, count, c_void_p, error]
     return calls
@@ -135,16 +145,18 @@ def refused(error: s.gm_error) -> Refused:
     return Refused(error.code, error.text.decode("utf-8", "replace"))
 
 
-def bits64(number: int) -> int:
-    """Returns a number as C takes it. A number of more than 64 bits would be cut, and is refused."""
-    if not 0 <= number < 1 << 64:
-        raise ValueError(f"{number:#x} is no number of 64 bits")
-    return number
+def bits64(number: SupportsIndex, bits: int = 64) -> int:
+    """Returns a number as C takes it. What is no whole number, such as a float, raises TypeError. A number of more bits would be cut, and
+    raises ValueError."""
+    found = operator.index(number)
+    if not 0 <= found < 1 << bits:
+        raise ValueError(f"{found:#x} is no number of {bits} bits")
+    return found
 
 
 def escaped(name: Union[str, bytes]) -> str:
     """Returns a name as the programs print it. It can't forge output, and fits on a line. A backslash is there twice. Each byte of a
-    control character, of a mark that changes the direction of text, and of what isn't UTF-8 is \\xNN."""
+    character that shows nothing (of control, of the direction of text and the like), and of what isn't UTF-8 is \\xNN."""
     if isinstance(name, str) and name.isascii() and name.isprintable() and "\\" not in name:
         return name
     raw = name.encode("utf-8", "surrogateescape") if isinstance(name, str) else name

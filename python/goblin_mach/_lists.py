@@ -7,6 +7,7 @@ from functools import lru_cache
 from typing import Any, Callable, Iterable, List, Optional, Tuple
 
 from . import _structs as s
+from ._commands import name_in
 from ._library import lib
 from ._memory import Held
 from ._rows import Kind
@@ -40,12 +41,18 @@ def _told(number: int) -> Optional[int]:
     return None if number == (1 << 64) - 1 else number
 
 
-def _name(raw: bytes) -> bytes:
-    return raw.split(b"\0", 1)[0]
+def _outside(index: int, offset: int, size: int, end: int) -> str:
+    """Returns why the entry at an index isn't all in a file that ends there. The record of one without an offset and a size isn't."""
+    if not offset and not size:
+        return f"the file ends in the record of entry {index}"
+    return f"entry {index} is out of the file: it ends at {min(offset + size, (1 << 64) - 1):#x}, the file at {end:#x}"
 
 
 def fat_entries(held: Held, raws: Raws, first: int) -> List[FatEntry]:
-    return [FatEntry(cpu, kind, offset, size, align, _error(code)) for offset, size, cpu, kind, align, code in raws]
+    return [
+        FatEntry(cpu, kind, offset, size, align, _outside(index, offset, size, held.len) if code else None)
+        for index, (offset, size, cpu, kind, align, code) in enumerate(raws, first)
+    ]
 
 
 def members(held: Held, raws: Raws, first: int) -> List[Member]:
@@ -69,7 +76,7 @@ def commands(held: Held, raws: Raws, first: int) -> List[Command]:
 def segments(held: Held, raws: Raws, first: int) -> List[Segment]:
     view = held.view
     return [
-        Segment(_name(name), vmaddr, vmsize, fileoff, filesize, maxprot, initprot, flags, view[fileoff:fileoff + data_len], command, nsects)
+        Segment(name_in(name), vmaddr, vmsize, fileoff, filesize, maxprot, initprot, flags, view[fileoff:fileoff + data_len], command, nsects)
         for name, vmaddr, vmsize, fileoff, filesize, command, data_len, maxprot, initprot, nsects, flags in raws
     ]
 
@@ -77,7 +84,7 @@ def segments(held: Held, raws: Raws, first: int) -> List[Segment]:
 def sections(held: Held, raws: Raws, first: int) -> List[Section]:
     view = held.view
     return [
-        Section(_name(name), _name(segment), addr, size, offset, align, reloff, nreloc, flags, view[offset:offset + data_len], _error(code))
+        Section(name_in(name), name_in(segment), addr, size, offset, align, reloff, nreloc, flags, view[offset:offset + data_len], _error(code))
         for name, segment, addr, size, data_len, offset, align, reloff, nreloc, flags, code in raws
     ]
 
@@ -214,6 +221,11 @@ def found_symbol(held: Held, found: s.gm_found_symbol) -> Optional[FoundSymbol]:
     return FoundSymbol(SYMBOLS.items_of(held, found.symbol)[0], found.index, found.distance) if found.is_found else None
 
 
+def found_symbols(held: Held, raws: Raws, first: int) -> List[FoundSymbol]:
+    rows = list(raws)
+    return [FoundSymbol(symbol, row[8], 0) for symbol, row in zip(symbols(held, (row[:8] for row in rows), first), rows)]
+
+
 def provider(found: s.gm_provider) -> Optional[SymbolProvider]:
     """Returns the provider of a symbol, if the linker recorded it."""
     return SymbolProvider(PROVIDERS[found.provider], found.library, _error(found.code)) if found.is_reported else None
@@ -223,8 +235,8 @@ def numbered_section(found: s.gm_found_section) -> Optional[NumberedSection]:
     """Returns a section that was looked up, if it was found."""
     if not found.is_found:
         return None
-    return NumberedSection(found.segment, found.number, _name(bytes(found.name)), _name(bytes(found.segment_name)), found.addr, found.size, found.offset,
-                           found.align, found.reloff, found.nreloc, found.flags, found.reserved1, found.reserved2)
+    return NumberedSection(found.number, found.segment, found.index, name_in(bytes(found.name)), name_in(bytes(found.segment_name)), found.addr,
+                           found.size, found.offset, found.align, found.reloff, found.nreloc, found.flags, found.reserved1, found.reserved2)
 
 
 @lru_cache(maxsize=None)
@@ -256,6 +268,15 @@ def signature_faults(held: Held, raws: Raws, first: int) -> List[SignatureFault]
     ]
 
 
+@lru_cache(maxsize=None)
+def _verdict(number: int) -> str:
+    return str(lib.gm_verdict_name(number).decode())
+
+
+def verdicts(held: Held, raws: Raws, first: int) -> List[Tuple[str, Optional[bool]]]:
+    return [(_verdict(verdict), None if code else bool(holds)) for verdict, holds, code in raws]
+
+
 FAT_ENTRIES = Kind(lib.gm_fat_entries64, s.gm_fat_entry64, fat_entries)
 ARCHIVE_MEMBERS = Kind(lib.gm_archive_members, s.gm_archive_member, members, grows=True)
 ARCHIVE_SYMBOLS = Kind(lib.gm_archive_symbols, s.gm_archive_symbol, archive_symbols, grows=True)
@@ -269,6 +290,7 @@ SECTIONS = Kind(lib.gm_sections, s.gm_section, sections)
 ALL_SECTIONS = Kind(lib.gm_all_sections, s.gm_numbered_section, all_sections, grows=True)
 RELOCATIONS = Kind(lib.gm_relocations, s.gm_relocation, relocations)
 SYMBOLS = Kind(lib.gm_symbols, s.gm_symbol, symbols)
+SYMBOLS_NAMED = Kind(lib.gm_symbols_named, s.gm_found_symbol, found_symbols)
 LIBRARIES = Kind(lib.gm_libraries, s.gm_library, libraries, grows=True)
 RUN_PATHS = Kind(lib.gm_run_paths, s.gm_run_path, run_paths, grows=True)
 IDS = Kind(lib.gm_ids, s.gm_id, ids, grows=True)
@@ -283,10 +305,11 @@ NOTES = Kind(lib.gm_notes, s.gm_note, notes, grows=True)
 SLOTS_BY_NUMBER = Kind(lib.gm_slots, s.gm_slot, slots)
 FUNCTION_STARTS_BEHIND = Kind(lib.gm_function_starts, s.gm_function_start, function_starts)
 FIXUPS_BEHIND = Kind(lib.gm_fixups, s.gm_fixup, fixups)
-IMPORTS_BEHIND = Kind(lib.gm_imports, s.gm_import, imports)
+IMPORTS_BEHIND = Kind(lib.gm_opcode_imports, s.gm_import, imports)
 BINDINGS_BEHIND = Kind(lib.gm_bindings, s.gm_binding, bindings)
 WEAK_BINDS_BEHIND = Kind(lib.gm_weak_binds, s.gm_weak_bind, weak_binds)
 REBASES_BEHIND = Kind(lib.gm_rebases, s.gm_rebase, rebases)
 LAYOUT_FAULTS = Kind(lib.gm_layout_faults, s.gm_layout_fault, layout_faults)
 SIGNATURE_FAULTS = Kind(lib.gm_signature_faults, s.gm_signature_fault, signature_faults)
+VERDICTS = Kind(lib.gm_security, s.gm_verdict, verdicts)
 CONTAINER_FAULTS = Kind(lib.gm_container_faults, s.gm_layout_fault, layout_faults)

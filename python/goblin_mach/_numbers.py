@@ -8,6 +8,7 @@ the tables grow."""
 
 from __future__ import annotations
 
+import operator
 from enum import IntEnum, IntFlag
 from typing import Any, Tuple, Type, TypeVar, cast
 
@@ -21,6 +22,7 @@ class Number(IntEnum):
     @classmethod
     def of(cls: Type[E], number: int) -> E:
         """Returns the member of a number, with a name or without."""
+        number = operator.index(number)
         member = cls._value2member_map_.get(number)
         return cls._unnamed(number) if member is None else cast(E, member)
 
@@ -56,7 +58,7 @@ class Flags(IntFlag):
     @classmethod
     def of(cls: Type[F], number: int) -> F:
         """Returns the flags of a number. Bits without a name are kept."""
-        return cls(number)
+        return cls(operator.index(number))
 
     @classmethod
     def _missing_(cls, value: object) -> Any:

@@ -3,6 +3,7 @@
 from __future__ import annotations
 
 import ctypes
+import operator
 import struct
 from typing import Any, Callable, Generic, Iterable, Iterator, List, Optional, Sequence, Tuple, Type, TypeVar, Union, overload
 
@@ -63,7 +64,8 @@ class Kind(Generic[T]):
 
 class Rows(Generic[T]):
     """A list whose items have indices. It is an iterator, which runs once. It also has `len`, indices, slices and `in`. These request
-    items anew, independently of the iterator."""
+    items anew, independently of the iterator. A list of records has an item for each number that the file claims: for a file that you
+    don't trust use `in_bounds()`."""
 
     __slots__ = ("_end", "_given", "_kind", "_length", "_live", "_table", "_walk")
 
@@ -134,7 +136,7 @@ class Rows(Generic[T]):
     def __getitem__(self, index: Union[int, slice]) -> Union[T, List[T]]:
         if isinstance(index, slice):
             return self._slice(range(*index.indices(len(self))))
-        number = index.__index__()
+        number = operator.index(index)
         if number < 0:
             number += len(self)
         found = list(self._items(number, number + 1)) if 0 <= number < 1 << 63 else []

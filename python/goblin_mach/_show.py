@@ -33,7 +33,7 @@ def _of_symbol(image: Image) -> Callable[[Symbol], Tuple[object, ...]]:
 
 
 def _of_export(image: Image) -> Callable[[Export], Tuple[object, ...]]:
-    return lambda e: ("-" if e.kind == "re-export" else hex(e.address), e.kind, escaped(e.name),
+    return lambda e: ("-" if e.address is None else hex(e.address), e.kind, escaped(e.name),
                       f"from {escaped(e.library)}: {escaped(e.target or '')}" if e.library is not None else "")
 
 
@@ -75,7 +75,7 @@ def _first_fault(image: Image, errors: Callable[[], Iterator[Optional[str]]]) ->
 
 
 def faults(image: Image) -> Iterator[Dict[str, str]]:
-    """Yields what is wrong with an image: its layout, what isn't as it was signed, and the first fault of each list."""
+    """Yields what is wrong with an image: its layout, what doesn't match its signature, and the first fault of each list."""
     for name, found in (("layout", image.layout_faults()), ("signature", image.signature_faults())):
         try:
             for fault in islice(found, len(image.data)):

@@ -29,7 +29,7 @@ class gm_error(ctypes.Structure):
 
 class gm_image(ctypes.Structure):
     _fields_ = (
-        _u64("offset entry first_command commands segments libraries run_paths symbols symbols_at names_at")
+        _u64("offset entry base first_command commands segments libraries run_paths symbols symbols_at names_at")
         + _u32("magic cputype cpusubtype filetype flags is_lossy is_old_style_entry is_little_endian is_64 reserved")
     )
 
@@ -71,7 +71,7 @@ class gm_section(ctypes.Structure):
 
 
 class gm_numbered_section(ctypes.Structure):
-    _fields_ = [("section", gm_section)] + _u64("command") + _u32("number reserved")
+    _fields_ = [("section", gm_section)] + _u64("command number") + _u32("index reserved")
 
 
 class gm_relocation(ctypes.Structure):
@@ -143,7 +143,7 @@ class gm_note(ctypes.Structure):
 
 
 class gm_slot(ctypes.Structure):
-    _fields_ = _u64("address len segment name name_len") + _u32("section kind index owner symbol code")
+    _fields_ = _u64("address len segment name name_len") + _u32("section_index kind index owner symbol code")
 
 
 class gm_provider(ctypes.Structure):
@@ -153,8 +153,8 @@ class gm_provider(ctypes.Structure):
 class gm_found_section(ctypes.Structure):
     _fields_ = (
         [("name", c_uint8 * 16), ("segment_name", c_uint8 * 16)]
-        + _u64("addr size segment")
-        + _u32("number offset align reloff nreloc flags reserved1 reserved2 is_found reserved")
+        + _u64("addr size segment number")
+        + _u32("index offset align reloff nreloc flags reserved1 reserved2 is_found reserved")
     )
 
 
@@ -167,7 +167,7 @@ class gm_found_function(ctypes.Structure):
 
 
 class gm_export(ctypes.Structure):
-    _fields_ = _u64("address resolver flags library_len target_len") + _u32("kind reserved")
+    _fields_ = _u64("address offset resolver flags library_len target_len") + _u32("kind reserved")
 
 
 class gm_open_node(ctypes.Structure):
@@ -262,6 +262,10 @@ class gm_signature(ctypes.Structure):
 
 class gm_signature_fault(ctypes.Structure):
     _fields_ = _u64("found limit") + _u32("kind slot index code")
+
+
+class gm_verdict(ctypes.Structure):
+    _fields_ = _u32("verdict holds code")
 
 
 def _codes(kind: Any) -> str:

@@ -23,11 +23,11 @@ IMAGE_MAGICS = {b"\xfe\xed\xfa\xce", b"\xfe\xed\xfa\xcf", b"\xce\xfa\xed\xfe", b
 
 
 class Archive:
-    """The archive in some bytes, which must not change while it is used. Raises `Refused` if they are no archive, or if its start can't
-    be read."""
+    """The archive in some bytes, a static library, which must not change while it is used. Raises `Refused` if they are no archive, or if
+    its start can't be read. It has `len`, indices and slices of members; `archive["name"]` is the first member with a name, and raises
+    KeyError if there is none. `kind` is how short names are written: "gnu" or "bsd"."""
 
     kind: str
-    """How short names are written: `gnu` or `bsd`."""
 
     def __init__(self, data: Union[ReadableBuffer, Held]) -> None:
         self._held = data if isinstance(data, Held) else Held(data)

@@ -20,8 +20,8 @@ _CODES = {words: code for code, words in ERRORS.items()}
 
 
 class Refused(Exception):
-    """Why something was refused. `code` is the number of the reason, one of `ErrorCode`, and the text says more. It can be copied and
-    pickled."""
+    """Why something was refused. `code` is the number of the reason, one of `ErrorCode`, and `words`, its text, says more. It can be copied
+    and pickled. `ERRORS` has the words of each code."""
 
     def __init__(self, code: int, words: str) -> None:
         super().__init__(code, words)

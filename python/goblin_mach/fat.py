@@ -6,7 +6,7 @@ import ctypes
 from typing import TYPE_CHECKING, Iterable, NamedTuple, Set, Tuple
 
 from . import _structs as s
-from ._library import lib, refused
+from ._library import bits64, lib, refused
 from ._memory import Held
 from .archive import Archive
 from .enums import CpuType, ErrorCode
@@ -21,8 +21,8 @@ _ABI64 = 0x01000000
 
 
 class FatPart(NamedTuple):
-    """An entry for a fat file that is written: its cpu, its bytes, and its alignment. Its offset is a multiple of 2 to the power of
-    `align`, which is at most 15."""
+    """An entry for a fat file that is written: its cpu (`cputype`, `cpusubtype`), its bytes, `data`, and its alignment. Its offset is a
+    multiple of 2 to the power of `align`, which is at most 15."""
 
     cputype: int
     cpusubtype: int
@@ -59,16 +59,14 @@ def _cpu_of_all(archive: Archive) -> Tuple[int, int]:
             raise Refused(ErrorCode.MALFORMED, f"a member can't be read: {member.error}")
         cpus.add(_cpu(member.data))
     if len(cpus) != 1:
-        raise Refused(ErrorCode.MALFORMED, "malformed: all members are for one cpu" if cpus else "malformed: an archive has a member")
+        raise Refused(ErrorCode.MALFORMED, "malformed: members are for different cpus" if cpus else "malformed: the archive has no member")
     return cpus.pop()
 
 
 def _row(part: FatPart, offset: int, length: int) -> s.gm_fat_part:
     """Returns a part as C takes it. A number of more than 32 bits would be cut, and is refused."""
-    for number in (part.cputype, part.cpusubtype, part.align):
-        if not 0 <= number < 1 << 32:
-            raise ValueError(f"{number:#x} is no number of 32 bits")
-    return s.gm_fat_part(offset, length, part.cputype, part.cpusubtype, part.align, 0)
+    cputype, cpusubtype, align = (bits64(number, 32) for number in (part.cputype, part.cpusubtype, part.align))
+    return s.gm_fat_part(offset, length, cputype, cpusubtype, align, 0)
 
 
 def write_fat(parts: Iterable[FatPart], is_64: bool = False) -> bytearray:

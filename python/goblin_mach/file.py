@@ -5,6 +5,7 @@ from __future__ import annotations
 import builtins
 import errno
 import mmap
+import operator
 import os
 import stat
 from typing import TYPE_CHECKING, Any, Dict, Iterator, List, Optional, Sequence, Tuple, Union, overload
@@ -73,14 +74,13 @@ class File(Sequence[Image]):
     """A mapped file, or bytes: a sequence of its images. Each image is opened when it is requested. For a fat file these are the images of
     its entries, without archives. For an archive these are the images of its members. `images` returns the images in archives of a fat
     file too. Images and their lists may be used while the file is open. After `close`, or after a `with` block, they raise ValueError.
-    Items already returned stay valid."""
+    Items already returned stay valid. `name` is the path that it was opened by, and None for bytes."""
 
     def __init__(self, path: StrOrBytesPath, mode: int = Mode.STRICT) -> None:
         self._begin(_mapped(path), path, mode)
 
     def _begin(self, data: ReadableBuffer, name: Optional[StrOrBytesPath], mode: int) -> None:
         self.name = name
-        """The path that it was opened by; None for bytes."""
         self._mode, self._life = mode, Life()
         self._held: Optional[Held] = Held(data, self._life)
         _check(self._held)
@@ -169,7 +169,7 @@ class File(Sequence[Image]):
             return Archive(whole).image(self._image_members()[index], self._mode)
         if kind != "image":
             return self._of_entry(whole, self._entries()[index])
-        if index not in (0, -1):
+        if operator.index(index) not in (0, -1):
             raise IndexError(f"there is no image {index}")
         return Image(whole, 0, self._mode)
 

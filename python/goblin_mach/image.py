@@ -17,7 +17,7 @@ from ._library import bits64, lib, refused
 from ._memory import Held, bytes_of
 from ._rows import Kind, Rows, in_growing_batches, rows_behind
 from .enums import CpuSubtype, CpuType, ErrorCode, FileType, HeaderFlags, LoadCommand, Mode, Platform, cpu_subtype
-from .errors import ERRORS, Refused, again, code_of
+from .errors import ERRORS, Refused, again
 from .items import (
     BuildTool, BuildVersion, Command, CommandText, DataInCode, Encryption, Export, FatEntry, FilesetEntry, FoundSymbol, Function, FunctionStart,
     IndirectSymbol, LayoutFault, Library, LinkerOption, Note, NumberedSection, Relocation, Section, Segment, Symbol, SymbolProvider, SymbolSlot,
@@ -38,15 +38,19 @@ class Image:
     archive that can't be opened. There it is the `Refused` with the reason, its numbers are 0, and each of its lists raises it.
 
     Lists are iterators. Those whose items have indices also have `len`, indices and slices (`Rows`). Those of exports, fixups, imports,
-    bindings, weak binds, rebases, function starts, slots and faults go on from where they stopped, and have none of these."""
+    bindings, weak binds, rebases, function starts, slots and faults go on from where they stopped, and have none of these.
+
+    `offset`: its offset in the bytes that it was opened in.
+    `fat_offset`: the offset of these bytes in their file: 0, or that of an entry of a fat file.
+    `entry`: the address of its entry point, or 0.
+    `base`: the address of its first byte in memory, before sliding: that of the first segment "__TEXT", or 0.
+    `cputype`, `cpusubtype`, `filetype`, `flags`: numbers of its header. `is_64`, `is_little_endian`: which form the header has."""
 
     error: Optional[Refused] = None
     offset: int
-    """Its offset in the bytes that it was opened in."""
     fat_offset: int
-    """The offset of these bytes in their file: 0, or that of an entry of a fat file."""
     entry: int
-    """The address of its entry point, or 0."""
+    base: int
     cputype: int
     cpusubtype: int
     filetype: int
@@ -60,14 +64,14 @@ class Image:
 
     def _open(self, held: Held, offset: int, mode: int) -> None:
         numbers, error = s.gm_image(), s.gm_error()
-        if lib.gm_open(held.live().at, held.len, offset, mode, None, ctypes.byref(numbers), ctypes.byref(error)):
+        if lib.gm_open(held.live().at, held.len, bits64(offset), bits64(mode, 32), None, ctypes.byref(numbers), ctypes.byref(error)):
             raise refused(error)
         self._held = held
         self._take(numbers)
 
     def _take(self, numbers: s.gm_image) -> None:
         self._numbers, self._pointer = numbers, ctypes.byref(numbers)
-        self.offset, self.entry = numbers.offset, numbers.entry
+        self.offset, self.entry, self.base = numbers.offset, numbers.entry, numbers.base
         self.cputype, self.cpusubtype, self.filetype, self.flags = numbers.cputype, numbers.cpusubtype, numbers.filetype, numbers.flags
         self.is_64, self.is_little_endian = bool(numbers.is_64), bool(numbers.is_little_endian)
         self._arch = arch_name(self.cputype, self.cpusubtype)
@@ -90,7 +94,7 @@ class Image:
     @classmethod
     def _of_entry(cls, entry: FatEntry, part: Held, mode: int) -> Image:
         """Returns the image of an entry of a fat file with these bytes, or one with the reason why it can't be opened."""
-        why = None if entry.is_read or entry.error is None else Refused(code_of(entry.error), entry.error)
+        why = None if entry.error is None else Refused(ErrorCode.SHORT, entry.error)
         return cls._of_part(part, mode, entry.offset, entry.arch, why)
 
     def _live(self) -> Held:
@@ -101,8 +105,7 @@ class Image:
 
     @property
     def arch(self) -> str:
-        """The name of its architecture in LLVM's tools: "arm64e". For an entry of a fat file that can't be opened it is that of the
-        entry's record."""
+        """The name of its architecture in LLVM's tools: "arm64e". For an entry of a fat file that can't be opened it is that of the entry's record."""
         return self._arch
 
     @property
@@ -127,8 +130,7 @@ class Image:
 
     @property
     def data(self) -> memoryview:
-        """The bytes that it was opened in: for a fat file's entry those of the entry. Offsets of commands and symbols count from their
-        start."""
+        """The bytes that it was opened in: for a fat file's entry those of the entry. Offsets of commands and symbols count from their start."""
         return self._live().view
 
     def commands(self) -> Rows[Command]:
@@ -147,7 +149,7 @@ class Image:
 
     def sections(self, segment: Optional[Segment] = None) -> Rows[Section]:
         """Returns the sections of a segment. One that can't be read has an `error`. Without a segment it returns those of all segments,
-        which end with the first that can't be read. In these the section of a symbol's number `section` has index `section - 1`."""
+        which end with the first that can't be read. In these the section of number `n` has index `n - 1`."""
         if segment is None:
             return Rows(_lists.ALL_SECTIONS, self._live, (self._pointer,))
         front, size = (72, 80) if self.is_64 else (56, 68)
@@ -158,7 +160,7 @@ class Image:
         """Returns the first section with these names of its own, such as "__TEXT" and "__text", or None. `data` are its bytes."""
         names = [part for raw in (bytes_of(segment), bytes_of(name)) for part in (raw, len(raw))]
         found = self._section(lib.gm_section_named, *names)
-        return None if found is None else self.sections(self.segments()[found.segment])[found.number]
+        return None if found is None else self.sections(self.segments()[found.segment])[found.index]
 
     def relocations(self, section: Section) -> Rows[Relocation]:
         """Returns the relocations of a section. One that can't be read has an `error`."""
@@ -181,7 +183,7 @@ class Image:
         return Rows(_lists.LIBRARIES, self._live, (self._pointer,), lambda: int(self._numbers.libraries))
 
     def run_paths(self) -> Rows[str]:
-        """Returns the paths on which its libraries are searched."""
+        """Returns the paths on which its libraries are searched (LC_RPATH)."""
         return Rows(_lists.RUN_PATHS, self._live, (self._pointer,), lambda: int(self._numbers.run_paths))
 
     def ids(self) -> Rows[str]:
@@ -227,8 +229,7 @@ class Image:
         return _lists.SLOTS_BY_NUMBER.items_of(self._live(), found)[0] if found.kind else None
 
     def symbol_provider(self, symbol: Symbol) -> Optional[SymbolProvider]:
-        """Returns the provider of an undefined symbol, as the linker recorded it, or None if it didn't. An ordinal past the last library is
-        an `error`."""
+        """Returns the provider of an undefined symbol, as the linker recorded it, or None if it didn't. An ordinal past the last library is an `error`."""
         self._live()
         given, found = s.gm_symbol(value=symbol.value, section=symbol.section, desc=symbol.desc, n_type=symbol.n_type), s.gm_provider()
         lib.gm_symbol_provider(self._pointer, ctypes.byref(given), ctypes.byref(found))
@@ -239,8 +240,8 @@ class Image:
         return self._section(lib.gm_section_at, bits64(address))
 
     def section_of(self, number: int) -> Optional[NumberedSection]:
-        """Returns the section of a symbol's number `section`, counted from 1 over all segments, or None. One that isn't in the bytes raises
-        `Refused`."""
+        """Returns the section of a number, such as the `section` of a symbol, or None. Numbers count from 1 over all segments. A section that
+        isn't in the bytes raises `Refused`."""
         return self._section(lib.gm_section_of, bits64(number))
 
     def _section(self, call: Callable[..., Any], *by: Any) -> Optional[NumberedSection]:
@@ -259,13 +260,18 @@ class Image:
         return found if call(held.at, held.len, self._pointer, *by, ctypes.byref(found)) else None
 
     def symbol(self, name: Union[str, bytes]) -> Optional[FoundSymbol]:
-        """Returns the first symbol with a name that can be read, such as "_main", or None."""
+        """Returns the first symbol with a name, such as "_main", or None. Entries for a debugger and symbols that can't be read are skipped."""
         raw = bytes_of(name)
         return _lists.found_symbol(self._live(), self._looked_up(lib.gm_symbol_named, s.gm_found_symbol(), raw, len(raw)))
 
+    def symbols_named(self, name: Union[str, bytes]) -> Iterator[FoundSymbol]:
+        """Returns all symbols with a name in their order, entries for a debugger too. Symbols that can't be read are skipped."""
+        raw = bytes_of(name)
+        return in_growing_batches(_lists.SYMBOLS_NAMED, self._live, (self._pointer, raw, len(raw)))
+
     def symbol_at(self, address: int) -> Optional[FoundSymbol]:
         """Returns the symbol that names an address, or None. It is one of those that are defined in the section which holds the address, at
-        the address or below it. Of these it has the greatest value, and of several with that value it is the last."""
+        the address or below it. Of these it has the greatest value, and of several with that value it is the last. Entries for a debugger don't count."""
         return _lists.found_symbol(self._live(), self._looked_up(lib.gm_symbol_at, s.gm_found_symbol(), bits64(address)))
 
     def symbol_map(self) -> SymbolMap:
@@ -274,8 +280,7 @@ class Image:
         return SymbolMap(self)
 
     def function_at(self, address: int) -> Optional[Function]:
-        """Returns the function that holds an address, by the starts of functions, or None. It ends at the next start, or with its
-        section."""
+        """Returns the function that holds an address, by the starts of functions, or None. It ends at the next start, or with its section."""
         found = self._looked_up(lib.gm_function_at, s.gm_found_function(), bits64(address))
         return Function(found.start, found.end) if found.is_found else None
 
@@ -366,7 +371,7 @@ class Image:
 
     def imports(self) -> Iterator[Binding]:
         """Returns what dyld binds: the places that take a symbol's address, from opcodes and then from chains. The last item may be the
-        error that ends them."""
+        error that ends them: dyld refuses such an image. There may be 2^60 of them (`itertools.islice`)."""
         return rows_behind(_lists.BINDINGS_BEHIND, self._live, self._pointer, s.gm_binding_cursor())
 
     def bindings(self) -> Iterator[Binding]:
@@ -374,7 +379,8 @@ class Image:
         return self.imports()
 
     def opcode_imports(self) -> Iterator[Import]:
-        """Returns the binds of LC_DYLD_INFO alone, as the Rust crate reads them. The last item may be the error that ends them."""
+        """Returns the imports by opcodes only (the binds of LC_DYLD_INFO), as the Rust crate's `imports` reads them: `imports()` has what dyld
+        binds, chains too. The last item may be the error that ends them."""
         return rows_behind(_lists.IMPORTS_BEHIND, self._live, self._pointer, s.gm_bind_cursor())
 
     def weak_binds(self) -> Iterator[WeakBind]:
@@ -452,15 +458,21 @@ class Image:
         said = _signature.said_of(held, self._pointer)
         if said is None:
             return None
-        return Signature(held, said, lambda: _signature.as_signed(self._live(), self._pointer), self.signature_faults)
+        return Signature(held, said, lambda: _signature.as_signed(self._live(), self._pointer), self.signature_faults,
+                         lambda: _signature.agreement_of(self._live(), self._pointer), lambda: _signature.requirements_of(self._live(), self._pointer))
 
     def signature_faults(self) -> Iterator[SignatureFault]:
         """Returns the faults of its signature, also if no code directory counts. Without a signature there are none."""
         return in_growing_batches(_lists.SIGNATURE_FAULTS, self._live, (self._pointer,))
 
+    def security(self) -> Dict[str, Optional[bool]]:
+        """Returns the verdicts on how it is hardened, by their names, as `machinfo security` prints them: whether each holds. One that
+        needs what can't be read of the signature is None. Only an image of 32 bits has `no-heap-execution`."""
+        return dict(in_growing_batches(_lists.VERDICTS, self._live, (self._pointer,)))
+
     def to_dict(self) -> Dict[str, Any]:
         """Returns what its header says, with its place in the file, by the names of the attributes, for `json.dumps`."""
-        names = ("arch", "fat_offset", "offset", "entry", "cputype", "cpusubtype", "filetype", "flags", "is_64", "is_little_endian")
+        names = ("arch", "fat_offset", "offset", "entry", "base", "cputype", "cpusubtype", "filetype", "flags", "is_64", "is_little_endian")
         return {**{name: getattr(self, name) for name in names}, "error": None if self.error is None else self.error.words}
 
     def json(self) -> str:

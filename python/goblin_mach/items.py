@@ -19,8 +19,8 @@ from .symbol_enums import (
 class FatEntry(Item, NamedTuple("FatEntry", [
     ("cputype", int), ("cpusubtype", int), ("offset", int), ("size", int), ("align", int), ("error", Optional[str]),
 ])):
-    """A record of a fat file: where an image lies in it. `align` is an exponent of 2. The record has an `error` if the image isn't all in
-    the file. It also has one if the record isn't in the file; then its numbers are 0."""
+    """A record of a fat file: the image for `cputype` and `cpusubtype` is the `size` bytes at `offset`. `align` is an exponent of 2. The
+    record has an `error` if the image isn't all in the file. It also has one if the record isn't in the file; then its numbers are 0."""
 
     __slots__ = ()
 
@@ -49,9 +49,9 @@ class Member(Item, NamedTuple("Member", [
     ("name", Optional[str]), ("offset", int), ("start", int), ("data", memoryview), ("date", Optional[int]), ("uid", Optional[int]),
     ("gid", Optional[int]), ("mode", Optional[int]), ("name_error", Optional[str]), ("error", Optional[str]),
 ])):
-    """A member of an archive. `data` are its bytes, which begin at `start`, and `offset` is that of its header. A value of its header is
-    None if the field is no number. `name` is None if it can't be read, and `name_error` says why. A member with an `error` is no
-    member: it says why no more can be read."""
+    """A member of an archive. `data` are its bytes, which begin at `start`, and `offset` is that of its header. `date`, `uid`, `gid` and
+    `mode` are those of its header, each None if the field is no number. `name` is None if it can't be read, and `name_error` says why.
+    A member with an `error` is no member: it says why no more can be read."""
 
     __slots__ = ()
 
@@ -62,13 +62,14 @@ class Member(Item, NamedTuple("Member", [
 
 
 class ArchiveSymbol(Item, NamedTuple("ArchiveSymbol", [("name", str), ("member", int), ("error", Optional[str])])):
-    """A symbol of an archive's index. `member` is the `offset` of the member that defines it, which isn't checked."""
+    """A symbol of an archive's index: its `name`, and in `member` the `offset` of the member that defines it, which isn't checked. One
+    with an `error` says why no more can be read."""
 
     __slots__ = ()
 
 
 class Command(Item, NamedTuple("Command", [("offset", int), ("size", int), ("cmd", int), ("data", memoryview)])):
-    """A load command: `size` bytes at `offset`, which are `data`."""
+    """A load command with the number `cmd`: `size` bytes at `offset`, which are `data`."""
 
     __slots__ = ()
 
@@ -80,8 +81,8 @@ class Command(Item, NamedTuple("Command", [("offset", int), ("size", int), ("cmd
     @property
     def fields(self) -> Dict[str, Any]:
         """The fields of its record by their names in mach-o/loader.h, as far as the command's bytes hold them. Numbers are as in the file,
-        and a UUID is a `uuid.UUID`. Names and texts are `str`, or None if the text isn't in the command. Empty for a command that is not
-        known."""
+        and a UUID is a `uuid.UUID`. Names and texts are `str`, or None if the text isn't in the command. Beside a text is its offset, as
+        `name_offset`. Empty for a command that is not known."""
         return fields_of(self.cmd, self.data)
 
     def to_dict(self) -> Dict[str, Any]:
@@ -90,13 +91,15 @@ class Command(Item, NamedTuple("Command", [("offset", int), ("size", int), ("cmd
 
 
 class Segment(Item, NamedTuple("Segment", [
-    ("name", bytes), ("vmaddr", int), ("vmsize", int), ("fileoff", int), ("filesize", int), ("maxprot", int), ("initprot", int),
+    ("name", str), ("vmaddr", int), ("vmsize", int), ("fileoff", int), ("filesize", int), ("maxprot", int), ("initprot", int),
     ("flags", int), ("data", memoryview), ("command", int), ("nsects", int),
 ])):
-    """A segment. `data` are its bytes: all of them, or none if they are not all in the file. `command` is the offset of its load
-    command."""
+    """A segment. `name`, `vmaddr`, `vmsize`, `fileoff`, `filesize`, `maxprot`, `initprot` and `flags` are as in its load command, which is
+    at offset `command`, and `nsects` is how many sections it has. `data` are its bytes: all of them, or none if they are not all in
+    the file."""
 
     __slots__ = ()
+    _optional = ("name",)
 
     @property
     def max_protection(self) -> Protection:
@@ -115,12 +118,14 @@ class Segment(Item, NamedTuple("Segment", [
 
 
 class Section(Item, NamedTuple("Section", [
-    ("name", bytes), ("segment", bytes), ("addr", int), ("size", int), ("offset", int), ("align", int), ("reloff", int), ("nreloc", int),
+    ("name", str), ("segment", str), ("addr", int), ("size", int), ("offset", int), ("align", int), ("reloff", int), ("nreloc", int),
     ("flags", int), ("data", memoryview), ("error", Optional[str]),
 ])):
-    """A section of a segment. `align` is an exponent of 2. `data` are its bytes: all of them, or none."""
+    """A section. `name`, `segment` (a name), `addr`, `size`, `offset`, `reloff`, `nreloc` and `flags` are as in its record. `align` is an
+    exponent of 2. `data` are its bytes: all of them, or none. One that can't be read has an `error`."""
 
     __slots__ = ()
+    _optional = ("name", "segment")
 
     @property
     def type(self) -> SectionType:
@@ -134,7 +139,8 @@ class Section(Item, NamedTuple("Section", [
 
 
 class Relocation(Item, NamedTuple("Relocation", [("address", int), ("info", int), ("error", Optional[str])])):
-    """A relocation of a section, at `address`. The bits of `info` have all other values. Scattered relocations are not recognized."""
+    """A relocation of a section, at `address`. The bits of `info` have all other values. Scattered relocations are not recognized. One that
+    can't be read has an `error`."""
 
     __slots__ = ()
 
@@ -169,7 +175,8 @@ class Relocation(Item, NamedTuple("Relocation", [("address", int), ("info", int)
 
 
 class Symbol(Item, NamedTuple("Symbol", [("name", str), ("value", int), ("section", int), ("n_type", int), ("desc", int), ("error", Optional[str])])):
-    """A symbol. One that can't be read, or whose name can't, has an `error`."""
+    """A symbol: its `name`, `value`, `section` (a number, from 1 over all segments), `n_type` and `desc`, as in the file. One that can't be
+    read, or whose name can't, has an `error`."""
 
     __slots__ = ()
 
@@ -215,7 +222,7 @@ class Symbol(Item, NamedTuple("Symbol", [("name", str), ("value", int), ("sectio
 
 
 class FoundSymbol(Item, NamedTuple("FoundSymbol", [("symbol", Symbol), ("index", int), ("distance", int)])):
-    """A symbol that was looked up, with its index in `symbols`. For an address `distance` is how many bytes it is after the symbol."""
+    """A `symbol` that was looked up, with its `index` in `symbols()`. For an address `distance` is how many bytes it is after the symbol."""
 
     __slots__ = ()
 
@@ -234,20 +241,22 @@ class Library(Item, NamedTuple("Library", [
     ("ordinal", int), ("name", str), ("kind", str), ("timestamp", int), ("current_version", int), ("compatibility_version", int),
     ("is_weak", bool), ("is_reexport", bool), ("is_upward", bool), ("is_delayed", bool),
 ])):
-    """A library that the image loads. `kind` is "required", "weak", "reexport", "upward" or "lazy", by its command. The last four fields
-    say how it is used. They are from the command's flags if it has some."""
+    """A library that the image loads: its `ordinal` (from 1), `name`, `timestamp`, `current_version` and `compatibility_version`. `kind` is
+    "required", "weak", "reexport", "upward" or "lazy", by its command. `is_weak`, `is_reexport`, `is_upward` and `is_delayed` say how
+    it is used. They are from the command's flags if it has some."""
 
     __slots__ = ()
 
 
 class FunctionStart(Item, NamedTuple("FunctionStart", [("address", int), ("error", Optional[str])])):
-    """The start of a function: its address in memory, before sliding."""
+    """The start of a function: its `address` in memory, before sliding. No start follows one with an `error`."""
 
     __slots__ = ()
 
 
 class DataInCode(Item, NamedTuple("DataInCode", [("offset", int), ("length", int), ("kind", int), ("error", Optional[str])])):
-    """Data in code: `length` bytes, `offset` bytes after the image's first byte in memory (in an object file after address 0)."""
+    """Data in code of a `kind`: `length` bytes, `offset` bytes after the image's first byte in memory (in an object file after address 0).
+    An entry that can't be read has an `error`."""
 
     __slots__ = ()
 
@@ -258,38 +267,42 @@ class DataInCode(Item, NamedTuple("DataInCode", [("offset", int), ("length", int
 
 
 class IndirectSymbol(Item, NamedTuple("IndirectSymbol", [("kind", str), ("symbol", Optional[int]), ("error", Optional[str])])):
-    """An entry of the table of indirect symbols. If `kind` is "symbol", `symbol` is its index in `symbols`. `kind` is "local", "absolute"
-    or "local absolute" if no symbol names the target of a pointer."""
+    """An entry of the table of indirect symbols. If `kind` is "symbol", `symbol` is its index in `symbols()`. `kind` is "local", "absolute"
+    or "local absolute" if no symbol names the target of a pointer. An entry that can't be read has an `error`."""
 
     __slots__ = ()
 
 
 class SymbolSlot(Item, NamedTuple("SymbolSlot", [
-    ("address", int), ("len", int), ("segment", int), ("section", int), ("kind", str), ("index", int), ("owner", str),
+    ("address", int), ("len", int), ("segment", int), ("section_index", int), ("kind", str), ("index", int), ("owner", str),
     ("symbol", Optional[int]), ("name", Optional[str]), ("error", Optional[str]),
 ])):
-    """A stub or a pointer that belongs to a symbol: `len` bytes at `address`, in section number `section` of segment number `segment`.
-    `kind` is "pointer", "lazy pointer", "stub", "lazy library pointer" or "thread-local pointer". `owner` is the kind of entry `index`
+    """A stub or a pointer that belongs to a symbol: `len` bytes at `address`, in the section with index `section_index` of the segment
+    with index `segment`. `kind` is "pointer", "lazy pointer", "stub", "lazy library pointer" or "thread-local pointer". `owner` is the kind of entry `index`
     of the table of indirect symbols: "symbol", "local", "absolute" or "local absolute". For a symbol `symbol` is its number and `name`
-    its name."""
+    its name. One that can't be read has an `error`."""
 
     __slots__ = ()
 
 
 class SymbolProvider(Item, NamedTuple("SymbolProvider", [("provider", str), ("library", int), ("error", Optional[str])])):
-    """The provider of an undefined symbol, as the linker recorded it: "library" (by its ordinal), "itself", "program" or "any"."""
+    """The provider of an undefined symbol, as the linker recorded it. `provider` is "library" (`library` is its ordinal), "itself",
+    "program" or "any". One that can't be read has an `error`."""
 
     __slots__ = ()
 
 
 class NumberedSection(Item, NamedTuple("NumberedSection", [
-    ("segment", int), ("number", int), ("name", bytes), ("segment_name", bytes), ("addr", int), ("size", int), ("offset", int),
-    ("align", int), ("reloff", int), ("nreloc", int), ("flags", int), ("reserved1", int), ("reserved2", int),
+    ("number", int), ("segment", int), ("index", int), ("name", str), ("segment_name", str), ("addr", int), ("size", int),
+    ("offset", int), ("align", int), ("reloff", int), ("nreloc", int), ("flags", int), ("reserved1", int), ("reserved2", int),
 ])):
-    """A section that was looked up: number `number` of segment number `segment`. For pointers and stubs `reserved1` is the index of the
-    first one in the table of indirect symbols. For stubs `reserved2` is the size of each."""
+    """A section that was looked up. `number` is that by which symbols name it: it counts from 1 over all segments. The section has index
+    `index` in the segment with index `segment`. `name`, `segment_name`, `addr`, `size`, `offset`, `align` (an exponent of 2), `reloff`,
+    `nreloc` and `flags` are as in its record. For pointers and stubs `reserved1` is the index of the first one in the table of indirect
+    symbols. For stubs `reserved2` is the size of each."""
 
     __slots__ = ()
+    _optional = ("name", "segment_name")
 
     @property
     def type(self) -> SectionType:
@@ -303,13 +316,14 @@ class NumberedSection(Item, NamedTuple("NumberedSection", [
 
 
 class LinkerOption(Item, NamedTuple("LinkerOption", [("text", str), ("command", int), ("error", Optional[str])])):
-    """A linker option, from the load command at `command`. No option follows one with an `error`."""
+    """The `text` of a linker option, from the load command at `command`. No option follows one with an `error`."""
 
     __slots__ = ()
 
 
 class BuildTool(Item, NamedTuple("BuildTool", [("tool", int), ("version", int), ("command", int), ("error", Optional[str])])):
-    """A tool that the image was built with, from the load command at `command`. No tool follows one with an `error`."""
+    """A tool that the image was built with: the number `tool`, and its `version`, from the load command at `command`. No tool follows one
+    with an `error`."""
 
     __slots__ = ()
 
@@ -330,8 +344,8 @@ def version_text(version: int) -> str:
 
 
 class BuildVersion(Item, NamedTuple("BuildVersion", [("platform", int), ("minos", int), ("sdk", int), ("command", int)])):
-    """A platform that the image was built for, from the load command at `command`. It has the oldest system that the image runs on there,
-    and the SDK that it was built with."""
+    """A `platform` that the image was built for, from the load command at `command`. `minos` is the oldest system that the image runs on
+    there, and `sdk` that of the SDK that it was built with."""
 
     __slots__ = ()
 
@@ -363,20 +377,20 @@ class Encryption(Item, NamedTuple("Encryption", [("offset", int), ("size", int),
 
 
 class CommandText(Item, NamedTuple("CommandText", [("text", str), ("command", int), ("error", Optional[str])])):
-    """A text from the load command at `command`. One that can't be read has an `error`."""
+    """A `text` from the load command at `command`. One that can't be read has an `error`."""
 
     __slots__ = ()
 
 
 class FilesetEntry(Item, NamedTuple("FilesetEntry", [("name", str), ("address", int), ("offset", int), ("error", Optional[str])])):
-    """An image of a fileset: its address in memory, and its offset after the fileset's first byte. One whose name can't be read has an
-    `error`."""
+    """An image of a fileset: its `name`, its `address` in memory, and its `offset` after the fileset's first byte. One whose name can't be
+    read has an `error`."""
 
     __slots__ = ()
 
 
 class Function(Item, NamedTuple("Function", [("start", int), ("end", int)])):
-    """A function, by the starts of functions: from its first address to the one after its last."""
+    """A function, by the starts of functions: from its first address, `start`, to `end`, the one after its last."""
 
     __slots__ = ()
 
@@ -387,15 +401,19 @@ class Function(Item, NamedTuple("Function", [("start", int), ("end", int)])):
 
 
 class Note(Item, NamedTuple("Note", [("owner", str), ("data", memoryview), ("command", int), ("error", Optional[str])])):
-    """Data of some tool, from the load command at `command`."""
+    """The `data` of a tool with the name `owner`, from the load command at `command`. One that can't be read has an `error`."""
 
     __slots__ = ()
 
 
 class Export(Item, NamedTuple("Export", [
-    ("name", str), ("kind", str), ("address", int), ("resolver", int), ("flags", int), ("library", Optional[str]), ("target", Optional[str]),
+    ("name", str), ("kind", str), ("address", Optional[int]), ("offset", Optional[int]), ("resolver", Optional[int]), ("flags", int),
+    ("library", Optional[str]), ("target", Optional[str]),
 ])):
-    """The export of a name: `kind` is "address", "re-export" or "stub". Addresses count from the image's start."""
+    """The export of a `name`: `kind` is "address", "re-export" or "stub", and `flags` are as in the file. `address` is in memory, before
+    sliding, and `offset` is the number in the trie: the address less the image's `base`, or the address if it is absolute. A re-export
+    has neither. It has the name of the `library`, and in `target` the name there. `resolver` is the address of a stub's resolver, and
+    None for any other export."""
 
     __slots__ = ()
 
@@ -414,7 +432,7 @@ NUMBERED = ("section", "relocations", "slice", "imports", "symbol ranges")
 
 
 class Owner(Item, NamedTuple("Owner", [("part", str), ("command", int), ("index", int)])):
-    """The owner of a range or a fault: a part, the offset of its command or record, and its number there, or 0."""
+    """The owner of a range or a fault: a `part`, the offset of its `command` or record, and in `index` its number there, or 0."""
 
     __slots__ = ()
 
@@ -424,8 +442,8 @@ class Owner(Item, NamedTuple("Owner", [("part", str), ("command", int), ("index"
 
 
 class LayoutFault(Item, NamedTuple("LayoutFault", [("rule", str), ("owner", Owner), ("found", int), ("limit", int), ("other", Optional[Owner])])):
-    """A fault of layout, for the rule with this plain name: what is there and the limit that it breaks. docs/C.md says what these are for
-    each rule."""
+    """A fault of layout, for the `rule` with this plain name: the part `owner` has `found`, and `limit` is what it breaks. `other` is the
+    other part, if two disagree. docs/PROGRAMS.md says for each rule what the numbers are ("against" is `limit`)."""
 
     __slots__ = ()
 

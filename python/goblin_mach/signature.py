@@ -11,7 +11,7 @@ from . import _structs as s
 from ._item import Item
 from ._library import lib, refused
 from ._memory import Held
-from .enums import SignatureFlags, SignatureHash
+from .enums import ErrorCode, SignatureFlags, SignatureHash
 from .errors import ERRORS
 
 SLOTS = {
@@ -21,6 +21,14 @@ SLOTS = {
     0x10000: "cms", 0x10001: "identification", 0x10002: "ticket",
 }
 """The names of a signature's slots (`cs_blobs.h`, CSSLOT_), as in `machsign`."""
+
+
+AGREEMENTS = ("none", "same", "different", "only XML", "only DER", "unreadable XML", "unreadable DER")
+"""What is said of entitlements in XML and in DER, by C's numbers (GM_ENTITLEMENTS_NONE and the following ones)."""
+
+
+REQUIREMENTS = ("host", "guest", "designated", "library", "plugin")
+"""The types of requirements (`SecRequirementType`), from 1 on."""
 
 
 def slot_name(slot: int) -> str:
@@ -49,8 +57,9 @@ _WORDS: Dict[str, str] = {
 class SignatureFault(Item, NamedTuple("SignatureFault", [
     ("kind", str), ("slot", int), ("number", int), ("found", int), ("limit", int), ("error", Optional[str]),
 ])):
-    """Something that isn't as it was signed: a fault of the directory at a slot, or of a blob. `number` is that of the blob or the page,
-    or the special slot. docs/C.md says what `found` and `limit` are for each kind."""
+    """Something that doesn't match the signature: a fault of a `kind`, of the directory at `slot`, or of a blob. `number` is that of the blob or
+    the page, or the special slot. docs/C.md says what `found` and `limit` are for each kind. `error` says why something can't be read.
+    As text it has the words of `machsign`, except those of errors, and the segment and section of a page."""
 
     __slots__ = ()
 
@@ -61,31 +70,36 @@ class SignatureFault(Item, NamedTuple("SignatureFault", [
 
 
 class Signature:
-    """The code directory that counts in a signature: the one that the system takes. A text that can't be read is None, and `errors` says
-    why. None of this says that the image is as it was signed. `is_as_signed()` says that, and `faults()` lists what isn't. Who signed
-    is not checked."""
+    """The code directory that counts in a signature: the one that the system takes. None of this says that the image matches it.
+    `is_as_signed()` says that, and `faults()` lists what isn't. Who signed is not checked: no CMS is verified. Its values are copied,
+    and stay when the file is closed; `is_as_signed()`, `faults()`, `requirements`, `entitlements_agreement` and
+    `entitlements_agree` call the library.
 
-    __slots__ = ("_ask", "_faults", "cdhash", "entitlements", "errors", "flags", "hash_type", "identifier", "limit", "page_size", "pages", "team", "version")
+    `identifier`, `team`: texts; one that can't be read is None, and `errors` says why, by the name of the text.
+    `flags`, `hash_type`, `version`: numbers, as in the file.
+    `cdhash`: 20 bytes of the directory's hash, by its own hash type; the system knows the code by this.
+    `limit`: how many bytes of the image are covered. `pages`: how many pages these are.
+    `page_size`: how many bytes a page has; None if there is one page of any size.
+    `entitlements`: the bytes as in the signature: a property list in XML, if Apple's tools wrote it."""
+
+    __slots__ = ("_agreement", "_ask", "_faults", "_requirements", "cdhash", "entitlements", "errors", "flags", "hash_type", "identifier", "limit",
+                 "page_size", "pages", "team", "version")
 
     identifier: Optional[str]
     team: Optional[str]
     flags: int
     cdhash: bytes
-    """20 bytes of the directory's hash, by its own hash type: the system knows the code by this."""
     entitlements: Optional[bytes]
-    """The entitlements as in the signature: a property list in XML, if Apple's tools wrote it."""
     hash_type: int
     limit: int
-    """How many bytes of the image are covered."""
     pages: int
     page_size: Optional[int]
-    """How many bytes a page has; None if there is one page of any size."""
     version: int
     errors: Dict[str, str]
-    """Which of the texts can't be read, and why."""
 
-    def __init__(self, held: Held, said: s.gm_signature, ask: Callable[[], bool], faults: Callable[[], Iterator[SignatureFault]]) -> None:
-        self._ask, self._faults = ask, faults
+    def __init__(self, held: Held, said: s.gm_signature, ask: Callable[[], bool], faults: Callable[[], Iterator[SignatureFault]],
+                 agreement: Callable[[], str], requirements: Callable[[], Dict[str, str]]) -> None:
+        self._ask, self._faults, self._agreement, self._requirements = ask, faults, agreement, requirements
         codes = {"identifier": said.identifier_code, "team": said.team_code, "entitlements": said.entitlements_code}
         self.errors = {name: ERRORS[code] for name, code in codes.items() if code}
         self.identifier = held.text(said.identifier, said.identifier_len) if said.identifier else None
@@ -130,8 +144,25 @@ class Signature:
         found: Dict[str, Any] = plistlib.loads(self.entitlements)
         return found
 
+    @property
+    def requirements(self) -> Dict[str, str]:
+        """The texts of the requirements that it has, by their types (`REQUIREMENTS`), as `csreq` writes them. One that isn't simple is
+        `not simple: ` and its bytes in hexadecimal. What can't be read raises `Refused`."""
+        return self._requirements()
+
+    @property
+    def entitlements_agreement(self) -> str:
+        """Whether the entitlements in XML and in DER say the same, as one of `AGREEMENTS`. Those of only one notation aren't read."""
+        return self._agreement()
+
+    @property
+    def entitlements_agree(self) -> Optional[bool]:
+        """Whether the entitlements in XML and in DER say the same; not so if one of them can't be read. None without both of them."""
+        found = self.entitlements_agreement
+        return None if found in ("none", "only XML", "only DER") else found == "same"
+
     def is_as_signed(self) -> bool:
-        """Returns whether everything is as it was signed: each page, and all other parts that the signature seals."""
+        """Returns whether nothing differs from the signature: each page, and all other parts that the signature seals."""
         return self._ask()
 
     def faults(self) -> Iterator[SignatureFault]:
@@ -143,11 +174,35 @@ class Signature:
 
 
 def as_signed(held: Held, image: Any) -> bool:
-    """Returns whether an image is as it was signed."""
+    """Returns whether an image has a signature and nothing differs from it."""
     found, error = ctypes.c_uint32(), s.gm_error()
     if lib.gm_is_as_signed(held.at, held.len, image, ctypes.byref(found), None, ctypes.byref(error)):
         raise refused(error)
     return bool(found.value)
+
+
+def agreement_of(held: Held, image: Any) -> str:
+    """Returns whether the entitlements of an image's signature agree, as one of `AGREEMENTS`."""
+    found, error = ctypes.c_uint32(), s.gm_error()
+    if lib.gm_entitlements_agree(held.at, held.len, image, ctypes.byref(found), None, ctypes.byref(error)):
+        raise refused(error)
+    return AGREEMENTS[found.value]
+
+
+def requirement_of(held: Held, image: Any, number: int) -> str:
+    """Returns the text of a requirement of an image's signature, by the number of its type; an empty one if there is none."""
+    room, needed, error = None, ctypes.c_uint64(), s.gm_error()
+    while lib.gm_requirement_text(held.at, held.len, image, number, room, needed.value if room else 0, ctypes.byref(needed), None, ctypes.byref(error)):
+        if error.code != ErrorCode.NO_SPACE:
+            raise refused(error)
+        room = ctypes.create_string_buffer(needed.value)
+    return room.raw.decode() if room else ""
+
+
+def requirements_of(held: Held, image: Any) -> Dict[str, str]:
+    """Returns the texts of the requirements of an image's signature, by their types."""
+    texts = {name: requirement_of(held, image, number) for number, name in enumerate(REQUIREMENTS, 1)}
+    return {name: text for name, text in texts.items() if text}
 
 
 def said_of(held: Held, image: Any) -> Optional[s.gm_signature]:

@@ -63,7 +63,8 @@ class SymbolMap:
     def at(self, address: int) -> Optional[FoundSymbol]:
         """Returns the symbol that names an address, as `image.symbol_at` does, or None."""
         self._image._live()
-        place = bisect_right(self._places, bits64(address)) - 1
+        address = bits64(address)
+        place = bisect_right(self._places, address) - 1
         values, indices = self._symbols.get(self._numbers[place], ((), ())) if place >= 0 else ((), ())
         before = bisect_right(values, address) - 1
         if before < 0:

@@ -7,7 +7,7 @@ import subprocess
 HERE = os.path.dirname(os.path.abspath(__file__))
 TOP = os.path.dirname(os.path.dirname(HERE))
 GOBLIN = "/usr/share/cargo/registry/goblin-0.2.1"
-PROGRAMS = ("list", "nm", "commands")
+PROGRAMS = ("list", "nm", "commands", "debug_ids", "opcodes", "signer", "tree")
 # Commands that goblin 0.2.1 doesn't know and calls LC_UNKNOWN.
 NEWER = ("LC_BUILD_VERSION", "LC_DYLD_CHAINED_FIXUPS", "LC_DYLD_EXPORTS_TRIE", "LC_FILESET_ENTRY", "LC_NOTE")
 # Constants whose numbers differ from goblin's. Its records of libraries have 24 bytes, and it says 20.
@@ -32,7 +32,7 @@ def trie(theirs, ours):
 
 
 # The differences that are known, by program. The documentation of each function states its difference.
-KNOWN = {"list": (uleb, trie), "nm": (), "commands": (newer,)}
+KNOWN = {"list": (uleb, trie), "commands": (newer,), "opcodes": (trie,)}
 
 
 def images():
@@ -51,19 +51,23 @@ def ran(program, image):
 
 def outputs(theirs, ours):
     """Runs the programs of two folders. Yields (what is compared, whether both are the same, what differs). Each known difference that doesn't
-    occur is yielded too, as one that fails."""
-    unused = {(program, known) for program in PROGRAMS for known in KNOWN[program]}
+    occur is yielded too, as one that fails, and each program that is refused by most images."""
+    shown = dict.fromkeys(PROGRAMS, 0)
+    unused = {(program, known) for program in PROGRAMS for known in KNOWN.get(program, ())}
     for program in PROGRAMS:
         for image in images():
             one, other = ran(os.path.join(theirs, program), image), ran(os.path.join(ours, program), image)
-            for known in KNOWN[program]:
+            for known in KNOWN.get(program, ()):
                 if one is not None and other is not None and one != other:
                     before = (one, other)
                     one, other = known(one, other)
                     if (one, other) != before:
                         unused.discard((program, known))
+            shown[program] += bool(one and other)
             said = "" if one == other else "goblin:\n%s\ngoblin_mach:\n%s" % (one, other)
             yield "%s prints for %s what it prints over goblin" % (program, os.path.relpath(image, TOP)), one == other, said
+    for program, count in shown.items():
+        yield "%s prints something for five images over both" % program, count >= 5, "only for %d" % count
     for program, known in sorted(unused, key=lambda pair: (pair[0], pair[1].__name__)):
         yield "the known difference '%s' of %s occurs" % (known.__name__, program), False, ""
 

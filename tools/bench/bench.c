@@ -3,7 +3,7 @@
    docs/SPEED.md says how it is built and called, and has the results.
 
    A file is an image, a fat file or an archive. Of a fat file or an archive a run of a call visits all images that open. Two lists of the Rattle crate
-   have no call of their own in C, and no line here: iter_imports (gm_imports only gives batches) and link_view (it is gm_exports and gm_imports of each
+   have no call of their own in C, and no line here: iter_imports (gm_opcode_imports only gives batches) and link_view (it is gm_exports and gm_opcode_imports of each
    image). */
 #define _POSIX_C_SOURCE 200809L
 #include "goblin_mach.h"
@@ -158,7 +158,7 @@ NUMBERED(symbols, gm_symbol, rows[i].code == GM_OK, rows[i].value + rows[i].name
         } while (n == cap); \
         return GM_OK; \
     }
-BEHIND(imports, gm_import, gm_bind_cursor, rows[i].address + rows[i].name_len)
+BEHIND(opcode_imports, gm_import, gm_bind_cursor, rows[i].address + rows[i].name_len)
 BEHIND(bindings, gm_binding, gm_binding_cursor, rows[i].address + rows[i].name_len)
 BEHIND(fixups, gm_fixup, gm_fixup_cursor, rows[i].address + (rows[i].kind == GM_BIND ? rows[i].import : rows[i].target))
 
@@ -331,7 +331,7 @@ static const struct {
     uint32_t (*of_file)(subject *, work *);
     uint32_t (*of_image)(subject *, const opened *, work *);
 } CALLS[] = {
-    {"parse", parse, NULL},          {"exports", NULL, exports},   {"find_export", NULL, find_export}, {"imports", NULL, imports},
+    {"parse", parse, NULL},          {"exports", NULL, exports},   {"find_export", NULL, find_export}, {"imports", NULL, opcode_imports},
     {"bindings", NULL, bindings},    {"fixups", NULL, fixups},     {"symbols", NULL, symbols},         {"relocations", NULL, relocations},
     {"commands", NULL, commands},    {"segments", NULL, segments}, {"libraries", NULL, libraries},     {"tree", NULL, tree},
     {"layout", NULL, layout},

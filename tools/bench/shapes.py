@@ -5,7 +5,26 @@
     shapes.py --all FOLDER SIZE..    writes FOLDER/SHAPE.SIZE of each shape and each size
     shapes.py --names                prints the names of the shapes
 
-A size is 4,000 to 100,000,000 bytes. From 4,000 bytes on each shape has its property. docs/SPEED.md has a table of the shapes."""
+A size is 4,000 to 100,000,000 bytes. From 4,000 bytes on each shape has its property:
+
+    plain            an ordinary image: libraries, relocations, fixups, binds, a trie, symbols
+    trie_shared      nodes of a trie that share one list of branches that lead nowhere
+    trie_overlaid    the same with lists that each begin a branch after the one before, and end together
+    trie_deep        nodes of one child each: a name as long as an eighth of the file
+    reexports_far    re-exports with a branch to nothing; all names and labels end together, far off
+    symbol_names     symbols that all have one name, half of the file
+    symbol_tails     symbols whose names begin a letter after each other in one such text
+    import_names     binds of chains to one import, whose name is half of the file
+    commands_again   a library's command of size 0, read again for each of many; its name is the rest
+    libraries_far    libraries whose names begin a letter after each other and end with the file
+    libraries        libraries of one name, and binds that name each in its turn
+    segments         segments that overlap in the file and in memory, and binds within one of them
+    tables           symbol tables that have the same rows
+    sections         sections that have one table of relocations
+    fat_overlaid     a fat file whose entries all overlap
+    binds_again      bind instructions that each bind 2^60 times
+    page_starts      pages whose chains begin at the starts of one list
+"""
 import os
 import struct
 import sys

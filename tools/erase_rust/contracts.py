@@ -7,6 +7,7 @@ WRAPPERS = {
     "IfOk": [("Ok", "x")], "OnOk": [("Ok", "")], "IfErr": [("Err", "e")], "OnErr": [("Err", "")], "IfSome": [("Some", "x")],
     "IfNone": [("None", "")], "MatchResult": [("Ok", "x"), ("Err", "e")], "MatchOption": [("None", ""), ("Some", "x")],
 }
+CALLERS = "Callers make sure of"
 MEMORY = "the result is `Ok`, unless memory is refused"
 WHOLE = {"IsOk result": "the result is `Ok`", "IsErr result": "the result is `Err`", "IsOkUnlessMemory result": MEMORY}
 BINDERS = re.compile(r"(?:\((?:[A-Za-z_0-9]+ )+: [^()]*(?:\([^()]*\)[^()]*)*\)\s*)+")
@@ -75,18 +76,43 @@ def readable(clause):
     return None if star else (kind == "requires", name, phrase(body))
 
 
-def documentation(clauses, has_more):
-    """Returns the lines that document clauses. `has_more` says whether other documentation is above them."""
+# Where each definition is explained: its name, and the address of the heading. tools/erase fills it if the crate has a public address.
+DEFINED = {}
+
+
+def find_definitions(page, address):
+    """Fills DEFINED from the headings of the page of definitions, which is at an address."""
+    for heading in re.findall(r"(?m)^###? (.*`.*)$", page):
+        anchor = re.sub(r"[^\w\- ]", "", heading.lower()).replace(" ", "-")
+        DEFINED.update({name: "%s#%s" % (address, anchor) for name in re.findall(r"`(\w+)`", heading)})
+
+
+def links(text):
+    """Returns a link to the first definition that a clause names, or nothing if the page has none of its names."""
+    name = next((name for name in re.findall(r"\w+", text) if name in DEFINED), None)
+    return " ([%s](%s))" % (name, DEFINED[name]) if name else ""
+
+
+def documentation(clauses, has_more, otherwise):
+    """Returns the lines that document clauses. `has_more` says whether other documentation is above them. `otherwise` says what a function
+    does if its conditions don't hold, and is None if callers have to keep them."""
     found = [one for one in map(readable, clauses) if one]
     needs = "; ".join(text for is_need, _, text in found if is_need)
-    lines = ([""] if has_more else []) + ["# Proved", ""]
-    lines += ["Callers make sure of: %s." % needs, ""] if needs else []
-    lines += ["- %s%s" % ("*%s*: " % name.replace("_", " ") if name else "", text) for is_need, name, text in found if not is_need]
+    lines = ([""] if has_more else []) + ["<details><summary>Proved</summary>", ""]
+    if needs:
+        lines += ["%s: %s." % (CALLERS, needs) if otherwise is None else "Under this condition: %s. Else %s." % (needs, otherwise), ""]
+    lines += ["- %s%s%s" % ("*%s*: " % name.replace("_", " ") if name else "", text, links(text)) for is_need, name, text in found if not is_need]
+    lines += ["", "</details>"]
     return "".join("///%s\n" % (" " + line if line else "") for line in lines) if found else ""
 
 
-def contracts(stream):
-    """Takes the clauses out. Those of public functions and of traits become documentation."""
+def contracts(stream, is_library=True, totals=(), inner=()):
+    """Takes the clauses out. Those of public functions and of traits become documentation.
+
+    A public method of a library that has conditions on its callers becomes one that only the crate calls. `totals` has the functions that
+    need no such thing, with what each does if its conditions don't hold. `inner` has the names of methods of traits that only the crate
+    calls, which documentation leaves out. Returns those of `totals` that it met."""
+    owners, met = stream.owners(), set()
     for i in stream.each("fn"):
         end = stream.seek(i, "{", ";")
         clauses = [k for k in range(i, end) if stream.tokens[k].kind == "clause"]
@@ -98,10 +124,42 @@ def contracts(stream):
             stream.tokens[k - 1].gone = stream.tokens[k - 1].gone or stream.tokens[k - 1].kind == "space"
         stream.tokens[end].before = " " if stream.text(end) == "{" else ""
         start, head = stream.item_start(i)
-        if stream.text(head) == "pub" and stream.text(stream.next(head)) != "(" or stream.text(end) == ";":
+        is_public = stream.text(head) == "pub" and stream.text(stream.next(head)) != "("
+        owner = min(((last - first, what) for first, last, what in owners if first < i < last), default=(0, ""))[1]
+        texts, name = [stream.text(k) for k in clauses], stream.text(stream.next(i))
+        otherwise = dict(totals).get(name)
+        met |= {name} & set(totals)
+        needs = any(is_need for is_need, _, _ in filter(None, map(readable, texts)))
+        if is_public and owner == "impl" and is_library and needs and otherwise is None:
+            _inner(stream, start, head, end)
+        elif is_public or owner == "trait":
             docs = [k for k in range(start, head) if stream.tokens[k].kind == "doc" and not stream.tokens[k].gone]
             at = stream.next(docs[-1] if docs else start - 1)
-            stream.tokens[at].before += documentation([stream.text(k) for k in clauses], bool(docs))
+            is_inner = owner == "trait" and name in inner
+            stream.tokens[at].before += "#[doc(hidden)]\n" if is_inner else documentation(texts, bool(docs), otherwise)
     for i, token in enumerate(stream.tokens):
         if token.kind == "clause" and not token.gone:
             stream.refuse(i, "a clause in another place: " + " ".join(token.text.split())[:60])
+    return met
+
+
+def _inner(stream, start, head, end):
+    """Makes a public method one that only the crate calls, by a macro of the shim."""
+    if stream.text(stream.next(head)) != "fn":
+        stream.refuse(head, "a method of another form with a condition on its callers")
+    stream.tokens[start].before += "crate::shim::inner! {\n"
+    stream.remove(head, stream.next(head) - 1)
+    close = stream.tokens[stream.close(end)]
+    close.text += "\n}"
+
+
+def tokens_of_crate(stream, names):
+    """Gives the methods of traits with these names, and their calls, one more argument that only the crate can make."""
+    for i in stream.each(*names) if names else ():
+        open_ = stream.next(i)
+        if stream.text(open_) != "(" or stream.text(stream.prev(i)) not in ("fn", "::"):
+            continue
+        close = stream.close(open_)
+        comma = "" if stream.text(stream.prev(close)) in ("(", ",") else ", "
+        what = "_: crate::shim::Inner" if stream.text(stream.prev(i)) == "fn" else "crate::shim::Inner(())"
+        stream.tokens[close].before += comma + what

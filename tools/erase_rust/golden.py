@@ -5,6 +5,7 @@ import os
 import re
 import tempfile
 
+from . import contracts
 from .lexer import Stop
 from .project import Project, write_files
 
@@ -22,7 +23,9 @@ def result(files):
     """Returns what the tool makes of files: files of Rust below lines with their names, or a message."""
     with tempfile.TemporaryDirectory() as top:
         files = {"base/lib.rt": "", "more/lib.rt": "", "crates.conf": CONFIG, **files}
-        write_files(top, {"crates/" + name.replace("/", "/src/", 1) if "/" in name else name: text for name, text in files.items()})
+        contracts.DEFINED.clear()
+        contracts.find_definitions(files.pop("DEFINITIONS.md", ""), "https://example.org/page")
+        write_files(top, {"crates/" + name.replace("/", "/src/", 1) if re.match(r"(?!rust/)\w+/", name) else name: text for name, text in files.items()})
         try:
             made = Project(top, os.path.join(top, "crates.conf")).files()
         except Stop as error:

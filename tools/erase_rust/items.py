@@ -1,4 +1,6 @@
 """Passes over items and types. What has no meaning in a program goes, and a few forms become Rust's."""
+import re
+
 from .known import ERASED_ATTRIBUTES, KEPT_ATTRIBUTES
 
 FORMATTERS = ("Formatter", "DebugStruct", "DebugList", "DebugTuple", "DebugMap")
@@ -13,6 +15,22 @@ def ghosts(stream):
                 stream.remove(stream.prev(i))
 
 
+def held_fields(stream):
+    """Makes public fields that an invariant of their struct names fields that only the crate has, and by the feature `internals` the crates over it."""
+    for i in stream.each("struct"):
+        body = stream.seek(i, "{", ";", "(")
+        if stream.text(body) != "{":
+            continue
+        ghosts_in = [token.text for token in stream.tokens[body:stream.close(body)] if token.kind == "ghost"]
+        named = set(re.findall(r"\w+", " ".join(text.partition("{")[2] for text in ghosts_in)))
+        for first, last, _ in stream.parts(body):
+            name = stream.next(first)
+            if stream.text(first) == "pub" and stream.text(name) in named:
+                field = " ".join(stream.words(name, last))
+                stream.tokens[first].before += '#[cfg(feature = "internals")]\npub %s,\n#[cfg(not(feature = "internals"))]\n' % field
+                stream.tokens[first].text = "pub(crate)"
+
+
 def examples(stream):
     """Marks code in documentation as text, since it is Rattle."""
     is_open = False
@@ -22,8 +40,10 @@ def examples(stream):
             is_open = not is_open
 
 
-def attributes(stream):
-    """Removes attributes for the prover, takes `Drop` out of derives, and makes `derive(X)` of `derive_where(X; ..)`."""
+def attributes(stream, by_hand=()):
+    """Removes attributes for the prover, takes `Drop` out of derives, and makes `derive(X)` of `derive_where(X; ..)`. Of the types `by_hand`
+    it takes `Debug` out, too; returns which of them it met."""
+    met = set()
     for i in stream.each("#"):
         open_ = stream.next(i)
         if stream.text(open_) == "!":
@@ -35,13 +55,16 @@ def attributes(stream):
         if word in ERASED_ATTRIBUTES:
             stream.remove(i, stream.close(open_))
         elif word in ("derive", "derive_where"):
-            _derive(stream, i, name)
+            declared = stream.text(stream.next(stream.seek(name, "struct", "enum", "{", ";")))
+            _derive(stream, i, name, {"Drop", "Debug"} if declared in by_hand else {"Drop"})
+            met |= {declared} & set(by_hand)
         elif word not in KEPT_ATTRIBUTES or word == "cfg" and not stream.reads(name, "cfg", "(", "test", ")"):
             stream.refuse(i, "an attribute: " + " ".join(stream.words(open_, stream.close(open_))))
+    return met
 
 
-def _derive(stream, i, name):
-    """Erases in the derive whose name is at `name`."""
+def _derive(stream, i, name, gone):
+    """Erases in the derive whose name is at `name`. The traits `gone` go."""
     body = stream.next(name)
     if stream.text(name) == "derive_where":
         stream.replace(name, name, "derive")
@@ -49,8 +72,8 @@ def _derive(stream, i, name):
         if stream.text(semicolon) == ";":
             stream.remove(semicolon, stream.close(body) - 1)
     parts = stream.parts(body)
-    drops = [n for n, part in enumerate(parts) if stream.words(*part[:2]) == ["Drop"]]
-    if drops and len(parts) == 1:
+    drops = [n for n, part in enumerate(parts) if stream.words(*part[:2])[0] in gone]
+    if drops and len(parts) == len(drops):
         stream.remove(i, stream.close(stream.next(i)))
         return
     for n in drops:

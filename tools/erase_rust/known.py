@@ -11,24 +11,25 @@ MACROS = {"matches", "unreachable", "write", "vec", "prove"}
 
 # Methods of std that mean the same in Rust.
 METHODS = set("""
-    all as_bytes as_mut as_mut_slice as_ref as_str cast_signed cast_unsigned checked_add checked_div checked_mul checked_sub clone contains
-    contains_key copied copy_from_slice debug_struct debug_tuple div_ceil enumerate err field filter filter_map finish get into is_ascii_digit
+    all as_bytes as_mut as_mut_slice as_ref as_str cast_signed cast_unsigned chars checked_add checked_div checked_mul checked_sub clone contains
+    contains_key copied copy_from_slice debug_struct debug_tuple div_ceil encode_utf8 enumerate err field filter filter_map finish get get_index_of into is_ascii_digit
     is_char_boundary is_empty is_err is_none is_ok is_some iter len map max min next ok or partition_point pop position push push_reserved rotate_left
-    rotate_right saturating_add saturating_mul saturating_sub simd_eq simd_ge sort_unstable split_first starts_with strip_prefix strip_suffix
+    rotate_right saturating_add saturating_mul saturating_sub simd_eq simd_ge sort_unstable split_at split_first starts_with strip_prefix strip_suffix
     to_be_bytes to_bitmask trailing_zeros truncate try_into unsigned_abs unwrap unwrap_or wrapping_add wrapping_mul write_str
 """.split())
 
 # Types of std, and their functions that mean the same in Rust.
 TYPES = {"Vec", "String", "Box", "Ordering", "Range", "Option", "Result", "str", "char", "bool", "BTreeMap"}
 TYPES |= {sign + bits for sign in "iu" for bits in ("8", "16", "32", "64", "128", "size")}
-FUNCTIONS = {"MAX", "from_be_bytes", "from_utf8", "from_utf8_unchecked"}
+FUNCTIONS = {"MAX", "from_be_bytes", "from_u32", "from_utf8", "from_utf8_unchecked"}
 
 # Where paths of std lead in Rust, by the longest beginning that is here. A path that leads to None is erased.
 SHIM = "crate::shim"
 PATHS = {
-    **{"std::" + path: "core::" + path for path in ("fmt", "marker::PhantomData", "mem", "ops::Range", "result::Result", "slice::Iter")},
+    **{"std::" + path: "core::" + path for path in ("fmt", "hash::BuildHasherDefault", "marker::PhantomData", "mem", "ops::Range", "result::Result", "slice::Iter")},
     **{"std::" + path: SHIM + "::" + path.split("::")[-1] for path in ("alloc::AllocError", "collections::BTreeMap", "convert::AsSlice", "simd")},
-    **{path: SHIM + "::" + path for path in ("arrayvec", "byteorder", "memchr")},
+    "std::hash::FoldHasher": SHIM + "::indexmap::FoldHasher",
+    **{path: SHIM + "::" + path for path in ("arrayvec", "byteorder", "indexmap", "memchr")},
     **dict.fromkeys(("std::alloc::AllocFailed", "std::alloc::Allocator", "std::alloc::Global", "std::marker::Model")),
 }
 

@@ -1,20 +1,38 @@
 """The command: what it writes, and what it compares."""
 import os
+import re
 import shutil
 import sys
 
-from . import audit, golden
+from . import audit, contracts, golden
 from .lexer import Stop
 from .project import Project, read_files, write_files
 
-# The folders of generated sources, by the files of their crates.
-FOLDERS = {"rust/crates.conf": "rust/goblin_mach/src/generated", "rust/tools.conf": "rust/goblin_mach_tools/src/generated"}
+# The folders of generated sources, by the files of their crates. The first is the library's.
+FOLDERS = {
+    "rust/crates.conf": "rust/goblin_mach/src/generated", "rust/tools.conf": "rust/goblin_mach_tools/src/generated",
+    "rust/capi.conf": "rust/goblin_mach_capi/src/generated",
+}
 
 
 def make(top):
     """Returns all files, as a dictionary from their paths below the top."""
-    made = {config: Project(top, os.path.join(top, config)).files() for config in FOLDERS}
+    find_definitions(top)
+    library, *users = (Project(top, os.path.join(top, config)) for config in FOLDERS)
+    made = {user.config: user.files() for user in users}
+    for user in users:
+        user.public.lend_by_hand(os.path.join(top, os.path.dirname(FOLDERS[user.config])))
+    made[library.config] = library.files(users)
     return {os.path.join(FOLDERS[config], name): text for config, files in made.items() for name, text in files.items()}
+
+
+def find_definitions(top):
+    """Has documentation link to the page of definitions, if Cargo.toml has the address of the repository."""
+    with open(os.path.join(top, "rust", "goblin_mach", "Cargo.toml"), encoding="utf-8") as file:
+        address = re.search(r'(?m)^repository = "(.*?)/?"$', file.read())
+    if address:
+        with open(os.path.join(top, "docs", "DEFINITIONS.md"), encoding="utf-8") as file:
+            contracts.find_definitions(file.read(), address[1] + "/blob/main/docs/DEFINITIONS.md")
 
 
 def generate(top):

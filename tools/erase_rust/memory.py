@@ -154,6 +154,13 @@ def _vec(stream, i):
     stream.shim.add("try_vec")
 
 
+def failures(stream):
+    """Makes `AllocError` of `AllocFailed<T>`, which has the item that took no place."""
+    for i in stream.each("AllocFailed"):
+        if stream.text(stream.next(i)) == "<":
+            stream.replace(i, stream.close(stream.next(i)), "crate::shim::AllocError")
+
+
 def proofs(stream):
     """Makes `prove!(X)` a test of X. Has the shim make text that is proved to be UTF-8."""
     for i in stream.each("prove", "unsafe"):

@@ -8,6 +8,29 @@ from .known import PATHS, TRAITS
 NAMED = re.compile(r"\{([A-Za-z_]\w*)[:}]")
 
 
+def leaves(stream, i, prefix=()):
+    """Returns the leaves of the tree of a `use` at i, as (path, alias), and the place after it."""
+    path = list(prefix)
+    while True:
+        if stream.text(i) == "{":
+            found, k = [], stream.next(i)
+            while k < stream.close(i):
+                below, k = leaves(stream, k, path)
+                found += below
+                k = stream.next(k) if stream.text(k) == "," else k
+            return found, stream.next(stream.close(i))
+        path.append(stream.text(i))
+        after = stream.next(i)
+        if stream.text(after) != "::":
+            break
+        i = stream.next(after)
+    alias = None
+    if stream.text(after) == "as":
+        alias = stream.text(stream.next(after))
+        after = stream.next(stream.next(after))
+    return [(path[:-1] if path[-1] == "self" else path, alias)], after
+
+
 class Paths:
     """The paths of one file. `project` has the modules of all crates, the laws, the traits, and what features guard."""
 
@@ -35,13 +58,15 @@ class Paths:
         """Returns the path in Rust of a path in Rattle, as a list of names, or None if it names what is erased."""
         if path[0] == "crate" or path[0] in self.project.modules:
             crate = self.crate if path[0] == "crate" else path[0]
-            return [self.project.roots[crate], "generated", self.project.modules[crate]] + path[1:]
+            if self.project.roots[crate] != "crate":
+                return self.project.public.path(path) or self.stream.refuse(i, "a path to what the library doesn't lend: " + "::".join(path))
+            return ["crate", "generated", self.project.modules[crate]] + path[1:]
         if path[0] not in self.heads:
             return path
         for n in range(len(path), 0, -1):
             if "::".join(path[:n]) in self.known:
                 there = self.known["::".join(path[:n])]
-                return None if there is None else there.split("::") + path[n:]
+                return None if there is None else self.project.of_shim(there).split("::") + path[n:]
         return self.stream.refuse(i, "a path of the standard library: " + "::".join(path))
 
     def in_code(self):
@@ -60,36 +85,14 @@ class Paths:
                 stream.refuse(i, "a path to a name that is erased: " + "::".join(path))
             stream.replace(i, k, "::".join(new))
 
-    def leaves(self, i, prefix=()):
-        """Returns the leaves of the tree of a `use` at i, as (path, alias), and the place after it."""
-        stream, path = self.stream, list(prefix)
-        while True:
-            if stream.text(i) == "{":
-                found, k = [], stream.next(i)
-                while k < stream.close(i):
-                    leaves, k = self.leaves(k, path)
-                    found += leaves
-                    k = stream.next(k) if stream.text(k) == "," else k
-                return found, stream.next(stream.close(i))
-            path.append(stream.text(i))
-            after = stream.next(i)
-            if stream.text(after) != "::":
-                break
-            i = stream.next(after)
-        alias = None
-        if stream.text(after) == "as":
-            alias = stream.text(stream.next(after))
-            after = stream.next(stream.next(after))
-        return [(path[:-1] if path[-1] == "self" else path, alias)], after
-
     def imports(self):
         """Rewrites imports. Names that are erased and names that only proofs mention go."""
         stream = self.stream
         for i in list(stream.each("use")):
-            leaves, end = self.leaves(stream.next(i))
+            found, end = leaves(stream, stream.next(i))
             if stream.text(end) != ";" or any(token.kind == "comment" for token in stream.tokens[i:end]):
                 stream.refuse(i, "an import of another form")
-            kept = [leaf for leaf in (self._import(path, alias, i) for path, alias in leaves) if leaf]
+            kept = [leaf for leaf in (self._import(path, alias, i) for path, alias in found) if leaf]
             start, head = stream.item_start(i)
             if kept:
                 visibility = "".join(t.text for t in stream.tokens[head:i] if not t.gone)
@@ -102,16 +105,16 @@ class Paths:
         """Returns what is imported of a leaf: (feature, module, name), or None if nothing is."""
         if path[-1] in self.project.laws:
             return None
-        new = self.rewrite(path, i)
         name = alias or path[-1]
         is_public = self.stream.text(self.stream.prev(i)) in ("pub", ")")
         is_mentioned = is_public or name == "*" or name in self.mentioned
         is_trait = name in TRAITS | programs.TRAITS or name in self.project.traits
-        if new is None or not (is_mentioned or is_trait and (new[:2] != ["core", "fmt"] or not self.has_bounds)):
+        new = self.rewrite(path, i) if is_mentioned or is_trait else None
+        if new is None or not is_mentioned and new[:2] == ["core", "fmt"] and self.has_bounds:
             return None
         feature = self.project.feature([self.crate] + path[1:] if path[0] == "crate" else path)
         is_on = feature == self.feature or (self.feature, feature) in self.project.implied
-        return None if is_on else feature, "::".join(new[:-1]), new[-1] + (" as " + alias if alias else "")
+        return None if is_on else feature, "::".join(new[:-1]), new[-1] + (" as " + name if name != new[-1] else "")
 
     @staticmethod
     def _grouped(kept, visibility):
@@ -131,6 +134,8 @@ class Paths:
             name = self.stream.text(self.stream.next(i))
             if self.stream.text(self.stream.next(self.stream.next(i))) == ";":
                 feature = self.project.feature([self.crate] + base + [name])
+                if name in self.project.hidden and self.stream.text(self.stream.prev(i)) == "pub":
+                    self.stream.tokens[self.stream.item_start(i)[1]].before += "#[doc(hidden)]\n"
                 if feature != self.feature:
                     self.stream.tokens[self.stream.item_start(i)[1]].before += '#[cfg(feature = "%s")]\n' % feature
                 yield name, i

@@ -3,14 +3,13 @@
 # Where more paths of std and of the toolchain's crates lead in programs.
 PATHS = {
     **{"std::" + name: "crate::shim::" + name for name in ("env", "fs", "io", "time")},
-    **{"std::" + path: "core::" + path for path in ("cmp::Ordering", "cmp::Reverse", "hash::BuildHasherDefault", "iter", "slice", "str")},
-    "std::hash::FoldHasher": "crate::shim::indexmap::FoldHasher",
-    "std::os::unix::fs::MetadataExt": "crate::shim::fs::MetadataExt",
+    **{"std::" + path: "core::" + path for path in ("cmp::Ordering", "cmp::Reverse", "iter", "slice", "str")},
+    **{"std::os::unix::fs::" + name: "crate::shim::fs::" + name for name in ("MetadataExt", "OpenOptionsExt", "PermissionsExt")},
     "std::process::ExitCode": "std::process::ExitCode",
     "std::rt::Files": "crate::shim::rt::Files",
-    **{name: "crate::shim::" + name for name in ("indexmap", "strsim")},
+    "strsim": "crate::shim::strsim",
 }
-TRAITS = {"Clock", "Env", "Files", "IsTerminal", "MetadataExt", "OpenFile", "Read"}
+TRAITS = {"Clock", "Env", "Files", "IsTerminal", "MetadataExt", "OpenFile", "OpenOptionsExt", "PermissionsExt", "Read"}
 
 # What Rattle's prelude has and Rust's hasn't.
 PRELUDE = {
@@ -20,10 +19,10 @@ PRELUDE = {
 
 MACROS = {"format", "format_args", "writeln"}
 METHODS = set("""
-    alloc arg chars dev eprint eprintln flatten get_index_of ino into_bytes invalid is_file is_terminal monotonic read_to_end
-    rsplit_once split_at stderr stdin stdout sync_all to_ascii_uppercase utf8_chunks valid var wrapping_shl zip
+    alloc arg chars create_new dev eprint eprintln flatten ino into_bytes invalid is_file is_terminal mode monotonic open
+    read_to_end rsplit_once set_permissions stderr stdin stdout sync_all to_ascii_uppercase utf8_chunks valid var wrapping_shl zip
 """.split())
-FUNCTIONS = {"BITS", "from_str_radix"}
+FUNCTIONS = {"BITS", "from_mode", "from_str_radix"}
 
 LENT = (["rt", ".", "alloc", "(", ")"], ["&", "rt", ".", "alloc", "(", ")"])
 
@@ -31,7 +30,6 @@ LENT = (["rt", ".", "alloc", "(", ")"], ["&", "rt", ".", "alloc", "(", ")"])
 def erase(stream):
     """Runs the passes over a file; returns the names of its allocators."""
     macros(stream)
-    failures(stream)
     collected(stream)
     entry(stream)
     return allocators(stream)
@@ -86,13 +84,6 @@ def macros(stream):
         stream.remove_space(end + 1)
         stream.tokens[i].text = "format_in"
         stream.shim.add("format_in")
-
-
-def failures(stream):
-    """Makes `AllocError` of `AllocFailed<T>`, which has the item that took no place."""
-    for i in stream.each("AllocFailed"):
-        if stream.text(stream.next(i)) == "<":
-            stream.replace(i, stream.close(stream.next(i)), "crate::shim::AllocError")
 
 
 def collected(stream):

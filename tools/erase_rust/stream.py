@@ -149,6 +149,34 @@ class Stream:
             if self.text(self.next(n)) == "<" and self.is_name(n):
                 yield self.next(n), self.text(i)
 
+    def owners(self):
+        """Returns the items that have functions, as (first place of the body, last, what it is): an `impl` of a type, an `impl` of a trait
+        (`impl for`), or a `trait`."""
+        found = []
+        for i in self.each("impl", "trait"):
+            if self.text(self.prev(i)) not in ("", "}", ";", "]", "pub", ")"):
+                continue
+            body = self.seek(i, "{", ";")
+            if self.text(body) == "{":
+                is_of_trait = self.text(i) == "impl" and "for" in self.words(i, body)
+                found.append((body, self.close(body), "impl for" if is_of_trait else self.text(i)))
+        return found
+
+    def impls(self):
+        """Yields each `impl` as (its place, first place of the body, words of its trait, name of its type). An `impl` of a type has no words
+        of a trait."""
+        for body, _, what in self.owners():
+            if what == "trait":
+                continue
+            i = self.prev(body)
+            while self.text(i) != "impl":
+                i = self.prev(i)
+            first = self.next(i)
+            first = self.next(self.close(first)) if self.text(first) == "<" else first
+            words = self.words(first, self.prev(body))
+            trait, kind = (words[:words.index("for")], words[words.index("for") + 1:]) if "for" in words else ([], words)
+            yield i, body, trait, next(word for word in kind if word[0] not in "&'")
+
     def arguments(self, i):
         """Returns the `(` of the parameters of the function whose `fn` is at i, or None for a type of functions."""
         k = self.next(self.next(i))

@@ -15,7 +15,7 @@ MANY = 0xFFFFFFFF
 
 # The numbers of load commands (mach-o/loader.h).
 SEGMENT, SYMTAB, DYSYMTAB, DYLIB, ID_DYLIB, TWOLEVEL_HINTS, SEGMENT_64 = 0x1, 0x2, 0xB, 0xC, 0xD, 0x16, 0x19
-THREAD, UNIXTHREAD, PREBOUND_DYLIB, LINKER_OPTION, ENCRYPTION_INFO_64 = 0x4, 0x5, 0x10, 0x2D, 0x2C
+REEXPORT_DYLIB, THREAD, UNIXTHREAD, PREBOUND_DYLIB, LINKER_OPTION, ENCRYPTION_INFO_64 = 0x8000001F, 0x4, 0x5, 0x10, 0x2D, 0x2C
 DYLD_INFO_ONLY, FUNCTION_STARTS, DATA_IN_CODE, NOTE, BUILD_VERSION = 0x80000022, 0x26, 0x29, 0x31, 0x32
 EXPORTS_TRIE, CHAINED_FIXUPS, RPATH, MAIN = 0x80000033, 0x80000034, 0x8000001C, 0x80000028
 PROGRAM, LIBRARY = 2, 6
@@ -188,6 +188,12 @@ def deep_trie(size):
     return image([words(EXPORTS_TRIE, 16, begin(16), len(made))], made)
 
 
+def deep_exports(size):
+    """Returns an image with a trie like `deep_trie`, in which each node is an export too. The names of all are size^2 / 200 bytes."""
+    made = b"".join(b"\x02\0\0\x01a\0" + uleb(at + 9, 3) for at in range(0, size - 8, 9)) + b"\x02\0\0\0"
+    return image([words(EXPORTS_TRIE, 16, begin(16), len(made))], made)
+
+
 def ladder(levels):
     """Returns an image with a trie of nodes whose two branches lead to the same next node: it has 2 to the power of `levels` paths."""
     made = b""
@@ -227,6 +233,18 @@ def symbols_by_turns(size):
     return symbols_within(name + b"\0" + name, [0, len(name) + 1] * (size // 64))
 
 
+def symbols_at(size):
+    """Returns an image with symbols at 0x100000f00, in a section that holds it. Each name begins before the one before, and all run on to one zero byte."""
+    names, many = long_name(size // 2), size // 32
+    held = section(0x80000400)
+    held = held[:32] + struct.pack("<2Q", 0x100000000, 0x1000) + held[48:]
+    at = begin(152 + 24)
+    first = 16 * many
+    rows = b"".join(struct.pack("<IBBHQ", first + 2 * it, 0x0F, 1, 0, 0x100000F00) for it in reversed(range(many)))
+    text = segment(b"__TEXT", 0x100000000, 0x1000, 0, at, 1, body=held)
+    return image([text, words(SYMTAB, 24, at, many, at, first + len(names) + 1)], rows + names + b"\0")
+
+
 def far_libraries(size):
     """Returns an image with libraries whose names begin a letter after each other, within one that ends with the file."""
     count = size // 48
@@ -263,6 +281,22 @@ def fat_archives(size):
     found = b"!<arch>\n" + member(b"a/", b"") * (size // 600)
     count = size // 40
     return struct.pack(">2I", 0xCAFEBABE, count) + struct.pack(">5I", 7, 3, 8 + 20 * count, len(found), 0) * count + found
+
+
+def fat_archive(size):
+    """Returns a fat file whose entries are all one archive, of half of the bytes, whose members have some."""
+    found = b"!<arch>\n" + member(b"a/", b"12") * (size // 124)
+    count = size // 40
+    return struct.pack(">2I", 0xCAFEBABE, count) + struct.pack(">5I", 7, 3, 8 + 20 * count, len(found), 0) * count + found
+
+
+def fat_image(size, bits=32):
+    """Returns a fat file whose entries are all one image, of half of the bytes: symbols of one short name."""
+    count = size // (40 if bits == 32 else 64)
+    at = 8 + (20 if bits == 32 else 32) * count
+    entry = symbols_within(b"_a", [0] * (size // 32))
+    record = struct.pack(">5I", 0x1000007, 3, at, len(entry), 0) if bits == 32 else struct.pack(">2I2Q2I", 0x1000007, 3, at, len(entry), 0, 0)
+    return struct.pack(">2I", 0xCAFEBABE if bits == 32 else 0xCAFEBABF, count) + record * count + entry
 
 
 def tables(size):
@@ -326,6 +360,24 @@ def pages(size):
     count = min(size // 4, 65535)
     each = [0] * count
     return chains(starts=chain_starts(count, 1, 0, each))
+
+
+def circle_of_libraries(count, fan, binds):
+    """Returns a program and so many libraries, each of which re-exports `fan` others. The program binds names that none of them has, each name once,
+    and from each library by turns."""
+    names = [b"/library/%d" % i for i in range(count)]
+    # A trie whose root has one branch, to an export at 0.
+    trie = b"\0\1_a\0\5\2\0\0\0"
+    made = {}
+    for i, name in enumerate(names):
+        fixed = [named(ID_DYLIB, name), *(named(REEXPORT_DYLIB, names[(i + j) % count]) for j in range(1, fan + 1))]
+        at = begin(sum(map(len, fixed)) + 16)
+        made[f"library{i}"] = image([*fixed, words(EXPORTS_TRIE, 16, at, len(trie))], trie)
+    each = (b"\x20" + uleb(i % count + 1) + b"\x40_name%d\0\x90" % i for i in range(binds))
+    opcodes = b"\x51\x70\0" + b"".join(each) + b"\0"
+    fixed = [segment(b"__DATA", size=2**32), *(named(DYLIB, it) for it in names)]
+    at = begin(sum(map(len, fixed)) + 48)
+    return {"program": image([*fixed, info(at, bind=opcodes)], opcodes, kind=PROGRAM), **made}
 
 
 def growing(size):
@@ -392,10 +444,16 @@ def files(size):
         "trie_ladder": ladder(60),
         # Files of up to `size` bytes.
         "trie_deep_%d" % size: deep_trie(size),
+        # 5 * 10^9 bytes of names, which a reader with a limit does not make.
+        "trie_levels_%d" % (10 * size): deep_exports(10 * size),
         "fat_overlaid_%d" % size: overlaid(size),
         "archive_members_%d" % size: archive_of_members(size),
         "archive_names_%d" % size: archive_of_names(size),
         "fat_archives_%d" % size: fat_archives(size),
+        # Entries that are all one archive or one image, also of 1 MB.
+        **{"fat_archive_%d" % it: fat_archive(it) for it in (size, 10 * size)},
+        **{"fat_image_%d" % it: fat_image(it) for it in (size, 10 * size)},
+        **{"fat_image_64_%d" % it: fat_image(it, 64) for it in (size, 10 * size)},
         "tables_%d" % size: tables(size),
         "relocations_%d" % size: relocations(size),
         "segments_%d" % size: segments(size),
@@ -412,6 +470,8 @@ def files(size):
         "symbols_bad_%d" % size: symbol_names(size, 2, b"\xff"),
         **growing(size),
         **growing(10 * size),
+        # 1.6 * 10^12 bytes of names, if all are read to look up one address.
+        "symbols_at_%d" % (100 * size): symbols_at(100 * size),
     }
 
 

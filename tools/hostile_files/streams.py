@@ -118,9 +118,9 @@ class Cut:
         try:
             found = text.decode("utf-8")
         except UnicodeDecodeError:
-            raise Fault(f"a text is UTF-8, {len(left)} bytes left") from None
+            raise Fault(f"a text is not UTF-8, {len(left)} bytes left") from None
         if not zero:
-            raise Fault("malformed: a name ends inside its stream")
+            raise Fault("malformed: a name runs past its stream")
         self.place += len(text) + 1
         return found
 
@@ -188,12 +188,12 @@ class Rebases(Reading):
             count = self.cut.uleb()
             self.turns(count, self.cut.uleb())
         else:
-            raise Fault("malformed: an opcode of a stream is known")
+            raise Fault("malformed: an opcode is unknown")
         return True
 
     def item(self):
-        words = "malformed: a rebase lies inside its segment, at an address of 64 bits"
-        name, address = self.place_of("a rebase has a segment and a type", False, words)
+        words = "malformed: a rebase is outside its segment, or its address does not fit in 64 bits"
+        name, address = self.place_of("a rebase lacks its segment or its type", False, words)
         _, _, _, fileoff, filesize = self.image.segments[self.segment]
         width = self.image.width if self.kind == 1 else 4
         data = self.file[fileoff : fileoff + filesize][self.at : self.at + width]
@@ -214,7 +214,7 @@ class WeakBinds(Reading):
         if opcode == 0:
             return False
         if opcode in (1, 2, 3):
-            raise Fault("malformed: a weak bind names no provider")
+            raise Fault("malformed: a weak bind names a provider")
         if opcode == 4:
             self.name, self.flags = self.cut.text(), low
             if low & 8:
@@ -237,12 +237,12 @@ class WeakBinds(Reading):
             count = self.cut.uleb()
             self.turns(count, self.cut.uleb())
         else:
-            raise Fault("malformed: an opcode of a stream is known")
+            raise Fault("malformed: an opcode is unknown")
         return True
 
     def item(self):
-        words = "malformed: a bind lies inside its segment, at places of 64 bits"
-        name, address = self.place_of("a bind has a name, a segment and a type", self.name is None, words)
+        words = "malformed: a bind is outside its segment, or its place does not fit in 64 bits"
+        name, address = self.place_of("a bind lacks its name, its segment or its type", self.name is None, words)
         if self.image.segments[self.segment][3] + self.at >= WORD:
             raise Fault(words)
         addend = f" {self.addend}" if self.addend else ""
@@ -259,7 +259,7 @@ def starts_of(image, file, place, size):
                 break
             at += step
             if at >= WORD:
-                raise Fault("malformed: a function's address has 64 bits")
+                raise Fault("malformed: a function's address does not fit in 64 bits")
             lines.append(f"{at:#x}")
     except Fault as fault:
         lines.append(f"refused: {fault}")

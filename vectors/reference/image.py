@@ -8,7 +8,8 @@ data, offset        the bytes of the file, and where the header is in them
 order, is_64        `<` or `>`, the byte order for `reading`; whether the image has 64 bits
 pointer             the bytes of a pointer, 4 or 8
 header              the record: magic cputype cpusubtype filetype ncmds sizeofcmds flags
-commands            the chain: each `Command` has offset, name (`LC_MAIN`, or None), cmd, cmdsize, and body, its record
+commands            the chain: each `Command` has offset, name (`LC_MAIN`, or None), cmd, cmdsize, and body, its record (None
+                    of a command of later headers if the bytes end in it)
 segments            each `Segment` has the fields of its command, offset, name (bytes) and data, its bytes in the file
 symtab              the record of the `LC_SYMTAB` that counts, or None
 libs, rpaths        names as bytes, libs[0] that of the image, the last of `ids`, or `self`
@@ -26,7 +27,7 @@ from itertools import takewhile
 
 from .reading import (WORD, Fault, attempt, bad_magic, bad_offset, name_of_16, number, quoted, read,
                       require, text, too_short, words)
-from .records import (COMMAND_HEADER, COMMAND_NAMES, HEADER, LAYOUT_BY_COMMAND, RELOCATION, SECTION, SEGMENT_SIZE, SYMBOL)
+from .records import (COMMAND_HEADER, COMMAND_NAMES, HEADER, LAYOUT_BY_COMMAND, NEWER, RELOCATION, SECTION, SEGMENT_SIZE, SYMBOL)
 
 MAGICS = {0xfeedface: (">", False), 0xcefaedfe: ("<", False), 0xfeedfacf: (">", True), 0xcffaedfe: ("<", True)}
 X86, X86_64, ARM, POWERPC, ARM64, ARM64_32 = 7, 0x01000007, 12, 18, 0x0100000c, 0x0200000c
@@ -186,7 +187,10 @@ def read_command(data, place, order):
     start = COMMAND_HEADER.read(data, place, order)
     require(start.cmdsize <= len(data) - place)
     name = COMMAND_NAMES.get(start.cmd)
-    body = LAYOUT_BY_COMMAND.get(name, COMMAND_HEADER).read(data, place, order)
+    layout = LAYOUT_BY_COMMAND.get(name, COMMAND_HEADER)
+    if name in NEWER and place + layout.size > len(data):
+        return Command(place, name, start.cmd, start.cmdsize, None)
+    body = layout.read(data, place, order)
     if name in ("LC_THREAD", "LC_UNIXTHREAD"):
         require(body.count <= MOST_STATE_WORDS and place + 16 + 4 * body.count <= len(data))
     return Command(place, name, start.cmd, start.cmdsize, body)

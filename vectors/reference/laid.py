@@ -23,7 +23,8 @@ LINKEDIT = {
     "LC_CODE_SIGNATURE": "signature", "LC_SEGMENT_SPLIT_INFO": "split-info", "LC_FUNCTION_STARTS": "function-starts",
     "LC_DATA_IN_CODE": "data-in-code", "LC_DYLIB_CODE_SIGN_DRS": "signature-requirements",
     "LC_LINKER_OPTIMIZATION_HINT": "linker-hints", "LC_DYLD_EXPORTS_TRIE": "export-trie",
-    "LC_DYLD_CHAINED_FIXUPS": "chained-fixups",
+    "LC_DYLD_CHAINED_FIXUPS": "chained-fixups", "LC_ATOM_INFO": "atom-info", "LC_FUNCTION_VARIANTS": "function-variants",
+    "LC_FUNCTION_VARIANT_FIXUPS": "function-variant-fixups",
 }
 
 # The tables of LC_DYSYMTAB: the fields of their place and count, and the bytes of an item in 32 and in 64 bits.
@@ -146,7 +147,7 @@ def named_ranges(command, wide):
     elif name in DYLD_INFO:
         for part, field in OPCODE_TABLES:
             yield part, getattr(body, field + "_off"), getattr(body, field + "_size")
-    elif name in LINKEDIT:
+    elif name in LINKEDIT and body:
         yield LINKEDIT[name], body.dataoff, body.datasize
     elif name in ENCRYPTION:
         yield "encrypted", body.cryptoff, body.cryptsize

@@ -44,7 +44,7 @@ TEXTS = {
     **dict.fromkeys((*LIBRARY_KINDS, "LC_ID_DYLIB", "LC_LOAD_DYLINKER", "LC_ID_DYLINKER", "LC_DYLD_ENVIRONMENT",
                      "LC_PREBOUND_DYLIB", "LC_LOADFVMLIB", "LC_IDFVMLIB", "LC_FVMFILE"), "name"),
     "LC_RPATH": "path", "LC_SUB_FRAMEWORK": "umbrella", "LC_SUB_UMBRELLA": "sub_umbrella", "LC_SUB_CLIENT": "client",
-    "LC_SUB_LIBRARY": "sub_library", "LC_FILESET_ENTRY": "entry_id",
+    "LC_SUB_LIBRARY": "sub_library", "LC_FILESET_ENTRY": "entry_id", "LC_TARGET_TRIPLE": "triple",
 }
 NO_TABLES = ("header", "segment", "section", "relocations", "encrypted", "note")
 
@@ -128,6 +128,8 @@ def command_rows(laid):
 
 def text_rows(laid):
     for command in laid.image.of(*TEXTS):
+        if not command.body:
+            continue
         owner, begin, size = ("text", command.offset, 0), getattr(command.body, TEXTS[command.name]), command.cmdsize
         start, misplaced, is_read = command.offset + begin, not record_size(command) <= begin < size, command.name != "LC_PREBOUND_DYLIB"
         misplaced = misplaced or is_read and laid.data.find(b"\0", start, command.offset + size) < 0

@@ -47,13 +47,20 @@ _COMMANDS = [
     ("vmaddr:8 fileoff:8 entry_id reserved", "0x80000035 FILESET_ENTRY"),
 ]
 
+# Those that only later headers have. Opening an image doesn't read their records.
+_NEWER = [
+    ("dataoff datasize", "0x36 ATOM_INFO 0x37 FUNCTION_VARIANTS 0x38 FUNCTION_VARIANT_FIXUPS"),
+    ("triple", "0x39 TARGET_TRIPLE"),
+]
+NEWER = {"LC_" + name for _, names in _NEWER for name in names.split()[1::2]}
+
 HEADER = {
     False: Layout("Header", "magic cputype cpusubtype filetype ncmds sizeofcmds flags"),
     True: Layout("Header", "magic cputype cpusubtype filetype ncmds sizeofcmds flags reserved"),
 }
 COMMAND_HEADER = Layout("LoadCommandHeader", "cmd cmdsize")
 COMMAND_NAMES, LAYOUT_BY_COMMAND = {}, {}
-for _fields, _names in _COMMANDS:
+for _fields, _names in _COMMANDS + _NEWER:
     _layout, _words = Layout("Command", "cmd cmdsize " + _fields), _names.split()
     COMMAND_NAMES.update({int(number, 16): "LC_" + name for number, name in zip(_words[::2], _words[1::2])})
     LAYOUT_BY_COMMAND.update({"LC_" + name: _layout for name in _words[1::2]})

@@ -21,7 +21,9 @@ pub mod TableFacts
 pub mod SaidFacts
 pub mod StreamFacts
 pub mod SlotFacts
+pub mod NamedItems
 pub mod NearestItems
+pub mod NearestRecords
 pub mod MappedItems
 pub mod MappedNearest
 pub mod LookedUpFacts

@@ -5,9 +5,10 @@ use Rattle.mach_parts.specs.SectionRecord.{section_holding}
 use Rattle.goblin_mach.specs.FileOffsets.{address_at_offset, offset_at_address}
 use Rattle.goblin_mach.specs.Fixups.{base_of, base_view}
 use Rattle.goblin_mach.specs.ImageSlots.{symbol_table_view}
-use Rattle.goblin_mach.specs.LookedUpFacts.{HasSegmentNamed, HasSectionNamed, HasSymbolNamed, HasSymbolAt, HasFunctionAt, HasAddressOf, HasOffsetOf}
+use Rattle.goblin_mach.specs.LookedUpFacts.{HasSegmentNamed, HasSectionNamed, HasSymbolNamed, HasSymbolsNamed, HasSymbolAt, HasFunctionAt}
+use Rattle.goblin_mach.specs.LookedUpFacts.{HasAddressOf, HasOffsetOf}
 use Rattle.goblin_mach.specs.Modes.{Agrees, HoldsAs}
-use Rattle.goblin_mach.specs.NamedParts.{section_of_name, segment_of_name, symbols_within, IsSymbolNamed}
+use Rattle.goblin_mach.specs.NamedParts.{section_of_name, segment_of_name, symbol_of_name, symbols_of_name, symbols_within}
 use Rattle.goblin_mach.specs.NearestSymbol.{IsFunctionAt, IsSymbolAt}
 use Rattle.goblin_mach.specs.OpenImage.{bytes_view, commands_view, segments_view}
 use Rattle.goblin_mach.specs.Tables.{AreStartsAt, starts_place_in}
@@ -22,8 +23,12 @@ module _ {A : Type 0} (m : MachO A) where
       (section_of_name segment section (segments_view m))
   section_named_is segment section = said_of m (λ found f. found ≡ section_of_name segment section f.segments)
 
-  pub symbol_named_is : (name : List ℕ) → Agrees m (λ bytes o. HasSymbolNamed bytes o name) (IsSymbolNamed (symbols_within (symbol_table_view m)) name)
-  symbol_named_is name = said_of m (λ found f. IsSymbolNamed (symbols_within f.symbols) name found)
+  pub symbol_named_is : (name : List ℕ) → HoldsAs m (λ bytes o. HasSymbolNamed bytes o name) (symbol_of_name name (symbols_within (symbol_table_view m)))
+  symbol_named_is name = said_of m (λ found f. found ≡ symbol_of_name name (symbols_within f.symbols))
+
+  pub symbols_named_are : (name : List ℕ) → HoldsAs m (λ bytes o. HasSymbolsNamed bytes o name)
+      (symbols_of_name name 0 (symbols_within (symbol_table_view m)))
+  symbols_named_are name = said_of m (λ found f. found ≡ symbols_of_name name 0 (symbols_within f.symbols))
 
   pub symbol_at_is : (a : ℕ) → Agrees m (λ bytes o. HasSymbolAt bytes o a)
       (IsSymbolAt (segments_view m) (symbols_within (symbol_table_view m)) (section_holding (segments_view m) a) a)

@@ -1,4 +1,4 @@
--- Searches among the items of a list, one after another: the first of a name, the nearest below an address, the function.
+-- Searches among the items of a list, one after another: the nearest below an address, the function.
 use Rattle.std.proofs.Common.{◌≡◌, ◌⊎◌, ℕ, zero, suc, ◌+◌, ◌<◌, ◌≤◌, true, List, [], ◌∷◌, ◌++◌, length, Option, Some, None, Result, Ok, Err}
 use Rattle.std.proofs.Common.{inl, inr, refl, ap, arith, slice_get, append_assoc, Bool, false, cond, not, ◌&&◌, nat_le}
 use Rattle.std.specs.Prelude.{◌==◌}
@@ -25,7 +25,7 @@ use Rattle.goblin_mach.specs.declared.macho.nearest.Function.{Function}
 use Rattle.mach_base.specs.Number.{place_after}
 use Rattle.mach_records.specs.declared.segments.Section64.{Section64}
 use Rattle.mach_parts.specs.declared.symbols.nlist.Nlist.{Nlist}
-use Rattle.goblin_mach.specs.NamedParts.{IsFirstNamed, symbols_within}
+use Rattle.goblin_mach.specs.NamedParts.{symbols_within}
 use Rattle.goblin_mach.specs.NearestSymbol.{is_below, is_nearer, section_number, IsBelow, IsNearestIn, IsSymbolAt, IsFunctionAt, IsAround, IsAscending}
 use Rattle.goblin_mach.specs.NearestSymbol.{IsFunction, IsFunctionIn, IsStart, IsStartBelow}
 use Rattle.goblin_mach.specs.declared.macho.nearest.SymbolAt.{SymbolAt}
@@ -71,39 +71,6 @@ module _ {X : Type 0} (whole front left after : List X) (x : X) where
 -- what was read is one thing
 same_read : (item : Result (List ℕ × Nlist) Fault) (x y : List ℕ × Nlist) → item ≡ Ok x → item ≡ Ok y → x ≡ y
 same_read item x y e f = cc (e, f)
-
--- ---- the first of a name
-
-module _ (name : List ℕ) where
-  -- the items of these have another name, or none
-  abbrev pub NoneNamed : List (Result (List ℕ × Nlist) Fault) → Type 0
-  NoneNamed items = (k : ℕ) (s : Nlist) → slice_get items k ≡ Some (Ok (name, s)) → ⊥
-
-  pub none_named-more : (front : List (Result (List ℕ × Nlist) Fault)) (item : Result (List ℕ × Nlist) Fault) → NoneNamed front
-      → ((s : Nlist) → item ≡ Ok (name, s) → ⊥) → NoneNamed (front ++ item ∷ [])
-  none_named-more front item none other = λ k s e. elim (item_or_last front item k (Ok (name, s)) e) [
-    | inl before ↦ none k s before
-    | inr last ↦ other s last.1
-  ]
-
-  pub named-err : (front : List (Result (List ℕ × Nlist) Fault)) (item : Result (List ℕ × Nlist) Fault) (f : Fault) → NoneNamed front → item ≡ Err f
-      → NoneNamed (front ++ item ∷ [])
-  named-err front item f none err = none_named-more front item none (λ s e. cc (err, e))
-
-  pub named-other : (front : List (Result (List ℕ × Nlist) Fault)) (item : Result (List ℕ × Nlist) Fault) (found : List ℕ) (s : Nlist) → NoneNamed front
-      → item ≡ Ok (found, s) → (found ≡ name → ⊥) → NoneNamed (front ++ item ∷ [])
-  named-other front item found s none read other = none_named-more front item none (λ t e.
-      let same : (found, s) ≡ (name, t) = cc (read, e) in other (ap (λ (p : List ℕ × Nlist). p.0) same))
-
-  pub named-here : (found : List ℕ) (front rest : List (Result (List ℕ × Nlist) Fault)) (s : Nlist) (k : ℕ) → found ≡ name → NoneNamed front → k ≡ length front
-      → IsFirstNamed (front ++ Ok (found, s) ∷ rest) name k s
-  named-here found front rest s k same none is = rw same (record {
-    item = rw is (item_last front (Ok (name, s)) rest);
-    first = λ j t e. elim (cases_lt j k) [
-      | inl less ↦ absurd (none j t (item_of front (Ok (name, s) ∷ rest) j (Ok (name, t)) (omega (arith, less, is)) e))
-      | inr more ↦ more
-    ];
-  })
 
 -- ---- the nearest below an address
 
@@ -200,18 +167,19 @@ module _ (n a : ℕ) where
       → IsNearestIn front n a best → item ≡ Err f → IsNearestIn (front ++ item ∷ []) n a best
   nearest-err front best item f is err = nearest-unchanged front item best is (λ name s e below. absurd (cc (err, e)))
 
-  pub nearest-other : (front : List (Result (List ℕ × Nlist) Fault)) (best : Option SymbolAt) (item : Result (List ℕ × Nlist) Fault) (name : List ℕ) (s : Nlist)
-      → IsNearestIn front n a best → item ≡ Ok (name, s) → is_below n a s ≡ false → IsNearestIn (front ++ item ∷ []) n a best
-  nearest-other front best item name s is read other = nearest-unchanged front item best is (λ name' t e below.
-      let same : (name, s) ≡ (name', t) = cc (read, e) in
-      let test = ap (λ (p : List ℕ × Nlist). is_below n a p.1) same in absurd (cc (test, below, other)))
+  -- an item has this record, if it can be read
+  abbrev pub IsOf : Result (List ℕ × Nlist) Fault → Nlist → Type 0
+  IsOf item s = (name : List ℕ) (t : Nlist) → item ≡ Ok (name, t) → t ≡ s
 
-  pub nearest-farther : (front : List (Result (List ℕ × Nlist) Fault)) (best : Option SymbolAt) (item : Result (List ℕ × Nlist) Fault) (name : List ℕ)
-      (s : Nlist)
-      (d : ℕ) → IsNearestIn front n a best → item ≡ Ok (name, s) → d ≡ a - s.n_value → is_nearer best d ≡ true → IsNearestIn (front ++ item ∷ []) n a best
-  nearest-farther front best item name s d is read distance nearer = nearest-unchanged front item best is (λ name' t e below.
-      let same : (name, s) ≡ (name', t) = cc (read, e) in
-      beaten_by front best t d is (distance ∙ ap (λ (p : List ℕ × Nlist). a - p.1.n_value) same) nearer)
+  pub nearest-other : (front : List (Result (List ℕ × Nlist) Fault)) (best : Option SymbolAt) (item : Result (List ℕ × Nlist) Fault) (s : Nlist)
+      → IsNearestIn front n a best → IsOf item s → is_below n a s ≡ false → IsNearestIn (front ++ item ∷ []) n a best
+  nearest-other front best item s is one other = nearest-unchanged front item best is (λ name t e below.
+      let test : is_below n a t ≡ is_below n a s = ap (λ (u : Nlist). is_below n a u) (one name t e) in absurd (cc (test, below, other)))
+
+  pub nearest-farther : (front : List (Result (List ℕ × Nlist) Fault)) (best : Option SymbolAt) (item : Result (List ℕ × Nlist) Fault) (s : Nlist)
+      (d : ℕ) → IsNearestIn front n a best → IsOf item s → d ≡ a - s.n_value → is_nearer best d ≡ true → IsNearestIn (front ++ item ∷ []) n a best
+  nearest-farther front best item s d is one distance nearer = nearest-unchanged front item best is (λ name t e below.
+      beaten_by front best t d is (distance ∙ ap (λ (u : Nlist). a - u.n_value) (sym (one name t e))) nearer)
 
   pub nearest-nearer : (front : List (Result (List ℕ × Nlist) Fault)) (best : Option SymbolAt) (x : SymbolAt) → IsNearestIn front n a best
       → is_below n a x.symbol ≡ true → x.index ≡ length front → x.distance ≡ a - x.symbol.n_value → is_nearer best x.distance ≡ false

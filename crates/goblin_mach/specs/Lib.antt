@@ -27,6 +27,7 @@ pub mod StreamFacts
 pub mod ImageSlots
 pub mod SlotFacts
 pub mod NamedParts
+pub mod NamedLeft
 pub mod FileOffsets
 pub mod NearestSymbol
 pub mod MappedSymbols

@@ -8,7 +8,7 @@ use Rattle.mach_parts.specs.declared.symbols.nlist.Nlist.{Nlist}
 use Rattle.goblin_mach.specs.Facts.{OfImage}
 use Rattle.goblin_mach.specs.FileOffsets.{address_at_offset, offset_at_address}
 use Rattle.goblin_mach.specs.Fixups.{base_of}
-use Rattle.goblin_mach.specs.NamedParts.{section_of_name, segment_of_name, symbols_within, IsSymbolNamed}
+use Rattle.goblin_mach.specs.NamedParts.{section_of_name, segment_of_name, symbol_of_name, symbols_of_name, symbols_within}
 use Rattle.goblin_mach.specs.NearestSymbol.{IsFunctionAt, IsSymbolAt}
 use Rattle.goblin_mach.specs.Subjects.{lossy_segments_in, table_in}
 use Rattle.goblin_mach.specs.Tables.{AreStartsAt, starts_place_in}
@@ -23,9 +23,13 @@ HasSegmentNamed bytes o name found = OfImage bytes o (λ ctx cs. found ≡ segme
 abbrev pub HasSectionNamed : List ℕ → ℕ → (segment section : List ℕ) → Option NumberedSection → Type 0
 HasSectionNamed bytes o segment section found = OfImage bytes o (λ ctx cs. found ≡ section_of_name segment section (lossy_segments_in ctx bytes cs))
 
--- its first symbol with a name
+-- its first symbol with a name that is no debugging entry
 abbrev pub HasSymbolNamed : List ℕ → ℕ → List ℕ → Option (ℕ × Nlist) → Type 0
-HasSymbolNamed bytes o name found = OfImage bytes o (λ ctx cs. IsSymbolNamed (symbols_within (table_in ctx bytes cs)) name found)
+HasSymbolNamed bytes o name found = OfImage bytes o (λ ctx cs. found ≡ symbol_of_name name (symbols_within (table_in ctx bytes cs)))
+
+-- all its symbols with a name, debugging entries among them
+abbrev pub HasSymbolsNamed : List ℕ → ℕ → List ℕ → List (ℕ × Nlist) → Type 0
+HasSymbolsNamed bytes o name found = OfImage bytes o (λ ctx cs. found ≡ symbols_of_name name 0 (symbols_within (table_in ctx bytes cs)))
 
 -- its symbol at an address
 abbrev pub HasSymbolAt : List ℕ → ℕ → ℕ → Option SymbolAt → Type 0

@@ -1,10 +1,13 @@
 -- The symbol and the function at an address (`mach-o/nlist.h`, n_type, n_sect and n_value; `mach-o/loader.h`, LC_FUNCTION_STARTS).
 use Rattle.std.specs.Prelude.{◌≡◌, ◌==◌, ◌⊎◌, ℕ, ◌+◌, ◌-◌, ◌<◌, ◌≤◌, ◌^◌, ◌&&◌, not, min, Bool, true, false, List, take, sum_by, Option, Some, None, Result, Ok}
-use Rattle.std.specs.Prelude.{slice_get, nat_le, nat_lt}
+use Rattle.std.specs.Prelude.{[], if◌then◌else◌, slice_get, nat_le, nat_lt}
+use Rattle.mach_base.specs.Answer.{◌>>=◌}
 use Rattle.mach_base.specs.Fault.{Fault}
+use Rattle.mach_base.specs.Items.{items_from}
 use Rattle.mach_base.specs.Number.{place_after}
+use Rattle.mach_base.specs.Text.{text_at}
 use Rattle.mach_parts.specs.Segment.{SegmentView}
-use Rattle.mach_parts.specs.Symbols.{is_stab, type_of}
+use Rattle.mach_parts.specs.Symbols.{SymbolTable, is_stab, symbol_record_at, type_of}
 use Rattle.mach_parts.specs.declared.segment.numbered.NumberedSection.{NumberedSection}
 use Rattle.mach_records.specs.declared.segments.Section64.{Section64}
 use Rattle.mach_parts.specs.declared.symbols.nlist.Nlist.{Nlist}
@@ -47,6 +50,20 @@ IsNearestIn items n a (Some x) = IsNearest items n a x
 abbrev pub IsSymbolAt : List SegmentView → List (Result (List ℕ × Nlist) Fault) → Option NumberedSection → ℕ → Option SymbolAt → Type 0
 IsSymbolAt ss items None a found = found ≡ None
 IsSymbolAt ss items (Some h) a found = IsNearestIn items (section_number ss h) a found
+
+-- a name as a search reads it: the text at its place, or none of it
+abbrev pub name_if : Bool → List ℕ → ℕ → Result (List ℕ) Fault
+name_if is_named bytes place = if is_named then text_at bytes place else Ok []
+
+-- symbol k as a search reads it: its record, with its name or an empty one
+abbrev pub symbol_if : Bool → SymbolTable → ℕ → Result (List ℕ × Nlist) Fault
+symbol_if is_named t k = do
+  symbol ← symbol_record_at t k
+  name ← name_if is_named t.bytes (place_after t.strtab symbol.n_strx)
+  Ok (name, symbol)
+
+abbrev pub symbols_if : Bool → SymbolTable → List (Result (List ℕ × Nlist) Fault)
+symbols_if is_named t = items_from (symbol_if is_named t) 0 t.nsyms
 
 -- what a symbol that was found says: its number, its name, its record, and how far the address is above its value
 abbrev pub found_symbol_view : SymbolAt → ℕ × List ℕ × Nlist × ℕ

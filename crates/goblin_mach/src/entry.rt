@@ -27,7 +27,7 @@ impl Mapping {
         let sum = u128::from(place) + u128::from(self.vmaddr);
         match sum.checked_sub(u128::from(self.fileoff)) {
             Some(address) if address <= u128::from(u64::MAX) => Ok(address as u64),
-            _ => Err(Error::Malformed("an entry is an address of 64 bits")),
+            _ => Err(Error::Malformed("the entry point's address does not fit in 64 bits")),
         }
     }
 }
@@ -131,7 +131,7 @@ fn address_of_main(text: Option<Mapping>, entryoff: u64) -> Result<u64>
 {
     match text {
         Some(text) => text.address(entryoff),
-        None => Err(Error::Malformed("a main program has a segment of text")),
+        None => Err(Error::Malformed("the main command has no __TEXT segment")),
     }
 }
 

@@ -43,45 +43,104 @@ pub mod laws;
 pub use crate::bindings::BindingIterator;
 pub use crate::command_iterator::CommandIterator;
 pub use crate::exported::find_export;
-pub use crate::fat_file::arches::{ArchIterator, FatArch64Iterator, FatArchIterator};
+pub use crate::fat_file::arches::ArchIterator;
+pub use crate::fat_file::arches::FatArch64Iterator;
+pub use crate::fat_file::arches::FatArchIterator;
 pub use crate::fat_file::entry::SingleArch;
-pub use crate::fat_file::table::{
-    EntryIterator, FatTable, MultiArch, MultiArch64, SingleArch64Iterator, SingleArchIterator,
-};
+pub use crate::fat_file::table::EntryIterator;
+pub use crate::fat_file::table::FatTable;
+pub use crate::fat_file::table::MultiArch;
+pub use crate::fat_file::table::MultiArch64;
+pub use crate::fat_file::table::SingleArch64Iterator;
+pub use crate::fat_file::table::SingleArchIterator;
 pub use crate::first_bytes::Foreign;
 pub use crate::fixups::FixupIterator;
 pub use crate::images::Images;
-pub use crate::input::{Input, begins_archive};
-pub use crate::item::{Content, EntryCpu, InputItem, ItemPlace};
-pub use crate::libraries::{Library, LibraryAttributes, LibraryIterator, LibraryKind};
+pub use crate::input::Input;
+pub use crate::input::begins_archive;
+pub use crate::item::Content;
+pub use crate::item::EntryCpu;
+pub use crate::item::InputItem;
+pub use crate::item::ItemPlace;
+pub use crate::libraries::Library;
+pub use crate::libraries::LibraryAttributes;
+pub use crate::libraries::LibraryIterator;
+pub use crate::libraries::LibraryKind;
 pub use crate::mach::Mach;
-pub use crate::macho::{Function, MachO, SymbolAt};
+pub use crate::macho::Function;
+pub use crate::macho::MachO;
+pub use crate::macho::NamedSymbols;
+pub use crate::macho::SymbolAt;
 pub use crate::rebases::RebaseIterator;
-pub use crate::said::{BuildVersion, Encryption, FilesetEntry};
-pub use crate::subjects::{id_place, library_place, run_path_place};
+pub use crate::said::BuildVersion;
+pub use crate::said::Encryption;
+pub use crate::said::FilesetEntry;
+pub use crate::subjects::id_place;
+pub use crate::subjects::library_place;
+pub use crate::subjects::run_path_place;
 pub use crate::symbol_map::SymbolMap;
-pub use crate::view::{LinkView, link_view};
-pub use mach_base::{
-    BE, Container, Ctx, Description, Endian, Error, Hint, HintData, IntoCtx, LE, Record, Result,
-    ScrollError, SizeWith, Sleb128, Steps, TryFromCtx, TryIntoCtx, Uleb128, describe, gread_with,
-    pread_with, pwrite_with, read_text, take_hint_bytes,
-};
+pub use crate::view::LinkView;
+pub use crate::view::link_view;
+pub use mach_base::BE;
+pub use mach_base::Container;
+pub use mach_base::Ctx;
+pub use mach_base::Description;
+pub use mach_base::Endian;
+pub use mach_base::Error;
+pub use mach_base::Hint;
+pub use mach_base::HintData;
+pub use mach_base::IntoCtx;
+pub use mach_base::LE;
+pub use mach_base::Record;
+pub use mach_base::Result;
+pub use mach_base::ScrollError;
+pub use mach_base::SizeWith;
+pub use mach_base::Sleb128;
+pub use mach_base::Steps;
+pub use mach_base::TryFromCtx;
+pub use mach_base::TryIntoCtx;
+pub use mach_base::Uleb128;
+pub use mach_base::describe;
+pub use mach_base::gread_with;
+pub use mach_base::pread_with;
+pub use mach_base::pwrite_with;
+pub use mach_base::read_text;
+pub use mach_base::take_hint_bytes;
+pub use mach_dyld::OpcodeRebaseIterator;
+pub use mach_dyld::Rebase;
+pub use mach_dyld::RebaseKind;
+pub use mach_dyld::RebaseStream;
+pub use mach_dyld::WeakBind;
+pub use mach_dyld::WeakBindIterator;
+pub use mach_dyld::WeakBindStream;
+pub use mach_dyld::bind_opcodes;
 pub use mach_dyld::bindings::OpcodeBindingIterator;
-pub use mach_dyld::{
-    OpcodeRebaseIterator, Rebase, RebaseKind, RebaseStream, WeakBind, WeakBindIterator,
-    WeakBindStream, bind_opcodes, exports, imports, rebase_opcodes,
-};
-pub use mach_load::{
-    BuildToolIterator, DataInCodeIterator, FunctionStartIterator, FunctionStarts,
-    LinkerOptionIterator, Note, NoteIterator,
-};
-pub use mach_parts::binding::{Binding, Provider};
-pub use mach_parts::magic::{parse_magic_and_ctx, peek, peek_bytes};
-pub use mach_parts::{
-    ArchRecord, FAT_MAGIC_64, FatArch64, SIZEOF_FAT_ARCH_64, fat, header, relocation, segment,
-    symbols,
-};
-pub use mach_records::{constants, cputype};
+pub use mach_dyld::exports;
+pub use mach_dyld::imports;
+pub use mach_dyld::rebase_opcodes;
+pub use mach_load::BuildToolIterator;
+pub use mach_load::DataInCodeIterator;
+pub use mach_load::FunctionStartIterator;
+pub use mach_load::FunctionStarts;
+pub use mach_load::LinkerOptionIterator;
+pub use mach_load::Note;
+pub use mach_load::NoteIterator;
+pub use mach_parts::ArchRecord;
+pub use mach_parts::FAT_MAGIC_64;
+pub use mach_parts::FatArch64;
+pub use mach_parts::SIZEOF_FAT_ARCH_64;
+pub use mach_parts::binding::Binding;
+pub use mach_parts::binding::Provider;
+pub use mach_parts::fat;
+pub use mach_parts::header;
+pub use mach_parts::magic::parse_magic_and_ctx;
+pub use mach_parts::magic::peek;
+pub use mach_parts::magic::peek_bytes;
+pub use mach_parts::relocation;
+pub use mach_parts::segment;
+pub use mach_parts::symbols;
+pub use mach_records::constants;
+pub use mach_records::cputype;
 
 /// Chained fixups: what the data of `LC_DYLD_CHAINED_FIXUPS` and the pointers of the segments hold.
 pub mod chained_fixups {
@@ -106,6 +165,7 @@ pub mod slots {
 pub mod load_command {
     pub use mach_load::CommandVariant;
     pub use mach_load::LoadCommand;
+    pub use mach_load::NewerCommand;
     pub use mach_load::ThreadCommand;
     pub use mach_records::BuildToolVersion;
     pub use mach_records::BuildVersionCommand;
@@ -127,6 +187,7 @@ pub mod load_command {
     pub use mach_records::Fvmlib;
     pub use mach_records::FvmlibCommand;
     pub use mach_records::IdentCommand;
+    pub use mach_records::LC_ATOM_INFO;
     pub use mach_records::LC_BUILD_VERSION;
     pub use mach_records::LC_CODE_SIGNATURE;
     pub use mach_records::LC_DATA_IN_CODE;
@@ -141,6 +202,8 @@ pub mod load_command {
     pub use mach_records::LC_ENCRYPTION_INFO_64;
     pub use mach_records::LC_FILESET_ENTRY;
     pub use mach_records::LC_FUNCTION_STARTS;
+    pub use mach_records::LC_FUNCTION_VARIANT_FIXUPS;
+    pub use mach_records::LC_FUNCTION_VARIANTS;
     pub use mach_records::LC_FVMFILE;
     pub use mach_records::LC_ID_DYLIB;
     pub use mach_records::LC_ID_DYLINKER;
@@ -174,6 +237,7 @@ pub mod load_command {
     pub use mach_records::LC_SUB_UMBRELLA;
     pub use mach_records::LC_SYMSEG;
     pub use mach_records::LC_SYMTAB;
+    pub use mach_records::LC_TARGET_TRIPLE;
     pub use mach_records::LC_THREAD;
     pub use mach_records::LC_TWOLEVEL_HINTS;
     pub use mach_records::LC_UNIXTHREAD;
@@ -233,6 +297,7 @@ pub mod load_command {
     pub use mach_records::SIZEOF_SUB_UMBRELLA_COMMAND;
     pub use mach_records::SIZEOF_SYMSEG_COMMAND;
     pub use mach_records::SIZEOF_SYMTAB_COMMAND;
+    pub use mach_records::SIZEOF_TARGET_TRIPLE_COMMAND;
     pub use mach_records::SIZEOF_UUID_COMMAND;
     pub use mach_records::SIZEOF_VERSION_MIN_COMMAND;
     pub use mach_records::Section32;
@@ -250,9 +315,11 @@ pub mod load_command {
     pub use mach_records::TOOL_LD;
     pub use mach_records::TOOL_LLD;
     pub use mach_records::TOOL_SWIFT;
+    pub use mach_records::TargetTripleCommand;
     pub use mach_records::TwolevelHint;
     pub use mach_records::TwolevelHintsCommand;
     pub use mach_records::UuidCommand;
     pub use mach_records::VersionMinCommand;
     pub use mach_records::cmd_to_str;
+    pub use mach_records::command_name;
 }

@@ -34,7 +34,7 @@ impl<'a, A: Allocator + Clone> Mach<'a, A> {
         ensures refused { IfErr result (ErrorMeets (MachFault ImageFault bytes.now)) }
     {
         if bytes.len() < 4 {
-            return Err(Error::Malformed("a magic is 4 bytes"));
+            return Err(Error::Malformed("the file ends in its magic"));
         }
         if Endian::Big.u32_at(bytes, 0) == FAT_MAGIC {
             return Ok(Mach::Fat(MultiArch::new(alloc, bytes)?));
@@ -51,7 +51,7 @@ impl<'a, A: Allocator + Clone> Mach<'a, A> {
         ensures refused { IfErr result (ErrorMeets (MachFault LossyFault bytes.now)) }
     {
         if bytes.len() < 4 {
-            return Err(Error::Malformed("a magic is 4 bytes"));
+            return Err(Error::Malformed("the file ends in its magic"));
         }
         if Endian::Big.u32_at(bytes, 0) == FAT_MAGIC {
             return Ok(Mach::Fat(MultiArch::new(alloc, bytes)?));

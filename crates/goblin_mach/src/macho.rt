@@ -16,6 +16,7 @@ mod debug;
 mod dyld;
 pub mod look_up;
 mod named;
+mod named_symbols;
 mod nearest;
 mod offsets;
 mod said;
@@ -24,6 +25,7 @@ mod streams;
 mod tables;
 
 use crate::fields::Fields;
+pub use crate::macho::named_symbols::NamedSymbols;
 pub use crate::macho::nearest::{Function, SymbolAt};
 pub(crate) use crate::macho::nearest::{distance_above, section_number};
 use crate::opened::Opened;
@@ -184,8 +186,9 @@ impl<'a, A: Allocator> MachO<'a, A> {
         }
     }
 
-    /// Returns the imports of the image, over the libraries and the segments that it holds; none if no command names binds.
-    /// Each error except `Error::Memory` is a fault in the binds.
+    /// Returns an import for each bind of opcodes only; `bindings` has what dyld binds, chains of fixups too. They are over the
+    /// libraries and the segments that the image holds. There are none if no command names binds. Each error except
+    /// `Error::Memory` is a fault in the binds.
     pub fn imports<B: Allocator>(&self, alloc: B) -> Result<Vec<Import<'a>, B>>
         ensures listed { IfOk result (λ v. ListsImageImports (binds_view self.now) (pointer_size (ctx_view self.now).container)
             (texts self.now.libs.items) (segments_view self.now) (bind_imports_view v.items)) }
@@ -210,9 +213,9 @@ impl<'a, A: Allocator> MachO<'a, A> {
     ghost use Rattle.mach_dyld.specs.BindLeft.{imports_left};
     ghost use Rattle.goblin_mach.specs.Subjects.{AreImageBindItems};
 
-    /// Returns the imports of the image one at a time, over the libraries and the segments that it holds: those of the
-    /// non-lazy stream, then those of the lazy stream. The first fault is the last item. There are none if no command names
-    /// binds. It allocates nothing.
+    /// Returns an import for each bind of opcodes only, one at a time; `bindings` has what dyld binds, chains of fixups too. They
+    /// are over the libraries and the segments that the image holds: those of the non-lazy stream, then those of the lazy
+    /// stream. The first fault is the last item. There are none if no command names binds. It allocates nothing.
     pub fn iter_imports<'b>(&'b self) -> BindIterator<'a, 'b>
         ensures { AreImageBindItems (binds_view self.now) (pointer_size (ctx_view self.now).container)
             (texts self.now.libs.items) (segments_view self.now) (imports_left result) }

@@ -27,7 +27,7 @@ pub enum LinkView<'a, A: Allocator = Global> {
     Image {
         /// The symbols that it gives to others.
         exports: Vec<Export<'a, A>, A>,
-        /// The symbols that it takes from others.
+        /// The symbols that it takes from others by bind opcodes only, as `MachO::imports` lists them.
         imports: Vec<Import<'a>, A>,
     },
     /// An archive: its bytes.

@@ -12,7 +12,7 @@ use Rattle.mach_chained.specs.Formats.{import_format_of}
 use Rattle.mach_chained.specs.Header.{Fixups, fixups_at, header_at, readable_header}
 use Rattle.mach_chained.specs.Views.{fixups_view}
 use Rattle.mach_chained.specs.declared.format.ImportFormat.{ImportFormat}
-use Rattle.mach_chained.specs.declared.header.ChainedFixupsHeader.{ChainedFixupsHeader}
+use Rattle.mach_records.specs.declared.fixup_chains.ChainedFixupsHeader.{ChainedFixupsHeader}
 use Rattle.mach_parts.specs.Segment.{SegmentView, segment_view}
 use Rattle.mach_parts.specs.declared.segment.Segment.{Segment}
 use Rattle.goblin_mach.specs.Fixups.{base_of, chained_at}

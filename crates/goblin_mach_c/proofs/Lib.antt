@@ -26,4 +26,5 @@ pub mod BeginsThere
 pub mod FoundExports
 pub mod PartsWritten
 pub mod ArchiveSaid
+pub mod NumberedVerdicts
 mod LibraryRows

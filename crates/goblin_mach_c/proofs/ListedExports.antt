@@ -26,27 +26,27 @@ names_more : (es : List Entry) (e : Entry) → names_of (es ++ e ∷ []) ≡ nam
 names_more [] e = append-nil e.name
 names_more (x ∷ es) e = ap (λ l. x.name ++ l) (names_more es e) ∙ sym (append_assoc x.name (names_of es) e.name)
 
-module _ (bytes : List ℕ) (IsLibrary : ℕ → List ℕ → Type 0) (IsNode : List Entry → Entry → ℕ → Type 0) where
+module _ (bytes : List ℕ) (base : ℕ) (IsLibrary : ℕ → List ℕ → Type 0) (IsNode : List Entry → Entry → ℕ → Type 0) where
   listed_more : (before es : List Entry) (rows : List gm_listed_export) (e : Entry) (row : gm_listed_export)
-      → AreListed bytes IsLibrary IsNode before es rows → IsListed bytes IsLibrary IsNode (before ++ es) e row
-      → AreListed bytes IsLibrary IsNode before (es ++ e ∷ []) (rows ++ row ∷ [])
-  listed_more before [] [] e row are more = (subst (λ (l : List Entry). IsListed bytes IsLibrary IsNode l e row) (append-nil before) more, tt)
+      → AreListed bytes base IsLibrary IsNode before es rows → IsListed bytes base IsLibrary IsNode (before ++ es) e row
+      → AreListed bytes base IsLibrary IsNode before (es ++ e ∷ []) (rows ++ row ∷ [])
+  listed_more before [] [] e row are more = (subst (λ (l : List Entry). IsListed bytes base IsLibrary IsNode l e row) (append-nil before) more, tt)
   listed_more before [] (r ∷ rows) e row are more = absurd are
   listed_more before (x ∷ es) [] e row are more = absurd are
   listed_more before (x ∷ es) (r ∷ rows) e row are more = (
     are.0,
     listed_more (before ++ x ∷ []) es rows e row are.1
-        (subst (λ (l : List Entry). IsListed bytes IsLibrary IsNode l e row) (sym (append_assoc before (x ∷ []) es)) more),
+        (subst (λ (l : List Entry). IsListed bytes base IsLibrary IsNode l e row) (sym (append_assoc before (x ∷ []) es)) more),
   )
 
-  listed_length : (before es : List Entry) (rows : List gm_listed_export) → AreListed bytes IsLibrary IsNode before es rows → length rows ≡ length es
+  listed_length : (before es : List Entry) (rows : List gm_listed_export) → AreListed bytes base IsLibrary IsNode before es rows → length rows ≡ length es
   listed_length before [] [] are = refl
   listed_length before [] (r ∷ rows) are = absurd are
   listed_length before (x ∷ es) [] are = absurd are
   listed_length before (x ∷ es) (r ∷ rows) are = ap suc (listed_length (before ++ x ∷ []) es rows are.1)
 
 -- what holds for other bytes, other libraries and other nodes
-module _ (bytes bytes' : List ℕ) (IsLibrary IsLibrary' : ℕ → List ℕ → Type 0) (IsNode IsNode' : List Entry → Entry → ℕ → Type 0)
+module _ (bytes bytes' : List ℕ) (base : ℕ) (IsLibrary IsLibrary' : ℕ → List ℕ → Type 0) (IsNode IsNode' : List Entry → Entry → ℕ → Type 0)
     (text : (place : ℕ) (text : List ℕ) → text_at bytes place ≡ Ok text → text_at bytes' place ≡ Ok text)
     (number_place : (node : ℕ) (found : ℕ × ℕ) → place_at bytes node ≡ Ok found → place_at bytes' node ≡ Ok found)
     (library : (number : ℕ) (name : List ℕ) → IsLibrary number name → IsLibrary' number name)
@@ -58,8 +58,8 @@ module _ (bytes bytes' : List ℕ) (IsLibrary IsLibrary' : ℕ → List ℕ → 
       (number_place node (number, place) b.0, library number lib b.1, text place (text_or_empty name) b.2)
   brought_there node (stub at resolver flags) number place b = b
 
-  listed_there : (before es : List Entry) (rows : List gm_listed_export) → AreListed bytes IsLibrary IsNode before es rows
-      → AreListed bytes' IsLibrary' IsNode' before es rows
+  listed_there : (before es : List Entry) (rows : List gm_listed_export) → AreListed bytes base IsLibrary IsNode before es rows
+      → AreListed bytes' base IsLibrary' IsNode' before es rows
   listed_there before [] [] are = tt
   listed_there before [] (r ∷ rows) are = absurd are
   listed_there before (x ∷ es) [] are = absurd are
@@ -77,7 +77,8 @@ module _ (bytes bytes' : List ℕ) (IsLibrary IsLibrary' : ℕ → List ℕ → 
       )
 
   pub written_there : {given : List Entry} {count used : ℕ} {old new : List gm_listed_export} {names names' : List ℕ}
-      → AreWritten bytes IsLibrary IsNode given count used old new names names' → AreWritten bytes' IsLibrary' IsNode' given count used old new names names'
+      → AreWritten bytes base IsLibrary IsNode given count used old new names names'
+      → AreWritten bytes' base IsLibrary' IsNode' given count used old new names names'
   written_there {given} w = record {
     is_count = w.is_count;
     is_used = w.is_used;
@@ -88,15 +89,16 @@ module _ (bytes bytes' : List ℕ) (IsLibrary IsLibrary' : ℕ → List ℕ → 
   }
 
 -- The walk went on from one cursor to another and returned exports, of which k rows and `used` bytes of names are written.
-pub record SoFar (t : TrieRange) (libs : List (List ℕ)) (c c' : TrieCursor) (name name' : List ℕ) (stack stack' : List Open)
+pub record SoFar (t : TrieRange) (base : ℕ) (libs : List (List ℕ)) (c c' : TrieCursor) (name name' : List ℕ) (stack stack' : List Open)
     (old new : List gm_listed_export) (text text' : List ℕ) (k used : ℕ) : Type 0 where
   pub given : List Entry
-  pub written : AreWritten t.bytes (IsNumbered libs) (IsNodeOf t libs (HasGivenTo t libs c name stack)) given k used old new text text'
+  pub written : AreWritten t.bytes base (IsNumbered libs) (IsNodeOf t libs (HasGivenTo t libs c name stack)) given k used old new text text'
   pub walked : (found : List Entry) → HasGivenTo t libs c name stack found → HasGivenTo t libs c' name' stack' (found ++ given)
 
-pub none_so_far : {t : TrieRange} {libs : List (List ℕ)} {c : TrieCursor} {name : List ℕ} {stack : List Open} {old : List gm_listed_export} {text : List ℕ}
-    → SoFar t libs c c name name stack stack old old text text 0 0
-none_so_far {t} {libs} {c} {name} {stack} = record {
+pub none_so_far : {t : TrieRange} {base : ℕ} {libs : List (List ℕ)} {c : TrieCursor} {name : List ℕ} {stack : List Open} {old : List gm_listed_export}
+    {text : List ℕ}
+    → SoFar t base libs c c name name stack stack old old text text 0 0
+none_so_far {t} {base} {libs} {c} {name} {stack} = record {
   given = [];
   written = record { is_count = refl; is_used = refl; listed = []; are = tt; rows = refl; names = refl };
   walked = λ found h. subst (HasGivenTo t libs c name stack) (sym (append-nil found)) h;
@@ -113,36 +115,36 @@ put_after done old text after used is e =
     ap (λ l. (l ++ text) ++ drop (used + n) after) front ∙ ap (λ l. (done ++ text) ++ l) rear
 
 -- one more row and one more name
-written_more : {bytes : List ℕ} {IsLibrary : ℕ → List ℕ → Type 0} {IsNode : List Entry → Entry → ℕ → Type 0} {given : List Entry} {k used : ℕ}
+written_more : {bytes : List ℕ} {base : ℕ} {IsLibrary : ℕ → List ℕ → Type 0} {IsNode : List Entry → Entry → ℕ → Type 0} {given : List Entry} {k used : ℕ}
     {old new : List gm_listed_export} {text text' : List ℕ}
-    (e : Entry) (row : gm_listed_export) → AreWritten bytes IsLibrary IsNode given k used old new text text' → k < length old
-    → IsListed bytes IsLibrary IsNode given e row
-    → AreWritten bytes IsLibrary IsNode (given ++ e ∷ []) (k + 1) (used + length e.name) old (set new k row) text
+    (e : Entry) (row : gm_listed_export) → AreWritten bytes base IsLibrary IsNode given k used old new text text' → k < length old
+    → IsListed bytes base IsLibrary IsNode given e row
+    → AreWritten bytes base IsLibrary IsNode (given ++ e ∷ []) (k + 1) (used + length e.name) old (set new k row) text
     (take used text' ++ e.name ++ drop (used + length e.name) text')
-written_more {bytes} {IsLibrary} {IsNode} {given} {k} {used} {old} {new} {text} {text'} e row w less is_row =
-    let many = listed_length bytes IsLibrary IsNode [] given w.listed w.are ∙ sym w.is_count in
+written_more {bytes} {base} {IsLibrary} {IsNode} {given} {k} {used} {old} {new} {text} {text'} e row w less is_row =
+    let many = listed_length bytes base IsLibrary IsNode [] given w.listed w.are ∙ sym w.is_count in
     record {
       is_count = ap (λ n. n + 1) w.is_count ∙ sym (length-append given (e ∷ []));
       is_used = ap (λ n. n + length e.name) w.is_used ∙ sym (length-append (names_of given) e.name) ∙ ap length (sym (names_more given e));
       listed = w.listed ++ row ∷ [];
-      are = listed_more bytes IsLibrary IsNode [] given w.listed e row w.are is_row;
+      are = listed_more bytes base IsLibrary IsNode [] given w.listed e row w.are is_row;
       rows = ap (λ l. set l k row) w.rows ∙ set_following w.listed old k row many less ∙ sym (append_assoc w.listed (row ∷ []) (drop (k + 1) old));
       names = put_after (names_of given) text e.name text' used w.is_used w.names ∙ ap (λ l. l ++ drop (used + length e.name) text) (sym (names_more given e));
     }
 
 -- an export more
-pub one_more : {t : TrieRange} {libs : List (List ℕ)} {c c' d : TrieCursor} {name name' m : List ℕ} {stack stack' q : List Open}
+pub one_more : {t : TrieRange} {base : ℕ} {libs : List (List ℕ)} {c c' d : TrieCursor} {name name' m : List ℕ} {stack stack' q : List Open}
     {old new : List gm_listed_export} {text text' after : List ℕ} {k used len : ℕ} {what : gm_export} (info : ExportInfo) (library target node : ℕ)
-    → SoFar t libs c c' name name' stack stack' old new text text' k used → k < length old
+    → SoFar t base libs c c' name name' stack stack' old new text text' k used → k < length old
     → ((found : List Entry) → HasGivenTo t libs c' name' stack' found → NextGives t libs found (Export info) d m q)
-    → len ≡ length (name_met_last d m) → after ≡ take used text' ++ name_met_last d m ++ drop (used + len) text' → what ≡ export_row (Some (info_of info))
+    → len ≡ length (name_met_last d m) → after ≡ take used text' ++ name_met_last d m ++ drop (used + len) text' → what ≡ export_row base (Some (info_of info))
     → IsOwnAt t.bytes libs t.from node (info_of info)
     → ((found : List Entry) → HasGivenTo t libs c' name' stack' found → IsNextNode (trie_there t libs) t.from found (name_met_last d m) node)
     → IsBrought t.bytes (IsNumbered libs) node (info_of info) library target
-    → SoFar t libs c d name m stack q old (set new k (record { name = used; name_len = len; library = library; target = target; what = what })) text after
+    → SoFar t base libs c d name m stack q old (set new k (record { name = used; name_len = len; library = library; target = target; what = what })) text after
     (k + 1) (used + len)
-one_more {t} {libs} {c} {c'} {d} {name} {name'} {m} {stack} {stack'} {q} {old} {new} {text} {text'} {after} {k} {used} {len} {what} info library target node
-    so less gives long put is own leads brought =
+one_more {t} {base} {libs} {c} {c'} {d} {name} {name'} {m} {stack} {stack'} {q} {old} {new} {text} {text'} {after} {k} {used} {len} {what} info library
+    target node so less gives long put is own leads brought =
     let e = entry (name_met_last d m) (info_of info) in
     let row : gm_listed_export = record { name = used; name_len = length e.name; library = library; target = target; what = what } in
     let more = written_more e row so.written less (record {

@@ -85,9 +85,9 @@ option_fails bytes p cut f front some is =
 pub section_first : (ctx : Ctx) (bytes : List ℕ) (p : CommandItems) (r : Result (Section × List ℕ) Fault) → p.index < p.count
     → section_item ctx bytes p.command p.index ≡ r
     → sections_of_part ctx bytes p
-    ≡ (r >>= λ found. Ok (p.command, p.index + 1, found))
+    ≡ (r >>= λ found. Ok (p.command, p.index, found))
     ∷ sections_of_part ctx bytes (record { command = p.command; place = p.place; end = p.end; index = p.index + 1; count = p.count })
 section_first ctx bytes p r less is =
     items_next (placed_section ctx bytes p.command) p.index p.count less
-    ∙ ap (λ (x : Result (Section × List ℕ) Fault). (x >>= λ found. Ok (p.command, p.index + 1, found))
+    ∙ ap (λ (x : Result (Section × List ℕ) Fault). (x >>= λ found. Ok (p.command, p.index, found))
     ∷ items_from (placed_section ctx bytes p.command) (p.index + 1) (p.count - (p.index + 1))) is

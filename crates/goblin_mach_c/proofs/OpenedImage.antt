@@ -18,6 +18,7 @@ use Rattle.mach_parts.specs.Segment.{segment_view}
 use Rattle.mach_parts.specs.Segments.{segments_in}
 use Rattle.mach_parts.specs.Symbols.{SymbolTable}
 use Rattle.mach_load.specs.Variants.{command_of}
+use Rattle.goblin_mach.specs.Fixups.{base_of}
 use Rattle.goblin_mach.specs.Image.{AllReadable}
 use Rattle.goblin_mach.specs.OpenImage.{IsImage, IsLossyImage, commands_view}
 use Rattle.goblin_mach.specs.declared.macho.MachO.{MachO}
@@ -92,5 +93,7 @@ opened_of bytes o m lossy c loose strict n =
         old_style = m.old_style_entry;
         entry = f.entry ∙ ap (λ a. Ok (record { address = a; old_style = m.old_style_entry })) (sym n.entry);
         entry_style = n.entry_style;
+        base = n.base ∙ ap base_of f.segments;
+        reserved = n.reserved;
       };
     }

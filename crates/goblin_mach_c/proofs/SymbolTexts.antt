@@ -49,7 +49,7 @@ says_record t (Err f) = refl
 -- the row of a symbol whose name has `len` bytes at a place
 abbrev pub named_at : Nlist → ℕ → ℕ → gm_symbol
 named_at s len place =
-    record { value = s.n_value; name = place; name_len = len; section = s.n_sect; code = 0; desc = s.n_desc; n_type = s.n_type }
+    record { value = s.n_value; name = place; name_len = len; section = s.n_sect; code = 0; desc = s.n_desc; n_type = s.n_type; reserved = 0 }
 
 -- the row of a symbol has its record and its name
 pub row_says : (t : SymbolTable) (k : ℕ) → SaysSymbol t.strtab (symbol_at t k) (symbol_row t k)

@@ -25,10 +25,10 @@ use Rattle.goblin_mach_c.specs.declared.exports.gm_listed_export.{gm_listed_expo
 
 -- ---- a call that returns nothing
 
-pub none_written : (bytes : List ℕ) (o : ℕ) (w : gm_export_walk) (name : List ℕ) (stack : List Open) (b : gm_export_batch) (out : List gm_listed_export)
+pub none_written : (bytes : List ℕ) (base o : ℕ) (w : gm_export_walk) (name : List ℕ) (stack : List Open) (b : gm_export_batch) (out : List gm_listed_export)
     (text : List ℕ) → b ≡ no_batch
-    → AreWritten bytes (HasLibrary bytes o) (HasNodeOf bytes o w name stack) [] b.count b.names_len out out text text
-none_written bytes o w name stack b out text is = rw is (record { is_count = refl; is_used = refl; listed = []; are = tt; rows = refl; names = refl })
+    → AreWritten bytes base (HasLibrary bytes o) (HasNodeOf bytes o w name stack) [] b.count b.names_len out out text text
+none_written bytes base o w name stack b out text is = rw is (record { is_count = refl; is_used = refl; listed = []; are = tt; rows = refl; names = refl })
 
 pub stays : (bytes : List ℕ) (o : ℕ) (w : gm_export_walk) (name : List ℕ) (stack : List Open) → GivesFurther bytes o w name stack [] w name stack
 stays bytes o w name stack found h = subst (HasWalked bytes o w name stack) (sym (append-nil found)) h
@@ -65,12 +65,12 @@ module _ (bytes : List ℕ) (o : ℕ) (m : MachO Global) (p : IsLossyImage bytes
   there w name stack found = (facts_are bytes o m p (λ f. HasWalkedTrie (trie_or_empty f.trie) f.libs w name stack found)).1
 
   -- its rows
-  pub rows_there : (w : gm_export_walk) (name : List ℕ) (stack : List Open) (given : List Entry) (count used : ℕ) (old new : List gm_listed_export)
+  pub rows_there : (base : ℕ) (w : gm_export_walk) (name : List ℕ) (stack : List Open) (given : List Entry) (count used : ℕ) (old new : List gm_listed_export)
       (names names' : List ℕ)
-      → AreWritten trie.bytes (IsNumbered libs) (IsNodeOf trie libs (HasWalkedTrie trie libs w name stack)) given count used old new names names'
-      → AreWritten bytes (HasLibrary bytes o) (HasNodeOf bytes o w name stack) given count used old new names names'
-  rows_there w name stack given count used old new names names' =
-      written_there trie.bytes bytes (IsNumbered libs) (HasLibrary bytes o) (IsNodeOf trie libs (HasWalkedTrie trie libs w name stack))
+      → AreWritten trie.bytes base (IsNumbered libs) (IsNodeOf trie libs (HasWalkedTrie trie libs w name stack)) given count used old new names names'
+      → AreWritten bytes base (HasLibrary bytes o) (HasNodeOf bytes o w name stack) given count used old new names names'
+  rows_there base w name stack given count used old new names names' =
+      written_there trie.bytes bytes base (IsNumbered libs) (HasLibrary bytes o) (IsNodeOf trie libs (HasWalkedTrie trie libs w name stack))
       (HasNodeOf bytes o w name stack)
       (λ place text e. text_there bytes (commands_view m) place text
       (subst (λ (t : Option TrieRange). text_at (trie_or_empty t).bytes place ≡ Ok text) p.fields.trie e))

@@ -79,13 +79,13 @@ goes_along {t} {libs} {w} {b} {w'} {name} {name'} {stack} {stack'} {given} rows 
 }
 
 -- its rows
-pub walk_written : {t : TrieRange} {libs : List (List ℕ)} {w b : gm_export_walk} {name : List ℕ} {stack : List Open} {given : List Entry}
+pub walk_written : {t : TrieRange} {base : ℕ} {libs : List (List ℕ)} {w b : gm_export_walk} {name : List ℕ} {stack : List Open} {given : List Entry}
     {count used : ℕ} {old new : List gm_listed_export} {text text' : List ℕ}
     → ((found : List Entry) → HasWalkedTrie t libs w name stack found → HasWalkedTrie t libs b name stack found) → b.is_begun ≢ 0 → b.code ≡ 0
-    → AreWritten t.bytes (IsNumbered libs) (IsNodeOf t libs (HasGivenTo t libs b.cursor name stack)) given count used old new text text'
-    → AreWritten t.bytes (IsNumbered libs) (IsNodeOf t libs (HasWalkedTrie t libs w name stack)) given count used old new text text'
-walk_written {t} {libs} {w} {b} {name} {stack} begins started ready =
-    written_there t.bytes t.bytes (IsNumbered libs) (IsNumbered libs) (IsNodeOf t libs (HasGivenTo t libs b.cursor name stack))
+    → AreWritten t.bytes base (IsNumbered libs) (IsNodeOf t libs (HasGivenTo t libs b.cursor name stack)) given count used old new text text'
+    → AreWritten t.bytes base (IsNumbered libs) (IsNodeOf t libs (HasWalkedTrie t libs w name stack)) given count used old new text text'
+walk_written {t} {base} {libs} {w} {b} {name} {stack} begins started ready =
+    written_there t.bytes t.bytes base (IsNumbered libs) (IsNumbered libs) (IsNodeOf t libs (HasGivenTo t libs b.cursor name stack))
     (IsNodeOf t libs (HasWalkedTrie t libs w name stack)) (λ _ _ e. e) (λ _ _ e. e) (λ _ _ e. e)
     (λ before e node n. record { own = n.own; leads = λ found h. n.leads found ((begins found h).started started ready) })
 

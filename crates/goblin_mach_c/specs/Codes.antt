@@ -1,8 +1,10 @@
 -- The code of a fault for C (`goblin_mach.h`, GM_MALFORMED and the following ones).
-use Rattle.std.specs.Prelude.{◌≡◌, ◌⊎◌, ℕ, ◌-◌, ◌≤◌, List, [], ◌++◌, length, min, replicate, take}
+use Rattle.std.specs.Prelude.{◌≡◌, ◌⊎◌, ℕ, ◌-◌, ◌≤◌, List, [], ◌++◌, false, codes, length, min, nat_lt, replicate, take, if◌then◌else◌}
+use Rattle.std.specs.Fmt.{decimal, digits}
 use Rattle.mach_base.specs.declared.error.Error.{Error}
 use Rattle.mach_base.specs.declared.error.Error.TheVariants as errors
 use Rattle.mach_base.specs.Fault.{Fault, malformed, bad_magic, bad_offset, too_big, bad_input, too_short, no_memory}
+use Rattle.goblin_mach_c.specs.declared.outside.Outside.{Outside}
 
 abbrev pub code_of_fault : Fault → ℕ
 code_of_fault malformed = 1
@@ -34,3 +36,14 @@ HasShortRule (errors.BadMagic magic) = ⊥
 HasShortRule (errors.Scroll e) = ⊥
 HasShortRule (errors.BufferTooShort count what) = ⊥
 HasShortRule (errors.Memory e) = ⊥
+
+-- an entry that ends after the end of the file, with both ends
+abbrev pub cut_off_words : Outside → List ℕ
+cut_off_words o =
+    codes "entry "
+    ++ (decimal o.index ++ (codes " is out of the file: it ends at 0x" ++ (digits 16 false o.end ++ (codes ", the file at 0x" ++ digits 16 false o.len))))
+
+-- why an entry isn't in the file: it is cut off, or its record is
+abbrev pub outside_entry_words : Outside → List ℕ
+outside_entry_words o =
+    if nat_lt o.len o.end then cut_off_words o else codes "the file ends in the record of entry " ++ decimal o.index

@@ -29,7 +29,7 @@ readable_commands_left it = readable_commands_from it.le it.bytes.now it.place i
 
 -- a command as C sees it
 abbrev pub command_row : Command → gm_command
-command_row c = record { offset = c.offset; size = cmdsize_of c; cmd = cmd_of c }
+command_row c = record { offset = c.offset; size = cmdsize_of c; cmd = cmd_of c; reserved = 0 }
 
 abbrev pub gm_command_rows_view : List ℕ → gm_image → List gm_command
 gm_command_rows_view bytes image = map command_row (gm_commands_view bytes image)

@@ -1,7 +1,8 @@
 -- The export of a name from an image, as C sees it.
-use Rattle.std.specs.Prelude.{◌≡◌, ◌⊎◌, ◌++◌, ℕ, List, [], length, take, drop, min, Option, Some, None, Bool}
+use Rattle.std.specs.Prelude.{◌≡◌, ◌⊎◌, ◌++◌, ℕ, List, [], length, take, drop, min, Option, Some, None, unwrap_or, Bool}
 use Rattle.std.specs.Str.{IsUtf8}
 use Rattle.mach_base.specs.Fault.{Fault, malformed}
+use Rattle.mach_dyld.specs.ExportAddresses.{export_address, export_offset, resolver_address}
 use Rattle.mach_dyld.specs.LookUp.{FaultOnWay, IsFirstOf}
 use Rattle.mach_dyld.specs.Trie.{Entry, Info, regular, reexport, stub}
 use Rattle.mach_dyld.specs.TrieRange.{TrieRange, trie_there}
@@ -24,15 +25,32 @@ abbrev pub target_text : Option Info → List ℕ
 target_text (Some (reexport lib name flags)) = text_or_empty name
 target_text _ = []
 
--- an answer: 0 none, 1 an address, 2 a re-export, 3 a stub with its resolver
-abbrev pub export_row : Option Info → gm_export
-export_row None = record { address = 0; resolver = 0; flags = 0; library_len = 0; target_len = 0; kind = 0; reserved = 0 }
-export_row (Some (regular address flags)) =
-    record { address = address; resolver = 0; flags = flags; library_len = 0; target_len = 0; kind = 1; reserved = 0 }
-export_row (Some (reexport lib name flags)) =
-    record { address = 0; resolver = 0; flags = flags; library_len = length lib; target_len = length (text_or_empty name); kind = 2; reserved = 0 }
-export_row (Some (stub at resolver flags)) =
-    record { address = at.number; resolver = resolver.number; flags = flags; library_len = 0; target_len = 0; kind = 3; reserved = 0 }
+-- its kind: 1 an address, 2 a re-export, 3 a stub with its resolver
+abbrev pub export_kind : Info → ℕ
+export_kind (regular number flags) = 1
+export_kind (reexport lib name flags) = 2
+export_kind (stub at resolver flags) = 3
+
+abbrev pub export_flags : Info → ℕ
+export_flags (regular number flags) = flags
+export_flags (reexport lib name flags) = flags
+export_flags (stub at resolver flags) = flags
+
+-- An answer of an image whose first byte has this address. Everything is 0 if there is none, and so are address and offset of a
+-- re-export, and the resolver of what is no stub.
+abbrev pub export_row : ℕ → Option Info → gm_export
+export_row base None = record { address = 0; offset = 0; resolver = 0; flags = 0; library_len = 0; target_len = 0; kind = 0; reserved = 0 }
+export_row base (Some info) =
+    record {
+      address = unwrap_or (export_address base info) 0;
+      offset = unwrap_or (export_offset info) 0;
+      resolver = unwrap_or (resolver_address base info) 0;
+      flags = export_flags info;
+      library_len = length (library_text (Some info));
+      target_len = length (target_text (Some info));
+      kind = export_kind info;
+      reserved = 0;
+    }
 
 -- a text was written to the start of an array, as much of it as fits, and the rest of the array is unchanged
 abbrev pub IsPut : List ℕ → List ℕ → List ℕ → Type 0

@@ -38,32 +38,33 @@ abbrev pub names_of : List Entry → List ℕ
 names_of [] = []
 names_of (e ∷ es) = e.name ++ names_of es
 
--- The row of an export after some others: its name is after theirs, and it is the export of a node, which identifies it.
-pub record IsListed (bytes : List ℕ) (IsLibrary : ℕ → List ℕ → Type 0) (IsNode : List Entry → Entry → ℕ → Type 0) (before : List Entry) (e : Entry)
-    (row : gm_listed_export) : Type 0 where
+-- The row of an export after some others, of an image with this base: its name is after theirs, and it is the export of a node,
+-- which identifies it.
+pub record IsListed (bytes : List ℕ) (base : ℕ) (IsLibrary : ℕ → List ℕ → Type 0) (IsNode : List Entry → Entry → ℕ → Type 0) (before : List Entry)
+    (e : Entry) (row : gm_listed_export) : Type 0 where
   pub name : row.name ≡ length (names_of before)
   pub name_len : row.name_len ≡ length e.name
-  pub what : row.what ≡ export_row (Some e.info)
+  pub what : row.what ≡ export_row base (Some e.info)
   pub node : ℕ
   pub is_node : IsNode before e node
   pub brought : IsBrought bytes IsLibrary node e.info row.library row.target
 
 -- the rows of exports after some others
-abbrev pub AreListed : List ℕ → (ℕ → List ℕ → Type 0) → (List Entry → Entry → ℕ → Type 0) → List Entry → List Entry → List gm_listed_export → Type 0
-AreListed bytes IsLibrary IsNode before [] [] = Unit {0}
-AreListed bytes IsLibrary IsNode before [] (row ∷ rows) = ⊥
-AreListed bytes IsLibrary IsNode before (e ∷ es) [] = ⊥
-AreListed bytes IsLibrary IsNode before (e ∷ es) (row ∷ rows) =
-    IsListed bytes IsLibrary IsNode before e row × AreListed bytes IsLibrary IsNode (before ++ e ∷ []) es rows
+abbrev pub AreListed : List ℕ → ℕ → (ℕ → List ℕ → Type 0) → (List Entry → Entry → ℕ → Type 0) → List Entry → List Entry → List gm_listed_export → Type 0
+AreListed bytes base IsLibrary IsNode before [] [] = Unit {0}
+AreListed bytes base IsLibrary IsNode before [] (row ∷ rows) = ⊥
+AreListed bytes base IsLibrary IsNode before (e ∷ es) [] = ⊥
+AreListed bytes base IsLibrary IsNode before (e ∷ es) (row ∷ rows) =
+    IsListed bytes base IsLibrary IsNode before e row × AreListed bytes base IsLibrary IsNode (before ++ e ∷ []) es rows
 
 -- These exports were written: `count` rows at the start of an array, and `used` bytes of names at the start of a buffer. What
 -- follows them is unchanged.
-pub record AreWritten (bytes : List ℕ) (IsLibrary : ℕ → List ℕ → Type 0) (IsNode : List Entry → Entry → ℕ → Type 0) (given : List Entry)
-    (count used : ℕ) (old new : List gm_listed_export) (text text' : List ℕ) : Type 0 where
+pub record AreWritten (bytes : List ℕ) (base : ℕ) (IsLibrary : ℕ → List ℕ → Type 0) (IsNode : List Entry → Entry → ℕ → Type 0)
+    (given : List Entry) (count used : ℕ) (old new : List gm_listed_export) (text text' : List ℕ) : Type 0 where
   pub is_count : count ≡ length given
   pub is_used : used ≡ length (names_of given)
   pub listed : List gm_listed_export
-  pub are : AreListed bytes IsLibrary IsNode [] given listed
+  pub are : AreListed bytes base IsLibrary IsNode [] given listed
   pub rows : new ≡ listed ++ drop count old
   pub names : text' ≡ names_of given ++ drop used text
 

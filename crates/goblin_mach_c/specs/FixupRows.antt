@@ -62,6 +62,7 @@ fixup_row (Ok f) =
       diversity = diversity_of f.auth;
       is_address_diverse = address_diverse f.auth;
       code = 0;
+      reserved = 0;
     }
 fixup_row (Err f) =
     record {
@@ -77,4 +78,5 @@ fixup_row (Err f) =
       diversity = 0;
       is_address_diverse = 0;
       code = code_of_fault f;
+      reserved = 0;
     }

@@ -28,6 +28,7 @@ import_row place library i =
       is_weak = flag i.is_weak;
       is_lazy = flag i.is_lazy;
       code = 0;
+      reserved = 0;
     }
 
 -- why no further imports can be read
@@ -45,6 +46,7 @@ no_import f =
       is_weak = 0;
       is_lazy = 0;
       code = code_of_fault f;
+      reserved = 0;
     }
 
 -- The row has the numbers of the import, the place where its name was last set before its bind, and the number of a library that

@@ -116,6 +116,9 @@ part_number part.GdbSymbols = 32
 part_number part.Binds = 33
 part_number part.Entry = 34
 part_number part.Slice = 35
+part_number part.AtomInfo = 36
+part_number part.FunctionVariants = 37
+part_number part.FunctionVariantFixups = 38
 
 -- the part, the command and the number of the other owner; 0 if there is none
 abbrev pub other_part : Option Owner → ℕ
@@ -143,6 +146,7 @@ layout_row f =
       rule = rule_number f.rule;
       part = part_number f.owner.part;
       other_part = other_part f.other;
+      reserved = 0;
     }
 
 -- the file that begins with an image: the bytes from the image on

@@ -9,6 +9,9 @@ pub mod Listed
 pub mod TableRows
 pub mod SectionRows
 pub mod SignatureRows
+pub mod EntitlementNumbers
+pub mod RequirementWrites
+pub mod SecurityRows
 pub mod FatRows
 pub mod WideFatRows
 pub mod KindNumbers

@@ -7,10 +7,11 @@ use Rattle.mach_parts.specs.Header.{IsHeader, header_size}
 use Rattle.mach_parts.specs.Symbols.{SymbolTable}
 use Rattle.mach_parts.specs.declared.header.Header.{Header}
 use Rattle.goblin_mach.specs.EntryPoint.{entry_point_in}
+use Rattle.goblin_mach.specs.Fixups.{base_of, base_view}
 use Rattle.goblin_mach.specs.Image.{AllReadable, ImageFault, LossyFault, LossyOpens, LossyOpensAs, Opens}
 use Rattle.mach_parts.specs.Magic.{cputype_at}
 use Rattle.goblin_mach.specs.Readings.{read_of}
-use Rattle.goblin_mach.specs.Subjects.{libs_in, lossy_segment_by, run_path_by, table_in}
+use Rattle.goblin_mach.specs.Subjects.{libs_in, lossy_segment_by, lossy_segments_in, run_path_by, table_in}
 use Rattle.mach_parts.specs.Segments.{segments_in}
 use Rattle.mach_parts.specs.SymbolViews.{table_of}
 use Rattle.goblin_mach.specs.declared.macho.MachO.{MachO}
@@ -58,6 +59,8 @@ pub record AreNumbers (bytes : List ℕ) (o : ℕ) (ctx : Ctx) (cs : List Comman
   pub old_style : Bool
   pub entry : entry_point_in (cputype_at ctx bytes o) cs ≡ Ok (record { address = c.entry; old_style = old_style })
   pub entry_style : c.is_old_style_entry ≡ flag old_style
+  pub base : c.base ≡ base_of (lossy_segments_in ctx bytes cs)
+  pub reserved : c.reserved ≡ 0
 
 -- An image opens at o in lossy mode, and strictly if that was requested, and these are its numbers.
 pub record IsOpened (bytes : List ℕ) (o : ℕ) (c : gm_image) : Type 0 where
@@ -102,3 +105,5 @@ pub record HoldsNumbers (m : MachO Global) (o : ℕ) (lossy : Bool) (c : gm_imag
   pub symbols : AreTableNumbers (option_map table_of m.symbols) c.symbols_at c.symbols c.names_at
   pub entry : c.entry ≡ m.entry
   pub entry_style : c.is_old_style_entry ≡ flag m.old_style_entry
+  pub base : c.base ≡ base_view m
+  pub reserved : c.reserved ≡ 0

@@ -1,5 +1,5 @@
 -- Sections and relocations as C sees them.
-use Rattle.std.specs.Prelude.{ℕ, ◌+◌, ◌-◌, List, map, replicate, Option, Some, None, Result, Ok, Err, length}
+use Rattle.std.specs.Prelude.{ℕ, ◌+◌, ◌-◌, ◌^◌, List, [], ◌∷◌, map, min, replicate, Option, Some, None, Result, Ok, Err, length}
 use Rattle.mach_base.specs.Answer.{◌>>=◌}
 use Rattle.mach_base.specs.Fault.{Fault}
 use Rattle.mach_base.specs.Items.{items_from}
@@ -68,16 +68,23 @@ count_of_segment (Some s) = s.nsects
 abbrev pub claimed_section_count : Command → ℕ
 claimed_section_count c = count_of_segment (segment_command_by widened c.kind c.values)
 
--- a section with the place of its command and its number there, from 1
+-- a section with the place of its command and its index there
 abbrev pub placed_section : Ctx → List ℕ → ℕ → ℕ → Result (ℕ × ℕ × (Section × List ℕ)) Fault
-placed_section ctx bytes command k = section_item ctx bytes command k >>= λ found. Ok (command, k + 1, found)
+placed_section ctx bytes command k = section_item ctx bytes command k >>= λ found. Ok (command, k, found)
 
 abbrev pub placed_sections : Ctx → List ℕ → ℕ → ℕ → ℕ → List (Result (ℕ × ℕ × (Section × List ℕ)) Fault)
 placed_sections ctx bytes command first count = items_from (placed_section ctx bytes command) first count
 
 abbrev pub numbered_section_row : Result (ℕ × ℕ × (Section × List ℕ)) Fault → gm_numbered_section
-numbered_section_row (Ok found) = record { section = section_row (Ok found.2); command = found.0; number = found.1; reserved = 0 }
-numbered_section_row (Err f) = record { section = section_row (Err f); command = 0; number = 0; reserved = 0 }
+numbered_section_row (Ok found) = record { section = section_row (Ok found.2); command = found.0; number = 0; index = found.1; reserved = 0 }
+numbered_section_row (Err f) = record { section = section_row (Err f); command = 0; number = 0; index = 0; reserved = 0 }
+
+-- rows with their numbers, after so many sections: each has the number after the one before it, at most 2^64 - 1
+abbrev pub with_numbers : ℕ → List gm_numbered_section → List gm_numbered_section
+with_numbers before [] = []
+with_numbers before (row ∷ rows) =
+    let number = min (before + 1) (2 ^ 64 - 1) in
+    record { section = row.section; command = row.command; number = number; index = row.index; reserved = row.reserved } ∷ with_numbers number rows
 
 -- the sections of a command, and what is left of them
 abbrev pub sections_of_command : Ctx → List ℕ → Command → List (Result (ℕ × ℕ × (Section × List ℕ)) Fault)
@@ -86,10 +93,10 @@ sections_of_command ctx bytes c = placed_sections ctx bytes c.offset 0 (claimed_
 abbrev pub sections_of_part : Ctx → List ℕ → CommandItems → List (Result (ℕ × ℕ × (Section × List ℕ)) Fault)
 sections_of_part ctx bytes p = placed_sections ctx bytes p.command p.index (p.count - p.index)
 
--- the rows of an image, up to the first section that can't be read
+-- the rows of an image, up to the first section that can't be read; the first has number 1
 abbrev pub all_section_rows : List ℕ → gm_image → List gm_numbered_section
 all_section_rows bytes image =
-    map numbered_section_row (listed_in (sections_of_command (gm_ctx_view image) bytes) (gm_commands_view bytes image))
+    with_numbers 0 (map numbered_section_row (listed_in (sections_of_command (gm_ctx_view image) bytes) (gm_commands_view bytes image)))
 
 -- ---- relocations
 

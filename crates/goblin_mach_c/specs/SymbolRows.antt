@@ -30,11 +30,12 @@ named_row bytes place s =
       code = text_code (text_at bytes place);
       desc = s.n_desc;
       n_type = s.n_type;
+      reserved = 0;
     }
 
 -- why a record can't be read
 abbrev pub unread_row : Fault → gm_symbol
-unread_row f = record { value = 0; name = 0; name_len = 0; section = 0; code = code_of_fault f; desc = 0; n_type = 0 }
+unread_row f = record { value = 0; name = 0; name_len = 0; section = 0; code = code_of_fault f; desc = 0; n_type = 0; reserved = 0 }
 
 -- the row of a record that was read; its name counts from a place
 abbrev pub read_row : List ℕ → ℕ → Result Nlist Fault → gm_symbol
@@ -56,6 +57,7 @@ SaysSymbol strtab (Ok found) row =
       code = 0;
       desc = found.1.n_desc;
       n_type = found.1.n_type;
+      reserved = 0;
     }
 SaysSymbol strtab (Err f) row = row.code ≡ code_of_fault f
 

@@ -1,6 +1,6 @@
 -- The entries of a fat file of 32 or 64 bits as C sees them, in rows of one type.
-use Rattle.std.specs.Prelude.{◌==◌, ◌&&◌, ◌||◌, ◌+◌, ◌-◌, ◌/◌, ℕ, List, Bool, true, false, Option, Some, None, Result, Ok, Err, length, nat_lt}
-use Rattle.std.specs.Prelude.{if◌then◌else◌}
+use Rattle.std.specs.Prelude.{◌==◌, ◌&&◌, ◌||◌, ◌+◌, ◌-◌, ◌/◌, ◌^◌, ℕ, List, Bool, true, false, Option, Some, None, Result, Ok, Err}
+use Rattle.std.specs.Prelude.{codes, length, min, nat_lt, if◌then◌else◌}
 use Rattle.std.specs.List.{find}
 use Rattle.mach_base.specs.Fault.{Fault}
 use Rattle.mach_base.specs.Number.{number_at}
@@ -13,10 +13,11 @@ use Rattle.mach_parts.specs.Cpu.{kind_of_cpu}
 use Rattle.mach_parts.specs.Magic.{magic_at}
 use Rattle.mach_parts.specs.declared.fat64.FatArch64.{FatArch64}
 use Rattle.goblin_mach.specs.FatFile.{arch_at}
-use Rattle.goblin_mach_c.specs.Codes.{code_of_fault}
+use Rattle.goblin_mach_c.specs.Codes.{code_of_fault, outside_entry_words}
 use Rattle.goblin_mach_c.specs.FatRows.{entry_code, fat_row, reported_count}
 use Rattle.goblin_mach_c.specs.declared.fat.gm_fat_entry.{gm_fat_entry}
 use Rattle.goblin_mach_c.specs.declared.fat64.gm_fat_entry64.{gm_fat_entry64}
+use Rattle.goblin_mach_c.specs.declared.outside.Outside.{Outside}
 
 -- an entry of 32 bits
 abbrev pub wide_row : gm_fat_entry → gm_fat_entry64
@@ -87,20 +88,33 @@ abbrev pub is_for : ℕ → ℕ → gm_fat_entry64 → Bool
 is_for cputype cpusubtype row =
     (row.cputype == cputype) && ((cpusubtype == 0xffff_ffff) || (kind_of_cpu row.cpusubtype == kind_of_cpu cpusubtype))
 
-abbrev pub kept_for : ℕ → ℕ → Option gm_fat_entry64 → Option gm_fat_entry64
+abbrev pub kept_for : ℕ → ℕ → Option gm_fat_entry64 → Option (ℕ × gm_fat_entry64)
 kept_for cputype cpusubtype None = None
-kept_for cputype cpusubtype (Some row) = if is_for cputype cpusubtype row then Some row else None
+kept_for cputype cpusubtype (Some row) = if is_for cputype cpusubtype row then Some (0, row) else None
 
--- the first image for a cpu: a file that begins as an image is one, and any other has entries
-abbrev pub image_by : Result (ℕ × Option Ctx) Fault → ℕ → ℕ → List ℕ → Option gm_fat_entry64
+-- the entries of some bytes, each with its index
+abbrev pub indexed_rows : List ℕ → List (ℕ × gm_fat_entry64)
+indexed_rows bytes = items_from (λ k. (k, wide_row_at (begins_fat_64 bytes) bytes k)) 0 (wide_count (begins_fat_64 bytes) bytes)
+
+-- the first image for a cpu, with its index: a file that begins as an image is one, and any other has entries
+abbrev pub image_by : Result (ℕ × Option Ctx) Fault → ℕ → ℕ → List ℕ → Option (ℕ × gm_fat_entry64)
 image_by (Ok (magic, Some ctx)) cputype cpusubtype bytes = kept_for cputype cpusubtype (thin_row_by ctx.le bytes)
-image_by (Ok (magic, None)) cputype cpusubtype bytes = find (is_for cputype cpusubtype) (wide_fat_rows bytes)
+image_by (Ok (magic, None)) cputype cpusubtype bytes = find (λ entry. is_for cputype cpusubtype entry.1) (indexed_rows bytes)
 image_by (Err f) cputype cpusubtype bytes = None
 
-abbrev pub image_for : ℕ → ℕ → List ℕ → Option gm_fat_entry64
+abbrev pub image_for : ℕ → ℕ → List ℕ → Option (ℕ × gm_fat_entry64)
 image_for cputype cpusubtype bytes = image_by (magic_at bytes 0) cputype cpusubtype bytes
 
 -- the code of the call: that of the image's row, and 8 if there is none
-abbrev pub image_code : Option gm_fat_entry64 → ℕ
-image_code (Some row) = row.code
+abbrev pub image_code : Option (ℕ × gm_fat_entry64) → ℕ
+image_code (Some (index, row)) = row.code
 image_code None = 8
+
+-- an entry that isn't in a file of so many bytes, with where it ends, or the greatest number of 64 bits if that is less
+abbrev pub outside_row : ℕ → ℕ → gm_fat_entry64 → Outside
+outside_row len index row = record { index = index; end = min (row.offset + row.size) (2 ^ 64 - 1); len = len }
+
+-- why the call is refused
+abbrev pub image_refusal_words : ℕ → Option (ℕ × gm_fat_entry64) → List ℕ
+image_refusal_words len (Some (index, row)) = outside_entry_words (outside_row len index row)
+image_refusal_words len None = codes "the file has no image for this cpu"

@@ -40,7 +40,7 @@ pub extern "C" fn gmr_archive_find(
     ensures quiet { result ≡ 0 → error.new ≡ error.old }
 {
     let Ok(symbol) = str::from_utf8(symbol) else {
-        return refuse(&Error::Malformed("a symbol's name is UTF-8"), error);
+        return refuse(&Error::Malformed("a symbol's name is not UTF-8"), error);
     };
     match member_of_symbol(bytes, symbol) {
         Ok(found) => {

@@ -304,12 +304,14 @@ fn opcode_cursor(opcodes: &Option<OpcodeBindingIterator<'_, '_>>) -> gm_bind_cur
         → AreBindingsAtStage (stage_of result.stage) result.binds x.binds (opcode_rows_left opcodes.now) }
     ensures sites { (x : BindingSource) → AreOverOpcodes x opcodes.now
         → AreBindingSitesAtStage (stage_of result.stage) result.binds x.binds (opcode_sites_left opcodes.now) }
+    ensures reserved { result.reserved ≡ 0 }
 {
     match opcodes {
         None => over(),
         Some(opcodes) => gm_bind_cursor {
             binds: opcodes.cursor(),
             stage: 1,
+            reserved: 0,
         },
     }
 }
@@ -347,6 +349,7 @@ impl<'a, 'b> BindingRows<'a, 'b> {
     fn cursor(&self) -> gm_binding_cursor
         ensures items { (x : BindingSource) → AreBindingRowsOver x self.now → AreBindingsAfter result x.binds x.chained (binding_rows_left self.now) }
         ensures placed { (x : BindingSource) → AreBindingRowsOver x self.now → ArePlacedAfter result x (placed_left self.now) }
+        ensures reserved { (result.opcodes.reserved ≡ 0) × (result.chains.reserved ≡ 0) }
     {
         gm_binding_cursor {
             opcodes: opcode_cursor(&self.opcodes),
@@ -375,6 +378,7 @@ pub extern "C" fn gmr_bindings(
     ensures array { result ≢ 0 → out.new ≡ out.old }
     ensures count { result ≢ 0 → count.new ≡ count.old }
     ensures cursor { result ≢ 0 → cursor.new ≡ cursor.old }
+    ensures reserved { result ≡ 0 → (cursor.new.opcodes.reserved ≡ 0) × (cursor.new.chains.reserved ≡ 0) }
     ensures reported { result ≢ 0 → error.new.code ≡ result }
     ensures quiet { result ≡ 0 → error.new ≡ error.old }
 {

@@ -85,6 +85,7 @@ pub struct gm_command {
     pub offset: usize,
     pub size: usize,
     pub cmd: u32,
+    pub reserved: u32,
 }
 
 impl<'a> Rows for Commands<'a> {
@@ -98,6 +99,7 @@ impl<'a> Rows for Commands<'a> {
             offset: command.offset,
             size: command.command.cmdsize(),
             cmd: command.command.cmd(),
+            reserved: 0,
         })
     }
 }

@@ -1,10 +1,11 @@
 //! Errors: a code and a text.
 
-ghost use Rattle.std.specs.Prelude.{◌≡◌, ◌≢◌, [], Some, slice_get, IsOk, OnOk};
+ghost use Rattle.std.specs.Prelude.{◌≡◌, ◌≢◌, [], Some, codes, slice_get, IsOk, OnErr, OnOk};
 ghost use Rattle.mach_base.specs.Fault.{fault_of};
 ghost use Rattle.mach_base.specs.Words.{words_of};
-ghost use Rattle.goblin_mach_c.specs.Codes.{code_of_fault, error_text, HasShortRule, HasErrorWords};
+ghost use Rattle.goblin_mach_c.specs.Codes.{code_of_fault, error_text, HasShortRule, HasErrorWords, outside_entry_words};
 
+use crate::outside::Outside;
 use arrayvec::ArrayString;
 use mach_base::{Error, describe};
 use std::fmt::{self, Write};
@@ -70,6 +71,18 @@ fn text_of(words: &[u8]) -> [u8; 124]
     text
 }
 
+// Returns what was written as a text; none if it didn't fit.
+fn text_if(wrote: fmt::Result, words: &ArrayString<123>) -> [u8; 124]
+    ensures ended { slice_get result 123 ≡ Some 0 }
+    ensures words { OnOk wrote (result ≡ error_text words.now.bytes) }
+    ensures none { OnErr wrote (result ≡ error_text []) }
+{
+    match wrote {
+        Ok(()) => text_of(words.as_str().as_bytes()),
+        Err(_) => text_of(&[]),
+    }
+}
+
 /// Reports an error, and returns its code.
 #[cold]
 #[inline(never)]
@@ -109,10 +122,8 @@ fn words_text(error: &Error) -> [u8; 124]
     ensures rule { HasShortRule error.now → result ≡ error_text (words_of error.now) }
 {
     let mut words: ArrayString<123> = ArrayString::new();
-    match write_words(error, &mut words) {
-        Ok(()) => text_of(words.as_str().as_bytes()),
-        Err(_) => text_of(&[]),
-    }
+    let wrote = write_words(error, &mut words);
+    text_if(wrote, &words)
 }
 
 /// Reports that an array has no room for a row.
@@ -122,6 +133,7 @@ pub fn refuse_no_rows(out: &mut gm_error) -> u32
     ensures code { result ≡ 6 }
     ensures reported { out.new.code ≡ 6 }
     ensures ended { slice_get out.new.text 123 ≡ Some 0 }
+    ensures words { out.new.text ≡ error_text (codes "the array has room for no row") }
 {
     *out = gm_error {
         code: GM_NO_ROWS,
@@ -137,10 +149,27 @@ pub fn refuse_no_space(out: &mut gm_error) -> u32
     ensures code { result ≡ 7 }
     ensures reported { out.new.code ≡ 7 }
     ensures ended { slice_get out.new.text 123 ≡ Some 0 }
+    ensures words { out.new.text ≡ error_text (codes "there is too little room for the file") }
 {
     *out = gm_error {
         code: GM_NO_SPACE,
         text: text_of(b"there is too little room for the file"),
+    };
+    GM_NO_SPACE
+}
+
+/// Reports that there is too little room for a text.
+#[cold]
+#[inline(never)]
+pub fn refuse_no_text_room(out: &mut gm_error) -> u32
+    ensures code { result ≡ 7 }
+    ensures reported { out.new.code ≡ 7 }
+    ensures ended { slice_get out.new.text 123 ≡ Some 0 }
+    ensures words { out.new.text ≡ error_text (codes "there is too little room for the text") }
+{
+    *out = gm_error {
+        code: GM_NO_SPACE,
+        text: text_of(b"there is too little room for the text"),
     };
     GM_NO_SPACE
 }
@@ -152,6 +181,7 @@ pub fn refuse_no_image(out: &mut gm_error) -> u32
     ensures code { result ≡ 8 }
     ensures reported { out.new.code ≡ 8 }
     ensures ended { slice_get out.new.text 123 ≡ Some 0 }
+    ensures words { out.new.text ≡ error_text (codes "the file has no image for this cpu") }
 {
     *out = gm_error {
         code: GM_NO_IMAGE,
@@ -160,18 +190,43 @@ pub fn refuse_no_image(out: &mut gm_error) -> u32
     GM_NO_IMAGE
 }
 
+// Writes why an entry isn't in the file into an empty string.
+fn write_outside(outside: &Outside, words: &mut ArrayString<123>) -> fmt::Result
+    requires { words.old.bytes ≡ [] }
+    ensures { OnOk result (words.new.bytes ≡ outside_entry_words outside.now) }
+{
+    if outside.end > outside.len as u64 {
+        write!(words, "{outside}")
+    } else {
+        write!(
+            words,
+            "the file ends in the record of entry {}",
+            outside.index
+        )
+    }
+}
+
+// Returns the text of an entry that isn't in the file; none if it doesn't fit.
+fn outside_text(outside: &Outside) -> [u8; 124]
+    ensures ended { slice_get result 123 ≡ Some 0 }
+    ensures words { HasErrorWords (outside_entry_words outside.now) result }
+{
+    let mut words: ArrayString<123> = ArrayString::new();
+    let wrote = write_outside(outside, &mut words);
+    text_if(wrote, &words)
+}
+
 /// Reports that an entry isn't in the file, by the code of its row.
 #[cold]
 #[inline(never)]
-pub fn refuse_outside(code: u32, out: &mut gm_error) -> u32
+pub fn refuse_outside(code: u32, outside: &Outside, out: &mut gm_error) -> u32
     ensures code { result ≡ code }
     ensures reported { out.new.code ≡ code }
     ensures ended { slice_get out.new.text 123 ≡ Some 0 }
+    ensures words { HasErrorWords (outside_entry_words outside.now) out.new.text }
 {
-    *out = gm_error {
-        code,
-        text: text_of(b"the entry for this cpu isn't all in the file"),
-    };
+    let text = outside_text(outside);
+    *out = gm_error { code, text };
     code
 }
 
@@ -182,6 +237,7 @@ pub fn refuse_again(code: u32, out: &mut gm_error) -> u32
     ensures code { result ≡ code }
     ensures reported { out.new.code ≡ code }
     ensures ended { slice_get out.new.text 123 ≡ Some 0 }
+    ensures words { out.new.text ≡ error_text (codes "it was refused before") }
 {
     *out = gm_error {
         code,

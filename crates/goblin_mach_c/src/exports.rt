@@ -148,8 +148,9 @@ fn write_exports<'a>(
     stack: &mut [Open],
     out: &mut [gm_listed_export],
     names: &mut [u8],
+    base: u64,
 ) -> (usize, usize, Option<Ending>)
-    ensures written { (given : List Entry) × AreWritten trie.now.bytes (IsNumbered (texts libs.now))
+    ensures written { (given : List Entry) × AreWritten trie.now.bytes base (IsNumbered (texts libs.now))
         (IsNodeOf trie.now (texts libs.now) (HasGivenTo trie.now (texts libs.now) cursor.old name.old stack.old)) given
         result.0 result.1 out.old out.new names.old names.new
         × ((found : List Entry) → HasGivenTo trie.now (texts libs.now) cursor.old name.old stack.old found
@@ -175,7 +176,7 @@ fn write_exports<'a>(
                     name_len: len,
                     library,
                     target,
-                    what: row_of_export(&info),
+                    what: row_of_export(&info, base),
                 };
                 used += len;
             }
@@ -244,10 +245,11 @@ fn go_along<'a>(
     out: &mut [gm_listed_export],
     names: &mut [u8],
     batch: &mut gm_export_batch,
+    base: u64,
     error: &mut gm_error,
 ) -> u32
     requires ready { walk.old.code ≡ 0 }
-    ensures written { (given : List Entry) × AreWritten trie.now.bytes (IsNumbered (texts libs.now))
+    ensures written { (given : List Entry) × AreWritten trie.now.bytes base (IsNumbered (texts libs.now))
         (IsNodeOf trie.now (texts libs.now) (HasWalkedTrie trie.now (texts libs.now) walk.old name.old stack.old)) given
         batch.new.count batch.new.names_len out.old out.new names.old names.new
         × GoesAlong trie.now (texts libs.now) walk.old walk.new name.old name.new stack.old stack.new given batch.new.end }
@@ -274,6 +276,7 @@ fn go_along<'a>(
         stack,
         out,
         names,
+        base,
     );
     let (end, needed) = end_of(
         &ending,
@@ -333,7 +336,7 @@ pub extern "C" fn gmr_exports(
     batch: &mut gm_export_batch,
     error: &mut gm_error,
 ) -> u32
-    ensures written { (given : List Entry) × AreWritten bytes.now (HasLibrary bytes.now image.now.offset)
+    ensures written { (given : List Entry) × AreWritten bytes.now image.now.base (HasLibrary bytes.now image.now.offset)
         (HasNodeOf bytes.now image.now.offset walk.old name.old stack.old) given
         batch.new.count batch.new.names_len out.old out.new names.old names.new
         × GivesFurther bytes.now image.now.offset walk.old name.old stack.old given walk.new name.new stack.new
@@ -374,6 +377,7 @@ pub extern "C" fn gmr_exports(
                 out,
                 names,
                 batch,
+                image.base,
                 error,
             )
         }

@@ -1,16 +1,19 @@
 //! The entries of a fat file of 32 or 64 bits, in rows of one type.
 
-ghost use Rattle.std.specs.Prelude.{◌≡◌, ◌≢◌, ◌-◌, Some, drop};
+ghost use Rattle.std.specs.Prelude.{◌≡◌, ◌≢◌, ◌-◌, Some, drop, length, option_map};
 ghost use Rattle.std.specs.List.{find};
 ghost use Rattle.mach_base.specs.Items.{items_from, read_as};
+ghost use Rattle.goblin_mach_c.specs.Codes.{HasErrorWords};
 ghost use Rattle.goblin_mach_c.specs.Fill.{Fills};
-ghost use Rattle.goblin_mach_c.specs.WideFatRows.{begins_fat_64, fat_count_64, image_code, image_for, is_for, reported_count_64};
-ghost use Rattle.goblin_mach_c.specs.WideFatRows.{thin_row_by, wide_count, wide_fat_rows, wide_row, wide_row_64, wide_row_at};
+ghost use Rattle.goblin_mach_c.specs.WideFatRows.{begins_fat_64, fat_count_64, image_code, image_for, image_refusal_words, indexed_rows, is_for};
+ghost use Rattle.goblin_mach_c.specs.WideFatRows.{outside_row, reported_count_64, thin_row_by, wide_count, wide_fat_rows, wide_row};
+ghost use Rattle.goblin_mach_c.specs.WideFatRows.{wide_row_64, wide_row_at};
 
 use crate::errors::{GM_OK, code_of, gm_error, refuse_no_image, refuse_outside};
 use crate::fat::{entry_code, fat_entry_at, gm_fat_entry, reported_of};
 use crate::numbered::{Numbered, Numbers, rows_from};
-use crate::rows::{Rows, fill};
+use crate::outside::Outside;
+use crate::rows::fill;
 use goblin_mach::cputype::CPU_SUBTYPE_MASK;
 use goblin_mach::{parse_magic_and_ctx, peek};
 use mach_base::{Endian, Result, read_u32};
@@ -181,30 +184,44 @@ fn thin_entry(bytes: &[u8], le: Endian) -> Option<gm_fat_entry64>
     }
 }
 
-// Returns the first entry of a fat file that is for a cpu.
-fn find_entry(bytes: &[u8], cputype: u32, cpusubtype: u32) -> Option<gm_fat_entry64>
-    ensures { result ≡ find (is_for cputype cpusubtype) (wide_fat_rows bytes.now) }
+// Returns the first entry of a fat file that is for a cpu, with its index.
+fn find_entry(bytes: &[u8], cputype: u32, cpusubtype: u32) -> Option<(u32, gm_fat_entry64)>
+    ensures { result ≡ find (λ entry. is_for cputype cpusubtype entry.1) (indexed_rows bytes.now) }
 {
-    let mut rows = entries_from(bytes, 0);
-    'entries: while let Some(row) = rows.next() {
+    let is_64 = begins_fat_64(bytes);
+    let count = count_by(is_64, bytes);
+    let records = Records { bytes, is_64 };
+    'entries: for index in 0..count {
+        let row = records.at(index);
         if is_for(&row, cputype, cpusubtype) {
-            return Some(row);
+            return Some((index, row));
         }
     }
     None
 }
 
-// Returns the first image of a file that is for a cpu.
-fn find_image(bytes: &[u8], cputype: u32, cpusubtype: u32) -> Option<gm_fat_entry64>
+// Returns the first image of a file that is for a cpu, with its index.
+fn find_image(bytes: &[u8], cputype: u32, cpusubtype: u32) -> Option<(u32, gm_fat_entry64)>
     ensures { result ≡ image_for cputype cpusubtype bytes.now }
 {
     match parse_magic_and_ctx(bytes, 0) {
         Ok((_, Some(ctx))) => match thin_entry(bytes, ctx.le) {
-            Some(row) if is_for(&row, cputype, cpusubtype) => Some(row),
+            Some(row) if is_for(&row, cputype, cpusubtype) => Some((0, row)),
             _ => None,
         },
         Ok((_, None)) => find_entry(bytes, cputype, cpusubtype),
         Err(_) => None,
+    }
+}
+
+// Returns an entry that isn't in a file of `len` bytes, by its index.
+fn outside_row(len: usize, index: u32, row: &gm_fat_entry64) -> Outside
+    ensures { result ≡ outside_row len index row.now }
+{
+    Outside {
+        index,
+        end: row.offset.saturating_add(row.size),
+        len,
     }
 }
 
@@ -220,17 +237,19 @@ pub extern "C" fn gmr_image_for(
     error: &mut gm_error,
 ) -> u32
     ensures code { result ≡ image_code (image_for cputype cpusubtype bytes.now) }
-    ensures found { result ≡ 0 → image_for cputype cpusubtype bytes.now ≡ Some found.new }
+    ensures found { result ≡ 0 → option_map (λ entry. entry.1) (image_for cputype cpusubtype bytes.now) ≡ Some found.new }
     ensures kept { result ≢ 0 → found.new ≡ found.old }
     ensures reported { result ≢ 0 → error.new.code ≡ result }
+    ensures words { result ≢ 0 → HasErrorWords (image_refusal_words (length bytes.now) (image_for cputype cpusubtype bytes.now)) error.new.text }
     ensures quiet { result ≡ 0 → error.new ≡ error.old }
 {
-    match find_image(bytes, cputype, cpusubtype) {
-        None => refuse_no_image(error),
-        Some(row) if row.code == GM_OK => {
-            *found = row;
-            GM_OK
-        }
-        Some(row) => refuse_outside(row.code, error),
+    let Some((index, row)) = find_image(bytes, cputype, cpusubtype) else {
+        return refuse_no_image(error);
+    };
+    if row.code != GM_OK {
+        let outside = outside_row(bytes.len(), index, &row);
+        return refuse_outside(row.code, &outside, error);
     }
+    *found = row;
+    GM_OK
 }

@@ -1,6 +1,6 @@
 //! The export of a name from an image.
 
-ghost use Rattle.std.specs.Prelude.{◌≡◌, ◌≢◌, ◌⊎◌, IfOk, IfErr, List, Option, None, Some, option_map};
+ghost use Rattle.std.specs.Prelude.{◌≡◌, ◌≢◌, ◌⊎◌, IfOk, IfErr, List, Option, Some, length, option_map};
 ghost use Rattle.std.specs.Str.{IsUtf8};
 ghost use Rattle.mach_base.specs.Answer.{IsOkUnlessMemory, ErrorMeets};
 ghost use Rattle.mach_dyld.specs.Exports.{info_of};
@@ -8,7 +8,7 @@ ghost use Rattle.mach_dyld.specs.LookUp.{IsFirstOf};
 ghost use Rattle.mach_dyld.specs.Trie as trie;
 ghost use Rattle.goblin_mach.specs.Facts.{HasExportOf, HasExports};
 ghost use Rattle.goblin_mach_c.specs.Codes.{IsRefusalCode};
-ghost use Rattle.goblin_mach_c.specs.ExportRows.{FindFault, HasNameFault, IsFound, IsPut, export_row, library_text, target_text};
+ghost use Rattle.goblin_mach_c.specs.ExportRows.{FindFault, HasNameFault, IsFound, IsPut, export_flags, export_kind, export_row, library_text, target_text};
 ghost use Rattle.goblin_mach_c.specs.Opened.{FaultIn, OpensIn, lossy_mode};
 
 use crate::errors::{GM_OK, gm_error, refuse};
@@ -20,11 +20,15 @@ use mach_base::{Error, Result};
 use std::alloc::Global;
 
 /// The export of a name. `kind` is 0 for none, 1 for an address, 2 for a symbol of another library, 3 for a stub with its
-/// resolver. Addresses count from the image's start.
+/// resolver.
 #[derive(Clone, Copy)]
 #[repr(C)]
 pub struct gm_export {
+    /// The address in memory, before sliding; 0 for a re-export.
     pub address: u64,
+    /// The number that the trie has for it; of a stub that of the stub; 0 for a re-export.
+    pub offset: u64,
+    /// The address of the resolver of a stub, or 0.
     pub resolver: u64,
     pub flags: u64,
     /// The lengths of the other library's name, and of the name there; the latter is 0 if it is the same name.
@@ -53,65 +57,76 @@ fn find<'a>(
     image.find_export(alloc, name)
 }
 
-// Returns the answer for no export.
-#[inline(always)]
-fn no_export() -> gm_export
-    ensures { result ≡ export_row None }
+// Returns the number of an export's kind.
+fn kind_of(info: &ExportInfo<'_>) -> u32
+    ensures { result ≡ export_kind (info_of info.now) }
 {
+    match info {
+        ExportInfo::Regular { .. } => 1,
+        ExportInfo::Reexport { .. } => 2,
+        ExportInfo::Stub { .. } => 3,
+    }
+}
+
+// Returns the flags of an export.
+fn flags_of(info: &ExportInfo<'_>) -> u64
+    ensures { result ≡ export_flags (info_of info.now) }
+{
+    match info {
+        ExportInfo::Regular { flags, .. }
+        | ExportInfo::Reexport { flags, .. }
+        | ExportInfo::Stub { flags, .. } => *flags,
+    }
+}
+
+// Returns the lengths of the name of a re-export's library, and of the name there if it is another one; else 0.
+fn lengths_of(info: &ExportInfo<'_>) -> (usize, usize)
+    ensures library { result.0 ≡ length (library_text (Some (info_of info.now))) }
+    ensures target { result.1 ≡ length (target_text (Some (info_of info.now))) }
+{
+    match info {
+        ExportInfo::Reexport {
+            lib,
+            lib_symbol_name,
+            ..
+        } => (lib.len(), lib_symbol_name.unwrap_or("").len()),
+        ExportInfo::Regular { .. } | ExportInfo::Stub { .. } => (0, 0),
+    }
+}
+
+/// Returns the numbers of an export of an image whose first byte has the address `base`.
+pub fn row_of_export(info: &ExportInfo<'_>, base: u64) -> gm_export
+    ensures { result ≡ export_row base (Some (info_of info.now)) }
+{
+    let (library_len, target_len) = lengths_of(info);
     gm_export {
-        address: 0,
-        resolver: 0,
-        flags: 0,
-        library_len: 0,
-        target_len: 0,
-        kind: 0,
+        address: info.address(base).unwrap_or(0),
+        offset: info.offset().unwrap_or(0),
+        resolver: info.resolver_address(base).unwrap_or(0),
+        flags: flags_of(info),
+        library_len,
+        target_len,
+        kind: kind_of(info),
         reserved: 0,
     }
 }
 
-/// Returns the numbers of an export.
-pub fn row_of_export(info: &ExportInfo<'_>) -> gm_export
-    ensures { result ≡ export_row (Some (info_of info.now)) }
-{
-    match info {
-        ExportInfo::Regular { address, flags } => gm_export {
-            address: *address,
-            flags: *flags,
-            kind: 1,
-            ..no_export()
-        },
-        ExportInfo::Reexport {
-            lib,
-            lib_symbol_name,
-            flags,
-        } => gm_export {
-            flags: *flags,
-            library_len: lib.len(),
-            target_len: lib_symbol_name.unwrap_or("").len(),
-            kind: 2,
-            ..no_export()
-        },
-        ExportInfo::Stub {
-            stub_offset,
-            resolver_offset,
-            flags,
-        } => gm_export {
-            address: u64::from(*stub_offset),
-            resolver: u64::from(*resolver_offset),
-            flags: *flags,
-            kind: 3,
-            ..no_export()
-        },
-    }
-}
-
 // Returns the numbers of an answer.
-fn row_of(found: &Option<ExportInfo<'_>>) -> gm_export
-    ensures { result ≡ export_row (option_map info_of found.now) }
+fn row_of(found: &Option<ExportInfo<'_>>, base: u64) -> gm_export
+    ensures { result ≡ export_row base (option_map info_of found.now) }
 {
     match found {
-        None => no_export(),
-        Some(info) => row_of_export(info),
+        None => gm_export {
+            address: 0,
+            offset: 0,
+            resolver: 0,
+            flags: 0,
+            library_len: 0,
+            target_len: 0,
+            kind: 0,
+            reserved: 0,
+        },
+        Some(info) => row_of_export(info, base),
     }
 }
 
@@ -168,8 +183,9 @@ pub extern "C" fn gmr_find_export(
     target: &mut [u8],
     error: &mut gm_error,
 ) -> u32
-    ensures found { result ≡ 0 → (found : Option (trie.Info)) × IsFound bytes.now image.now.offset name.now found × (export.new ≡ export_row found)
-        × IsPut (library_text found) library.old library.new × IsPut (target_text found) target.old target.new }
+    ensures found { result ≡ 0 → (found : Option (trie.Info)) × IsFound bytes.now image.now.offset name.now found
+        × (export.new ≡ export_row image.now.base found) × IsPut (library_text found) library.old library.new
+        × IsPut (target_text found) target.old target.new }
     ensures only { IsUtf8 name.now → OpensIn (lossy_mode image.now.is_lossy) bytes.now image.now.offset → (list : List (trie.Entry))
         → HasExports bytes.now image.now.offset list → (result ≡ 0) ⊎ (result ≡ 5) }
     ensures refused { result ≢ 0 → IsRefusalCode (FindFault (lossy_mode image.now.is_lossy) bytes.now image.now.offset name.now) result }
@@ -180,11 +196,11 @@ pub extern "C" fn gmr_find_export(
     ensures quiet { result ≡ 0 → error.new ≡ error.old }
 {
     let Ok(name) = str::from_utf8(name) else {
-        return refuse(&Error::Malformed("a name is UTF-8"), error);
+        return refuse(&Error::Malformed("a name is not UTF-8"), error);
     };
     match find(alloc, bytes, image.offset, image.is_lossy != 0, name) {
         Ok(found) => {
-            *export = row_of(&found);
+            *export = row_of(&found, image.base);
             put(library_of(&found), library);
             put(target_of(&found), target);
             GM_OK

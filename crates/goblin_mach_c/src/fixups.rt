@@ -46,6 +46,7 @@ pub struct gm_fixup {
     pub is_address_diverse: u32,
     /// `GM_OK`, or why the chains can't be read further.
     pub code: u32,
+    pub reserved: u32,
 }
 
 /// Returns the four numbers of a pointer's signing.
@@ -99,6 +100,7 @@ fn refused_row(why: &Error) -> gm_fixup
         diversity: 0,
         is_address_diverse: 0,
         code: code_of(why),
+        reserved: 0,
     }
 }
 
@@ -124,6 +126,7 @@ fn row_of(found: &Result<Fixup>) -> gm_fixup
                 diversity,
                 is_address_diverse,
                 code: GM_OK,
+                reserved: 0,
             }
         }
         Err(why) => refused_row(why),
@@ -138,6 +141,7 @@ pub struct gm_fixup_cursor {
     pub chains: FixupCursor,
     /// 0 at the start, 1 along the chains; any other number is the end.
     pub stage: u32,
+    pub reserved: u32,
 }
 
 /// The fixups of an image's chains, and the header of these.
@@ -186,7 +190,8 @@ impl<'a, 'b> ItemRows for FixupRows<'a, 'b> {
 
 // Returns a cursor at a stage that needs no position.
 fn at_stage(stage: u32) -> gm_fixup_cursor
-    ensures { result.stage ≡ stage }
+    ensures stage { result.stage ≡ stage }
+    ensures reserved { result.reserved ≡ 0 }
 {
     let chains = FixupCursor {
         segment: 0,
@@ -200,7 +205,11 @@ fn at_stage(stage: u32) -> gm_fixup_cursor
         opened: 0,
         ended: 0,
     };
-    gm_fixup_cursor { chains, stage }
+    gm_fixup_cursor {
+        chains,
+        stage,
+        reserved: 0,
+    }
 }
 
 impl<'a, 'b> FixupRows<'a, 'b> {
@@ -226,7 +235,8 @@ impl<'a, 'b> FixupRows<'a, 'b> {
 
     /// Returns a cursor before those that are left.
     pub fn cursor(&self) -> gm_fixup_cursor
-        ensures { (x : FixupSource) → AreFixupRowsOver x self.now → AreFixupsAfter result x.chained x.segments (fixup_rows_left self.now) }
+        ensures items { (x : FixupSource) → AreFixupRowsOver x self.now → AreFixupsAfter result x.chained x.segments (fixup_rows_left self.now) }
+        ensures reserved { result.reserved ≡ 0 }
     {
         match self {
             FixupRows::Unread(None) => at_stage(2),
@@ -234,6 +244,7 @@ impl<'a, 'b> FixupRows<'a, 'b> {
             FixupRows::Chains(walk) => gm_fixup_cursor {
                 chains: walk.fixups.cursor(),
                 stage: 1,
+                reserved: 0,
             },
         }
     }
@@ -258,6 +269,7 @@ pub extern "C" fn gmr_fixups(
     ensures array { result ≢ 0 → out.new ≡ out.old }
     ensures count { result ≢ 0 → count.new ≡ count.old }
     ensures cursor { result ≢ 0 → cursor.new ≡ cursor.old }
+    ensures reserved { result ≡ 0 → cursor.new.reserved ≡ 0 }
     ensures reported { result ≢ 0 → error.new.code ≡ result }
     ensures quiet { result ≡ 0 → error.new ≡ error.old }
 {

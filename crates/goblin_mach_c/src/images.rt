@@ -13,6 +13,8 @@ pub struct gm_image {
     pub offset: usize,
     /// The address of its entry point, or 0.
     pub entry: u64,
+    /// The address of its first byte in memory, or 0.
+    pub base: u64,
     /// The offset of its first command.
     pub first_command: usize,
     pub commands: usize,
@@ -34,6 +36,7 @@ pub struct gm_image {
     pub is_old_style_entry: u32,
     pub is_little_endian: u32,
     pub is_64: u32,
+    pub reserved: u32,
 }
 
 /// Returns the width and the byte order of an image.

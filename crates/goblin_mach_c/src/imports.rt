@@ -1,4 +1,4 @@
-//! The imports of an image's binds.
+//! The imports of an image's binds: those of opcodes only.
 
 ghost use Rattle.std.specs.Prelude.{◌≡◌, ◌≢◌, ◌<◌, ℕ, List, [], length, Result, Some, ◌⊎◌};
 ghost use Rattle.mach_base.specs.Fault.{Fault, fault_of};
@@ -46,6 +46,7 @@ pub struct gm_import {
     pub is_lazy: u32,
     /// `GM_OK`, or why no further imports can be read.
     pub code: u32,
+    pub reserved: u32,
 }
 
 /// The position in the imports of an image: only numbers, which belong to the bytes and the image. All zero is the start.
@@ -56,6 +57,7 @@ pub struct gm_bind_cursor {
     pub binds: BindCursor,
     /// 0 at the start, 1 in the streams; any other number is the end.
     pub stage: u32,
+    pub reserved: u32,
 }
 
 /// Returns the offset reported for a name; an empty one is reported at 0.
@@ -84,6 +86,7 @@ fn refused_row(why: &Error) -> gm_import
         is_weak: 0,
         is_lazy: 0,
         code: code_of(why),
+        reserved: 0,
     }
 }
 
@@ -108,6 +111,7 @@ fn row_of(placed: &PlacedImport<'_>) -> gm_import
         is_weak: flag(import.is_weak),
         is_lazy: flag(import.is_lazy),
         code: GM_OK,
+        reserved: 0,
     }
 }
 
@@ -170,12 +174,14 @@ impl<'a, 'b> ImportRows<'a, 'b> {
     fn cursor(&self) -> gm_bind_cursor
         ensures items { (x : List ℕ × Binds) → AreImportRowsOver x self.now → AreImportsAfter result x.1 (imports_in_rows self.now) }
         ensures sites { (x : List ℕ × Binds) → AreImportRowsOver x self.now → AreSitesAfter result x.1 (sites_in_rows self.now) }
+        ensures reserved { result.reserved ≡ 0 }
     {
         match self {
             ImportRows::Nothing => over(),
             ImportRows::Binds(imports) => gm_bind_cursor {
                 binds: imports.cursor(),
                 stage: 1,
+                reserved: 0,
             },
         }
     }
@@ -183,7 +189,8 @@ impl<'a, 'b> ImportRows<'a, 'b> {
 
 /// Returns the cursor after the last import.
 pub fn over() -> gm_bind_cursor
-    ensures { result.stage ≡ 2 }
+    ensures stage { result.stage ≡ 2 }
+    ensures reserved { result.reserved ≡ 0 }
 {
     let binds = BindCursor {
         from: 0,
@@ -206,14 +213,19 @@ pub fn over() -> gm_bind_cursor
         has_name: 0,
         has_segment: 0,
     };
-    gm_bind_cursor { binds, stage: 2 }
+    gm_bind_cursor {
+        binds,
+        stage: 2,
+        reserved: 0,
+    }
 }
 
-/// Writes the imports of an image's binds after a cursor, as many as there are and fit; writes how many to `count`, and moves the
-/// cursor past them. The last row may be the error that ends them. It opens the image again, and allocates memory for its
-/// commands while it runs. A refused call leaves the array, the count and the cursor unchanged.
+/// Writes the imports of an image's opcodes after a cursor, and none of chains: what dyld binds is in `gmr_bindings`. It writes as
+/// many as there are and fit, writes how many to `count`, and moves the cursor past them. The last row may be the error that ends
+/// them. It opens the image again, and allocates memory for its commands while it runs. A refused call leaves the array, the count
+/// and the cursor unchanged.
 #[unsafe(no_mangle)]
-pub extern "C" fn gmr_imports(
+pub extern "C" fn gmr_opcode_imports(
     alloc: Global,
     bytes: &[u8],
     image: &gm_image,
@@ -228,6 +240,7 @@ pub extern "C" fn gmr_imports(
     ensures array { result ≢ 0 → out.new ≡ out.old }
     ensures count { result ≢ 0 → count.new ≡ count.old }
     ensures cursor { result ≢ 0 → cursor.new ≡ cursor.old }
+    ensures reserved { result ≡ 0 → cursor.new.reserved ≡ 0 }
     ensures reported { result ≢ 0 → error.new.code ≡ result }
     ensures quiet { result ≡ 0 → error.new ≡ error.old }
 {

@@ -42,6 +42,7 @@ pub struct gm_layout_fault {
     /// What the owner is, and the other one; 0 if there is none.
     pub part: u32,
     pub other_part: u32,
+    pub reserved: u32,
 }
 
 // Returns the number of a rule.
@@ -154,6 +155,9 @@ fn part_number(part: Part) -> u32
         Part::Binds => 33,
         Part::Entry => 34,
         Part::Slice => 35,
+        Part::AtomInfo => 36,
+        Part::FunctionVariants => 37,
+        Part::FunctionVariantFixups => 38,
     }
 }
 
@@ -184,6 +188,7 @@ fn row_of(fault: &LayoutFault) -> gm_layout_fault
         rule: rule_number(fault.rule),
         part: part_number(fault.owner.part),
         other_part,
+        reserved: 0,
     }
 }
 

@@ -72,6 +72,7 @@ fn numbers(bytes: &[u8], image: &MachO<'_, Global>, offset: usize, lossy: bool) 
     gm_image {
         offset,
         entry: image.entry,
+        base: image.base(),
         first_command: first_command(bytes, offset, image.is_64),
         commands: image.load_commands.as_slice().len(),
         segments: image.segments.as_slice().len(),
@@ -89,6 +90,7 @@ fn numbers(bytes: &[u8], image: &MachO<'_, Global>, offset: usize, lossy: bool) 
         is_old_style_entry: flag(image.old_style_entry),
         is_little_endian: flag(image.little_endian),
         is_64: flag(image.is_64),
+        reserved: 0,
     }
 }
 
@@ -116,7 +118,10 @@ pub extern "C" fn gmr_open(
     ensures quiet { result ≡ 0 → error.new ≡ error.old }
 {
     if mode > GM_LOSSY {
-        return refuse(&Error::Malformed("a mode is strict or lossy"), error);
+        return refuse(
+            &Error::Malformed("the mode is neither strict nor lossy"),
+            error,
+        );
     }
     let lossy = mode != 0;
     match open(alloc, bytes, offset, lossy) {

@@ -64,7 +64,7 @@ fn option_at(bytes: &[u8], place: usize) -> Result<&str>
             return Ok(text);
         }
     }
-    Err(Error::Malformed("a linker option ends inside its command"))
+    Err(Error::Malformed("a linker option runs past its command"))
 }
 
 // The options in some bytes.

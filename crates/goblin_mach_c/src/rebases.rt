@@ -247,14 +247,16 @@ fn opcodes_after<'a, 'b>(
 
 // Returns a cursor before those that are left.
 fn opcode_cursor(opcodes: &Option<RebaseWalk<'_, '_>>) -> gm_bind_cursor
-    ensures { (x : RebaseSource) → IsOverOpcodes x opcodes.now
+    ensures items { (x : RebaseSource) → IsOverOpcodes x opcodes.now
         → AreRebasesAtStage (stage_of result.stage) result.binds x (opcodes_left_by opcodes.now) }
+    ensures reserved { result.reserved ≡ 0 }
 {
     match opcodes {
         None => over(),
         Some(opcodes) => gm_bind_cursor {
             binds: opcodes.cursor(),
             stage: 1,
+            reserved: 0,
         },
     }
 }
@@ -273,7 +275,8 @@ impl<'a, 'b> RebaseRows<'a, 'b> {
 
     // Returns a cursor before those that are left.
     fn cursor(&self) -> gm_rebase_cursor
-        ensures { (x : RebaseSource) → AreRebaseRowsOver x self.now → AreRebasesAfter result x (rebase_rows_left self.now) }
+        ensures items { (x : RebaseSource) → AreRebaseRowsOver x self.now → AreRebasesAfter result x (rebase_rows_left self.now) }
+        ensures reserved { (result.opcodes.reserved ≡ 0) × (result.chains.reserved ≡ 0) }
     {
         gm_rebase_cursor {
             opcodes: opcode_cursor(&self.opcodes),
@@ -302,6 +305,7 @@ pub extern "C" fn gmr_rebases(
     ensures array { result ≢ 0 → out.new ≡ out.old }
     ensures count { result ≢ 0 → count.new ≡ count.old }
     ensures cursor { result ≢ 0 → cursor.new ≡ cursor.old }
+    ensures reserved { result ≡ 0 → (cursor.new.opcodes.reserved ≡ 0) × (cursor.new.chains.reserved ≡ 0) }
     ensures reported { result ≢ 0 → error.new.code ≡ result }
     ensures quiet { result ≡ 0 → error.new ≡ error.old }
 {

@@ -1,6 +1,7 @@
 //! The section that holds an address, and the section of a symbol's number.
 
 ghost use Rattle.std.specs.Prelude.{◌≡◌, ◌≢◌, ◌⊎◌};
+ghost use Rattle.goblin_mach.specs.OpenImage.{segments_view};
 ghost use Rattle.goblin_mach_c.specs.Codes.{IsRefusalCode};
 ghost use Rattle.goblin_mach_c.specs.Opened.{FaultIn, lossy_mode};
 ghost use Rattle.goblin_mach_c.specs.SectionFinds.{FindsSectionAt, FindsSectionNamed, FindsSectionOf, NameFaultIn, SectionFaultIn, found_section_row};
@@ -8,13 +9,14 @@ ghost use Rattle.goblin_mach_c.specs.SectionFinds.{FindsSectionAt, FindsSectionN
 use crate::errors::{GM_OK, gm_error, refuse};
 use crate::images::gm_image;
 use crate::open::open;
-use goblin_mach::laws::{named_section_of_image, numbered_section_of_image, section_at_of_image};
+use goblin_mach::MachO;
+use goblin_mach::laws::numbered_section_of_image;
 use mach_base::Error;
 use mach_parts::segment::NumberedSection;
 use std::alloc::Global;
 
-/// A section that was looked up: number `number` of segment `segment`, with its whole record. If `is_found` is 0 there is none,
-/// and everything is 0.
+/// A section that was looked up, with its whole record: at index `index` of segment `segment`. `number` is that of `gmr_section_of`.
+/// If `is_found` is 0 there is none, and everything is 0.
 #[derive(Clone, Copy)]
 #[repr(C)]
 pub struct gm_found_section {
@@ -23,7 +25,8 @@ pub struct gm_found_section {
     pub addr: u64,
     pub size: u64,
     pub segment: usize,
-    pub number: u32,
+    pub number: usize,
+    pub index: u32,
     pub offset: u32,
     pub align: u32,
     pub reloff: u32,
@@ -35,9 +38,9 @@ pub struct gm_found_section {
     pub reserved: u32,
 }
 
-// Returns a section that was looked up, as C sees it.
-fn row_of(found: &Option<NumberedSection>) -> gm_found_section
-    ensures { result ≡ found_section_row found.now }
+// Returns a section of an image that was looked up, as C sees it.
+fn row_of(image: &MachO<'_, Global>, found: &Option<NumberedSection>) -> gm_found_section
+    ensures { result ≡ found_section_row (segments_view image.now) found.now }
 {
     match found {
         Some(it) => gm_found_section {
@@ -46,7 +49,8 @@ fn row_of(found: &Option<NumberedSection>) -> gm_found_section
             addr: it.section.addr,
             size: it.section.size,
             segment: it.segment,
-            number: it.number,
+            number: image.section_number(it),
+            index: it.number,
             offset: it.section.offset,
             align: it.section.align,
             reloff: it.section.reloff,
@@ -64,6 +68,7 @@ fn row_of(found: &Option<NumberedSection>) -> gm_found_section
             size: 0,
             segment: 0,
             number: 0,
+            index: 0,
             offset: 0,
             align: 0,
             reloff: 0,
@@ -96,8 +101,7 @@ pub extern "C" fn gmr_section_at(
 {
     match open(alloc, bytes, image.offset, image.is_lossy != 0) {
         Ok(found) => {
-            section_at_of_image(&found);
-            *section = row_of(&found.section_at(address));
+            *section = row_of(&found, &found.section_at(address));
             GM_OK
         }
         Err(why) => refuse(&why, error),
@@ -127,7 +131,7 @@ pub extern "C" fn gmr_section_of(
             numbered_section_of_image(&found);
             match found.section_of(number) {
                 Ok(here) => {
-                    *section = row_of(&here);
+                    *section = row_of(&found, &here);
                     GM_OK
                 }
                 Err(why) => refuse(&why, error),
@@ -157,15 +161,14 @@ pub extern "C" fn gmr_section_named(
     ensures quiet { result ≡ 0 → error.new ≡ error.old }
 {
     let Ok(segment) = str::from_utf8(segment) else {
-        return refuse(&Error::Malformed("a name is UTF-8"), error);
+        return refuse(&Error::Malformed("a name is not UTF-8"), error);
     };
     let Ok(name) = str::from_utf8(name) else {
-        return refuse(&Error::Malformed("a name is UTF-8"), error);
+        return refuse(&Error::Malformed("a name is not UTF-8"), error);
     };
     match open(alloc, bytes, image.offset, image.is_lossy != 0) {
         Ok(found) => {
-            named_section_of_image(&found);
-            *section = row_of(&found.section_named(segment, name));
+            *section = row_of(&found, &found.section_named(segment, name));
             GM_OK
         }
         Err(why) => refuse(&why, error),

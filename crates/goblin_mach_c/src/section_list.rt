@@ -4,23 +4,25 @@ ghost use Rattle.std.specs.Prelude.{◌≡◌, ◌-◌, ℕ, List, drop};
 ghost use Rattle.mach_load.specs.Variants.{command_of};
 ghost use Rattle.mach_parts.specs.declared.segment.section.Section as found;
 ghost use Rattle.goblin_mach_c.specs.Fill.{Fills};
-ghost use Rattle.goblin_mach_c.specs.SectionRows.{all_section_rows, numbered_section_row, claimed_section_count, sections_of_command, sections_of_part};
+ghost use Rattle.goblin_mach_c.specs.SectionRows.{all_section_rows, numbered_section_row, claimed_section_count, with_numbers};
+ghost use Rattle.goblin_mach_c.specs.SectionRows.{sections_of_command, sections_of_part};
 
 use crate::images::{ctx_of, gm_image};
 use crate::listed::{CommandItems, Lists, list_rows};
-use crate::rows::{fill, skip};
+use crate::rows::{Rows, fill, skip};
 use crate::sections::{Sections, gm_section, section_row};
 use mach_base::Ctx;
 use mach_load::{CommandVariant, LoadCommand};
 
-/// A section with the offset of its segment's command, and its number there, from 1. If the section's `code` isn't `GM_OK` it
-/// can't be read, none follows it, and the rest is 0.
+/// A section with the offset of its segment's command, its index there, and its number over all segments, from 1. If the section's
+/// `code` isn't `GM_OK` it can't be read, none follows it, and the rest is 0 but for the number.
 #[derive(Clone, Copy)]
 #[repr(C)]
 pub struct gm_numbered_section {
     pub section: gm_section,
     pub command: usize,
-    pub number: u32,
+    pub number: usize,
+    pub index: u32,
     pub reserved: u32,
 }
 
@@ -81,11 +83,13 @@ impl<'a> Lists for AllSections<'a> {
         let section = section_row(&found);
         match found {
             Ok(_) => {
+                let index = part.index;
                 part.index += 1;
                 Some(Ok(gm_numbered_section {
                     section,
                     command: part.command,
-                    number: part.index,
+                    number: 0,
+                    index,
                     reserved: 0,
                 }))
             }
@@ -93,9 +97,33 @@ impl<'a> Lists for AllSections<'a> {
                 section,
                 command: 0,
                 number: 0,
+                index: 0,
                 reserved: 0,
             })),
         }
+    }
+}
+
+// Rows of sections, which get their numbers.
+#[derive(Drop)]
+struct WithNumbers<R: Rows<Row = gm_numbered_section> + Drop> {
+    rows: R,
+    // How many were returned.
+    before: usize,
+}
+
+impl<R: Rows<Row = gm_numbered_section> + Drop> Rows for WithNumbers<R> {
+    type Row = gm_numbered_section;
+
+    ghost left = { λ it. with_numbers it.before (R.left it.rows) };
+
+    fn next(&mut self) -> Option<gm_numbered_section> {
+        let row = self.rows.next()?;
+        self.before = self.before.saturating_add(1);
+        Some(gm_numbered_section {
+            number: self.before,
+            ..row
+        })
     }
 }
 
@@ -113,7 +141,10 @@ pub extern "C" fn gmr_all_sections(
         bytes,
         ctx: ctx_of(image),
     };
-    let mut rows = list_rows(bytes, image, sections);
+    let mut rows = WithNumbers {
+        rows: list_rows(bytes, image, sections),
+        before: 0,
+    };
     skip(&mut rows, first);
     fill(&mut rows, out)
 }

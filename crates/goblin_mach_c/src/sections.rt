@@ -66,7 +66,7 @@ impl<'a> Sections<'a> {
         let mut sections = (&segment).into_iter();
         match sections.next() {
             Some(found) => found,
-            None => Err(Error::Malformed("a segment of one section has one")),
+            None => Err(Error::Malformed("the segment has no such section")),
         }
     }
 }

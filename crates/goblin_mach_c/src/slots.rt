@@ -41,8 +41,8 @@ pub const GM_SLOT_LAZY_LIBRARY_POINTER: u32 = 4;
 /// A pointer to a variable of which each thread has its own.
 pub const GM_SLOT_THREAD_LOCAL_POINTER: u32 = 5;
 
-/// A stub or a pointer that belongs to a symbol: `len` bytes at `address`, in section `section` of segment `segment`. Its
-/// symbol's name is `name_len` bytes at `name`. If `code` isn't `GM_OK` it can't be read, and the rest is 0.
+/// A stub or a pointer that belongs to a symbol: `len` bytes at `address`, in the section at index `section_index` of the segment at
+/// index `segment`. Its symbol's name is `name_len` bytes at `name`. If `code` isn't `GM_OK` it can't be read, and the rest is 0.
 #[derive(Clone, Copy)]
 #[repr(C)]
 pub struct gm_slot {
@@ -51,7 +51,7 @@ pub struct gm_slot {
     pub segment: usize,
     pub name: usize,
     pub name_len: usize,
-    pub section: u32,
+    pub section_index: u32,
     /// `GM_SLOT_POINTER` to `GM_SLOT_THREAD_LOCAL_POINTER`.
     pub kind: u32,
     /// The index of its entry in the table of indirect symbols, the kind of the entry, and the number of its symbol, or 0.
@@ -110,7 +110,7 @@ fn refused_row(why: &Error) -> gm_slot
         segment: 0,
         name: 0,
         name_len: 0,
-        section: 0,
+        section_index: 0,
         kind: GM_NO_SLOT,
         index: 0,
         owner: 0,
@@ -131,7 +131,7 @@ fn row_of(bytes: &[u8], image: &gm_image, slot: &SymbolSlot<'_>) -> gm_slot
         segment: slot.segment,
         name,
         name_len,
-        section: slot.section,
+        section_index: slot.section,
         kind: kind_number(slot.kind),
         index: slot.index,
         owner,
@@ -213,7 +213,7 @@ fn found_row(bytes: &[u8], image: &gm_image, slot: &Option<SymbolSlot<'_>>) -> g
             segment: 0,
             name: 0,
             name_len: 0,
-            section: 0,
+            section_index: 0,
             kind: GM_NO_SLOT,
             index: 0,
             owner: 0,

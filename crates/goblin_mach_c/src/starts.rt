@@ -42,6 +42,7 @@ pub struct gm_start_cursor {
     pub address: u64,
     /// 0 at the start, 1 among the numbers; any other number is the end.
     pub stage: u32,
+    pub reserved: u32,
 }
 
 /// The functions of an image that are left: numbers from one place up to another. The first counts from an address.
@@ -76,7 +77,7 @@ fn start_at(bytes: &[u8], place: usize, address: u64) -> Result<Option<(u64, usi
         return Ok(None);
     }
     let Some(start) = address.checked_add(number) else {
-        return Err(Error::Malformed("a function's address has 64 bits"));
+        return Err(Error::Malformed("a function's address does not fit in 64 bits"));
     };
     Ok(Some((start, next)))
 }
@@ -201,13 +202,15 @@ impl<'a> StartRows<'a> {
 
     // Returns a cursor before those that are left.
     fn cursor(&self) -> gm_start_cursor
-        ensures { (bytes : List ℕ) (range : Option (ℕ × ℕ)) (base : ℕ) → AreStartRowsOver (starts_source bytes range) self.now
+        ensures items { (bytes : List ℕ) (range : Option (ℕ × ℕ)) (base : ℕ) → AreStartRowsOver (starts_source bytes range) self.now
             → AreStartsAfterCursor result bytes range base (start_rows_left self.now) }
+        ensures reserved { result.reserved ≡ 0 }
     {
         gm_start_cursor {
             place: self.place,
             address: self.address,
             stage: 1,
+            reserved: 0,
         }
     }
 }
@@ -231,6 +234,7 @@ pub extern "C" fn gmr_function_starts(
     ensures array { result ≢ 0 → out.new ≡ out.old }
     ensures count { result ≢ 0 → count.new ≡ count.old }
     ensures cursor { result ≢ 0 → cursor.new ≡ cursor.old }
+    ensures reserved { result ≡ 0 → cursor.new.reserved ≡ 0 }
     ensures reported { result ≢ 0 → error.new.code ≡ result }
     ensures quiet { result ≡ 0 → error.new ≡ error.old }
 {

@@ -28,8 +28,8 @@ pub struct gm_found_symbol {
     pub reserved: u32,
 }
 
-// Returns a symbol that was looked up, by its index and its distance, as C sees it.
-fn row_of(bytes: &[u8], image: &gm_image, found: Option<(usize, u64)>) -> gm_found_symbol
+/// Returns a symbol that was looked up, by its index and its distance, as C sees it.
+pub fn row_of(bytes: &[u8], image: &gm_image, found: Option<(usize, u64)>) -> gm_found_symbol
     ensures { result ≡ found_symbol_row bytes.now image.now found }
 {
     match found {
@@ -49,6 +49,7 @@ fn row_of(bytes: &[u8], image: &gm_image, found: Option<(usize, u64)>) -> gm_fou
                 code: GM_OK,
                 desc: 0,
                 n_type: 0,
+                reserved: 0,
             },
             index: 0,
             distance: 0,
@@ -97,7 +98,7 @@ pub extern "C" fn gmr_symbol_named(
     ensures quiet { result ≡ 0 → error.new ≡ error.old }
 {
     let Ok(name) = str::from_utf8(name) else {
-        return refuse(&Error::Malformed("a name is UTF-8"), error);
+        return refuse(&Error::Malformed("a name is not UTF-8"), error);
     };
     match open(alloc, bytes, image.offset, image.is_lossy != 0) {
         Ok(found) => {

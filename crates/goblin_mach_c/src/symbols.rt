@@ -29,6 +29,7 @@ pub struct gm_symbol {
     pub code: u32,
     pub desc: u16,
     pub n_type: u8,
+    pub reserved: u8,
 }
 
 // The table that the numbers of an image describe: the count of symbols, their offset, and that of their names.
@@ -95,6 +96,7 @@ fn refused_row(why: &Error) -> gm_symbol
         code: code_of(why),
         desc: 0,
         n_type: 0,
+        reserved: 0,
     }
 }
 
@@ -110,6 +112,7 @@ fn row_of(bytes: &[u8], place: usize, symbol: &Nlist) -> gm_symbol
         code: text_code(bytes, place),
         desc: symbol.n_desc,
         n_type: symbol.n_type,
+        reserved: 0,
     }
 }
 
@@ -153,6 +156,7 @@ impl<'a> Table<'a> {
                 code: GM_OK,
                 desc: symbol.n_desc,
                 n_type: symbol.n_type,
+                reserved: 0,
             },
             Err(_) => {
                 let row = self.unnamed_row(index);
@@ -164,6 +168,7 @@ impl<'a> Table<'a> {
                     code: row.code,
                     desc: row.desc,
                     n_type: row.n_type,
+                    reserved: row.reserved,
                 }
             }
         }

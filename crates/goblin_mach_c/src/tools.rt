@@ -49,7 +49,7 @@ fn tool_in(bytes: &[u8], le: Endian, part: CommandItems) -> Result<BuildToolVers
 {
     let following = BuildVersionCommand::SIZE + part.index as usize * BuildToolVersion::SIZE;
     if following + BuildToolVersion::SIZE > part.end {
-        return Err(Error::Malformed("a build tool lies inside its command"));
+        return Err(Error::Malformed("a build tool runs past its command"));
     }
     BuildToolVersion::read(bytes, part.place.saturating_add(following), le)
 }

@@ -154,12 +154,14 @@ impl<'a, 'b> WeakRows<'a, 'b> {
     fn cursor(&self) -> gm_bind_cursor
         ensures items { (x : WeakSource) → AreWeakRowsOver x self.now → AreWeakBindsAfter result x (weak_left_by self.now.walk) }
         ensures sites { (x : WeakSource) → AreWeakRowsOver x self.now → AreWeakSitesAfter result x (weak_sites_by self.now.walk) }
+        ensures reserved { result.reserved ≡ 0 }
     {
         match &self.walk {
             None => over(),
             Some(walk) => gm_bind_cursor {
                 binds: walk.cursor(),
                 stage: 1,
+                reserved: 0,
             },
         }
     }
@@ -184,6 +186,7 @@ pub extern "C" fn gmr_weak_binds(
     ensures array { result ≢ 0 → out.new ≡ out.old }
     ensures count { result ≢ 0 → count.new ≡ count.old }
     ensures cursor { result ≢ 0 → cursor.new ≡ cursor.old }
+    ensures reserved { result ≡ 0 → cursor.new.reserved ≡ 0 }
     ensures reported { result ≢ 0 → error.new.code ≡ result }
     ensures quiet { result ≡ 0 → error.new ≡ error.old }
 {

@@ -57,7 +57,7 @@ impl<'a> Archive<'a> {
     {
         let magic = bytes_at(bytes, 0, 8)?;
         if magic == THIN_MAGIC {
-            return Err(Error::Malformed("an archive holds its members"));
+            return Err(Error::Malformed("a thin archive has its members in other files"));
         }
         if magic != MAGIC {
             return Err(Error::BadMagic(u64::from(Endian::Big.u32_at(magic, 0))));
@@ -122,7 +122,7 @@ impl<'a> Archive<'a> {
         ensures { Reads member_view result (archive_member_at (archive_of self.now) place) }
     {
         if place < 8 {
-            return Err(Error::Malformed("a member stands behind the magic"));
+            return Err(Error::Malformed("a member begins in the magic"));
         }
         let header = Header::read(self.bytes, place)?;
         Ok(Member::of(self.bytes, self.names, &header))

@@ -53,7 +53,7 @@ impl<'a> Header<'a> {
         ensures long { IfOk result (λ h. unwrap_or h.long 0 ≤ h.size) }
     {
         if &fields[58..60] != END {
-            return Err(Error::Malformed("a member's header ends with its two bytes"));
+            return Err(Error::Malformed("a member's header does not end with its two bytes"));
         }
         let size = size_of(fields)?;
         Header::of_size(bytes, place, fields, size)
@@ -163,7 +163,7 @@ fn size_of(fields: &[u8; SIZE]) -> Result<usize>
 {
     match number_in(&fields[48..58], 10) {
         Some(size) => Ok(size as usize),
-        None => Err(Error::Malformed("a member's size is a number")),
+        None => Err(Error::Malformed("a member's size is not a number")),
     }
 }
 
@@ -177,6 +177,8 @@ fn long_len(fields: &[u8; SIZE], size: usize) -> Result<Option<usize>>
     }
     match number_of(word(&fields[3..16]), 10) {
         Some(len) if len as usize <= size => Ok(Some(len as usize)),
-        _ => Err(Error::Malformed("a long name is among its member's bytes")),
+        _ => Err(Error::Malformed(
+            "the length of a long name is no number, or is past its member's size",
+        )),
     }
 }

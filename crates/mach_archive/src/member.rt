@@ -68,7 +68,7 @@ impl<'a> Member<'a> {
             Ok(text) => Ok(text),
             Err(_) => Err(Error::Scroll(ScrollError::BadInput {
                 size: name.len(),
-                msg: "a member's name is UTF-8",
+                msg: "a member's name is not UTF-8",
             })),
         }
     }
@@ -130,7 +130,7 @@ fn gnu_name<'a>(names: &'a [u8], field: &'a [u8]) -> Result<&'a [u8]>
         return Ok(trimmed(up_to(field, b'/'), b' '));
     }
     let Some(place) = number_of(digits_of(word), 10) else {
-        return Err(Error::Malformed("a long name has a place"));
+        return Err(Error::Malformed("the place of a long name is not a number"));
     };
     before_slash(line_at(names, place as usize)?)
 }
@@ -157,7 +157,7 @@ fn line_at(names: &[u8], place: usize) -> Result<&[u8]>
             return Ok(line);
         }
     }
-    Err(Error::Malformed("a long name ends with its line"))
+    Err(Error::Malformed("a long name has no whole line in the list of names"))
 }
 
 // Returns a line without the slash that must end it.
@@ -166,7 +166,7 @@ fn before_slash(line: &[u8]) -> Result<&[u8]>
 {
     match line.strip_suffix(b"/") {
         Some(name) => Ok(name),
-        None => Err(Error::Malformed("a long name ends with a slash")),
+        None => Err(Error::Malformed("a long name does not end with a slash")),
     }
 }
 

@@ -44,7 +44,7 @@ fn ended_text(names: &[u8], place: usize) -> Result<&[u8]>
             return Ok(text);
         }
     }
-    Err(Error::Malformed("a symbol's name ends with a zero"))
+    Err(Error::Malformed("a symbol's name does not end with a zero"))
 }
 
 // Reads the first symbol of a table.

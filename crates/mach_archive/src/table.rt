@@ -176,7 +176,7 @@ impl<'a> Table<'a> {
         let size = width.bytes();
         let records = first_number(table, width, le)? as usize;
         if records % (2 * size) != 0 {
-            return Err(Error::Malformed("an index has whole records"));
+            return Err(Error::Malformed("the index ends in a record"));
         }
         let count = records / (2 * size);
         if table.len() < 2 * size || records > table.len() - 2 * size {

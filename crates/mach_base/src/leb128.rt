@@ -237,7 +237,7 @@ pub fn uleb(bytes: &[u8], place: usize) -> Result<(u64, usize)>
         Some((value, len)) => Ok((value, place + len)),
         None => Err(Error::Scroll(ScrollError::BadInput {
             size: rest.len(),
-            msg: "a ULEB128 number has at most ten bytes",
+            msg: "a ULEB128 number has no end, or does not fit in 64 bits",
         })),
     }
 }
@@ -289,7 +289,7 @@ pub fn sleb(bytes: &[u8], place: usize) -> Result<(i64, usize)>
         Some((value, len)) => Ok((value, place + len)),
         None => Err(Error::Scroll(ScrollError::BadInput {
             size: rest.len(),
-            msg: "an SLEB128 number has at most ten bytes",
+            msg: "an SLEB128 number has no end, or does not fit in 64 bits",
         })),
     }
 }

@@ -37,7 +37,7 @@ pub fn gread_with<'a, T: TryFromCtx<'a, C> + Drop, C: Drop>(
     let rest = try_rest_at(bytes, *offset)?;
     let (value, width) = T::try_from_ctx(rest, ctx)?;
     let Some(next) = offset.checked_add(width) else {
-        return Err(Error::Malformed("an offset is a number of 64 bits").into());
+        return Err(Error::Malformed("an offset does not fit in 64 bits").into());
     };
     *offset = next;
     Ok(value)

@@ -130,7 +130,7 @@ pub fn read_text(bytes: &[u8], offset: usize) -> Result<&str>
         Some(text) => Ok(text),
         None => Err(Error::Scroll(ScrollError::BadInput {
             size: rest.len(),
-            msg: "a text is UTF-8",
+            msg: "a text is not UTF-8",
         })),
     }
 }

@@ -5,7 +5,7 @@ use Rattle.mach_base.specs.Answer.{◌>>=◌}
 use Rattle.mach_base.specs.Fault.{Fault, malformed}
 use Rattle.mach_base.specs.Sums.{found_or_malformed}
 use Rattle.mach_parts.specs.Segment.{SegmentView}
-use Rattle.mach_chained.specs.declared.starts.ChainedStartsInSegment.{ChainedStartsInSegment}
+use Rattle.mach_records.specs.declared.fixup_chains.ChainedStartsInSegment.{ChainedStartsInSegment}
 use Rattle.mach_chained.specs.Fixups.{FixupInput, Span, Ends, no_ends, in_memory, following, span_of, span_by}
 unfoldable use Rattle.mach_chained.specs.Fixups.{span_at}
 use Rattle.mach_chained.specs.Starts.{Chains, starts_at, chains_of}

@@ -32,7 +32,7 @@ fn place_in_file(segments: &[Segment<'_>], number: u32, offset: u64) -> Result<u
     let segment = nth_segment(segments, number)?;
     match segment.fileoff.checked_add(offset) {
         Some(place) => Ok(place),
-        None => Err(Error::Malformed("a bind's place has at most 64 bits")),
+        None => Err(Error::Malformed("a bind's place does not fit in 64 bits")),
     }
 }
 
@@ -43,7 +43,7 @@ fn whole_addend(addend: i64, inline: i32) -> Result<i64>
 {
     match addend.checked_add(i64::from(inline)) {
         Some(sum) => Ok(sum),
-        None => Err(Error::Malformed("a bind's addend has at most 64 bits")),
+        None => Err(Error::Malformed("a bind's addend does not fit in 64 bits")),
     }
 }
 

@@ -18,9 +18,12 @@ pub use crate::bindings::ChainedBindIterator;
 pub use crate::cursor::FixupCursor;
 pub use crate::fixups::FixupIterator;
 pub use crate::format::{ImportFormat, PointerFormat};
-pub use crate::header::{ChainedFixups, ChainedFixupsHeader, SIZEOF_CHAINED_FIXUPS_HEADER};
+pub use crate::header::ChainedFixups;
 pub use crate::imports::{ChainedImport, ChainedImportIterator};
 pub use crate::pointer::{ChainPointer, FixupKind, read_pointer};
 pub use crate::source::Fixup;
-pub use crate::starts::{ChainedStartsInSegment, SIZEOF_CHAINED_STARTS_IN_SEGMENT};
 pub use mach_parts::binding::PointerAuth;
+pub use mach_records::{
+    ChainedFixupsHeader, ChainedStartsInSegment, SIZEOF_CHAINED_FIXUPS_HEADER,
+    SIZEOF_CHAINED_STARTS_IN_SEGMENT,
+};

@@ -18,10 +18,11 @@ ghost use Rattle.mach_parts.specs.Segment.{segment_view};
 use crate::format::PointerFormat;
 use crate::header::ChainedFixups;
 use crate::pointer::{FixupKind, pointer_len, read_pointer};
-use crate::starts::{Chains, SIZEOF_CHAINED_STARTS_IN_SEGMENT};
+use crate::starts::Chains;
 use mach_base::{Endian, Error, Result, Steps, bytes_at};
 use mach_parts::binding::PointerAuth;
 use mach_parts::segment::Segment;
+use mach_records::SIZEOF_CHAINED_STARTS_IN_SEGMENT;
 
 /// The start of a page that has no chain.
 pub const DYLD_CHAINED_PTR_START_NONE: u16 = 0xffff;
@@ -88,7 +89,7 @@ pub fn nth_segment<'b, 'a>(segments: &'b [Segment<'a>], number: u32) -> Result<&
 {
     match segments.get(number as usize) {
         Some(segment) => Ok(segment),
-        None => Err(Error::Malformed("a chain's segment is one of the list")),
+        None => Err(Error::Malformed("a chain's segment is past the list of segments")),
     }
 }
 
@@ -130,7 +131,7 @@ fn start_place(index: u32, least: usize, start: u16) -> Result<PagePlace>
 {
     let at = usize::from(start % DYLD_CHAINED_PTR_START_LAST);
     if at < least {
-        return Err(Error::Malformed("a start lies behind the chain before it"));
+        return Err(Error::Malformed("a chain starts before the end of an earlier one"));
     }
     let more = if start < DYLD_CHAINED_PTR_START_LAST {
         Some(index + 1)
@@ -194,7 +195,7 @@ impl<'a, 'b> Source<'a, 'b> {
     {
         let address = u128::from(self.base) + u128::from(chains.segment_offset);
         if address != u128::from(segment.vmaddr) {
-            return Err(Error::Malformed("chains know where their segment is"));
+            return Err(Error::Malformed("chains give another address for their segment"));
         }
         Ok(segment)
     }
@@ -209,11 +210,15 @@ impl<'a, 'b> Source<'a, 'b> {
         ensures { Reads (λ s. segment_view s.now) result (following (ends_of (span_view before.now)) (chains_view chains.now) (segment_view segment.now)) }
     {
         if chains.place < before.chains.upto {
-            return Err(Error::Malformed("starts lie before the end of earlier ones"));
+            return Err(Error::Malformed(
+                "starts of a segment begin before the end of earlier ones",
+            ));
         }
         let end = u128::from(before.fileoff) + before.bytes.len() as u128;
         if u128::from(segment.fileoff) < end {
-            return Err(Error::Malformed("a segment with chains lies behind the one before it"));
+            return Err(Error::Malformed(
+                "a segment with chains begins before the end of an earlier one",
+            ));
         }
         Ok(segment)
     }
@@ -253,7 +258,7 @@ impl<'a, 'b> Source<'a, 'b> {
         ensures { Reads (λ p. Some (spot_view p)) result (start_among (fixup_input_of self.now) (span_view span.now) index least) }
     {
         if index >= span.chains.room {
-            return Err(Error::Malformed("starts have room for those of a page"));
+            return Err(Error::Malformed("the starts of a page are past those of its segment"));
         }
         let start = self.start(span, index)?;
         start_place(index, least, start)
@@ -333,15 +338,15 @@ impl<'a, 'b> Source<'a, 'b> {
     pub fn reason(&self, span: &Span<'a>, page: u16, at: usize) -> &'static str {
         let size = usize::from(span.chains.page_size);
         if size <= at {
-            return "a chain stays in its page";
+            return "a chain leaves its page";
         }
         let offset = usize::from(page) * size + at;
         if span.bytes.len() < offset + pointer_len(span.chains.format) {
-            return "a fixup lies in its segment's data";
+            return "a fixup is past its segment's data";
         }
         match span.vmaddr.checked_add(offset as u64) {
-            None => "a fixup's address has at most 64 bits",
-            Some(_) => "a bind's import is one of the table",
+            None => "a fixup's address does not fit in 64 bits",
+            Some(_) => "a bind's import is past the table",
         }
     }
 }

@@ -1,7 +1,8 @@
 mod Asking
 mod Joined
 pub mod Lines
-mod Listings
+pub mod Listings
+mod EntriesShown
 mod Showing
 pub mod Orders
 pub mod Missed

@@ -1,5 +1,6 @@
--- Whether none of some parts is selected, part by part.
-use Rattle.std.proofs.Common.{◌≡◌, ◌∷◌, [], List, Bool, true, false, not, ◌||◌, refl, ap}
+-- Which of some parts are selected, part by part.
+use Rattle.std.proofs.Common.{◌≡◌, ◌∷◌, [], ◌∙◌, ℕ, suc, List, Bool, true, false, not, ◌||◌, refl, ap}
+use Rattle.std.specs.Prelude.{take}
 use Rattle.std.specs.List.{list_any}
 use Rattle.goblin_mach.specs.Items.{ItemView}
 use Rattle.mach_cli.specs.declared.cpu.Cpu.{Cpu}
@@ -21,3 +22,10 @@ pub missed_next : (cpu : Cpu) (is_any : Bool) (x : ItemView) (xs : List ItemView
     → missed_from cpu is_any (x ∷ xs) ≡ missed_from cpu true xs
 missed_next cpu is_any x [] is = ap (λ (b : Bool). not (b || false)) is
 missed_next cpu is_any x (y ∷ ys) is = ap (λ (b : Bool). not (b || list_any (λ z. is_part_for cpu z.place) (y ∷ ys))) is
+
+-- ---- the parts that are selected
+
+-- the first element of a list, if the limit allows one more than n
+pub taken_first : {X : Type 0} (limit n : ℕ) (here : List X) (x : X) (rest : List X) → here ≡ x ∷ rest → limit ≡ suc n
+    → take limit here ≡ x ∷ take n rest
+taken_first limit n here x rest is some = ap (λ m. take m here) some ∙ ap (λ xs. take (suc n) xs) is

@@ -15,6 +15,7 @@ use Rattle.mach_base.specs.declared.error.Error.{Error}
 use Rattle.mach_base.specs.declared.error.Error.TheVariants as errors
 use Rattle.mach_base.specs.Number.{number, number_at}
 use Rattle.mach_base.specs.declared.context.Endian.TheVariants.{Big}
+use Rattle.mach_parts.specs.ArchForms.{arch_form_32}
 use Rattle.mach_parts.specs.declared.fat.FatArch.{FatArch}
 use Rattle.goblin_mach.specs.File.{HasFatMagic, IsMach}
 use Rattle.goblin_mach.specs.declared.mach.Mach.TheVariants as files
@@ -29,10 +30,10 @@ use Rattle.mach_cli.specs.Cpus.{is_of_cpu, IsTaken}
 use Rattle.mach_cli.specs.declared.cpu.Cpu.{Cpu}
 use Rattle.mach_cli.specs.Labels.{LabelView, label_of}
 use Rattle.mach_cli.specs.Refusals.{item_words, label_complaint, memory_words}
-use Rattle.mach_cli.specs.Selected.{is_part_for}
-use Rattle.mach_cli.specs.Shown.{ImageLines, IsMemberOrFile, FaultOfItem, Shown, ShowsItem, ShowsItems}
-use Rattle.mach_cli.specs.Shown.{both, nothing, no_image, no_items, other_item, selected_item, separated}
+use Rattle.mach_cli.specs.Shown.{ImageLines, IsMemberOrFile, FaultOfItem, Shown, ShowsItem, ShowsItems, ShowsPlaced}
+use Rattle.mach_cli.specs.Shown.{both, first_item, nothing, no_image, no_items, separated}
 use Rattle.mach_cli.specs.Sinks.{SinkTexts}
+use Rattle.mach_cli.specs.TableEntries.{outside_at}
 
 -- ---- texts that were written
 
@@ -161,30 +162,25 @@ both_three a b c =
     ∙ ap (λ (whole : Bool). shown_with ((a.text ++ b.text) ++ c.text) ((a.message ++ b.message) ++ c.message) whole c.left)
     (and_three a.whole b.whole c.whole)
 
-module _ (k : SinkTexts) (names name : List ℕ) (lines : ImageLines) (cpu : Cpu) (limit : ℕ) (all : List ItemView) where
+module _ (k : SinkTexts) (names name : List ℕ) (lines : ImageLines) (bytes : List ℕ) (limit : ℕ) (all : List ItemView) where
   -- What is shown of those left completes what is shown of all.
   abbrev pub Follows : (is_first : Bool) → (left : ℕ) → List ItemView → (before : Shown) → Type 0
   Follows is_first left rest before =
-      (later : Shown) → ShowsItems k names name lines cpu is_first left rest later → ShowsItems k names name lines cpu true limit all (both before later)
+      (later : Shown) → ShowsItems k names name lines bytes is_first left rest later →
+      ShowsItems k names name lines bytes true limit all (both before later)
 
   pub item_shown : (is_first : Bool) (left : ℕ) (here : List ItemView) (x : ItemView) (rest : List ItemView) (before shown : Shown) → here ≡ x ∷ rest
-      → Follows is_first left here before → is_part_for cpu x.place ≡ true
-      → ShowsItem k names name lines left (label_of x.place x.content) x.content shown
+      → Follows is_first left here before
+      → ShowsPlaced k names name lines left (label_of x.place x.content) (outside_at arch_form_32 bytes x.place.entry) x.content shown
       → Follows false shown.left rest (both before (separated k is_first shown))
-  item_shown is_first left here x rest before shown is follows selected one later more =
+  item_shown is_first left here x rest before shown is follows one later more =
       let last = separated k is_first shown in
-      subst (ShowsItems k names name lines cpu true limit all) (both_three before last later)
-      (follows (both last later) (subst (λ (xs : List ItemView). ShowsItems k names name lines cpu is_first left xs (both last later)) (sym is)
-      (selected_item is_first left x rest shown later selected one more)))
-
-  pub item_passed : (is_first : Bool) (left : ℕ) (here : List ItemView) (x : ItemView) (rest : List ItemView) (before : Shown) → here ≡ x ∷ rest
-      → Follows is_first left here before → is_part_for cpu x.place ≡ false → Follows is_first left rest before
-  item_passed is_first left here x rest before is follows other later more =
-      follows later (subst (λ (xs : List ItemView). ShowsItems k names name lines cpu is_first left xs later) (sym is)
-      (other_item is_first left x rest later other more))
+      subst (ShowsItems k names name lines bytes true limit all) (both_three before last later)
+      (follows (both last later) (subst (λ (xs : List ItemView). ShowsItems k names name lines bytes is_first left xs (both last later)) (sym is)
+      (first_item is_first left x rest shown later one more)))
 
   pub items_shown : (is_first : Bool) (left : ℕ) (here : List ItemView) (before : Shown) → here ≡ [] → Follows is_first left here before
-      → ShowsItems k names name lines cpu true limit all (both before (nothing left))
+      → ShowsItems k names name lines bytes true limit all (both before (nothing left))
   items_shown is_first left here before is follows =
-      follows (nothing left) (subst (λ (xs : List ItemView). ShowsItems k names name lines cpu is_first left xs (nothing left)) (sym is)
+      follows (nothing left) (subst (λ (xs : List ItemView). ShowsItems k names name lines bytes is_first left xs (nothing left)) (sym is)
       (no_items is_first left))

@@ -1,12 +1,13 @@
 -- The text of a name has no hidden character.
-use Rattle.std.proofs.Common.{◌≡◌, ◌∙◌, ℕ, zero, suc, ◌-◌, ◌^◌, ◌<◌, ◌≤◌, ◌==◌, ◌&&◌, ◌||◌, nat_lt, cond, true, false}
+use Rattle.std.proofs.Common.{◌≡◌, ◌∙◌, ℕ, zero, suc, ◌-◌, ◌^◌, ◌<◌, ◌≤◌, ◌==◌, ◌&&◌, ◌||◌, nat_lt, Bool, cond, true, false}
 use Rattle.std.proofs.Common.{List, [], ◌∷◌, ◌++◌, All, length, take, drop, ⊎_elim, refl, sym, ap, append_assoc, arith, length-drop}
+use Rattle.std.proofs.lemmas.Bool.{and_left, and_right}
 use Rattle.std.proofs.lemmas.Bool.Decides.{nat_tests}
 use Rattle.std.proofs.lemmas.List.Elements.{All-head, All-nil, All-tail}
 use Rattle.std.specs.Fmt.{digit_glyph, digits}
-use Rattle.std.specs.Int.{is_in_range}
 use Rattle.std.specs.List.{flat_map}
-use Rattle.mach_cli.specs.Escapes.{byte_in, byte_text, escape_len, escape_of, escape_text, escaped_text, hidden_len, is_mark, written}
+use Rattle.mach_cli.specs.Escapes.{byte_in, byte_text, escape_len, escape_of, escape_text, escaped_text, hidden_len, hidden_of, written}
+use Rattle.mach_cli.specs.Escapes.{hides_four, hides_three, hides_two, is_tail}
 use Rattle.mach_cli.specs.declared.escaped.Style.TheVariants.{Name}
 use Rattle.mach_cli.proofs.OneLine.{All-digits, All-padded}
 use Rattle.mach_cli.proofs.Written.{written-escaped, written-kept, written-nil, zero_or_more}
@@ -96,20 +97,52 @@ front_of (b ∷ s) = ⊎_elim (λ kept. same b s refl (written-kept Name b s kep
     (λ some. escape (ap (λ t. byte_in t 0) (written-escaped Name (b ∷ s) some) ∙ first_begins b s (written Name (drop (escape_len Name (b ∷ s)) (b ∷ s))) some))
     (zero_or_more (escape_len Name (b ∷ s)))
 
--- how many bytes are hidden, from a first byte and the two after it
-abbrev by_three : (b c d : ℕ) → ℕ
-by_three b c d =
-    cond (nat_lt b 0x20 || b == 0x7f) 1 (cond (b == 0xc2 && is_in_range 0x80 0x9f c) 2 (cond (b == 0xe2 && is_mark c d) 3 0))
-
-three : (b : ℕ) (xs : List ℕ) → hidden_len (b ∷ xs) ≡ by_three b (byte_in xs 0) (byte_in xs 1)
+four : (b : ℕ) (xs : List ℕ) → hidden_len (b ∷ xs) ≡ hidden_of b (byte_in xs 0) (byte_in xs 1) (byte_in xs 2)
 unfolding hidden_len
-three b xs = refl
+four b xs = refl
 
-second_escape : (b c d e : ℕ) → by_three b c d ≡ 0 → by_three b 0x5c e ≡ 0
-second_escape b c d e h = grind (arith, nat_tests)
+cond_none : (t : Bool) (n k : ℕ) → cond t (suc n) k ≡ 0 → (t ≡ false) × (k ≡ 0)
+cond_none true n k h = absurd (omega (arith, h))
+cond_none false n k h = (refl, h)
 
-third_escape : (b c d : ℕ) → by_three b c d ≡ 0 → by_three b c 0x5c ≡ 0
-third_escape b c d h = grind (arith, nat_tests)
+no_pair : (b c : ℕ) → is_tail c ≡ false → hides_two b c ≡ false
+no_pair b c other = and_left _ _ (and_right _ _ other)
+
+no_triple : (b c d : ℕ) → (is_tail c && is_tail d) ≡ false → hides_three b c d ≡ false
+no_triple b c d other = and_left _ _ (and_right _ _ other)
+
+no_quad : (b c d e : ℕ) → (is_tail c && (is_tail d && is_tail e)) ≡ false → hides_four b c d e ≡ false
+no_quad b c d e other = and_left _ _ (and_right _ _ other)
+
+-- how many bytes are hidden after the tests of ASCII and of two bytes
+abbrev of_more : (b c d e : ℕ) → ℕ
+of_more b c d e = cond (hides_three b c d) 3 (cond (hides_four b c d e) 4 0)
+
+-- an escape in place of the second, the third or the fourth byte
+second_escape : (b c d e x y : ℕ) → hidden_of b c d e ≡ 0 → hidden_of b 0x5c x y ≡ 0
+second_escape b c d e x y h = elim (nat_lt b 0x80) as (λ t. cond t (cond (nat_lt b 0x20 || b == 0x7f) 1 0) (cond (hides_two b c) 2 (of_more b c d e)) ≡ 0
+    → cond t (cond (nat_lt b 0x20 || b == 0x7f) 1 0) (cond (hides_two b 0x5c) 2 (of_more b 0x5c x y)) ≡ 0) [
+      | true ↦ λ low. low
+      | false ↦ λ _. rw (no_pair b 0x5c refl, no_triple b 0x5c x refl, no_quad b 0x5c x y refl) refl
+    ] h
+
+third_escape : (b c d e x : ℕ) → hidden_of b c d e ≡ 0 → hidden_of b c 0x5c x ≡ 0
+third_escape b c d e x h = elim (nat_lt b 0x80) as (λ t. cond t (cond (nat_lt b 0x20 || b == 0x7f) 1 0) (cond (hides_two b c) 2 (of_more b c d e)) ≡ 0
+    → cond t (cond (nat_lt b 0x20 || b == 0x7f) 1 0) (cond (hides_two b c) 2 (of_more b c 0x5c x)) ≡ 0) [
+      | true ↦ λ low. low
+      | false ↦ λ high. let two = (cond_none (hides_two b c) 1 _ high).0 in
+          rw (two, no_triple b c 0x5c (and_right _ _ refl), no_quad b c 0x5c x (and_right _ _ refl)) refl
+    ] h
+
+fourth_escape : (b c d e : ℕ) → hidden_of b c d e ≡ 0 → hidden_of b c d 0x5c ≡ 0
+fourth_escape b c d e h = elim (nat_lt b 0x80) as (λ t. cond t (cond (nat_lt b 0x20 || b == 0x7f) 1 0) (cond (hides_two b c) 2 (of_more b c d e)) ≡ 0
+    → cond t (cond (nat_lt b 0x20 || b == 0x7f) 1 0) (cond (hides_two b c) 2 (of_more b c d 0x5c)) ≡ 0) [
+      | true ↦ λ low. low
+      | false ↦ λ high.
+          let two = cond_none (hides_two b c) 1 _ high in
+          let three = cond_none (hides_three b c d) 2 _ two.1 in
+          rw (two.0, three.0, no_quad b c d 0x5c (and_right _ _ (and_right _ _ refl))) refl
+    ] h
 
 not_hidden : (b : ℕ) (s : List ℕ) → escape_len Name (b ∷ s) ≡ 0 → hidden_len (b ∷ s) ≡ 0
 unfolding escape_len
@@ -118,18 +151,26 @@ not_hidden b s kept = elim (b == 0x5c) as (λ t. cond t 1 (hidden_len (b ∷ s))
   | false ↦ λ is. is
 ] kept
 
-third : (b c : ℕ) (t : List ℕ) → Front t → by_three b c (byte_in t 0) ≡ 0 → by_three b c (byte_in (written Name t) 0) ≡ 0
-third b c t (none is) h = rw (is, written-nil Name) (rw is at h)
-third b c t (escape is) h = rw is (third_escape b c (byte_in t 0) h)
-third b c t (same d u is text) h = rw text (rw is at h)
+fourth : (b c d : ℕ) (t : List ℕ) → Front t → hidden_of b c d (byte_in t 0) ≡ 0 → hidden_of b c d (byte_in (written Name t) 0) ≡ 0
+fourth b c d t (none is) h = rw (is, written-nil Name) (rw is at h)
+fourth b c d t (escape is) h = rw is (fourth_escape b c d (byte_in t 0) h)
+fourth b c d t (same e u is text) h = rw text (rw is at h)
 
-second : (b : ℕ) (s : List ℕ) → Front s → by_three b (byte_in s 0) (byte_in s 1) ≡ 0 → by_three b (byte_in (written Name s) 0) (byte_in (written Name s) 1) ≡ 0
+third : (b c : ℕ) (t : List ℕ) → Front t → hidden_of b c (byte_in t 0) (byte_in t 1) ≡ 0
+    → hidden_of b c (byte_in (written Name t) 0) (byte_in (written Name t) 1) ≡ 0
+third b c t (none is) h = rw (is, written-nil Name) (rw is at h)
+third b c t (escape is) h = rw is (third_escape b c (byte_in t 0) (byte_in t 1) (byte_in (written Name t) 1) h)
+third b c t (same d u is text) h = rw text (fourth b c d u (front_of u) (rw is at h))
+
+second : (b : ℕ) (s : List ℕ) → Front s → hidden_of b (byte_in s 0) (byte_in s 1) (byte_in s 2) ≡ 0
+    → hidden_of b (byte_in (written Name s) 0) (byte_in (written Name s) 1) (byte_in (written Name s) 2) ≡ 0
 second b s (none is) h = rw (is, written-nil Name) (rw is at h)
-second b s (escape is) h = rw is (second_escape b (byte_in s 0) (byte_in s 1) (byte_in (written Name s) 1) h)
+second b s (escape is) h =
+    rw is (second_escape b (byte_in s 0) (byte_in s 1) (byte_in s 2) (byte_in (written Name s) 1) (byte_in (written Name s) 2) h)
 second b s (same c t is text) h = rw text (third b c t (front_of t) (rw is at h))
 
 kept_shown : (b : ℕ) (s : List ℕ) → escape_len Name (b ∷ s) ≡ 0 → hidden_len (b ∷ written Name s) ≡ 0
-kept_shown b s kept = three b (written Name s) ∙ second b s (front_of s) (sym (three b s) ∙ not_hidden b s kept)
+kept_shown b s kept = four b (written Name s) ∙ second b s (front_of s) (sym (four b s) ∙ not_hidden b s kept)
 
 shown-within : (k : ℕ) (s : List ℕ) → length s ≤ k → AllShown (written Name s)
 shown-within k [] enough = rw (written-nil Name) shown-nil

@@ -2,7 +2,7 @@
 use Rattle.std.proofs.Common.{◌≡◌, ◌∙◌, ◌⊎◌, ℕ, zero, suc, ◌+◌, ◌-◌, ◌*◌, ◌/◌, ◌%◌, ◌<◌, ◌≤◌, ◌==◌, ◌&&◌, ◌||◌, nat_lt, Bool, cond, true, false, List}
 use Rattle.std.proofs.Common.{[], ◌∷◌, ◌++◌, length, get_or, take, drop, inl, inr, ⊎_elim, refl, sym, ap}
 use Rattle.std.proofs.Common.{length-append, append-nil, append_assoc, arith, drop-drop, get_or-drop, length-drop, take_all}
-use Rattle.std.proofs.lemmas.Bool.{eq-eqb, ne_eqb}
+use Rattle.std.proofs.lemmas.Bool.{and_parts, eq-eqb, lt-ltb, ne_eqb}
 use Rattle.std.proofs.lemmas.Bool.Decides.{leb_tells, nat_tests}
 use Rattle.std.proofs.lemmas.List.{drop_all, drop_at, take_at, drop_more, get_or_default, get_or_past, take_more}
 use Rattle.std.proofs.lemmas.Str.{IsCharBoundary-past_char, IsUtf8-drop, encode_ascii, utf8_valid_len_le}
@@ -14,83 +14,104 @@ use Rattle.std.specs.List.{flat_map}
 use Rattle.std.specs.Str.Lossy.{after_first_chunk, utf8_invalid_len, utf8_valid_len}
 use Rattle.std.specs.Str.{IsCharBoundary, IsUtf8}
 use Rattle.mach_cli.specs.Escapes.{byte_in, escape_len, escape_of, escape_text, escaped_bytes, escaped_bytes_within, escaped_text, hidden_len}
-use Rattle.mach_cli.specs.Escapes.{is_mark, is_quoted, written, written_past}
+use Rattle.mach_cli.specs.Escapes.{char_of_four, char_of_three, char_of_two, hides_four, hides_three, hides_two, is_hidden, is_quoted, is_tail}
+use Rattle.mach_cli.specs.Escapes.{written, written_past}
 use Rattle.mach_cli.specs.declared.escaped.Style.{Style}
 use Rattle.mach_cli.specs.declared.escaped.Style.TheVariants.{Json, Name}
 
 -- ---- the first character
 
--- the first character of s has n bytes and is escaped
-pub data Kind (s : List ℕ) (n : ℕ) : Type 0 where
-  one : n ≡ 1 → byte_in s 0 < 128 → (byte_in s 0 ≡ 0x20 → ⊥) → Kind s n
-  two : n ≡ 2 → byte_in s 0 ≡ 0xc2 → 0x80 ≤ byte_in s 1 → byte_in s 1 ≤ 0x9f → Kind s n
-  three : n ≡ 3 → byte_in s 0 ≡ 0xe2 → 0x80 ≤ byte_in s 1 → byte_in s 1 ≤ 0x81 → 0x80 ≤ byte_in s 2 → byte_in s 2 ≤ 0xbf → Kind s n
-
 abbrev IsLow : ℕ → Type 0
 IsLow b = (b < 128) × (b ≡ 0x20 → ⊥)
 
-abbrev BeginsControl : List ℕ → Type 0
-BeginsControl s = (byte_in s 0 ≡ 0xc2) × (0x80 ≤ byte_in s 1) × (byte_in s 1 ≤ 0x9f)
+abbrev IsTail : ℕ → Type 0
+IsTail b = (0x80 ≤ b) × (b ≤ 0xbf)
 
-abbrev BeginsMark : List ℕ → Type 0
-BeginsMark s = (byte_in s 0 ≡ 0xe2) × (0x80 ≤ byte_in s 1) × (byte_in s 1 ≤ 0x81) × (0x80 ≤ byte_in s 2) × (byte_in s 2 ≤ 0xbf)
+abbrev IsTwo : ℕ → ℕ → Type 0
+IsTwo b c = (0xc2 ≤ b) × (b ≤ 0xdf) × IsTail c
+
+abbrev IsThree : ℕ → ℕ → ℕ → Type 0
+IsThree b c d = (0xe1 ≤ b) × (b ≤ 0xef) × IsTail c × IsTail d
+
+abbrev IsFour : ℕ → ℕ → ℕ → ℕ → Type 0
+IsFour b c d e = (0xf1 ≤ b) × (b ≤ 0xf4) × IsTail c × IsTail d × IsTail e
+
+-- the first character of s has n bytes and is escaped
+pub data Kind (s : List ℕ) (n : ℕ) : Type 0 where
+  one : n ≡ 1 → IsLow (byte_in s 0) → Kind s n
+  two : n ≡ 2 → IsTwo (byte_in s 0) (byte_in s 1) → Kind s n
+  three : n ≡ 3 → IsThree (byte_in s 0) (byte_in s 1) (byte_in s 2) → Kind s n
+  four : n ≡ 4 → IsFour (byte_in s 0) (byte_in s 1) (byte_in s 2) (byte_in s 3) → Kind s n
 
 quoted_is : (style : Style) (b : ℕ) → is_quoted style b ≡ true → IsLow b
 quoted_is Name b h = grind (arith, nat_tests)
 quoted_is Json b h = grind (arith, nat_tests)
 
-mark_is : (c d : ℕ) → is_mark c d ≡ true → (0x80 ≤ c) × (c ≤ 0x81) × (0x80 ≤ d) × (d ≤ 0xbf)
-mark_is c d h = grind (arith, nat_tests)
+low_is : (b : ℕ) → (nat_lt b 0x20 || b == 0x7f) ≡ true → IsLow b
+low_is b h = grind (arith, nat_tests)
+
+two_is : (b c : ℕ) → hides_two b c ≡ true → IsTwo b c
+two_is b c h = let k = (and_parts (is_in_range 0xc2 0xdf b && is_tail c) (is_hidden (char_of_two b c)) h).0 in grind (arith, nat_tests)
+
+three_is : (b c d : ℕ) → hides_three b c d ≡ true → IsThree b c d
+three_is b c d h =
+    let k = (and_parts (is_in_range 0xe1 0xef b && (is_tail c && is_tail d)) (is_hidden (char_of_three b c d)) h).0 in
+    grind (arith, nat_tests)
+
+four_is : (b c d e : ℕ) → hides_four b c d e ≡ true → IsFour b c d e
+four_is b c d e h =
+    let k = (and_parts (is_in_range 0xf1 0xf4 b && (is_tail c && (is_tail d && is_tail e))) (is_hidden (char_of_four b c d e)) h).0 in
+    grind (arith, nat_tests)
 
 -- a byte that isn't a space is there
 there : (s : List ℕ) (i : ℕ) → (byte_in s i ≡ 0x20 → ⊥) → i < length s
 there s i other = ⊎_elim (λ past. absurd (other (get_or_past s i 0x20 past.1))) (λ h. h.1) (leb_tells (length s) i)
 
-by_mark : (s : List ℕ) (m : Bool) → (m ≡ true → BeginsMark s)
-    → (n : ℕ) → n ≡ cond m 3 0 → 0 < n → Kind s n
-by_mark s true h n is some = let k = h refl in three is k.0 k.1 k.2 k.3 k.4
-by_mark s false h n is some = absurd (omega (arith, is, some))
+by_four : (s : List ℕ) (m : Bool) → (m ≡ true → IsFour (byte_in s 0) (byte_in s 1) (byte_in s 2) (byte_in s 3)) → 0 < cond m 4 0 → Kind s (cond m 4 0)
+by_four s true h some = four refl (h refl)
+by_four s false h some = absurd (omega (arith, some))
 
-by_control : (s : List ℕ) (c m : Bool) → (c ≡ true → BeginsControl s)
-    → (m ≡ true → BeginsMark s)
-    → (n : ℕ) → n ≡ cond c 2 (cond m 3 0) → 0 < n → Kind s n
-by_control s true m h k n is some = let k = h refl in two is k.0 k.1 k.2
-by_control s false m h k n is some = by_mark s m k n is some
+by_three : (s : List ℕ) (m : Bool) (n : ℕ) → (m ≡ true → IsThree (byte_in s 0) (byte_in s 1) (byte_in s 2)) → (0 < n → Kind s n)
+    → 0 < cond m 3 n → Kind s (cond m 3 n)
+by_three s true n h other some = three refl (h refl)
+by_three s false n h other some = other some
 
-by_byte : (s : List ℕ) (b c m : Bool) → (b ≡ true → IsLow (byte_in s 0))
-    → (c ≡ true → BeginsControl s)
-    → (m ≡ true → BeginsMark s)
-    → (n : ℕ) → n ≡ cond b 1 (cond c 2 (cond m 3 0)) → 0 < n → Kind s n
-by_byte s true c m g h k n is some = let k = g refl in one is k.0 k.1
-by_byte s false c m g h k n is some = by_control s c m h k n is some
+by_two : (s : List ℕ) (m : Bool) (n : ℕ) → (m ≡ true → IsTwo (byte_in s 0) (byte_in s 1)) → (0 < n → Kind s n) → 0 < cond m 2 n → Kind s (cond m 2 n)
+by_two s true n h other some = two refl (h refl)
+by_two s false n h other some = other some
 
-control_is : (s : List ℕ) → (byte_in s 0 == 0xc2 && is_in_range 0x80 0x9f (byte_in s 1)) ≡ true → BeginsControl s
-control_is s h = grind (arith, nat_tests)
+by_low : (s : List ℕ) (m : Bool) → (m ≡ true → IsLow (byte_in s 0)) → 0 < cond m 1 0 → Kind s (cond m 1 0)
+by_low s true h some = one refl (h refl)
+by_low s false h some = absurd (omega (arith, some))
 
-mark_there : (s : List ℕ) → (byte_in s 0 == 0xe2 && is_mark (byte_in s 1) (byte_in s 2)) ≡ true
-    → BeginsMark s
-mark_there s h = grind (arith, nat_tests)
-
-low_is : (b : ℕ) → (nat_lt b 0x20 || b == 0x7f) ≡ true → IsLow b
-low_is b h = grind (arith, nat_tests)
+by_first : (s : List ℕ) (m : Bool) (n k : ℕ) → (0 < n → Kind s n) → (0 < k → Kind s k) → 0 < cond m n k → Kind s (cond m n k)
+by_first s true n k low high some = low some
+by_first s false n k low high some = high some
 
 pub hidden_kind : (s : List ℕ) → 0 < hidden_len s → Kind s (hidden_len s)
 unfolding hidden_len
-hidden_kind s some = by_byte s _ _ _ (low_is (byte_in s 0)) (control_is s) (mark_there s) _ refl some
+hidden_kind s some =
+    let b : ℕ = byte_in s 0 in
+    let c : ℕ = byte_in s 1 in
+    let d : ℕ = byte_in s 2 in
+    let e : ℕ = byte_in s 3 in
+    by_first s (nat_lt b 0x80) _ _ (by_low s (nat_lt b 0x20 || b == 0x7f) (low_is b))
+    (by_two s (hides_two b c) _ (two_is b c) (by_three s (hides_three b c d) _ (three_is b c d) (by_four s (hides_four b c d e) (four_is b c d e)))) some
 
 pub escape_kind : (style : Style) (s : List ℕ) → 0 < escape_len style s → Kind s (escape_len style s)
 unfolding escape_len
 escape_kind style s some =
     let quoted = is_quoted style (byte_in s 0) in
     elim quoted as (λ b. quoted ≡ b → 0 < cond b 1 (hidden_len s) → Kind s (cond b 1 (hidden_len s))) [
-      | true ↦ λ is _. let k = quoted_is style (byte_in s 0) is in one refl k.0 k.1
+      | true ↦ λ is _. let k = quoted_is style (byte_in s 0) is in one refl k
       | false ↦ λ _ more. hidden_kind s more
     ] refl some
 
 kind_within : (s : List ℕ) (n : ℕ) → Kind s n → n ≤ length s
-kind_within s n (one is low other) = let h = there s 0 other in omega (arith, is, h)
-kind_within s n (two is first from to) = let h = there s 1 (λ e. omega (arith, e, from)) in omega (arith, is, h)
-kind_within s n (three is first from to low high) = let h = there s 2 (λ e. omega (arith, e, low)) in omega (arith, is, h)
+kind_within s n (one is low) = let h = there s 0 low.1 in omega (arith, is, h)
+kind_within s n (two is k) = let h = there s 1 (λ e. omega (arith, e, k.2.0)) in omega (arith, is, h)
+kind_within s n (three is k) = let h = there s 2 (λ e. omega (arith, e, k.3.0)) in omega (arith, is, h)
+kind_within s n (four is k) = let h = there s 3 (λ e. omega (arith, e, k.4.0)) in omega (arith, is, h)
 
 pub zero_or_more : (n : ℕ) → (n ≡ 0) ⊎ (0 < n)
 zero_or_more zero = inl refl
@@ -105,65 +126,86 @@ escape_within style s = ⊎_elim (λ none. omega (arith, none)) (λ some. kind_w
 -- ---- where characters begin
 
 first_byte : (s : List ℕ) (i : ℕ) → i < length s → (n : ℕ) → Kind (drop i s) n → 128 ≤ get_or s i 0 → 192 ≤ get_or s i 0
-first_byte s i within n (one is low other) high =
+first_byte s i within n kind high =
     let at = get_or-drop i s 0 0x20 in
     let same = get_or_default s i 0x20 0 within in
-    absurd (grind (arith, at, same, low, high))
-first_byte s i within n (two is first from to) high =
-    let at = get_or-drop i s 0 0x20 in
-    let same = get_or_default s i 0x20 0 within in
-    grind (arith, at, same, first)
-first_byte s i within n (three is first from to low up) high =
-    let at = get_or-drop i s 0 0x20 in
-    let same = get_or_default s i 0x20 0 within in
-    grind (arith, at, same, first)
+    elim kind [
+      | one is k ↦ let low = k.0 in absurd (grind (arith, at, same, low, high))
+      | two is k ↦ let lead = k.0 in grind (arith, at, same, lead)
+      | three is k ↦ let lead = k.0 in grind (arith, at, same, lead)
+      | four is k ↦ let lead = k.0 in grind (arith, at, same, lead)
+    ]
 
 -- the byte at i begins an escaped character, or is one
 pub escape_here : (style : Style) (s : List ℕ) (i : ℕ) → i < length s → 0 < escape_len style (drop i s) → IsCharBoundary s i
 escape_here style s i within some = (omega arith, λ _ high. first_byte s i within _ (escape_kind style (drop i s) some) high)
 
-two_encoded : (x : ℕ) → 0x80 ≤ x → x ≤ 0x9f → (encode x ≡ 0xc2 ∷ x ∷ []) × (len_utf8 x ≡ 2)
+two_encoded : (b c : ℕ) → IsTwo b c → (encode (char_of_two b c) ≡ b ∷ c ∷ []) × (len_utf8 (char_of_two b c) ≡ 2)
 unfolding encode
-two_encoded x from to =
-    let a : nat_lt x 128 ≡ false = grind (arith, nat_tests) in
-    let b : nat_lt x 2048 ≡ true = grind (arith, nat_tests) in
-    let first : 192 + x / 64 ≡ 0xc2 = omega arith in
-    let second : 128 + x % 64 ≡ x = omega arith in
-    (rw (a, b, first, second) refl, rw (a, b) refl)
+two_encoded b c (from, to, (low, up)) =
+    let x = char_of_two b c in
+    let one : nat_lt x 128 ≡ false = grind (arith, nat_tests) in
+    let two : nat_lt x 2048 ≡ true = grind (arith, nat_tests) in
+    let first : 192 + x / 64 ≡ b = omega arith in
+    let second : 128 + x % 64 ≡ c = omega arith in
+    (rw (one, two, first, second) refl, rw (one, two) refl)
 
-three_encoded : (y z : ℕ) → 0x80 ≤ y → y ≤ 0x81 → 0x80 ≤ z → z ≤ 0xbf
-    → (encode (0x2000 + y % 0x40 * 0x40 + z % 0x40) ≡ 0xe2 ∷ y ∷ z ∷ []) × (len_utf8 (0x2000 + y % 0x40 * 0x40 + z % 0x40) ≡ 3)
+three_encoded : (b c d : ℕ) → IsThree b c d → (encode (char_of_three b c d) ≡ b ∷ c ∷ d ∷ []) × (len_utf8 (char_of_three b c d) ≡ 3)
 unfolding encode
-three_encoded y z from to low up =
-    let c = 0x2000 + y % 0x40 * 0x40 + z % 0x40 in
-    let a : nat_lt c 128 ≡ false = grind (arith, nat_tests) in
-    let b : nat_lt c 2048 ≡ false = grind (arith, nat_tests) in
-    let d : nat_lt c 65536 ≡ true = grind (arith, nat_tests) in
-    let first : 224 + c / 4096 ≡ 0xe2 = omega arith in
-    let second : 128 + c / 64 % 64 ≡ y = omega arith in
-    let third : 128 + c % 64 ≡ z = omega arith in
-    (rw (a, b, d, first, second, third) refl, rw (a, b, d) refl)
+three_encoded b c d (from, to, (low, up), (low_d, up_d)) =
+    let x = char_of_three b c d in
+    let one : nat_lt x 128 ≡ false = grind (arith, nat_tests) in
+    let two : nat_lt x 2048 ≡ false = grind (arith, nat_tests) in
+    let three : nat_lt x 65536 ≡ true = grind (arith, nat_tests) in
+    let first : 224 + x / 4096 ≡ b = omega arith in
+    let second : 128 + x / 64 % 64 ≡ c = omega arith in
+    let third : 128 + x % 64 ≡ d = omega arith in
+    (rw (one, two, three, first, second, third) refl, rw (one, two, three) refl)
+
+four_encoded : (b c d e : ℕ) → IsFour b c d e → (encode (char_of_four b c d e) ≡ b ∷ c ∷ d ∷ e ∷ []) × (len_utf8 (char_of_four b c d e) ≡ 4)
+unfolding encode
+four_encoded b c d e (from, to, (low, up), (low_d, up_d), (low_e, up_e)) =
+    let x = char_of_four b c d e in
+    let one : nat_lt x 128 ≡ false = grind (arith, nat_tests) in
+    let two : nat_lt x 2048 ≡ false = grind (arith, nat_tests) in
+    let three : nat_lt x 65536 ≡ false = grind (arith, nat_tests) in
+    let first : 240 + x / 262144 ≡ b = omega arith in
+    let second : 128 + x / 4096 % 64 ≡ c = omega arith in
+    let third : 128 + x / 64 % 64 ≡ d = omega arith in
+    let fourth : 128 + x % 64 ≡ e = omega arith in
+    (rw (one, two, three, first, second, third, fourth) refl, rw (one, two, three) refl)
 
 front : (s : List ℕ) (i : ℕ) → i < length s → drop i s ≡ byte_in s i ∷ drop (i + 1) s
 front s i within = drop_more s i 0x20 within
 
+-- the first two, three and four bytes
+front_two : (s : List ℕ) → 1 < length s → s ≡ byte_in s 0 ∷ byte_in s 1 ∷ drop 2 s
+front_two s within = front s 0 (omega (arith, within)) ∙ ap (λ t. byte_in s 0 ∷ t) (front s 1 within)
+
+front_three : (s : List ℕ) → 2 < length s → s ≡ byte_in s 0 ∷ byte_in s 1 ∷ byte_in s 2 ∷ drop 3 s
+front_three s within = front_two s (omega (arith, within)) ∙ ap (λ t. byte_in s 0 ∷ byte_in s 1 ∷ t) (front s 2 within)
+
+front_four : (s : List ℕ) → 3 < length s → s ≡ byte_in s 0 ∷ byte_in s 1 ∷ byte_in s 2 ∷ byte_in s 3 ∷ drop 4 s
+front_four s within = front_three s (omega (arith, within)) ∙ ap (λ t. byte_in s 0 ∷ byte_in s 1 ∷ byte_in s 2 ∷ t) (front s 3 within)
+
 -- the start of a text that is escaped is a character
 char_first : (s : List ℕ) (n : ℕ) → Kind s n → (c : ℕ) × (s ≡ encode c ++ drop n s) × (len_utf8 c ≡ n)
-char_first s n (one is low other) =
-    let some = there s 0 other in
-    let small : nat_lt (byte_in s 0) 128 ≡ true = grind (arith, nat_tests) in
-    (byte_in s 0, rw (is, encode_ascii (byte_in s 0) low) (front s 0 some), rw (is, small) refl)
-char_first s n (two is first from to) =
-    let some = there s 1 (λ e. omega (arith, e, from)) in
-    let known = two_encoded (byte_in s 1) from to in
-    (byte_in s 1, rw (is, known.0) (front s 0 (omega (arith, some)) ∙ (λ i. first i ∷ front s 1 some i)), known.1 ∙ sym is)
-char_first s n (three is first from to low up) =
-    let some = there s 2 (λ e. omega (arith, e, low)) in
-    let known = three_encoded (byte_in s 1) (byte_in s 2) from to low up in (
-      0x2000 + byte_in s 1 % 0x40 * 0x40 + byte_in s 2 % 0x40,
-      rw (is, known.0) (front s 0 (omega (arith, some)) ∙ (λ i. first i ∷ (front s 1 (omega (arith, some)) ∙ ap (λ t. byte_in s 1 ∷ t) (front s 2 some)) i)),
-      known.1 ∙ sym is,
-    )
+char_first s n (one is low) =
+    let some = there s 0 low.1 in
+    let small : nat_lt (byte_in s 0) 128 ≡ true = lt-ltb (byte_in s 0) 128 low.0 in
+    (byte_in s 0, rw (is, encode_ascii (byte_in s 0) low.0) (front s 0 some), rw (is, small) refl)
+char_first s n (two is k) =
+    let some = there s 1 (λ e. omega (arith, e, k.2.0)) in
+    let known = two_encoded (byte_in s 0) (byte_in s 1) k in
+    (char_of_two (byte_in s 0) (byte_in s 1), rw (is, known.0) (front_two s some), known.1 ∙ sym is)
+char_first s n (three is k) =
+    let some = there s 2 (λ e. omega (arith, e, k.3.0)) in
+    let known = three_encoded (byte_in s 0) (byte_in s 1) (byte_in s 2) k in
+    (char_of_three (byte_in s 0) (byte_in s 1) (byte_in s 2), rw (is, known.0) (front_three s some), known.1 ∙ sym is)
+char_first s n (four is k) =
+    let some = there s 3 (λ e. omega (arith, e, k.4.0)) in
+    let known = four_encoded (byte_in s 0) (byte_in s 1) (byte_in s 2) (byte_in s 3) k in
+    (char_of_four (byte_in s 0) (byte_in s 1) (byte_in s 2) (byte_in s 3), rw (is, known.0) (front_four s some), known.1 ∙ sym is)
 
 -- and after it the next one begins
 pub escape_after : (style : Style) (s : List ℕ) (i : ℕ) → i < length s → IsUtf8 s → 0 < escape_len style (drop i s)

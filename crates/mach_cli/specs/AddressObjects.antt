@@ -1,35 +1,29 @@
 -- What an image has at an address, as the members of its object.
 use Rattle.std.specs.Prelude.{◌≡◌, ℕ, List, ◌++◌, codes, Bool, Option, Some, None, is_some, option_map}
 use Rattle.std.specs.Fmt.{decimal}
-use Rattle.std.specs.Result.{result_ok}
-use Rattle.mach_base.specs.Text.{text_at}
 use Rattle.mach_parts.specs.declared.segment.numbered.NumberedSection.{NumberedSection}
 use Rattle.goblin_mach.specs.declared.macho.nearest.Function.{Function}
-use Rattle.mach_cli.specs.JsonText.{json_string}
+use Rattle.mach_cli.specs.JsonText.{name_in_field, string_or_null}
 use Rattle.mach_cli.specs.AddressFound.{IsFoundAt}
 use Rattle.mach_cli.specs.declared.address.FoundAt.{FoundAt}
 
--- a number, and a text as a string; null if there is none
+-- a number; null if there is none
 abbrev pub number_or_null : Option ℕ → List ℕ
 number_or_null None = codes "null"
 number_or_null (Some n) = decimal n
-
-abbrev pub string_or_null : Option (List ℕ) → List ℕ
-string_or_null None = codes "null"
-string_or_null (Some text) = json_string text
 
 -- the addresses of the function, of its first byte and after its last one, as members
 abbrev pub function_members : Option Function → List ℕ
 function_members None = codes "\"function_end\":null,\"function_start\":null"
 function_members (Some f) = codes "\"function_end\":" ++ (decimal f.end ++ (codes ",\"function_start\":" ++ decimal f.start))
 
--- the names of the section and of its segment, as members; null for one that can't be read
+-- the names of the section and of its segment, as members; null for one that is empty or can't be read
 abbrev pub holder_members : Option NumberedSection → List ℕ
 holder_members None = codes "\"section\":null,\"segment\":null"
 holder_members (Some h) =
     codes "\"section\":"
-    ++ (string_or_null (result_ok (text_at h.section.sectname 0))
-    ++ (codes ",\"segment\":" ++ string_or_null (result_ok (text_at h.section.segname 0))))
+    ++ (string_or_null (name_in_field h.section.sectname)
+    ++ (codes ",\"segment\":" ++ string_or_null (name_in_field h.section.segname)))
 
 -- the object of an address, with its name as a member
 abbrev pub at_member : (address : ℕ) → FoundAt → List ℕ

@@ -1,7 +1,7 @@
 -- Texts of a file, as they are printed. Each character that may end a line, or change what a terminal shows, is replaced by other bytes.
-use Rattle.std.specs.Prelude.{◌≡◌, ◌==◌, ◌||◌, ◌&&◌, ◌+◌, ◌-◌, ◌*◌, ◌%◌, ◌^◌, ◌<◌, ◌≤◌, ℕ, zero, suc, List, [], ◌∷◌, ◌++◌, codes, Bool, true, false}
+use Rattle.std.specs.Prelude.{◌≡◌, ◌==◌, ◌||◌, ◌&&◌, ◌+◌, ◌-◌, ◌*◌, ◌/◌, ◌%◌, ◌^◌, ◌<◌, ◌≤◌, ℕ, zero, suc, List, [], ◌∷◌, ◌++◌, codes, Bool, true, false}
 use Rattle.std.specs.Prelude.{not, nat_lt, if◌then◌else◌, length, get_or, take, drop, flat_map, All}
-use Rattle.std.specs.List.{list_all}
+use Rattle.std.specs.List.{list_all, list_any}
 use Rattle.std.specs.Int.{is_in_range}
 use Rattle.std.specs.Char.{digit_value}
 use Rattle.std.specs.Fmt.{digits, padded_integral, format_spec}
@@ -11,29 +11,65 @@ use Rattle.mach_cli.specs.declared.escaped.Style.TheVariants.{Json, Name}
 
 -- ---- characters that are escaped
 
--- the second and the third byte, after 0xe2, of U+200E, U+200F and U+2028 to U+202E, and of U+2066 to U+2069
-abbrev pub is_mark : ℕ → ℕ → Bool
-is_mark c d = c == 0x80 && (is_in_range 0x8e 0x8f d || is_in_range 0xa8 0xae d) || c == 0x81 && is_in_range 0xa6 0xa9 d
+-- The hidden characters from U+0080 on, by their first and last numbers: those of the Unicode Character Database that are controls
+-- (general category Cc), ends of lines and paragraphs (Zl, Zp), bidirectional controls (Bidi_Control), or other format characters
+-- (Cf, Default_Ignorable_Code_Point) that show nothing and that names in use don't need.
+abbrev pub hidden_ranges : List (ℕ × ℕ)
+hidden_ranges =
+    (0x80, 0x9f) ∷ (0xad, 0xad) ∷ (0x61c, 0x61c) ∷ (0x180e, 0x180e) ∷ (0x200b, 0x200f) ∷ (0x2028, 0x202e) ∷ (0x2060, 0x206f) ∷ (0xfeff, 0xfeff)
+    ∷ (0xfff9, 0xfffb)
+    ∷ (0xe0001, 0xe0001)
+    ∷ (0xe0020, 0xe007f)
+    ∷ []
+
+unfoldable pub is_hidden : ℕ → Bool
+is_hidden char = list_any (λ range. is_in_range range.0 range.1 char) hidden_ranges
 
 -- a byte of a text, and a space past its end
 abbrev pub byte_in : List ℕ → ℕ → ℕ
 byte_in text i = get_or text i 0x20
 
--- How many bytes the first character has, if it is hidden, else 0.
--- One byte: a byte below 0x20, and 0x7f. Two bytes: U+0080 to U+009F.
--- Three bytes: the direction controls (U+200E, U+200F, U+202A to U+202E, U+2066 to U+2069), and the ends of lines and paragraphs
--- (U+2028, U+2029).
+-- a byte that goes on with a character of UTF-8
+abbrev pub is_tail : ℕ → Bool
+is_tail b = is_in_range 0x80 0xbf b
+
+-- the numbers of characters of two, three and four bytes (RFC 3629, section 3)
+abbrev pub char_of_two : ℕ → ℕ → ℕ
+char_of_two b c = b % 0x20 * 0x40 + c % 0x40
+
+abbrev pub char_of_three : ℕ → ℕ → ℕ → ℕ
+char_of_three b c d = b % 0x10 * 0x1000 + c % 0x40 * 0x40 + d % 0x40
+
+abbrev pub char_of_four : ℕ → ℕ → ℕ → ℕ → ℕ
+char_of_four b c d e = b % 8 * 0x4_0000 + c % 0x40 * 0x1000 + d % 0x40 * 0x40 + e % 0x40
+
+-- These bytes are a hidden character. No hidden one begins with the byte 0xe0 or 0xf0.
+abbrev pub hides_two : ℕ → ℕ → Bool
+hides_two b c = (is_in_range 0xc2 0xdf b && is_tail c) && is_hidden (char_of_two b c)
+
+abbrev pub hides_three : ℕ → ℕ → ℕ → Bool
+hides_three b c d = (is_in_range 0xe1 0xef b && (is_tail c && is_tail d)) && is_hidden (char_of_three b c d)
+
+abbrev pub hides_four : ℕ → ℕ → ℕ → ℕ → Bool
+hides_four b c d e = (is_in_range 0xf1 0xf4 b && (is_tail c && (is_tail d && is_tail e))) && is_hidden (char_of_four b c d e)
+
+-- How many of these bytes are a hidden character, else 0: a byte below 0x20 or 0x7f, or those of a character of the list above.
+abbrev pub hidden_of : ℕ → ℕ → ℕ → ℕ → ℕ
+hidden_of b c d e =
+    if nat_lt b 0x80 then (if nat_lt b 0x20 || b == 0x7f then 1 else 0)
+    else (if hides_two b c then 2 else (if hides_three b c d then 3 else (if hides_four b c d e then 4 else 0)))
+
+-- how many bytes the first character of a text has, if it is hidden, else 0
 unfoldable pub hidden_len : List ℕ → ℕ
-hidden_len text =
-    if nat_lt (byte_in text 0) 0x20 || byte_in text 0 == 0x7f then 1
-    else (if byte_in text 0 == 0xc2 && is_in_range 0x80 0x9f (byte_in text 1) then 2
-    else (if byte_in text 0 == 0xe2 && is_mark (byte_in text 1) (byte_in text 2) then 3 else 0))
+hidden_len text = hidden_of (byte_in text 0) (byte_in text 1) (byte_in text 2) (byte_in text 3)
 
 -- the number of that character: the bits that UTF-8 has in its bytes
 abbrev pub hidden_char : List ℕ → ℕ
 hidden_char text =
     if hidden_len text == 1 then byte_in text 0
-    else (if hidden_len text == 2 then byte_in text 1 else 0x2000 + byte_in text 1 % 0x40 * 0x40 + byte_in text 2 % 0x40)
+    else (if hidden_len text == 2 then char_of_two (byte_in text 0) (byte_in text 1)
+    else (if hidden_len text == 3 then char_of_three (byte_in text 0) (byte_in text 1) (byte_in text 2)
+    else char_of_four (byte_in text 0) (byte_in text 1) (byte_in text 2) (byte_in text 3)))
 
 -- ---- their escapes
 
@@ -46,8 +82,12 @@ abbrev pub escape_text : ℕ → List ℕ
 escape_text n = codes "\\x" ++ byte_text n
 
 -- a number in four hexadecimal digits, after a backslash and a u
+abbrev pub json_unit : ℕ → List ℕ
+json_unit n = codes "\\u" ++ padded_integral (format_spec 32 0 4 4 (2 ^ 64 - 1)) false [] (digits 16 false n)
+
+-- a character by its number, and by its two surrogates if the number has more digits (RFC 8259, section 7)
 abbrev pub json_escape : ℕ → List ℕ
-json_escape n = codes "\\u" ++ padded_integral (format_spec 32 0 4 4 (2 ^ 64 - 1)) false [] (digits 16 false n)
+json_escape n = if nat_lt n 0x1_0000 then json_unit n else json_unit (0xd800 + (n - 0x1_0000) / 0x400) ++ json_unit (0xdc00 + (n - 0x1_0000) % 0x400)
 
 -- a character that is escaped by a backslash before it: the backslash, and in JSON the quotation mark
 abbrev pub is_quoted : Style → ℕ → Bool
@@ -58,7 +98,7 @@ is_quoted Json b = b == 0x5c || b == 0x22
 unfoldable pub escape_len : Style → List ℕ → ℕ
 escape_len style text = if is_quoted style (byte_in text 0) then 1 else hidden_len text
 
--- the escape of a hidden character at the start of a text: one escape for each of its bytes, in JSON one for its number
+-- the escape of a hidden character at the start of a text: one escape for each of its bytes, in JSON its number
 abbrev pub hidden_text : Style → List ℕ → List ℕ
 hidden_text Name text = flat_map escape_text (take (hidden_len text) text)
 hidden_text Json text = json_escape (hidden_char text)

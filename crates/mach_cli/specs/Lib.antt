@@ -38,6 +38,7 @@ pub mod Bounds
 pub mod CallWords
 pub mod Calls
 pub mod Listed
+pub mod TableEntries
 pub mod Titles
 pub mod Stretches
 pub mod AllStretches

@@ -1,5 +1,6 @@
 -- Why nothing is shown of a file or of an image, and the line that reports it.
 use Rattle.std.specs.Prelude.{ℕ, List, ◌++◌, codes, Result, Ok, Err}
+use Rattle.std.specs.Fmt.{decimal}
 use Rattle.mach_base.specs.Fault.{Fault}
 use Rattle.mach_base.specs.Words.{described, words_of}
 use Rattle.mach_base.specs.declared.error.Error.{Error}
@@ -8,11 +9,16 @@ use Rattle.mach_cli.specs.Cpus.{no_entry_words, other_words}
 use Rattle.goblin_mach.specs.FirstBytes.{foreign_words}
 use Rattle.mach_cli.specs.Foreigners.{refused_words}
 use Rattle.mach_cli.specs.Labels.{LabelView, label_suffix}
+use Rattle.mach_cli.specs.TableEntries.{left_out_words, outside_words}
 use Rattle.mach_cli.specs.declared.refusal.Refusal.{Refusal}
 use Rattle.mach_cli.specs.declared.refusal.Refusal.TheVariants as refusals
 
 abbrev pub memory_words : List ℕ
 memory_words = codes "out of memory"
+
+-- so many images of a file are shown, and there are more
+abbrev pub limit_words : ℕ → List ℕ
+limit_words count = codes "limit: only the first " ++ (decimal count ++ codes " of its images are shown")
 
 -- the words of a refusal
 abbrev pub refusal_reason : Refusal → List ℕ
@@ -22,6 +28,9 @@ refusal_reason (refusals.OtherImage cpu) = other_words cpu
 refusal_reason (refusals.NoEntry cpu) = no_entry_words cpu
 refusal_reason refusals.Memory = memory_words
 refusal_reason (refusals.Lacks words) = words.now
+refusal_reason (refusals.OutOfFile outside) = outside_words outside
+refusal_reason (refusals.LeftOut count) = left_out_words count
+refusal_reason (refusals.Limit count) = limit_words count
 
 -- why no image opens in the content of an item; of a member that isn't Mach-O it is its kind
 abbrev pub content_words : ContentView → Error → List ℕ

@@ -1,11 +1,13 @@
 -- Which parts of a file are selected.
-use Rattle.std.specs.Prelude.{not, List, [], ◌∷◌, Bool, true, false, Option, Some, None}
-use Rattle.std.specs.List.{list_any}
+use Rattle.std.specs.Prelude.{not, ℕ, List, [], ◌∷◌, Bool, true, false, Option, Some, None, length, nat_lt, take}
+use Rattle.std.specs.List.{filter, list_any}
 use Rattle.goblin_mach.specs.Items.{ItemView}
 use Rattle.goblin_mach.specs.declared.item.EntryCpu.{EntryCpu}
 use Rattle.goblin_mach.specs.declared.item.ItemPlace.{ItemPlace}
 use Rattle.mach_cli.specs.Cpus.{is_of_cpu}
+use Rattle.mach_cli.specs.PartsOf.{parts_left}
 use Rattle.mach_cli.specs.declared.cpu.Cpu.{Cpu}
+use Rattle.mach_cli.specs.declared.parts.selection.SelectedParts.{SelectedParts}
 
 -- by the cpu of its entry; without one its image decides
 abbrev pub is_entry_for : Cpu → Option EntryCpu → Bool
@@ -15,7 +17,27 @@ is_entry_for cpu None = true
 abbrev pub is_part_for : Cpu → ItemPlace → Bool
 is_part_for cpu place = is_entry_for cpu place.cpu
 
+-- those that are selected, in order
+abbrev pub selected_parts : Cpu → List ItemView → List ItemView
+selected_parts cpu xs = filter (λ x. is_part_for cpu x.place) xs
+
+-- the first of them, as many as a limit allows; and whether there are more
+abbrev pub parts_within : (limit : ℕ) → Cpu → List ItemView → List ItemView
+parts_within limit cpu xs = take limit (selected_parts cpu xs)
+
+abbrev pub are_more : (limit : ℕ) → Cpu → List ItemView → Bool
+are_more limit cpu xs = nat_lt limit (length (selected_parts cpu xs))
+
 -- whether there are parts, and none of them is selected
 abbrev pub are_missed : Cpu → List ItemView → Bool
 are_missed cpu [] = false
 are_missed cpu (x ∷ xs) = not (list_any (λ y. is_part_for cpu y.place) (x ∷ xs))
+
+-- ---- the parts left
+
+-- whatever the limit
+abbrev pub selected_parts_left : SelectedParts → List ItemView
+selected_parts_left p = selected_parts p.cpu (parts_left p.parts)
+
+abbrev pub within_left : SelectedParts → List ItemView
+within_left p = parts_within p.room p.cpu (parts_left p.parts)

@@ -1,5 +1,5 @@
 -- What a call shows: its files in order, each under its title, and the worst status.
-use Rattle.std.specs.Prelude.{◌≡◌, ◌&&◌, ℕ, List, [], ◌∷◌, Bool, true, false, Option, Result, Ok, length, max, not}
+use Rattle.std.specs.Prelude.{◌≡◌, ◌==◌, ◌&&◌, ℕ, List, [], ◌∷◌, Bool, true, false, Option, Some, None, Result, Ok, length, max, not}
 use Rattle.std.specs.Borrow.{Bor}
 use Rattle.std.specs.Io.Buffered.{writer_buffer, writer_contents}
 use Rattle.std.specs.Io.KnownBytes.{Appends}
@@ -9,15 +9,18 @@ use Rattle.mach_base.specs.Answer.{FailsAs}
 use Rattle.mach_base.specs.Fault.{Fault}
 use Rattle.mach_base.specs.declared.error.Error.{Error}
 use Rattle.goblin_mach.specs.Items.{ItemView}
-use Rattle.mach_cli.specs.Bounds.{most_items}
+use Rattle.mach_cli.specs.Bounds.{most_images, most_items}
 use Rattle.mach_cli.specs.FirstMagic.{begins_fat}
 use Rattle.mach_cli.specs.InOrder.{InOrder}
 use Rattle.mach_cli.specs.Listed.{are_several, listed_names, name_end}
 use Rattle.mach_cli.specs.Labels.{LabelView, label_of, unlabelled}
 use Rattle.mach_cli.specs.Names.{names_text}
-use Rattle.mach_cli.specs.PartsOf.{parts_in}
+use Rattle.mach_cli.specs.PartsOf.{parts_left_out, shown_parts}
+use Rattle.mach_cli.specs.TableEntries.{outside_at}
+use Rattle.mach_cli.specs.declared.entries.OutOfFile.{OutOfFile}
+use Rattle.mach_parts.specs.ArchForms.{arch_form_64}
 use Rattle.mach_cli.specs.FileTitles.{IsUnreadStatus, title_text}
-use Rattle.mach_cli.specs.Selected.{are_missed, is_part_for}
+use Rattle.mach_cli.specs.Selected.{are_missed, are_more, parts_within}
 use Rattle.mach_cli.specs.Shown.{ImageLines, Shown, ShowsFile}
 use Rattle.mach_cli.specs.ShownParts.{PartShown, shown_in, shows_file, shows_nothing, shows_within}
 use Rattle.mach_cli.specs.Sinks.{SinkTexts, json_texts, nm_texts, text_texts}
@@ -88,18 +91,26 @@ pub data ShowsContent {W B : Type 0} (m : Manner W B) (file : List ℕ) (label :
       → ShowsContent m file label old new (Ok (shows_within name bytes)) status
   refused_part : (part : Result PartShown Fault) (e : Error) → FailsAs e part → new ≡ old → ShowsContent m file label old new part 1
 
--- A part whose cpu isn't selected is passed over.
-pub data ShowsPart {W B : Type 0} (m : Manner W B) (file : List ℕ) (x : ItemView) (old new : BufWriter (Titled W) B) : (status : ℕ) → Type 0 where
-  selected_part : (status : ℕ) → is_part_for m.call.cpu x.place ≡ true
-      → ShowsContent m file (label_of x.place x.content) old new (shown_in file x.place.entry x.content) status → ShowsPart m file x old new status
-  other_part : is_part_for m.call.cpu x.place ≡ false → new ≡ old → ShowsPart m file x old new 0
+-- What is shown of a part that is selected. It is nothing of an entry that is out of the file.
+pub data ShowsPart {W B : Type 0} (m : Manner W B) (file bytes : List ℕ) (x : ItemView) (old new : BufWriter (Titled W) B) : (status : ℕ) → Type 0 where
+  inside_part : (status : ℕ) → outside_at arch_form_64 bytes x.place.entry ≡ None
+      → ShowsContent m file (label_of x.place x.content) old new (shown_in file x.place.entry x.content) status
+      → ShowsPart m file bytes x old new status
+  outside_part : (outside : OutOfFile) → outside_at arch_form_64 bytes x.place.entry ≡ Some outside → new ≡ old
+      → ShowsPart m file bytes x old new 1
 
--- What is shown of the bytes of a file: each of its parts, in order; or nothing, if none is selected; or the file as a whole, if
--- the call doesn't show parts.
+-- The status of a file by its parts: 1 at least if the limit leaves out some that are selected, or if entries are left out.
+abbrev pub parts_status : Files → (bytes : List ℕ) → (status : ℕ) → ℕ
+parts_status call bytes status =
+    max (max status (status_by (not (are_more (most_images call.limit) call.cpu (shown_parts bytes))))) (status_by (parts_left_out bytes == 0))
+
+-- What is shown of the bytes of a file: its first parts that are selected, as many as the limit allows, in order; or nothing, if none is
+-- selected; or the file as a whole, if the call doesn't show parts.
 pub data ShowsBytes {W B : Type 0} (m : Manner W B) (file bytes : List ℕ) (old new : BufWriter (Titled W) B) : (status : ℕ) → Type 0 where
-  in_parts : (status : ℕ) → m.call.has_parts ≡ true → are_missed m.call.cpu (parts_in bytes) ≡ false
-      → InOrder (ShowsPart m file) (parts_in bytes) old new status → ShowsBytes m file bytes old new status
-  none_selected : m.call.has_parts ≡ true → are_missed m.call.cpu (parts_in bytes) ≡ true → new ≡ old → ShowsBytes m file bytes old new 1
+  in_parts : (status : ℕ) → m.call.has_parts ≡ true → are_missed m.call.cpu (shown_parts bytes) ≡ false
+      → InOrder (ShowsPart m file bytes) (parts_within (most_images m.call.limit) m.call.cpu (shown_parts bytes)) old new status
+      → ShowsBytes m file bytes old new (parts_status m.call bytes status)
+  none_selected : m.call.has_parts ≡ true → are_missed m.call.cpu (shown_parts bytes) ≡ true → new ≡ old → ShowsBytes m file bytes old new 1
   undivided : (status : ℕ) → m.call.has_parts ≡ false → ShowsTitled m m.are_several (file_itself file) bytes old new status
       → ShowsBytes m file bytes old new status
 
@@ -147,7 +158,7 @@ ShowsFiles call shows = ShowsFilesBy false call shows
 
 -- How the files of a call are shown whose images are: part by part, without titles if objects are shown.
 abbrev pub files_of : {T J : Type 0} → ImageFiles T J → Files
-files_of s = record { program = s.program; cpu = s.cpu; has_titles = s.has_titles && not s.is_json; has_parts = true }
+files_of s = record { program = s.program; cpu = s.cpu; has_titles = s.has_titles && not s.is_json; has_parts = true; limit = s.limit }
 
 -- What a call shows whose images are shown, put together by a sink.
 abbrev pub ShowsBy : {T J W B A : Type 0} → SinkTexts → (is_nm : Bool) → ImageFiles T J → (program : List ℕ)

@@ -1,14 +1,16 @@
 -- How a file and its images are written: as text, or as an object of JSON on a line (RFC 8259).
-use Rattle.std.specs.Prelude.{ℕ, List, [], ◌++◌, codes}
+use Rattle.std.specs.Prelude.{◌==◌, ℕ, Bool, List, [], ◌++◌, codes, if◌then◌else◌}
+use Rattle.std.specs.Fmt.{decimal}
 use Rattle.mach_cli.specs.JsonArrays.{error_end}
 use Rattle.mach_cli.specs.JsonText.{json_string}
 use Rattle.mach_cli.specs.Labels.{LabelView, unlabelled, of_entry, of_member, label_line, object_front}
 use Rattle.mach_cli.specs.NmHeadings.{nm_heading}
 
 pub record SinkTexts : Type 0 where
-  -- before the images of a file, and after them, by the kind and the name of the file
-  pub file_front : List ℕ
-  pub file_end : (kind name : List ℕ) → List ℕ
+  -- before the images of a file, by how many of its entries are left out; and after them, by whether the limit leaves out more images,
+  -- and by the kind and the name of the file
+  pub file_front : (left_out : ℕ) → List ℕ
+  pub file_end : (is_cut : Bool) → (kind name : List ℕ) → List ℕ
   -- in place of both: why nothing is shown of the file
   pub refused_file : (name words : List ℕ) → List ℕ
   -- between two images
@@ -29,8 +31,8 @@ refused_text (of_member i cpu m) words = codes "refused: " ++ (words ++ codes "\
 -- Each image has a line with its label above it.
 abbrev pub text_texts : SinkTexts
 text_texts = record {
-  file_front = [];
-  file_end = λ kind name. [];
+  file_front = λ left_out. [];
+  file_end = λ is_cut kind name. [];
   refused_file = λ name words. [];
   separator = [];
   image_front = λ name. label_line;
@@ -43,9 +45,18 @@ text_texts = record {
 abbrev pub nm_texts : SinkTexts
 nm_texts = record text_texts { image_front = nm_heading }
 
+-- what precedes the objects of the images of a file
+abbrev pub document_front : (left_out : ℕ) → List ℕ
+document_front left_out =
+    if left_out == 0 then codes "{\"images\":[" else codes "{\"entries_left_out\":" ++ (decimal left_out ++ codes ",\"images\":[")
+
 -- what follows the objects of the images of a file
-abbrev pub document_end : (kind name : List ℕ) → List ℕ
-document_end kind name = codes "],\"kind\":\"" ++ (kind ++ (codes "\",\"name\":" ++ (json_string name ++ codes "}\n")))
+abbrev pub cut_member : (is_cut : Bool) → List ℕ
+cut_member is_cut = if is_cut then codes ",\"limit_met\":true" else []
+
+abbrev pub document_end : (is_cut : Bool) → (kind name : List ℕ) → List ℕ
+document_end is_cut kind name =
+    codes "],\"kind\":\"" ++ (kind ++ (codes "\"" ++ (cut_member is_cut ++ (codes ",\"name\":" ++ (json_string name ++ codes "}\n")))))
 
 -- the object of a file of which nothing is shown, and why
 abbrev pub refusal_object : (name words : List ℕ) → List ℕ
@@ -55,7 +66,7 @@ refusal_object name words = codes "{\"error\":\"" ++ (words ++ (codes "\",\"imag
 -- and numbers.
 abbrev pub json_texts : SinkTexts
 json_texts = record {
-  file_front = codes "{\"images\":[";
+  file_front = document_front;
   file_end = document_end;
   refused_file = refusal_object;
   separator = codes ",";

@@ -15,16 +15,22 @@ ghost use Rattle.mach_cli.specs.Held.{IsSubject};
 ghost use Rattle.mach_cli.specs.Labels.{label_of, label_view};
 ghost use Rattle.mach_cli.specs.Names.{names_text};
 ghost use Rattle.mach_cli.specs.Refusals.{complaint, label_complaint, refusal_reason};
-ghost use Rattle.mach_cli.specs.Shown.{IsFatTable, IsMemberOrFile, Shown, ShowsFile, ShowsItem, ShowsItems, Writes};
+ghost use Rattle.mach_cli.specs.Selected.{within_left};
+ghost use Rattle.mach_cli.specs.Shown.{left_out_line, limit_line, IsFatTable, IsMemberOrFile, Shown, ShowsFile, ShowsItem, ShowsItems, ShowsPlaced, Writes};
+ghost use Rattle.mach_cli.specs.TableEntries.{outside_at};
+ghost use Rattle.mach_parts.specs.ArchForms.{arch_form_32};
 ghost use Rattle.mach_cli.specs.Statuses.{IsStatus, status_by};
 
+use crate::bounds::most_images;
 use crate::cpu::Cpu;
+use crate::entries::{archs_left_out, archs_shown, outside_at};
 use crate::failure::ShowFailure;
 use crate::image_view::{ImageView, Outcome};
 use crate::label::Label;
 use crate::names::Names;
 use crate::output::failed;
-use crate::parts::selection::is_for;
+use crate::parts::Parts;
+use crate::parts::selection::{SelectedParts, are_more};
 use crate::refusal::{Refusal, complain, refusal_of, refusal_of_content};
 use crate::sink::Sink;
 use goblin_mach::fat::FatArch;
@@ -40,7 +46,7 @@ pub struct Document<'a, V, K> {
     pub names: Names<'a>,
     /// The cpu whose images are selected.
     pub cpu: Cpu,
-    /// The number of lines for all images together.
+    /// The number of lines for all images together, and of images (`most_images`).
     pub limit: usize,
     /// What is printed of an image.
     pub view: &'a V,
@@ -142,7 +148,7 @@ impl<V: ImageView, K: Sink> Document<'_, V, K> {
         match open(alloc, bytes) {
             Ok(Subject::Image(image)) => self.show_one(alloc, &image, out, err),
             Ok(Subject::Fat(images, records)) => {
-                self.show_fat(alloc, images, records.as_slice(), out, err)
+                self.show_fat(alloc, bytes, images, records.as_slice(), out, err)
             }
             Err(error) => self.refuse(refusal_of(bytes, &error), out, err),
         }
@@ -166,9 +172,9 @@ impl<V: ImageView, K: Sink> Document<'_, V, K> {
         {
             return self.refuse(Refusal::OtherImage(self.cpu), out, err);
         }
-        self.sink.begin_file(out)?;
+        self.sink.begin_file(0, out)?;
         let outcome = self.show_image(alloc, Label::None, image, self.limit, out, err)?;
-        self.sink.end_file("image", self.names.file, out)?;
+        self.sink.end_file(false, "image", self.names.file, out)?;
         Ok(outcome.whole)
     }
 
@@ -176,52 +182,108 @@ impl<V: ImageView, K: Sink> Document<'_, V, K> {
     fn show_fat<A: Allocator + Clone, O: Write, E: Write>(
         &self,
         alloc: &A,
+        bytes: &[u8],
         images: Images<'_>,
         records: &[FatArch],
         out: &mut O,
         err: &mut E,
     ) -> io::Result<bool>
-        ensures { let d = self.now in let file = d.names.file.now in (bytes : List ℕ) (table : FatFile) → IsFatTable bytes table records.now
-            → input_items_left images.entry ≡ items_in bytes → IfOk result (λ whole. (shown : Shown)
-            × ShowsFile K.texts (names_text d.names.program.now file) (V.lines d.view.now file d.limit) d.cpu file d.limit bytes shown
+        ensures { let d = self.now in let file = d.names.file.now in (table : FatFile) → IsFatTable bytes.now table records.now
+            → input_items_left images.entry ≡ items_in bytes.now → IfOk result (λ whole. (shown : Shown)
+            × ShowsFile K.texts (names_text d.names.program.now file) (V.lines d.view.now file d.limit) d.cpu file d.limit bytes.now shown
             × (shown.whole ≡ whole) × Writes shown (O.contents out.old) (O.contents out.new) (E.contents err.old) (E.contents err.new)) }
     {
         if self.cpu.misses(records) {
             return self.refuse(Refusal::NoEntry(self.cpu), out, err);
         }
-        self.sink.begin_file(out)?;
-        let whole = self.show_items(alloc, images, out, err)?;
-        self.sink.end_file("fat file", self.names.file, out)?;
-        Ok(whole)
+        let most = archs_shown(bytes, records);
+        let left_out = archs_left_out(bytes, records);
+        let parts = Parts::within(images, most);
+        let count = most_images(self.limit);
+        let first = SelectedParts::of(count, self.cpu, parts);
+        let is_cut = are_more(count, self.cpu, parts);
+        self.sink.begin_file(left_out, out)?;
+        let whole = self.show_items(alloc, bytes, first, out, err)?;
+        self.sink
+            .end_file(is_cut, "fat file", self.names.file, out)?;
+        self.cut(is_cut, err)?;
+        self.leave_out(left_out, err)?;
+        Ok(whole & (!is_cut & (left_out == 0)))
     }
 
-    // Shows the selected items, and returns whether none is refused and each is whole.
+    // Reports that more items are selected than the limit allows, if so.
+    fn cut<E: Write>(&self, is_cut: bool, err: &mut E) -> io::Result<()>
+        ensures { let d = self.now in let names = names_text d.names.program.now d.names.file.now in
+            OnOk result (Appends (E.contents err.old) (E.contents err.new) (limit_line names d.limit is_cut)) }
+    {
+        if !is_cut {
+            return Ok(());
+        }
+        let count = most_images(self.limit);
+        complain(self.names, Label::None, Refusal::Limit(count), err)
+    }
+
+    // Reports how many entries are left out, if there are some.
+    fn leave_out<E: Write>(&self, count: usize, err: &mut E) -> io::Result<()>
+        ensures { let names = names_text self.now.names.program.now self.now.names.file.now in
+            OnOk result (Appends (E.contents err.old) (E.contents err.new) (left_out_line names count)) }
+    {
+        if count == 0 {
+            return Ok(());
+        }
+        complain(self.names, Label::None, Refusal::LeftOut(count), err)
+    }
+
+    // Shows these items of a file, and returns whether none is refused and each is whole.
     fn show_items<A: Allocator + Clone, O: Write, E: Write>(
         &self,
         alloc: &A,
-        images: Images<'_>,
+        bytes: &[u8],
+        items: SelectedParts<'_>,
         out: &mut O,
         err: &mut E,
     ) -> io::Result<bool>
         ensures { let d = self.now in let file = d.names.file.now in IfOk result (λ whole. (shown : Shown)
             × ShowsItems K.texts (names_text d.names.program.now file) file (V.lines d.view.now file d.limit)
-            d.cpu true d.limit (input_items_left images.entry) shown
+            bytes.now true d.limit (within_left items.entry) shown
             × (shown.whole ≡ whole) × Writes shown (O.contents out.old) (O.contents out.new) (E.contents err.old) (E.contents err.new)) }
     {
         let mut whole = true;
         let mut left = self.limit;
         let mut is_first = true;
-        'items: for item in images {
-            if !is_for(self.cpu, &item.place) {
-                continue;
-            }
+        'items: for item in items {
             self.separate(is_first, out)?;
-            let outcome = self.show_item(alloc, item, left, out, err)?;
+            let outcome = self.show_placed(alloc, bytes, item, left, out, err)?;
             is_first = false;
             whole &= outcome.whole;
             left = outcome.left;
         }
         Ok(whole)
+    }
+
+    // Shows an item of a file under its label, or reports that it is out of the file.
+    fn show_placed<A: Allocator + Clone, O: Write, E: Write>(
+        &self,
+        alloc: &A,
+        bytes: &[u8],
+        item: InputItem<'_>,
+        left: usize,
+        out: &mut O,
+        err: &mut E,
+    ) -> io::Result<Outcome>
+        ensures { let d = self.now in let file = d.names.file.now in let x = input_item_read item.entry in IfOk result (λ outcome. (shown : Shown)
+            × ShowsPlaced K.texts (names_text d.names.program.now file) file (V.lines d.view.now file d.limit) left (label_of x.place x.content)
+            (outside_at arch_form_32 bytes.now x.place.entry) x.content shown
+            × (shown.whole ≡ outcome.whole) × (shown.left ≡ outcome.left)
+            × Writes shown (O.contents out.old) (O.contents out.new) (E.contents err.old) (E.contents err.new)) }
+    {
+        match outside_at::<FatArch>(bytes, item.place.entry) {
+            None => self.show_item(alloc, item, left, out, err),
+            Some(outside) => {
+                let named = Label::of(&item);
+                self.refuse_image(named, Refusal::OutOfFile(outside), left, out, err)
+            }
+        }
     }
 
     // Writes what is between two images, before one that isn't the first.

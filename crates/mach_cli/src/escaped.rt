@@ -5,15 +5,17 @@ ghost use Rattle.std.specs.Int.{is_in_range};
 ghost use Rattle.std.specs.Fmt.{WritesOnOk};
 ghost use Rattle.std.specs.Io.KnownBytes.{Appends};
 ghost use Rattle.mach_cli.specs.Escapes.{byte_in, escape_len, escape_of, escape_text, escaped_bytes, escaped_text, hidden_char, hidden_len};
-ghost use Rattle.mach_cli.specs.Escapes.{is_mark, is_quoted, written};
+ghost use Rattle.mach_cli.specs.Escapes.{char_of_four, char_of_three, char_of_two, hides_four, hides_three, hides_two, is_hidden, is_quoted, is_tail};
+ghost use Rattle.mach_cli.specs.Escapes.{json_escape, written};
 ghost use Rattle.mach_cli.specs.SignatureNames.{bytes_text};
 
 use std::fmt::{Display, Formatter};
 use std::io::Write;
 use std::{fmt, io};
 
-/// A text of a file, such as a name, on one line. A backslash is `\\`. Each byte of a control character (below U+0020, U+007F to
-/// U+009F), of a direction control and of U+2028 and U+2029 is `\xNN`. Everything else is unchanged.
+/// A text of a file, such as a name, on one line. A backslash is `\\`. Each byte of a hidden character is `\xNN`: of a control
+/// (below U+0020, U+007F to U+009F), a bidirectional control, U+2028, U+2029, and other format characters that show nothing.
+/// Everything else is unchanged.
 #[derive(Clone, Copy)]
 pub struct Escaped<'a>(pub &'a str);
 
@@ -108,33 +110,97 @@ fn hidden_len(bytes: &[u8]) -> usize
     ensures { result ≡ hidden_len bytes.now }
 {
     let first = byte_in(bytes, 0);
-    if first < 0x20 || first == 0x7f {
-        1
-    } else if first == 0xc2 && is_c1(byte_in(bytes, 1)) {
+    if first < 0x80 {
+        if first < 0x20 || first == 0x7f { 1 } else { 0 }
+    } else if hides_two(first, byte_in(bytes, 1)) {
         2
-    } else if first == 0xe2 && is_mark(byte_in(bytes, 1), byte_in(bytes, 2)) {
+    } else if hides_three(first, byte_in(bytes, 1), byte_in(bytes, 2)) {
         3
+    } else if hides_four(
+        first,
+        byte_in(bytes, 1),
+        byte_in(bytes, 2),
+        byte_in(bytes, 3),
+    ) {
+        4
     } else {
         0
     }
 }
 
-// Whether a byte after 0xc2 makes a control character.
-fn is_c1(second: u8) -> bool
-    ensures { result ≡ is_in_range 0x80 0x9f second }
+// Whether a byte goes on with a character of UTF-8.
+fn is_tail(byte: u8) -> bool
+    ensures { result ≡ is_tail byte }
 {
-    0x80 <= second && second <= 0x9f
+    0x80 <= byte && byte <= 0xbf
 }
 
-// Whether two bytes after 0xe2 make a direction control, or a line end.
-fn is_mark(second: u8, third: u8) -> bool
-    ensures { result ≡ is_mark second third }
+// Whether two bytes are a hidden character.
+fn hides_two(first: u8, second: u8) -> bool
+    ensures { result ≡ hides_two first second }
 {
-    match second {
-        0x80 => matches!(third, 0x8e..=0x8f | 0xa8..=0xae),
-        0x81 => matches!(third, 0xa6..=0xa9),
-        _ => false,
-    }
+    (0xc2 <= first && first <= 0xdf && is_tail(second)) && is_hidden(char_of_two(first, second))
+}
+
+// Whether three bytes are a hidden character.
+fn hides_three(first: u8, second: u8, third: u8) -> bool
+    ensures { result ≡ hides_three first second third }
+{
+    (0xe1 <= first && first <= 0xef && (is_tail(second) && is_tail(third)))
+        && is_hidden(char_of_three(first, second, third))
+}
+
+// Whether four bytes are a hidden character.
+fn hides_four(first: u8, second: u8, third: u8, fourth: u8) -> bool
+    ensures { result ≡ hides_four first second third fourth }
+{
+    (0xf1 <= first && first <= 0xf4 && (is_tail(second) && (is_tail(third) && is_tail(fourth))))
+        && is_hidden(char_of_four(first, second, third, fourth))
+}
+
+// Returns the number of a character of two bytes.
+fn char_of_two(first: u8, second: u8) -> u32
+    ensures { result ≡ char_of_two first second }
+{
+    u32::from(first) % 0x20 * 0x40 + u32::from(second) % 0x40
+}
+
+// Returns the number of a character of three bytes.
+fn char_of_three(first: u8, second: u8, third: u8) -> u32
+    ensures { result ≡ char_of_three first second third }
+{
+    u32::from(first) % 0x10 * 0x1000 + u32::from(second) % 0x40 * 0x40 + u32::from(third) % 0x40
+}
+
+// Returns the number of a character of four bytes.
+fn char_of_four(first: u8, second: u8, third: u8, fourth: u8) -> u32
+    ensures { result ≡ char_of_four first second third fourth }
+{
+    u32::from(first) % 8 * 0x4_0000
+        + u32::from(second) % 0x40 * 0x1000
+        + u32::from(third) % 0x40 * 0x40
+        + u32::from(fourth) % 0x40
+}
+
+// Whether a character from U+0080 on is hidden.
+#[tactic(auto, unfolding(crate::specs::Escapes::is_hidden))]
+fn is_hidden(char: u32) -> bool
+    ensures { result ≡ is_hidden char }
+{
+    matches!(
+        char,
+        0x80..=0x9f
+            | 0xad
+            | 0x61c
+            | 0x180e
+            | 0x200b..=0x200f
+            | 0x2028..=0x202e
+            | 0x2060..=0x206f
+            | 0xfeff
+            | 0xfff9..=0xfffb
+            | 0xe0001
+            | 0xe0020..=0xe007f
+    )
 }
 
 // Writes the escape of the first character.
@@ -151,7 +217,20 @@ fn write_escape<W: fmt::Write>(f: &mut Formatter<W>, style: Style, bytes: &[u8])
         Style::Json if byte == b'"' => f.write_str("\\\""),
         Style::Json => {
             let number = hidden_char(bytes);
-            write!(f, "\\u{number:04x}")
+            write_number(f, number)
+        }
+    }
+}
+
+// Writes the number of a character as JSON has it.
+fn write_number<W: fmt::Write>(f: &mut Formatter<W>, number: u32) -> fmt::Result
+    ensures { WritesOnOk W.write_str_gives f.old result (json_escape number) f.new }
+{
+    match number.checked_sub(0x1_0000) {
+        None => write!(f, "\\u{number:04x}"),
+        Some(rest) => {
+            let (high, low) = (0xd800 + rest / 0x400, 0xdc00 + rest % 0x400);
+            write!(f, "\\u{high:04x}\\u{low:04x}")
         }
     }
 }
@@ -160,11 +239,12 @@ fn write_escape<W: fmt::Write>(f: &mut Formatter<W>, style: Style, bytes: &[u8])
 fn hidden_char(bytes: &[u8]) -> u32
     ensures { result ≡ hidden_char bytes.now }
 {
-    let (second, third) = (u32::from(byte_in(bytes, 1)), u32::from(byte_in(bytes, 2)));
+    let (first, second) = (byte_in(bytes, 0), byte_in(bytes, 1));
     match hidden_len(bytes) {
-        1 => u32::from(byte_in(bytes, 0)),
-        2 => second,
-        _ => 0x2000 + second % 0x40 * 0x40 + third % 0x40,
+        1 => u32::from(first),
+        2 => char_of_two(first, second),
+        3 => char_of_three(first, second, byte_in(bytes, 2)),
+        _ => char_of_four(first, second, byte_in(bytes, 2), byte_in(bytes, 3)),
     }
 }
 

@@ -1,23 +1,25 @@
 //! The files of a call: each is shown part by part.
 
-ghost use Rattle.std.specs.Prelude.{◌≡◌, ◌≤◌, Bool, Ok, max, true, IfErr, IfOk};
+ghost use Rattle.std.specs.Prelude.{◌≡◌, ◌==◌, ◌≤◌, Bool, Ok, max, not, true, IfErr, IfOk};
 ghost use Rattle.goblin_mach.specs.ItemsLeft.{input_item_read};
 ghost use Rattle.mach_cli.specs.Labels.{label_of, label_view};
-ghost use Rattle.mach_cli.specs.PartsOf.{parts_in};
+ghost use Rattle.mach_cli.specs.Selected.{within_left};
 ghost use Rattle.mach_cli.specs.InOrder.{InOrder};
 ghost use Rattle.mach_cli.specs.ShownCalls.{manner_in, ShowsBytes, ShowsContent, ShowsFiles, ShowsFilesBy, ShowsList, ShowsListed, ShowsNamed, ShowsPart};
 ghost use Rattle.mach_cli.specs.ShownCalls.{file_itself, have_title, no_text_status, ShowsTitled};
 ghost use Rattle.mach_cli.specs.ShownParts.{shown_in, shown_part_view};
-ghost use Rattle.mach_cli.specs.Statuses.{IsStatus, IsUnwritten};
+ghost use Rattle.mach_cli.specs.Statuses.{status_by, IsStatus, IsUnwritten};
 
+use crate::bounds::most_images;
 use crate::cpu::Cpu;
+use crate::entries::outside_at;
 use crate::first_bytes::begins_fat;
 use crate::label::Label;
 use crate::named::{Others, names_of};
 use crate::names::Names;
-use crate::parts::parts_of;
-use crate::parts::selection::{is_for, is_missed};
+use crate::parts::selection::{SelectedParts, are_more, is_missed};
 use crate::parts::shown::{ShownPart, shown_part};
+use crate::parts::{parts_left_out, parts_of};
 use crate::program::Program;
 use crate::progress::Progress;
 use crate::refusal::{Refusal, complain};
@@ -26,6 +28,7 @@ use crate::titled::{Titled, put_title};
 use crate::word::NoText;
 use goblin_mach::InputItem;
 use mach_base::describe;
+use mach_parts::FatArch64;
 use std::alloc::{AllocError, Allocator, Global};
 use std::io::{BufWriter, IsTerminal, Write};
 use std::str;
@@ -56,6 +59,8 @@ pub struct Files {
     pub has_titles: bool,
     /// Whether each part of a file is shown, instead of the file itself.
     pub has_parts: bool,
+    /// How many lines of a file are shown, and of its parts as many, and one at least.
+    pub limit: usize,
 }
 
 // A call over files.
@@ -312,50 +317,62 @@ impl Running {
         if !self.files.has_parts {
             return self.show_itself(rt, shows, file, bytes, out);
         }
-        if is_missed(rt.alloc(), self.files.cpu, bytes) {
+        let parts = parts_of(rt.alloc(), bytes);
+        let Files { cpu, limit, .. } = self.files;
+        let count = most_images(limit);
+        if is_missed(cpu, parts) {
             return Ok(self.miss(rt, file));
         }
-        self.show_parts(rt, shows, file, bytes, out)
+        let first = SelectedParts::of(count, cpu, parts);
+        let status = self.show_parts(rt, shows, file, bytes, first, out)?;
+        let cut = self.cut(rt, file, are_more(count, cpu, parts));
+        let left_out = self.leave_out(rt, file, parts_left_out(rt.alloc(), bytes));
+        Ok(worse(worse(status, cut), left_out))
     }
 
-    // Shows the selected parts of a file, and returns the worst status.
+    // Shows these parts of a file, and returns the worst status.
     fn show_parts<S: FileView<BufWriter<Titled<W>, B>>, W: Write + Drop, B: Allocator>(
         &self,
         rt: &HostRuntime,
         shows: &S,
         file: &str,
         bytes: &[u8],
+        parts: SelectedParts<'_>,
         out: &mut BufWriter<Titled<W>, B>,
     ) -> Result<u8, u8>
         ensures shown { IfOk result (λ worst. InOrder (ShowsPart (manner_in self.now (S.shows shows.now))
-            file.now) (parts_in bytes.now) out.old out.new worst) }
+            file.now bytes.now) (within_left parts.entry) out.old out.new worst) }
         ensures unwritten { IfErr result (λ status. IsUnwritten status) }
     {
         let mut worst = 0u8;
-        'parts: for part in parts_of(rt.alloc(), bytes) {
-            let status = self.show_selected(rt, shows, file, part, out)?;
+        'parts: for part in parts {
+            let status = self.show_placed(rt, shows, file, bytes, part, out)?;
             worst = worse(worst, status);
         }
         Ok(worst)
     }
 
-    // Shows a part of a file, if it is selected, and returns the status.
-    fn show_selected<S: FileView<BufWriter<Titled<W>, B>>, W: Write + Drop, B: Allocator>(
+    // Shows a part of a file that is selected, if it is not out of the file, and returns the status.
+    fn show_placed<S: FileView<BufWriter<Titled<W>, B>>, W: Write + Drop, B: Allocator>(
         &self,
         rt: &HostRuntime,
         shows: &S,
         file: &str,
+        bytes: &[u8],
         part: InputItem<'_>,
         out: &mut BufWriter<Titled<W>, B>,
     ) -> Result<u8, u8>
         ensures shown { IfOk result (λ status. ShowsPart (manner_in self.now (S.shows shows.now))
-            file.now (input_item_read part.entry) out.old out.new status) }
+            file.now bytes.now (input_item_read part.entry) out.old out.new status) }
         ensures unwritten { IfErr result (λ status. IsUnwritten status) }
     {
-        if !is_for(self.files.cpu, &part.place) {
-            return Ok(0);
+        match outside_at::<FatArch64>(bytes, part.place.entry) {
+            None => self.show_part(rt, shows, file, part, out),
+            Some(outside) => {
+                let label = Label::of(&part);
+                Ok(self.refuse(rt, file, label, Refusal::OutOfFile(outside)))
+            }
         }
-        self.show_part(rt, shows, file, part, out)
     }
 
     // Shows a part of a file, and returns the status.
@@ -469,6 +486,27 @@ impl Running {
         ensures { result ≡ 1 }
     {
         self.refuse(rt, file, Label::None, Refusal::NoEntry(self.files.cpu))
+    }
+
+    // Reports that more parts of a file are selected than the limit allows, if so, and returns the status.
+    fn cut(&self, rt: &HostRuntime, file: &str, is_cut: bool) -> u8
+        ensures { result ≡ status_by (not is_cut) }
+    {
+        if !is_cut {
+            return 0;
+        }
+        let count = most_images(self.files.limit);
+        self.refuse(rt, file, Label::None, Refusal::Limit(count))
+    }
+
+    // Reports how many entries of a file are left out, if there are some, and returns the status.
+    fn leave_out(&self, rt: &HostRuntime, file: &str, count: usize) -> u8
+        ensures { result ≡ status_by (count == 0) }
+    {
+        if count == 0 {
+            return 0;
+        }
+        self.refuse(rt, file, Label::None, Refusal::LeftOut(count))
     }
 
     // Reports that a file, or a part with this label, is refused, and returns the status.

@@ -3,18 +3,20 @@
 ghost use Rattle.std.specs.Prelude.{◌≡◌, ◌∷◌, [], MatchOption};
 ghost use Rattle.mach_cli.specs.FirstMagic.{begins_fat};
 ghost use Rattle.mach_cli.specs.Foreigners.{refused_kind};
-ghost use Rattle.mach_cli.specs.PartsOf.{itself, parts_in, IsDivided};
+ghost use Rattle.mach_cli.specs.PartsOf.{entry_counts, itself, parts_in, wide_counts, IsDivided};
 ghost use Rattle.mach_cli.specs.Kinds.{entry_kind};
 ghost use Rattle.mach_parts.specs.Magic.{begins_archive};
 
-use goblin_mach::fat::FAT_MAGIC;
+use crate::entries::{EntryCounts, NO_ENTRIES, counts_in};
+use goblin_mach::fat::{FAT_MAGIC, FatArch};
 use goblin_mach::first_bytes::foreign_kind;
 use goblin_mach::{
     Error, FAT_MAGIC_64, Foreign, Hint, Input, MultiArch64, begins_archive, peek, peek_bytes,
     take_hint_bytes,
 };
 use mach_archive::Archive;
-use std::alloc::Global;
+use mach_parts::FatArch64;
+use std::alloc::{Allocator, Global};
 
 /// Returns the kind of a file that is refused for this error, if it isn't Mach-O. If memory ran out, any file has none.
 pub fn refused_kind(bytes: &[u8], error: &Error) -> Option<Foreign>
@@ -42,6 +44,32 @@ pub fn divided(alloc: Global, bytes: &[u8]) -> Option<Input<'_>>
             Err(_) => None,
         },
         _ => None,
+    }
+}
+
+/// Returns how many entries of a file are shown, and how many aren't. Of what is no fat file there are none.
+pub fn entry_counts<A: Allocator>(alloc: A, bytes: &[u8]) -> EntryCounts
+    ensures { result ≡ entry_counts bytes.now }
+{
+    let is_archive = begins_archive(bytes);
+    if is_archive {
+        return NO_ENTRIES;
+    }
+    match peek(bytes, 0) {
+        Ok(FAT_MAGIC_64) => counts_in::<FatArch64, A>(alloc, bytes),
+        Ok(FAT_MAGIC) => counts_in::<FatArch, A>(alloc, bytes),
+        _ => NO_ENTRIES,
+    }
+}
+
+/// Returns the same of a fat file of 64 bits. Of one of 32 bits there are none, since it isn't divided.
+pub fn wide_counts(alloc: Global, bytes: &[u8]) -> EntryCounts
+    ensures { result ≡ wide_counts bytes.now }
+{
+    if begins_fat(bytes) {
+        NO_ENTRIES
+    } else {
+        entry_counts(alloc, bytes)
     }
 }
 

@@ -72,6 +72,7 @@ impl<T: Copy, J: Copy> ImageFiles<T, J> {
             cpu: self.cpu,
             has_titles: self.has_titles & !self.is_json,
             has_parts: true,
+            limit: self.limit,
         }
     }
 

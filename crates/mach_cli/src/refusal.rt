@@ -10,6 +10,7 @@ ghost use Rattle.mach_cli.specs.Names.{names_text};
 ghost use Rattle.mach_cli.specs.Refusals.{complaint, content_words, label_complaint, refusal_reason};
 
 use crate::cpu::Cpu;
+use crate::entries::OutOfFile;
 use crate::first_bytes::refused_kind;
 use crate::label::{Label, LabelSuffix};
 use crate::names::Names;
@@ -33,6 +34,12 @@ pub enum Refusal<'a> {
     Memory,
     /// It lacks what is selected; these are the words for that.
     Lacks(&'static str),
+    /// It is an entry whose bytes aren't all in the file.
+    OutOfFile(OutOfFile),
+    /// So many of its entries are left out, since entries overlap.
+    LeftOut(usize),
+    /// So many of its images are shown, and the limit leaves out more.
+    Limit(usize),
 }
 
 impl Display for Refusal<'_> {
@@ -48,6 +55,13 @@ impl Display for Refusal<'_> {
             Refusal::NoEntry(cpu) => write!(f, "no entry of {cpu}"),
             Refusal::Memory => write!(f, "out of memory"),
             Refusal::Lacks(words) => write!(f, "{words}"),
+            Refusal::OutOfFile(outside) => write!(f, "{outside}"),
+            Refusal::LeftOut(count) => {
+                write!(f, "entries overlap: the last {count} are left out")
+            }
+            Refusal::Limit(count) => {
+                write!(f, "limit: only the first {count} of its images are shown")
+            }
         }
     }
 }

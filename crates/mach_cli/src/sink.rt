@@ -23,13 +23,19 @@ pub trait Sink: Copy {
 
     ghost texts: { SinkTexts };
 
-    /// Begins a file that has images.
-    fn begin_file<O: Write>(&self, out: &mut O) -> io::Result<()>
-        ensures { OnOk result (Appends (O.contents out.old) (O.contents out.new) texts.file_front) };
+    /// Begins a file that has images, of whose entries so many are left out.
+    fn begin_file<O: Write>(&self, left_out: usize, out: &mut O) -> io::Result<()>
+        ensures { OnOk result (Appends (O.contents out.old) (O.contents out.new) (texts.file_front left_out)) };
 
-    /// Ends a file of this kind and name.
-    fn end_file<O: Write>(&self, kind: &str, name: &str, out: &mut O) -> io::Result<()>
-        ensures { OnOk result (Appends (O.contents out.old) (O.contents out.new) (texts.file_end kind.now name.now)) };
+    /// Ends a file of this kind and name. It says whether the limit leaves out more of its images.
+    fn end_file<O: Write>(
+        &self,
+        is_cut: bool,
+        kind: &str,
+        name: &str,
+        out: &mut O,
+    ) -> io::Result<()>
+        ensures { OnOk result (Appends (O.contents out.old) (O.contents out.new) (texts.file_end is_cut kind.now name.now)) };
 
     /// Writes, in place of its images, why nothing is shown of a file of this name.
     fn refuse_file<O: Write>(&self, name: &str, refusal: Refusal<'_>, out: &mut O) -> io::Result<()>
@@ -69,11 +75,17 @@ pub struct Text;
 impl Sink for Text {
     ghost texts = { text_texts };
 
-    fn begin_file<O: Write>(&self, _out: &mut O) -> io::Result<()> {
+    fn begin_file<O: Write>(&self, _left_out: usize, _out: &mut O) -> io::Result<()> {
         Ok(())
     }
 
-    fn end_file<O: Write>(&self, _kind: &str, _name: &str, _out: &mut O) -> io::Result<()> {
+    fn end_file<O: Write>(
+        &self,
+        _is_cut: bool,
+        _kind: &str,
+        _name: &str,
+        _out: &mut O,
+    ) -> io::Result<()> {
         Ok(())
     }
 
@@ -123,12 +135,18 @@ pub struct NmText;
 impl Sink for NmText {
     ghost texts = { nm_texts };
 
-    fn begin_file<O: Write>(&self, out: &mut O) -> io::Result<()> {
-        Text.begin_file(out)
+    fn begin_file<O: Write>(&self, left_out: usize, out: &mut O) -> io::Result<()> {
+        Text.begin_file(left_out, out)
     }
 
-    fn end_file<O: Write>(&self, kind: &str, name: &str, out: &mut O) -> io::Result<()> {
-        Text.end_file(kind, name, out)
+    fn end_file<O: Write>(
+        &self,
+        is_cut: bool,
+        kind: &str,
+        name: &str,
+        out: &mut O,
+    ) -> io::Result<()> {
+        Text.end_file(is_cut, kind, name, out)
     }
 
     fn refuse_file<O: Write>(
@@ -174,13 +192,23 @@ pub struct Json;
 impl Sink for Json {
     ghost texts = { json_texts };
 
-    fn begin_file<O: Write>(&self, out: &mut O) -> io::Result<()> {
-        write!(out, "{{\"images\":[")
+    fn begin_file<O: Write>(&self, left_out: usize, out: &mut O) -> io::Result<()> {
+        if left_out == 0 {
+            return write!(out, "{{\"images\":[");
+        }
+        write!(out, "{{\"entries_left_out\":{left_out},\"images\":[")
     }
 
-    fn end_file<O: Write>(&self, kind: &str, name: &str, out: &mut O) -> io::Result<()> {
+    fn end_file<O: Write>(
+        &self,
+        is_cut: bool,
+        kind: &str,
+        name: &str,
+        out: &mut O,
+    ) -> io::Result<()> {
         let name = JsonString(name);
-        writeln!(out, "],\"kind\":\"{kind}\",\"name\":{name}}}")
+        let cut = if is_cut { ",\"limit_met\":true" } else { "" };
+        writeln!(out, "],\"kind\":\"{kind}\"{cut},\"name\":{name}}}")
     }
 
     fn refuse_file<O: Write>(

@@ -238,7 +238,7 @@ impl<'a> BindRules<'a> for BindingSettings {
         }
         let (opcode, top) = (byte & BIND_OPCODE_MASK, highest(state.settings.is_lazy));
         if opcode > top {
-            return Error::Malformed("an opcode of a stream is known");
+            return Error::Malformed("an opcode is unknown");
         }
         instruction_error(bytes, pointer, state.place, byte)
     }
@@ -246,14 +246,16 @@ impl<'a> BindRules<'a> for BindingSettings {
     // Returns why a bind has no binding.
     fn refusal(self, source: &Source<'a, '_>, settings: &Settings<'a>) -> Error {
         if !self.has_ordinal {
-            return Error::Malformed("a bind has an ordinal");
+            return Error::Malformed("a bind has no ordinal");
         }
         if !self.is_complete(settings.library) {
-            return Error::Malformed("a bind has a name, a segment and a type");
+            return Error::Malformed("a bind lacks its name, its segment or its type");
         }
         match self.provider(source.libs, settings.library) {
-            None => Error::Malformed("a bind's ordinal is one of a provider"),
-            Some(_) => Error::Malformed("a bind lies inside its segment, at places of 64 bits"),
+            None => Error::Malformed("a bind's ordinal names no provider"),
+            Some(_) => Error::Malformed(
+                "a bind is outside its segment, or its place does not fit in 64 bits",
+            ),
         }
     }
 

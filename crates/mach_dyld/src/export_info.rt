@@ -1,8 +1,9 @@
 //! The meaning of an export, by its flags.
 
-ghost use Rattle.std.specs.Prelude.{◌≡◌, codes};
+ghost use Rattle.std.specs.Prelude.{◌≡◌, ◌==◌, ◌+◌, ◌%◌, ◌^◌, codes, if◌then◌else◌};
 ghost use Rattle.mach_base.specs.Answer.{Reads};
 ghost use Rattle.mach_dyld.specs.Nodes.{library, name_of, regular_at, reexport_at, stub_at, info_at};
+ghost use Rattle.mach_dyld.specs.ExportAddresses.{export_offset, export_address, resolver_address};
 ghost use Rattle.mach_dyld.specs.Exports.{text_in, info_of};
 ghost use Rattle.mach_base.specs.Text.{texts};
 ghost use Rattle.mach_dyld.specs.SymbolKind.{symbol_kind, kind_name};
@@ -72,9 +73,10 @@ impl SymbolKind {
 /// The meaning of an export.
 #[derive(Debug, Drop)]
 pub enum ExportInfo<'a> {
-    /// An address in the image, as an offset from the image's start.
+    /// An address in the image, as an offset from the image's base address, which `MachO::base` returns. Of an absolute symbol
+    /// it is the address itself.
     Regular {
-        /// The offset of the address.
+        /// That offset, or the address of an absolute symbol. `ExportInfo::address` returns the address of both.
         address: u64,
         /// Its flags.
         flags: u64,
@@ -88,7 +90,7 @@ pub enum ExportInfo<'a> {
         /// Its flags.
         flags: u64,
     },
-    /// A stub, and a resolver that returns the address to use. Both are offsets from the image's start.
+    /// A stub, and a resolver that returns the address to use. Both are offsets from the image's base address.
     Stub {
         /// The offset of the stub.
         stub_offset: Uleb128,
@@ -123,13 +125,64 @@ impl<'a> ExportInfo<'a> {
     }
 }
 
+impl ExportInfo<'_> {
+    /// Returns the number that the trie has for the export: its offset from the base of the image, or the address of an
+    /// absolute symbol. Of a stub it is the stub's. A re-export has none.
+    pub fn offset(&self) -> Option<u64>
+        ensures { result ≡ export_offset (info_of self.now) }
+    {
+        match self {
+            ExportInfo::Regular { address, .. } => Some(*address),
+            ExportInfo::Reexport { .. } => None,
+            ExportInfo::Stub { stub_offset, .. } => Some(u64::from(*stub_offset)),
+        }
+    }
+
+    /// Returns the address of the export, before sliding, in an image with this base (`MachO::base`): base plus offset, and of
+    /// an absolute symbol its number. The sum wraps at 2^64, as dyld's does. A re-export has none.
+    pub fn address(&self, base: u64) -> Option<u64>
+        ensures { result ≡ export_address base (info_of self.now) }
+    {
+        match self {
+            ExportInfo::Regular { address, flags } => Some(regular_address(base, *address, *flags)),
+            ExportInfo::Reexport { .. } => None,
+            ExportInfo::Stub { stub_offset, .. } => {
+                Some(base.wrapping_add(u64::from(*stub_offset)))
+            }
+        }
+    }
+
+    /// Returns the address of a stub's resolver, before sliding, in an image with this base. Other exports have none.
+    pub fn resolver_address(&self, base: u64) -> Option<u64>
+        ensures { result ≡ resolver_address base (info_of self.now) }
+    {
+        match self {
+            ExportInfo::Stub {
+                resolver_offset,
+                ..
+            } => Some(base.wrapping_add(u64::from(*resolver_offset))),
+            ExportInfo::Regular { .. } | ExportInfo::Reexport { .. } => None,
+        }
+    }
+}
+
+// Returns the address of a regular export with this number and these flags, in an image with this base.
+fn regular_address(base: u64, number: u64, flags: u64) -> u64
+    ensures { result ≡ (if flags % 4 == 2 then number else (base + number) % 2 ^ 64) }
+{
+    match SymbolKind::new(flags) {
+        SymbolKind::Absolute => number,
+        _ => base.wrapping_add(number),
+    }
+}
+
 // Returns the library with an ordinal.
 fn library<'a>(libs: &[&'a str], ordinal: u64) -> Result<&'a str>
     ensures { Reads (λ lib. lib.now) result (library (texts libs.now) ordinal) }
 {
     match libs.get(ordinal as usize) {
         Some(lib) => Ok(*lib),
-        None => Err(Error::Malformed("an ordinal is one of a library")),
+        None => Err(Error::Malformed("an ordinal names no library")),
     }
 }
 

@@ -35,7 +35,8 @@ pub struct Export<'a, A: Allocator = Global> {
     pub info: ExportInfo<'a>,
     /// Always 0: a trie holds no sizes.
     pub size: usize,
-    /// The offset of a regular export from the image's start, else 0.
+    /// Of a regular export its offset from the image's base address, or the address of an absolute symbol; else 0.
+    /// `MachO::export_address` returns the address, of stubs too.
     pub offset: u64,
 }
 

@@ -272,7 +272,7 @@ fn test_opcode(bytes: &[u8], pointer: u8, opcode: Opcode, imm: u8, place: usize)
         | REBASE_OPCODE_SET_TYPE_IMM
         | REBASE_OPCODE_ADD_ADDR_IMM_SCALED
         | REBASE_OPCODE_DO_REBASE_IMM_TIMES => {}
-        _ => return Err(Error::Malformed("an opcode of a stream is known")),
+        _ => return Err(Error::Malformed("an opcode is unknown")),
     }
     Ok(())
 }
@@ -340,9 +340,9 @@ impl<'a> BindRules<'a> for Rebasing {
     // Returns why there is no rebase.
     fn refusal(self, _source: &Source<'a, '_>, _settings: &Settings<'a>) -> Error {
         if !self.has_segment || RebaseKind::of(self.kind).is_none() {
-            return Error::Malformed("a rebase has a segment and a type");
+            return Error::Malformed("a rebase lacks its segment or its type");
         }
-        Error::Malformed("a rebase lies inside its segment, at an address of 64 bits")
+        Error::Malformed("a rebase is outside its segment, or its address does not fit in 64 bits")
     }
 
     #[tactic(auto, using(mach_parts::proofs::SegmentViews::segment_seen), unfolding(crate::specs::Rebases::rebase_of))]

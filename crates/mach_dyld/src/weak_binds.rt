@@ -164,7 +164,7 @@ fn name_error(bytes: &[u8], flags: u8, place: usize) -> Error
 {
     match read_text(bytes, place) {
         Err(e) => e,
-        Ok(_) => Error::Malformed("a name ends inside its stream"),
+        Ok(_) => Error::Malformed("a name runs past its stream"),
     }
 }
 
@@ -251,10 +251,10 @@ impl<'a> BindRules<'a> for WeakBindSettings {
         }
         let (opcode, imm) = (byte & BIND_OPCODE_MASK, byte & BIND_IMMEDIATE_MASK);
         if opcode < LOWEST_WEAK {
-            return Error::Malformed("a weak bind names no provider");
+            return Error::Malformed("a weak bind names a provider");
         }
         if opcode > HIGHEST_WEAK {
-            return Error::Malformed("an opcode of a stream is known");
+            return Error::Malformed("an opcode is unknown");
         }
         if opcode == BIND_OPCODE_SET_SYMBOL_TRAILING_FLAGS_IMM {
             return name_error(bytes, imm, state.place + 1);
@@ -265,9 +265,9 @@ impl<'a> BindRules<'a> for WeakBindSettings {
     // Returns why a bind has no row.
     fn refusal(self, _source: &Source<'a, '_>, _settings: &Settings<'a>) -> Error {
         if !self.is_complete() {
-            return Error::Malformed("a bind has a name, a segment and a type");
+            return Error::Malformed("a bind lacks its name, its segment or its type");
         }
-        Error::Malformed("a bind lies inside its segment, at places of 64 bits")
+        Error::Malformed("a bind is outside its segment, or its place does not fit in 64 bits")
     }
 
     #[tactic(auto, unfolding(crate::specs::WeakBinds::weak_bind_of))]

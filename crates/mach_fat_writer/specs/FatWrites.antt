@@ -14,9 +14,9 @@ pub data FatRefusal : Type 0 where
   too_far : FatRefusal
 
 abbrev pub words_of_refusal : FatRefusal → List ℕ
-words_of_refusal far_aligned = codes "an entry of a fat file is aligned to 2^15 at most"
-words_of_refusal one_cpu_twice = codes "two entries of a fat file are for two cpus"
-words_of_refusal too_far = codes "a record holds its entry's place and length"
+words_of_refusal far_aligned = codes "an entry is aligned to more than 2^15"
+words_of_refusal one_cpu_twice = codes "two entries are for one cpu"
+words_of_refusal too_far = codes "an entry's place or length does not fit in its record"
 
 abbrev pub is_far_aligned : FatEntryView → Bool
 is_far_aligned e = nat_lt 15 e.align

@@ -44,7 +44,7 @@ impl Cpu {
     {
         match parse_magic_and_ctx(bytes, 0) {
             Ok((_, Some(ctx))) => Cpu::of_image(bytes, ctx),
-            _ => Err(Error::Malformed("a member is an image")),
+            _ => Err(Error::Malformed("a member is not an image")),
         }
     }
 
@@ -72,7 +72,7 @@ impl Cpu {
                 None => return Ok(self),
                 Some(item) => {
                     if !Cpu::of_item(item)?.is(self) {
-                        return Err(Error::Malformed("all members are for one cpu"));
+                        return Err(Error::Malformed("members are for different cpus"));
                     }
                 }
             }
@@ -84,7 +84,7 @@ impl Cpu {
         ensures { Reads cpu_view result (cpu_of_members (members_left members.entry)) }
     {
         match members.next() {
-            None => Err(Error::Malformed("an archive has a member")),
+            None => Err(Error::Malformed("the archive has no member")),
             Some(item) => Cpu::of_item(item)?.if_of_all(members),
         }
     }

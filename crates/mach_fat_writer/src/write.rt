@@ -67,14 +67,14 @@ pub(crate) fn declared_ends<R: FatRecord, A: Allocator>(
         (λ e. RefusesFat e (fat_file_of R.form (entry_views entries.now))) }
 {
     if any_far_aligned(entries) {
-        return Err(Error::Malformed("an entry of a fat file is aligned to 2^15 at most"));
+        return Err(Error::Malformed("an entry is aligned to more than 2^15"));
     }
     if any_two_of_one_cpu(&alloc, entries)? {
-        return Err(Error::Malformed("two entries of a fat file are for two cpus"));
+        return Err(Error::Malformed("two entries are for one cpu"));
     }
     match ends_of::<R>(entries) {
         Some(ends) => Ok(ends),
-        None => Err(Error::Malformed("a record holds its entry's place and length")),
+        None => Err(Error::Malformed("an entry's place or length does not fit in its record")),
     }
 }
 

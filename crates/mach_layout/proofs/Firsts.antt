@@ -11,7 +11,7 @@ use Rattle.std.specs.List.{cons_option}
 use Rattle.mach_load.specs.Command.{Command}
 use Rattle.mach_load.specs.Variants.{command_of}
 use Rattle.mach_load.specs.declared.load_command.LoadCommand.{LoadCommand}
-use Rattle.mach_layout.specs.Commands.{command_owner, set_of, is_number, is_of_set, once_more, first_owner, command_again, commands_again}
+use Rattle.mach_layout.specs.Commands.{command_owner, set_in, is_number, is_of_set, once_more, first_owner, command_again, commands_again}
 use Rattle.mach_layout.specs.declared.fault.LayoutFault.{LayoutFault}
 use Rattle.mach_layout.specs.declared.fault.Owner.{Owner}
 use Rattle.mach_layout.proofs.OneByOne.{from_here, before_next, onto}
@@ -65,18 +65,18 @@ module _ (before : List Command) (c : Command) (s : ℕ) where
   first_made none e = one_more true e ∙ or_other (find (is_of_set s) before) (next true) none
 
 -- the fault of a command, by its set and the first of that set
-pub again_none : (before : List Command) (c : Command) → set_of c.kind ≡ None → command_again before c ≡ None
+pub again_none : (before : List Command) (c : Command) → set_in c ≡ None → command_again before c ≡ None
 again_none before c e = ap (option_and_then (λ (k : ℕ). option_map (once_more c) (first_owner before k))) e
 
-pub again_by : (before : List Command) (c : Command) (s : ℕ) (first : Option Owner) → set_of c.kind ≡ Some s → first_owner before s ≡ first
+pub again_by : (before : List Command) (c : Command) (s : ℕ) (first : Option Owner) → set_in c ≡ Some s → first_owner before s ≡ first
     → command_again before c ≡ option_map (once_more c) first
 again_by before c s first e is =
     ap (option_and_then (λ (k : ℕ). option_map (once_more c) (first_owner before k))) e ∙ ap (option_map (once_more c)) is
 
-pub of_no_set : (c : Command) (s : ℕ) → set_of c.kind ≡ None → is_of_set s c ≡ false
+pub of_no_set : (c : Command) (s : ℕ) → set_in c ≡ None → is_of_set s c ≡ false
 of_no_set c s e = ap (is_number s) e
 
-pub of_set : (c : Command) (s own : ℕ) → set_of c.kind ≡ Some own → is_of_set s c ≡ eqb own s
+pub of_set : (c : Command) (s own : ℕ) → set_in c ≡ Some own → is_of_set s c ≡ eqb own s
 of_set c s own e = ap (is_number s) e
 
 -- the faults so far, followed by those from the next command on, are the same after the next command
@@ -91,7 +91,7 @@ reported_on fs more all xs i d reported lt is added so_far =
 
 -- the marks hold the first command of each set, among the first ones, as an owner
 abbrev pub AreFirsts : List (Option Owner) → List Command → Type 0
-AreFirsts marks before = (s : ℕ) → s < 22 → get_or marks s None ≡ first_owner before s
+AreFirsts marks before = (s : ℕ) → s < 25 → get_or marks s None ≡ first_owner before s
 
 module _ (marks : List (Option Owner)) (xs : List LoadCommand) (i : ℕ) (d : LoadCommand) (lt : i < length xs) where
   abbrev before : List Command
@@ -103,13 +103,13 @@ module _ (marks : List (Option Owner)) (xs : List LoadCommand) (i : ℕ) (d : Lo
   with_next : (s : ℕ) → first_owner (map command_of (take (i + 1) xs)) s ≡ first_owner (before ++ this ∷ []) s
   with_next s = ap (λ (cs : List Command). first_owner cs s) (before_next xs i d lt)
 
-  pub firsts_none : AreFirsts marks before → set_of this.kind ≡ None → AreFirsts marks (map command_of (take (i + 1) xs))
+  pub firsts_none : AreFirsts marks before → set_in this ≡ None → AreFirsts marks (map command_of (take (i + 1) xs))
   firsts_none were e s few = were s few ∙ sym (with_next s ∙ first_left before this s (of_no_set this s e))
 
-  other_set : (own s : ℕ) → set_of this.kind ≡ Some own → own ≢ s → first_owner before s ≡ first_owner (map command_of (take (i + 1) xs)) s
+  other_set : (own s : ℕ) → set_in this ≡ Some own → own ≢ s → first_owner before s ≡ first_owner (map command_of (take (i + 1) xs)) s
   other_set own s e ne = sym (with_next s ∙ first_left before this s (of_set this s own e ∙ ne_eqb own s ne))
 
-  pub firsts_kept : (own : ℕ) (first : Owner) → own < 22 → AreFirsts marks before → set_of this.kind ≡ Some own → get_or marks own None ≡ Some first
+  pub firsts_kept : (own : ℕ) (first : Owner) → own < 25 → AreFirsts marks before → set_in this ≡ Some own → get_or marks own None ≡ Some first
       → AreFirsts marks (map command_of (take (i + 1) xs))
   firsts_kept own first small were e mark s few = elim (cases_eq own s) [
     | inl same ↦
@@ -118,7 +118,7 @@ module _ (marks : List (Option Owner)) (xs : List LoadCommand) (i : ℕ) (d : Lo
     | inr ne ↦ were s few ∙ other_set own s e ne
   ]
 
-  pub firsts_made : (own : ℕ) (first : Owner) → length marks ≡ 22 → own < 22 → AreFirsts marks before → set_of this.kind ≡ Some own
+  pub firsts_made : (own : ℕ) (first : Owner) → length marks ≡ 25 → own < 25 → AreFirsts marks before → set_in this ≡ Some own
       → get_or marks own None ≡ None → first ≡ command_owner this → AreFirsts (set marks own (Some first)) (map command_of (take (i + 1) xs))
   firsts_made own first len small were e none is s few = elim (cases_eq own s) [
     | inl same ↦
@@ -137,20 +137,20 @@ module _ (fs more all : List LayoutFault) (marks : List (Option Owner)) (xs : Li
   abbrev next_one : Command
   next_one = command_of (get_or xs i d)
 
-  pub reported_none : more ≡ fs → set_of next_one.kind ≡ None → goes_on more
+  pub reported_none : more ≡ fs → set_in next_one ≡ None → goes_on more
   reported_none same e = reported_on fs more all xs i d None lt (again_none (map command_of (take i xs)) next_one e) (same ∙ sym (append-nil fs)) so_far
 
-  reported_by : (own : ℕ) (first : Option Owner) → own < 22 → AreFirsts marks (map command_of (take i xs)) → set_of next_one.kind ≡ Some own
+  reported_by : (own : ℕ) (first : Option Owner) → own < 25 → AreFirsts marks (map command_of (take i xs)) → set_in next_one ≡ Some own
       → get_or marks own None ≡ first → more ≡ fs ++ option_to_list (option_map (once_more next_one) first) → goes_on more
   reported_by own first few were e mark added =
       reported_on fs more all xs i d (option_map (once_more next_one) first) lt
       (again_by (map command_of (take i xs)) next_one own first e (sym (were own few) ∙ mark)) added so_far
 
-  pub reported_first : (own : ℕ) → own < 22 → AreFirsts marks (map command_of (take i xs)) → set_of next_one.kind ≡ Some own
+  pub reported_first : (own : ℕ) → own < 25 → AreFirsts marks (map command_of (take i xs)) → set_in next_one ≡ Some own
       → get_or marks own None ≡ None → more ≡ fs → goes_on more
   reported_first own few were e mark same = reported_by own None few were e mark (same ∙ sym (append-nil fs))
 
-  pub reported_again : (own : ℕ) (first : Owner) (f : LayoutFault) → own < 22 → AreFirsts marks (map command_of (take i xs)) → set_of next_one.kind ≡ Some own
+  pub reported_again : (own : ℕ) (first : Owner) (f : LayoutFault) → own < 25 → AreFirsts marks (map command_of (take i xs)) → set_in next_one ≡ Some own
       → get_or marks own None ≡ Some first → more ≡ fs ++ f ∷ [] → f ≡ once_more next_one first → goes_on more
   reported_again own first f few were e mark added is =
       reported_by own (Some first) few were e mark (added ∙ ap (λ (g : LayoutFault). fs ++ g ∷ []) is)

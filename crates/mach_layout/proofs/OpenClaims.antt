@@ -21,15 +21,15 @@ drop_at {X} xs k x there =
 -- the next table is taken if nothing comes before it
 pub table_next : (laid : Laid) (o : Open) (c : Bor LoadCommand) (x : Claim) → o.first ≡ None
     → open_sections laid.ctx laid.bytes o.segment o.taken ≡ [] → o.command ≡ Some c
-    → slice_get (tables_by laid.ctx (command_of c.now)) o.field ≡ Some x → open_left laid o ≡ x ∷ open_left laid (record o { field = o.field + 1 })
+    → slice_get (tables_by laid (command_of c.now)) o.field ≡ Some x → open_left laid o ≡ x ∷ open_left laid (record o { field = o.field + 1 })
 table_next laid o c x first sections command there =
-    let tables : (k : ℕ) → open_tables laid o.command k ≡ drop k (tables_by laid.ctx (command_of c.now)) =
+    let tables : (k : ℕ) → open_tables laid o.command k ≡ drop k (tables_by laid (command_of c.now)) =
     λ k. ap (λ (d : Option (Bor LoadCommand)). open_tables laid d k) command in
-    let left : (k : ℕ) → open_left laid (record o { field = k }) ≡ drop k (tables_by laid.ctx (command_of c.now)) =
+    let left : (k : ℕ) → open_left laid (record o { field = k }) ≡ drop k (tables_by laid (command_of c.now)) =
     λ k.
     ap (λ (f : Option Claim). listed f
     ++ (flat_map (section_claims laid) (open_sections laid.ctx laid.bytes o.segment o.taken) ++ open_tables laid o.command k)) first
     ∙ ap (λ (ss : List PlacedSection). flat_map (section_claims laid) ss ++ open_tables laid o.command k) sections
     ∙ tables k in
-    left o.field ∙ drop_at (tables_by laid.ctx (command_of c.now)) o.field x there
+    left o.field ∙ drop_at (tables_by laid (command_of c.now)) o.field x there
     ∙ ap (λ (cs : List Claim). x ∷ cs) (sym (left (o.field + 1)))

@@ -3,14 +3,14 @@ use Rattle.std.specs.Prelude.{◌==◌, ℕ, ◌*◌, ◌&&◌, not, Bool, List,
 use Rattle.mach_base.specs.Record.{Value, number_among}
 use Rattle.mach_base.specs.declared.context.Container.{Container}
 use Rattle.mach_base.specs.declared.context.Container.TheVariants.{Little, Big}
-use Rattle.mach_base.specs.declared.context.Ctx.{Ctx}
 use Rattle.mach_load.specs.Command.{Command}
 use Rattle.mach_load.specs.Commands.{Kind, symtab, dysymtab, dyld_info, dyld_info_only, code_signature, segment_split_info, function_starts, data_in_code}
 use Rattle.mach_load.specs.Commands.{dylib_code_sign_drs, linker_optimization_hint, dyld_exports_trie, dyld_chained_fixups, encryption_info32}
-use Rattle.mach_load.specs.Commands.{encryption_info64, note, twolevel_hints, symseg}
+use Rattle.mach_load.specs.Commands.{encryption_info64, note, twolevel_hints, symseg, unimplemented}
+use Rattle.mach_load.specs.Newer.{Newer, NewerKind, atom_info, function_variants, function_variant_fixups, target_triple}
 use Rattle.mach_parts.specs.Section.{is_zero_fill}
 use Rattle.mach_parts.specs.Symbols.{nlist_size}
-use Rattle.mach_layout.specs.Laid.{Laid, is_stub, is_dsym, used_end, placed_segment_of, sections_by}
+use Rattle.mach_layout.specs.Laid.{Laid, newer_of, is_stub, is_dsym, used_end, placed_segment_of, sections_by}
 use Rattle.mach_layout.specs.Rules.{owner_at}
 use Rattle.mach_layout.specs.declared.claim.Claim.{Claim}
 use Rattle.mach_layout.specs.declared.fault.Part.{Part}
@@ -61,30 +61,42 @@ symtab_claims width place vs =
     ∷ claim part.Strings place (number_among vs 4) (number_among vs 5)
     ∷ []
 
--- What a command of a kind claims apart from segments. A command with linker options (LC_LINKER_OPTION) has a count and
--- texts as fields, and claims nothing.
-abbrev pub tables_of_kind : Container → ℕ → Kind → List Value → List Claim
-tables_of_kind width place symtab vs = symtab_claims width place vs
-tables_of_kind width place dysymtab vs = dysymtab_claims width place vs
-tables_of_kind width place dyld_info vs = dyld_info_claims place vs
-tables_of_kind width place dyld_info_only vs = dyld_info_claims place vs
-tables_of_kind width place code_signature vs = linkedit_claims part.Signature place vs
-tables_of_kind width place segment_split_info vs = linkedit_claims part.SplitInfo place vs
-tables_of_kind width place function_starts vs = linkedit_claims part.FunctionStarts place vs
-tables_of_kind width place data_in_code vs = linkedit_claims part.DataInCode place vs
-tables_of_kind width place dylib_code_sign_drs vs = linkedit_claims part.SignatureRequirements place vs
-tables_of_kind width place linker_optimization_hint vs = linkedit_claims part.LinkerHints place vs
-tables_of_kind width place dyld_exports_trie vs = linkedit_claims part.ExportTrie place vs
-tables_of_kind width place dyld_chained_fixups vs = linkedit_claims part.ChainedFixups place vs
-tables_of_kind width place encryption_info32 vs = linkedit_claims part.Encrypted place vs
-tables_of_kind width place encryption_info64 vs = linkedit_claims part.Encrypted place vs
-tables_of_kind width place note vs = claim part.Note place (number_among vs 3) (number_among vs 4) ∷ []
-tables_of_kind width place twolevel_hints vs = claim part.TwolevelHints place (number_among vs 2) (number_among vs 3 * 4) ∷ []
-tables_of_kind width place symseg vs = linkedit_claims part.GdbSymbols place vs
-tables_of_kind width place _ vs = []
+-- what a command claims that goblin's table lacks: a linkedit command its data
+abbrev pub newer_claims_of : ℕ → NewerKind → List Value → List Claim
+newer_claims_of place atom_info vs = linkedit_claims part.AtomInfo place vs
+newer_claims_of place function_variants vs = linkedit_claims part.FunctionVariants place vs
+newer_claims_of place function_variant_fixups vs = linkedit_claims part.FunctionVariantFixups place vs
+newer_claims_of place target_triple vs = []
 
-abbrev pub tables_by : Ctx → Command → List Claim
-tables_by ctx c = tables_of_kind ctx.container c.offset c.kind c.values
+abbrev pub newer_claims : ℕ → Option Newer → List Claim
+newer_claims place None = []
+newer_claims place (Some c) = newer_claims_of place c.kind c.values
+
+-- What a command claims apart from segments, by its kind and its values, or by what it is if goblin's table lacks it. A command
+-- with linker options (LC_LINKER_OPTION) has a count and texts as fields, and claims nothing.
+abbrev pub tables_of_kind : Container → ℕ → Kind → List Value → Option Newer → List Claim
+tables_of_kind width place symtab vs newer = symtab_claims width place vs
+tables_of_kind width place dysymtab vs newer = dysymtab_claims width place vs
+tables_of_kind width place dyld_info vs newer = dyld_info_claims place vs
+tables_of_kind width place dyld_info_only vs newer = dyld_info_claims place vs
+tables_of_kind width place code_signature vs newer = linkedit_claims part.Signature place vs
+tables_of_kind width place segment_split_info vs newer = linkedit_claims part.SplitInfo place vs
+tables_of_kind width place function_starts vs newer = linkedit_claims part.FunctionStarts place vs
+tables_of_kind width place data_in_code vs newer = linkedit_claims part.DataInCode place vs
+tables_of_kind width place dylib_code_sign_drs vs newer = linkedit_claims part.SignatureRequirements place vs
+tables_of_kind width place linker_optimization_hint vs newer = linkedit_claims part.LinkerHints place vs
+tables_of_kind width place dyld_exports_trie vs newer = linkedit_claims part.ExportTrie place vs
+tables_of_kind width place dyld_chained_fixups vs newer = linkedit_claims part.ChainedFixups place vs
+tables_of_kind width place encryption_info32 vs newer = linkedit_claims part.Encrypted place vs
+tables_of_kind width place encryption_info64 vs newer = linkedit_claims part.Encrypted place vs
+tables_of_kind width place note vs newer = claim part.Note place (number_among vs 3) (number_among vs 4) ∷ []
+tables_of_kind width place twolevel_hints vs newer = claim part.TwolevelHints place (number_among vs 2) (number_among vs 3 * 4) ∷ []
+tables_of_kind width place symseg vs newer = linkedit_claims part.GdbSymbols place vs
+tables_of_kind width place unimplemented vs newer = newer_claims place newer
+tables_of_kind width place _ vs newer = []
+
+abbrev pub tables_by : Laid → Command → List Claim
+tables_by laid c = tables_of_kind laid.ctx.container c.offset c.kind c.values (newer_of laid c)
 
 -- ---- segments and sections
 
@@ -123,7 +135,7 @@ section_claims laid s = bytes_claim laid s ∷ relocations_claim s ∷ []
 -- the claims of a command: its segment with its sections, or its tables
 abbrev pub claims_by : Laid → Command → List Claim
 claims_by laid c =
-    segment_claims (placed_segment_of c) ++ (flat_map (section_claims laid) (sections_by laid.ctx laid.bytes c) ++ tables_by laid.ctx c)
+    segment_claims (placed_segment_of c) ++ (flat_map (section_claims laid) (sections_by laid.ctx laid.bytes c) ++ tables_by laid c)
 
 -- the claim of the header and the commands
 abbrev pub header_claim : Laid → Claim

@@ -18,7 +18,7 @@ listed (Some claim) = claim ∷ []
 -- the tables of a command from number k on, if there is one
 abbrev pub open_tables : Laid → Option (Bor LoadCommand) → ℕ → List Claim
 open_tables laid None k = []
-open_tables laid (Some c) k = drop k (tables_by laid.ctx (command_of c.now))
+open_tables laid (Some c) k = drop k (tables_by laid (command_of c.now))
 
 -- what is left of one command
 abbrev pub open_left : Laid → Open → List Claim

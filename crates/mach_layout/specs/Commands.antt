@@ -12,8 +12,10 @@ use Rattle.mach_base.specs.declared.context.Endian.{Endian}
 use Rattle.mach_load.specs.Command.{Command, cmd_of, cmdsize_of}
 use Rattle.mach_load.specs.Commands.{Kind}
 use Rattle.mach_load.specs.Commands as kind
+use Rattle.mach_load.specs.Newer.{NewerKind, newer_kind}
+use Rattle.mach_load.specs.Newer as newer
 use Rattle.mach_records.specs.Contents.{entry_point_command_fields, fileset_entry_command_fields, linker_option_command_fields, note_command_fields}
-use Rattle.mach_records.specs.Contents.{prebind_cksum_command_fields, uuid_command_fields}
+use Rattle.mach_records.specs.Contents.{prebind_cksum_command_fields, target_triple_command_fields, uuid_command_fields}
 use Rattle.mach_records.specs.Libraries.{dylib_command_fields, dylinker_command_fields, fvmfile_command_fields, fvmlib_command_fields}
 use Rattle.mach_records.specs.Libraries.{prebound_dylib_command_fields, rpath_command_fields}
 use Rattle.mach_records.specs.Linkedit.{dyld_info_command_fields, encryption_info_command32_fields, encryption_info_command64_fields}
@@ -26,7 +28,7 @@ use Rattle.mach_records.specs.Umbrellas.{sub_client_command_fields, sub_framewor
 use Rattle.mach_records.specs.Versions.{build_tool_version_fields, build_version_command_fields, source_version_command_fields, version_min_command_fields}
 use Rattle.mach_layout.specs.Header.{header_reported}
 use Rattle.mach_layout.specs.Laid.{Laid, declared_end}
-use Rattle.mach_layout.specs.Libraries.{text_of, place_sees, text_sees, is_library_file, says_id}
+use Rattle.mach_layout.specs.Libraries.{command_text, place_sees, text_sees, is_library_file, says_id}
 use Rattle.mach_layout.specs.Rules.{measured, sound, sees_there, owner_at, reported_over}
 use Rattle.mach_layout.specs.declared.commands.sizes.StructSize.{StructSize}
 use Rattle.mach_layout.specs.declared.commands.sizes.StructSize.TheVariants.{Exactly, AtLeast}
@@ -40,60 +42,67 @@ use Rattle.mach_layout.specs.declared.rules.RuleOutcome.{RuleOutcome}
 
 -- ---- the size of a command
 
--- The number of bytes in the struct of a command, and whether texts, sections or other items may follow it. For a thread the
--- struct is only its cmd and cmdsize.
-abbrev pub struct_size : Kind → StructSize
-struct_size kind.segment32 = AtLeast (size segment_command32_fields)
-struct_size kind.symtab = Exactly (size symtab_command_fields)
-struct_size kind.symseg = Exactly (size symseg_command_fields)
-struct_size kind.load_fvmlib = AtLeast (size fvmlib_command_fields)
-struct_size kind.id_fvmlib = AtLeast (size fvmlib_command_fields)
-struct_size kind.fvmfile = AtLeast (size fvmfile_command_fields)
-struct_size kind.dysymtab = Exactly (size dysymtab_command_fields)
-struct_size kind.load_dylib = AtLeast (size dylib_command_fields)
-struct_size kind.id_dylib = AtLeast (size dylib_command_fields)
-struct_size kind.load_dylinker = AtLeast (size dylinker_command_fields)
-struct_size kind.id_dylinker = AtLeast (size dylinker_command_fields)
-struct_size kind.prebound_dylib = AtLeast (size prebound_dylib_command_fields)
-struct_size kind.routines32 = Exactly (size routines_command32_fields)
-struct_size kind.sub_framework = AtLeast (size sub_framework_command_fields)
-struct_size kind.sub_umbrella = AtLeast (size sub_umbrella_command_fields)
-struct_size kind.sub_client = AtLeast (size sub_client_command_fields)
-struct_size kind.sub_library = AtLeast (size sub_library_command_fields)
-struct_size kind.twolevel_hints = Exactly (size twolevel_hints_command_fields)
-struct_size kind.prebind_cksum = Exactly (size prebind_cksum_command_fields)
-struct_size kind.segment64 = AtLeast (size segment_command64_fields)
-struct_size kind.routines64 = Exactly (size routines_command64_fields)
-struct_size kind.uuid = Exactly (size uuid_command_fields)
-struct_size kind.code_signature = Exactly (size linkedit_data_command_fields)
-struct_size kind.segment_split_info = Exactly (size linkedit_data_command_fields)
-struct_size kind.lazy_load_dylib = AtLeast (size dylib_command_fields)
-struct_size kind.encryption_info32 = Exactly (size encryption_info_command32_fields)
-struct_size kind.dyld_info = Exactly (size dyld_info_command_fields)
-struct_size kind.version_min_macosx = Exactly (size version_min_command_fields)
-struct_size kind.version_min_iphoneos = Exactly (size version_min_command_fields)
-struct_size kind.function_starts = Exactly (size linkedit_data_command_fields)
-struct_size kind.dyld_environment = AtLeast (size dylinker_command_fields)
-struct_size kind.data_in_code = Exactly (size linkedit_data_command_fields)
-struct_size kind.source_version = Exactly (size source_version_command_fields)
-struct_size kind.dylib_code_sign_drs = Exactly (size linkedit_data_command_fields)
-struct_size kind.encryption_info64 = Exactly (size encryption_info_command64_fields)
-struct_size kind.linker_option = AtLeast (size linker_option_command_fields)
-struct_size kind.linker_optimization_hint = Exactly (size linkedit_data_command_fields)
-struct_size kind.version_min_tvos = Exactly (size version_min_command_fields)
-struct_size kind.version_min_watchos = Exactly (size version_min_command_fields)
-struct_size kind.note = Exactly (size note_command_fields)
-struct_size kind.build_version = AtLeast (size build_version_command_fields)
-struct_size kind.load_weak_dylib = AtLeast (size dylib_command_fields)
-struct_size kind.rpath = AtLeast (size rpath_command_fields)
-struct_size kind.reexport_dylib = AtLeast (size dylib_command_fields)
-struct_size kind.dyld_info_only = Exactly (size dyld_info_command_fields)
-struct_size kind.load_upward_dylib = AtLeast (size dylib_command_fields)
-struct_size kind.main = Exactly (size entry_point_command_fields)
-struct_size kind.dyld_exports_trie = Exactly (size linkedit_data_command_fields)
-struct_size kind.dyld_chained_fixups = Exactly (size linkedit_data_command_fields)
-struct_size kind.fileset_entry = AtLeast (size fileset_entry_command_fields)
-struct_size _ = AtLeast (size header_fields)
+-- the same as below, of a command that goblin's table lacks; of an unknown one the struct is its cmd and cmdsize
+abbrev pub newer_size : Option NewerKind → StructSize
+newer_size (Some newer.target_triple) = AtLeast (size target_triple_command_fields)
+newer_size (Some _) = Exactly (size linkedit_data_command_fields)
+newer_size None = AtLeast (size header_fields)
+
+-- The number of bytes in the struct of a command, by its kind and its number, and whether texts, sections or other items may
+-- follow it. For a thread the struct is only its cmd and cmdsize.
+abbrev pub struct_size : Kind → (cmd : ℕ) → StructSize
+struct_size kind.segment32 cmd = AtLeast (size segment_command32_fields)
+struct_size kind.symtab cmd = Exactly (size symtab_command_fields)
+struct_size kind.symseg cmd = Exactly (size symseg_command_fields)
+struct_size kind.load_fvmlib cmd = AtLeast (size fvmlib_command_fields)
+struct_size kind.id_fvmlib cmd = AtLeast (size fvmlib_command_fields)
+struct_size kind.fvmfile cmd = AtLeast (size fvmfile_command_fields)
+struct_size kind.dysymtab cmd = Exactly (size dysymtab_command_fields)
+struct_size kind.load_dylib cmd = AtLeast (size dylib_command_fields)
+struct_size kind.id_dylib cmd = AtLeast (size dylib_command_fields)
+struct_size kind.load_dylinker cmd = AtLeast (size dylinker_command_fields)
+struct_size kind.id_dylinker cmd = AtLeast (size dylinker_command_fields)
+struct_size kind.prebound_dylib cmd = AtLeast (size prebound_dylib_command_fields)
+struct_size kind.routines32 cmd = Exactly (size routines_command32_fields)
+struct_size kind.sub_framework cmd = AtLeast (size sub_framework_command_fields)
+struct_size kind.sub_umbrella cmd = AtLeast (size sub_umbrella_command_fields)
+struct_size kind.sub_client cmd = AtLeast (size sub_client_command_fields)
+struct_size kind.sub_library cmd = AtLeast (size sub_library_command_fields)
+struct_size kind.twolevel_hints cmd = Exactly (size twolevel_hints_command_fields)
+struct_size kind.prebind_cksum cmd = Exactly (size prebind_cksum_command_fields)
+struct_size kind.segment64 cmd = AtLeast (size segment_command64_fields)
+struct_size kind.routines64 cmd = Exactly (size routines_command64_fields)
+struct_size kind.uuid cmd = Exactly (size uuid_command_fields)
+struct_size kind.code_signature cmd = Exactly (size linkedit_data_command_fields)
+struct_size kind.segment_split_info cmd = Exactly (size linkedit_data_command_fields)
+struct_size kind.lazy_load_dylib cmd = AtLeast (size dylib_command_fields)
+struct_size kind.encryption_info32 cmd = Exactly (size encryption_info_command32_fields)
+struct_size kind.dyld_info cmd = Exactly (size dyld_info_command_fields)
+struct_size kind.version_min_macosx cmd = Exactly (size version_min_command_fields)
+struct_size kind.version_min_iphoneos cmd = Exactly (size version_min_command_fields)
+struct_size kind.function_starts cmd = Exactly (size linkedit_data_command_fields)
+struct_size kind.dyld_environment cmd = AtLeast (size dylinker_command_fields)
+struct_size kind.data_in_code cmd = Exactly (size linkedit_data_command_fields)
+struct_size kind.source_version cmd = Exactly (size source_version_command_fields)
+struct_size kind.dylib_code_sign_drs cmd = Exactly (size linkedit_data_command_fields)
+struct_size kind.encryption_info64 cmd = Exactly (size encryption_info_command64_fields)
+struct_size kind.linker_option cmd = AtLeast (size linker_option_command_fields)
+struct_size kind.linker_optimization_hint cmd = Exactly (size linkedit_data_command_fields)
+struct_size kind.version_min_tvos cmd = Exactly (size version_min_command_fields)
+struct_size kind.version_min_watchos cmd = Exactly (size version_min_command_fields)
+struct_size kind.note cmd = Exactly (size note_command_fields)
+struct_size kind.build_version cmd = AtLeast (size build_version_command_fields)
+struct_size kind.load_weak_dylib cmd = AtLeast (size dylib_command_fields)
+struct_size kind.rpath cmd = AtLeast (size rpath_command_fields)
+struct_size kind.reexport_dylib cmd = AtLeast (size dylib_command_fields)
+struct_size kind.dyld_info_only cmd = Exactly (size dyld_info_command_fields)
+struct_size kind.load_upward_dylib cmd = AtLeast (size dylib_command_fields)
+struct_size kind.main cmd = Exactly (size entry_point_command_fields)
+struct_size kind.dyld_exports_trie cmd = Exactly (size linkedit_data_command_fields)
+struct_size kind.dyld_chained_fixups cmd = Exactly (size linkedit_data_command_fields)
+struct_size kind.fileset_entry cmd = AtLeast (size fileset_entry_command_fields)
+struct_size kind.unimplemented cmd = newer_size (newer_kind cmd)
+struct_size _ cmd = AtLeast (size header_fields)
 
 -- the size is that of the struct, or more if other items may follow it
 abbrev pub size_sees : ℕ → StructSize → RuleOutcome
@@ -140,45 +149,57 @@ other_width Big kind.segment32 = Some 0x19
 other_width Little kind.segment64 = Some 0x1
 other_width container kind = None
 
--- The sets of commands of which an image may have only one, by number: the commands of a set serve the same purpose.
-abbrev pub set_of : Kind → Option ℕ
-set_of kind.symtab = Some 0
-set_of kind.dysymtab = Some 1
-set_of kind.dyld_info = Some 2
-set_of kind.dyld_info_only = Some 2
-set_of kind.id_dylib = Some 3
-set_of kind.load_dylinker = Some 4
-set_of kind.id_dylinker = Some 5
-set_of kind.main = Some 6
-set_of kind.unixthread = Some 6
-set_of kind.uuid = Some 7
-set_of kind.source_version = Some 8
-set_of kind.version_min_macosx = Some 9
-set_of kind.version_min_iphoneos = Some 9
-set_of kind.version_min_tvos = Some 9
-set_of kind.version_min_watchos = Some 9
-set_of kind.routines32 = Some 10
-set_of kind.routines64 = Some 10
-set_of kind.twolevel_hints = Some 11
-set_of kind.prebind_cksum = Some 12
-set_of kind.encryption_info32 = Some 13
-set_of kind.encryption_info64 = Some 13
-set_of kind.code_signature = Some 14
-set_of kind.segment_split_info = Some 15
-set_of kind.function_starts = Some 16
-set_of kind.data_in_code = Some 17
-set_of kind.dylib_code_sign_drs = Some 18
-set_of kind.linker_optimization_hint = Some 19
-set_of kind.dyld_exports_trie = Some 20
-set_of kind.dyld_chained_fixups = Some 21
-set_of _ = None
+-- the same as below, of a command that goblin's table lacks
+abbrev pub newer_set : NewerKind → Option ℕ
+newer_set newer.atom_info = Some 22
+newer_set newer.function_variants = Some 23
+newer_set newer.function_variant_fixups = Some 24
+newer_set newer.target_triple = None
+
+-- The sets of commands of which an image may have only one, by number: the commands of a set serve the same purpose. A command
+-- is given by its kind and its number.
+abbrev pub set_of : Kind → (cmd : ℕ) → Option ℕ
+set_of kind.symtab cmd = Some 0
+set_of kind.dysymtab cmd = Some 1
+set_of kind.dyld_info cmd = Some 2
+set_of kind.dyld_info_only cmd = Some 2
+set_of kind.id_dylib cmd = Some 3
+set_of kind.load_dylinker cmd = Some 4
+set_of kind.id_dylinker cmd = Some 5
+set_of kind.main cmd = Some 6
+set_of kind.unixthread cmd = Some 6
+set_of kind.uuid cmd = Some 7
+set_of kind.source_version cmd = Some 8
+set_of kind.version_min_macosx cmd = Some 9
+set_of kind.version_min_iphoneos cmd = Some 9
+set_of kind.version_min_tvos cmd = Some 9
+set_of kind.version_min_watchos cmd = Some 9
+set_of kind.routines32 cmd = Some 10
+set_of kind.routines64 cmd = Some 10
+set_of kind.twolevel_hints cmd = Some 11
+set_of kind.prebind_cksum cmd = Some 12
+set_of kind.encryption_info32 cmd = Some 13
+set_of kind.encryption_info64 cmd = Some 13
+set_of kind.code_signature cmd = Some 14
+set_of kind.segment_split_info cmd = Some 15
+set_of kind.function_starts cmd = Some 16
+set_of kind.data_in_code cmd = Some 17
+set_of kind.dylib_code_sign_drs cmd = Some 18
+set_of kind.linker_optimization_hint cmd = Some 19
+set_of kind.dyld_exports_trie cmd = Some 20
+set_of kind.dyld_chained_fixups cmd = Some 21
+set_of kind.unimplemented cmd = option_and_then newer_set (newer_kind cmd)
+set_of _ cmd = None
+
+abbrev pub set_in : Command → Option ℕ
+set_in c = set_of c.kind (cmd_of c)
 
 abbrev pub is_number : ℕ → Option ℕ → Bool
 is_number n None = false
 is_number n (Some m) = m == n
 
 abbrev pub is_of_set : ℕ → Command → Bool
-is_of_set set c = is_number set (set_of c.kind)
+is_of_set set c = is_number set (set_in c)
 
 -- the command as the owner of a fault
 abbrev pub command_owner : Command → Owner
@@ -194,7 +215,7 @@ first_owner cs set = option_map command_owner (find (is_of_set set) cs)
 
 -- the fault of a command, if one of its set is among these
 abbrev pub command_again : List Command → Command → Option LayoutFault
-command_again before c = option_and_then (λ set. option_map (once_more c) (first_owner before set)) (set_of c.kind)
+command_again before c = option_and_then (λ set. option_map (once_more c) (first_owner before set)) (set_in c)
 
 -- those faults of some commands, after others
 abbrev pub commands_again : List Command → List Command → List LayoutFault
@@ -218,7 +239,7 @@ owner_by r c = owner_at (command_part r) c.offset 0
 -- what each rule of one command sees
 abbrev pub command_sees : Laid → Rule → Command → RuleOutcome
 -- a command has the size of its struct
-command_sees laid rule.CommandSize c = size_sees (cmdsize_of c) (struct_size c.kind)
+command_sees laid rule.CommandSize c = size_sees (cmdsize_of c) (struct_size c.kind (cmd_of c))
 -- and its size is a multiple of its unit
 command_sees laid rule.CommandUnaligned c = measured (cmdsize_of c % unit_of laid c == 0) (cmdsize_of c) (unit_of laid c)
 -- it ends at or before the end of the commands, by the header
@@ -231,9 +252,9 @@ command_sees laid rule.SegmentWidth c = sees_there (other_width laid.ctx.contain
 -- there is LC_DYSYMTAB only if there are symbols (LC_SYMTAB)
 command_sees laid rule.DynamicSymbolsAlone c = measured (not (is_of_set 1 c)) (cmd_of c) 2
 -- a text lies in its command, after the struct
-command_sees laid rule.TextMisplaced c = sees_there (text_of c.kind c.values) (place_sees laid.bytes c)
+command_sees laid rule.TextMisplaced c = sees_there (command_text laid c) (place_sees laid.bytes c)
 -- and isn't empty, if it is read
-command_sees laid rule.TextEmpty c = sees_there (text_of c.kind c.values) (text_sees laid.bytes c)
+command_sees laid rule.TextEmpty c = sees_there (command_text laid c) (text_sees laid.bytes c)
 -- only a library states a name of its own
 command_sees laid rule.IdUnexpected c = measured (not (says_id c) || is_library_file laid) laid.header.filetype 0
 command_sees laid _ c = sound

@@ -9,10 +9,10 @@ use Rattle.mach_base.specs.Record.{Value, number_among, record_at}
 use Rattle.mach_base.specs.declared.context.Endian.{Endian}
 use Rattle.mach_load.specs.Command.{Command}
 use Rattle.mach_load.specs.Commands.{Kind, dyld_chained_fixups}
-use Rattle.mach_chained.specs.HeaderRecord.{fixups_header_fields, header_of_values}
-use Rattle.mach_chained.specs.StartsRecord.{starts_fields, starts_of_values}
-use Rattle.mach_chained.specs.declared.header.ChainedFixupsHeader.{ChainedFixupsHeader}
-use Rattle.mach_chained.specs.declared.starts.ChainedStartsInSegment.{ChainedStartsInSegment}
+use Rattle.mach_records.specs.FixupChains.{fixups_header_fields, header_of_values}
+use Rattle.mach_records.specs.FixupChains.{starts_fields, starts_of_values}
+use Rattle.mach_records.specs.declared.fixup_chains.ChainedFixupsHeader.{ChainedFixupsHeader}
+use Rattle.mach_records.specs.declared.fixup_chains.ChainedStartsInSegment.{ChainedStartsInSegment}
 use Rattle.mach_layout.specs.Laid.{Laid, file_size, segments_of, ends_past}
 use Rattle.mach_layout.specs.Rules.{measured, sound, sees_there, then_outcome, owner_at, reported, reported_over}
 use Rattle.mach_layout.specs.Symbols.{if_there, all_there, readable, texts_end, library_count}

@@ -8,6 +8,7 @@ use Rattle.mach_base.specs.Fault.{Fault}
 use Rattle.mach_base.specs.declared.context.Container.{Container}
 use Rattle.mach_base.specs.declared.context.Ctx.{Ctx}
 use Rattle.mach_load.specs.Command.{Command, cmdsize_of}
+use Rattle.mach_load.specs.Newer.{Newer, newer_at}
 use Rattle.mach_load.specs.Subjects.{segment_command_by}
 use Rattle.mach_load.specs.Variants.{command_of}
 use Rattle.mach_parts.specs.Header.{header_size, header_in}
@@ -34,6 +35,10 @@ laid_in bytes ctx cs = record { bytes = bytes; ctx = ctx; header = header_in ctx
 -- the same as the code holds it
 abbrev pub laid_of : Layout → Laid
 laid_of l = record { bytes = l.bytes.now; ctx = l.ctx; header = l.header; commands = map command_of l.commands.now }
+
+-- what a command is that goblin's table lacks
+abbrev pub newer_of : Laid → Command → Option Newer
+newer_of laid c = newer_at laid.ctx.le laid.bytes c
 
 -- ---- the header and the commands
 

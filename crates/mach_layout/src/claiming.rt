@@ -1,11 +1,11 @@
 //! The ranges of the file that the parts of an image claim, one at a time.
 
-ghost use Rattle.std.specs.Prelude.{◌≡◌, ◌*◌, ◌∷◌, [], slice_get};
+ghost use Rattle.std.specs.Prelude.{◌≡◌, ◌<◌, ◌*◌, ◌∷◌, [], IfSome, slice_get};
 ghost use Rattle.mach_records.specs.Linkedit.{dyld_info_command_values, linkedit_data_command_values};
 ghost use Rattle.mach_records.specs.SymbolTables.{symtab_command_values, dysymtab_command_values};
 ghost use Rattle.mach_parts.specs.Section.{is_zero_fill};
 ghost use Rattle.mach_load.specs.Variants.{command_of};
-ghost use Rattle.mach_layout.specs.Laid.{laid_of};
+ghost use Rattle.mach_layout.specs.Laid.{laid_of, newer_of};
 ghost use Rattle.mach_layout.specs.Claims as defined;
 ghost use Rattle.mach_layout.specs.ClaimsLeft.{open_left, claims_left, TakesClaim};
 
@@ -15,7 +15,7 @@ use crate::layout::Layout;
 use crate::placed_sections::{PlacedSection, PlacedSegment, segment_of, take_section};
 use crate::rules::{Items, owner_at};
 use mach_base::Container;
-use mach_load::{CommandVariant, LoadCommand};
+use mach_load::{CommandVariant, LoadCommand, NewerCommand};
 use mach_parts::symbols::{SIZEOF_NLIST_32, SIZEOF_NLIST_64};
 use mach_records::constants::{S_GB_ZEROFILL, S_THREAD_LOCAL_ZEROFILL, S_ZEROFILL, SECTION_TYPE};
 use mach_records::{DyldInfoCommand, DysymtabCommand, LinkeditDataCommand, SymtabCommand};
@@ -117,22 +117,50 @@ fn dyld_info_claims(place: usize, c: &DyldInfoCommand) -> [Claim; 5]
 
 // Returns claim number `field` of a command that claims one part.
 fn only(claim: Claim, field: usize) -> Option<Claim>
-    ensures { result ≡ slice_get (claim ∷ []) field }
+    ensures value { result ≡ slice_get (claim ∷ []) field }
+    ensures first { IfSome result (λ _. field < 1) }
 {
     [claim].get(field).copied()
 }
 
 // Returns claim number `field` of a command that claims one part and has its start and size as fields.
 fn linkedit_claim(part: Part, place: usize, c: &LinkeditDataCommand, field: usize) -> Option<Claim>
-    ensures { result ≡ slice_get (defined.linkedit_claims part place (linkedit_data_command_values c.now)) field }
+    ensures value { result ≡ slice_get (defined.linkedit_claims part place (linkedit_data_command_values c.now)) field }
+    ensures first { IfSome result (λ _. field < 1) }
 {
     only(range(part, place, c.dataoff, c.datasize), field)
 }
 
-// Returns claim number `field` of the tables of a command.
-fn table_claim(width: Container, command: &LoadCommand, field: usize) -> Option<Claim>
-    ensures { let c = command_of command.now in result ≡ slice_get (defined.tables_of_kind width c.offset c.kind c.values) field }
+// Returns claim number `field` of a command that goblin's table lacks.
+fn newer_claim(layout: &Layout<'_, '_>, command: &LoadCommand, field: usize) -> Option<Claim>
+    ensures value { let c = command_of command.now in result ≡ slice_get (defined.newer_claims c.offset (newer_of (laid_of layout.now) c)) field }
+    ensures first { IfSome result (λ _. field < 1) }
 {
+    let place = command.offset;
+    match NewerCommand::of(layout.bytes, layout.ctx.le, command)? {
+        NewerCommand::AtomInfo(c) => linkedit_claim(Part::AtomInfo, place, &c, field),
+        NewerCommand::FunctionVariants(c) => linkedit_claim(
+            Part::FunctionVariants,
+            place,
+            &c,
+            field,
+        ),
+        NewerCommand::FunctionVariantFixups(c) => linkedit_claim(
+            Part::FunctionVariantFixups,
+            place,
+            &c,
+            field,
+        ),
+        NewerCommand::TargetTriple(_) => None,
+    }
+}
+
+// Returns claim number `field` of the tables of a command.
+fn table_claim(layout: &Layout<'_, '_>, command: &LoadCommand, field: usize) -> Option<Claim>
+    ensures value { result ≡ slice_get (defined.tables_by (laid_of layout.now) (command_of command.now)) field }
+    ensures few { IfSome result (λ _. field < 6) }
+{
+    let width = layout.ctx.container;
     let place = command.offset;
     match &command.command {
         CommandVariant::Symtab(c) => symtab_claims(width, place, c).get(field).copied(),
@@ -185,6 +213,7 @@ fn table_claim(width: Container, command: &LoadCommand, field: usize) -> Option<
         CommandVariant::Symseg(c) => {
             only(range(Part::GdbSymbols, place, c.offset, c.size), field)
         }
+        CommandVariant::Unimplemented(_) => newer_claim(layout, command, field),
         _ => None,
     }
 }
@@ -309,7 +338,7 @@ impl<'b> Open<'b> {
             self.first = Some(relocations_claim(&placed));
             return Some(bytes_claim(layout, &placed));
         }
-        let claim = table_claim(layout.ctx.container, self.command?, self.field)?;
+        let claim = table_claim(layout, self.command?, self.field)?;
         self.field += 1;
         Some(claim)
     }

@@ -241,8 +241,8 @@ impl Judges<LoadCommand> for Layout<'_, '_> {
                 let number = number_of(command);
                 measured(!is_dynamic(command), number, u64::from(LC_SYMTAB))
             }
-            Rule::TextMisplaced => place_view_of(self.bytes, command),
-            Rule::TextEmpty => text_outcome(self.bytes, command),
+            Rule::TextMisplaced => place_view_of(self, command),
+            Rule::TextEmpty => text_outcome(self, command),
             Rule::IdUnexpected => {
                 let kind = u64::from(self.header.filetype);
                 measured(!is_id(command) || is_library_file(self), kind, 0)

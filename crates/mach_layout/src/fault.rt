@@ -235,6 +235,12 @@ pub enum Part {
     Entry,
     /// A slice of a fat file.
     Slice,
+    /// What the linker knows of each atom (`LC_ATOM_INFO`).
+    AtomInfo,
+    /// The variants of functions (`LC_FUNCTION_VARIANTS`).
+    FunctionVariants,
+    /// The pointers to such functions (`LC_FUNCTION_VARIANT_FIXUPS`).
+    FunctionVariantFixups,
 }
 
 /// The owner of a range or a fault.

@@ -17,8 +17,8 @@ use crate::last_command::{Wanted, last_wanted};
 use crate::layout::{Layout, ends_past};
 use crate::rules::{RuleOutcome, measured, owner_at, report};
 use mach_base::{Endian, Record, Result, read_u32};
-use mach_chained::ChainedFixupsHeader;
 use mach_load::{CommandVariant, LoadCommand};
+use mach_records::ChainedFixupsHeader;
 use std::alloc::Allocator;
 
 /// The place and size of the chained fixups of a command, and the place of the command.

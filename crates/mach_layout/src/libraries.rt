@@ -1,9 +1,9 @@
 //! The checks of the rules on texts of commands and on names of libraries.
 
-ghost use Rattle.std.specs.Prelude.{◌≡◌, Some, true, map};
+ghost use Rattle.std.specs.Prelude.{◌≡◌, Some, true, map, option_and_then};
 ghost use Rattle.std.specs.List.{list_any};
-ghost use Rattle.mach_load.specs.Variants.{command_of, kind_in, variant_values};
-ghost use Rattle.mach_layout.specs.Laid.{laid_of};
+ghost use Rattle.mach_load.specs.Variants.{command_of};
+ghost use Rattle.mach_layout.specs.Laid.{laid_of, newer_of};
 ghost use Rattle.mach_layout.specs.Libraries as defined;
 ghost use Rattle.mach_layout.specs.Rules.{sees_there};
 
@@ -11,12 +11,12 @@ use crate::commands::bytes_from;
 use crate::layout::Layout;
 use crate::rules::{RuleOutcome, measured, sound};
 use mach_base::Record;
-use mach_load::{CommandVariant, LoadCommand};
+use mach_load::{CommandVariant, LoadCommand, NewerCommand};
 use mach_parts::header::{MH_DYLIB, MH_DYLIB_STUB};
 use mach_records::{
     DylibCommand, DylinkerCommand, FilesetEntryCommand, FvmfileCommand, FvmlibCommand, LcStr,
     PreboundDylibCommand, RpathCommand, SubClientCommand, SubFrameworkCommand, SubLibraryCommand,
-    SubUmbrellaCommand,
+    SubUmbrellaCommand, TargetTripleCommand,
 };
 
 /// The text of a command.
@@ -41,11 +41,21 @@ fn text_after(offset: LcStr, struct_size: usize) -> Option<CommandText>
     })
 }
 
-// Returns the text of a command, if it has one.
-fn text_of(command: &CommandVariant) -> Option<CommandText>
-    ensures { result ≡ defined.text_of (kind_in command.now) (variant_values command.now) }
+// Returns the text of a command that goblin's table lacks, if it has one.
+fn newer_text(layout: &Layout<'_, '_>, command: &LoadCommand) -> Option<CommandText>
+    ensures { result ≡ option_and_then defined.newer_text (newer_of (laid_of layout.now) (command_of command.now)) }
 {
-    match command {
+    match NewerCommand::of(layout.bytes, layout.ctx.le, command)? {
+        NewerCommand::TargetTriple(c) => text_after(c.triple, TargetTripleCommand::SIZE),
+        _ => None,
+    }
+}
+
+// Returns the text of a command, if it has one.
+fn text_of(layout: &Layout<'_, '_>, command: &LoadCommand) -> Option<CommandText>
+    ensures { result ≡ defined.command_text (laid_of layout.now) (command_of command.now) }
+{
+    match &command.command {
         CommandVariant::LoadFvmlib(c) | CommandVariant::IdFvmlib(c) => {
             text_after(c.fvmlib.name, FvmlibCommand::SIZE)
         }
@@ -70,6 +80,7 @@ fn text_of(command: &CommandVariant) -> Option<CommandText>
             struct_size: PreboundDylibCommand::SIZE,
             is_read: false,
         }),
+        CommandVariant::Unimplemented(_) => newer_text(layout, command),
         _ => None,
     }
 }
@@ -107,28 +118,28 @@ fn is_empty_text(bytes: &[u8], command: &LoadCommand, text: CommandText) -> bool
 }
 
 /// Checks the place of a command's text.
-pub fn place_view_of(bytes: &[u8], command: &LoadCommand) -> RuleOutcome
+pub fn place_view_of(layout: &Layout<'_, '_>, command: &LoadCommand) -> RuleOutcome
     ensures { let c = command_of command.now in
-        result ≡ sees_there (defined.text_of c.kind c.values) (λ t. defined.place_sees bytes.now c t) }
+        result ≡ sees_there (defined.command_text (laid_of layout.now) c) (λ t. defined.place_sees layout.now.bytes.now c t) }
 {
-    match text_of(&command.command) {
+    match text_of(layout, command) {
         None => sound(),
         Some(text) => {
-            let holds = lies_inside(bytes, command, text);
+            let holds = lies_inside(layout.bytes, command, text);
             measured(holds, text.offset as u64, command.command.cmdsize() as u64)
         }
     }
 }
 
 /// Checks that a command's text isn't empty.
-pub fn text_outcome(bytes: &[u8], command: &LoadCommand) -> RuleOutcome
+pub fn text_outcome(layout: &Layout<'_, '_>, command: &LoadCommand) -> RuleOutcome
     ensures { let c = command_of command.now in
-        result ≡ sees_there (defined.text_of c.kind c.values) (λ t. defined.text_sees bytes.now c t) }
+        result ≡ sees_there (defined.command_text (laid_of layout.now) c) (λ t. defined.text_sees layout.now.bytes.now c t) }
 {
-    match text_of(&command.command) {
+    match text_of(layout, command) {
         None => sound(),
         Some(text) => {
-            let holds = !is_empty_text(bytes, command, text);
+            let holds = !is_empty_text(layout.bytes, command, text);
             measured(holds, text.offset as u64, command.command.cmdsize() as u64)
         }
     }

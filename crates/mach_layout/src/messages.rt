@@ -129,6 +129,9 @@ impl Part {
             Part::Binds => "binds",
             Part::Entry => "entry",
             Part::Slice => "slice",
+            Part::AtomInfo => "atom info",
+            Part::FunctionVariants => "function variants",
+            Part::FunctionVariantFixups => "function variant fixups",
         }
     }
 }

@@ -11,3 +11,5 @@ pub mod LinkerOptions
 pub mod BuildTools
 pub mod Notes
 pub mod TablesLeft
+pub mod Newer
+pub mod NewerViews

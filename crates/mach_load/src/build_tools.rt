@@ -56,7 +56,7 @@ impl Tools {
     {
         let following = BuildVersionCommand::SIZE + self.index as usize * BuildToolVersion::SIZE;
         if following + BuildToolVersion::SIZE > self.size {
-            return Err(Error::Malformed("a build tool lies inside its command"));
+            return Err(Error::Malformed("a build tool runs past its command"));
         }
         BuildToolVersion::read(bytes, self.place.saturating_add(following), le)
     }

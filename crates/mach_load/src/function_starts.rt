@@ -103,7 +103,7 @@ fn start_at(bytes: &[u8], place: usize, address: u64) -> Result<Option<(u64, usi
         return Ok(None);
     }
     let Some(start) = address.checked_add(number) else {
-        return Err(Error::Malformed("a function's address has 64 bits"));
+        return Err(Error::Malformed("a function's address does not fit in 64 bits"));
     };
     Ok(Some((start, next)))
 }

@@ -6,6 +6,7 @@
 
 // Load commands, and the record of each.
 mod load_command;
+mod newer;
 mod thread;
 mod variant;
 
@@ -25,6 +26,7 @@ pub use crate::data_in_code::DataInCodeIterator;
 pub use crate::function_starts::{FunctionStartIterator, FunctionStarts};
 pub use crate::linker_options::LinkerOptionIterator;
 pub use crate::load_command::LoadCommand;
+pub use crate::newer::NewerCommand;
 pub use crate::notes::{Note, NoteIterator};
 pub use crate::thread::ThreadCommand;
 pub use crate::variant::CommandVariant;

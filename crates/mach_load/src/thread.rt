@@ -91,7 +91,7 @@ impl ThreadCommand {
         let head = ThreadHead::read(bytes, offset, le)?;
         let count = head.count as usize;
         if count > 70 {
-            return Err(Error::Malformed("a thread has at most 70 words"));
+            return Err(Error::Malformed("a thread has more than 70 words"));
         }
         if bytes.len() - offset - 16 < 4 * count {
             return Err(Error::Malformed("the words of a thread pass the end"));

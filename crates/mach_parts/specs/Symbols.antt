@@ -154,10 +154,14 @@ pub record SymbolTable : Type 0 where
 abbrev pub symbol_place : SymbolTable → ℕ → ℕ
 symbol_place t k = place_after t.start (k * nlist_size t.ctx.container)
 
+-- the record of symbol k, or the reason why there is none
+abbrev pub symbol_record_at : SymbolTable → ℕ → Result Nlist Fault
+symbol_record_at t k = nlist_at t.ctx t.bytes (symbol_place t k)
+
 -- symbol k: its name and its record, or the reason why one of them is missing
 unfoldable pub symbol_at : SymbolTable → ℕ → Result (List ℕ × Nlist) Fault
 symbol_at t k = do
-  symbol ← nlist_at t.ctx t.bytes (symbol_place t k)
+  symbol ← symbol_record_at t k
   name ← text_at t.bytes (place_after t.strtab symbol.n_strx)
   Ok (name, symbol)
 

@@ -66,7 +66,7 @@ impl<'a> Provider<'a> {
     {
         match Self::by_ordinal(libs, ordinal) {
             Some(provider) => Ok(provider),
-            None => Err(Error::Malformed("an ordinal is one of a provider")),
+            None => Err(Error::Malformed("an ordinal names no provider")),
         }
     }
 

@@ -5,7 +5,7 @@ ghost use Rattle.mach_base.specs.declared.context.Endian.TheVariants.{Little};
 ghost use Rattle.mach_base.specs.declared.context.Container.TheVariants.{Big};
 ghost use Rattle.mach_base.specs.Answer.{Reads};
 ghost use Rattle.mach_base.specs.Number.{place_after};
-ghost use Rattle.mach_parts.specs.Symbols.{table_in_bounds, symbol_place, symbol_at, symbol_name_at, symbols_of, table_at};
+ghost use Rattle.mach_parts.specs.Symbols.{table_in_bounds, symbol_place, symbol_record_at, symbol_at, symbol_name_at, symbols_of, table_at};
 ghost use Rattle.mach_parts.specs.SymbolViews.{copied_table, table_of, table_view, symbol_read, symbols_left};
 
 mod iterator;
@@ -135,7 +135,7 @@ impl<'a> Symbols<'a> {
         ensures { Reads table_of result (table_at ctx bytes.now symtab.now) }
     {
         if symtab.stroff < symtab.symoff {
-            return Err(Error::Malformed("the names of symbols stand behind them"));
+            return Err(Error::Malformed("the names of symbols begin before the symbols"));
         }
         let start = symtab.symoff as usize;
         if start >= bytes.len() {
@@ -245,6 +245,21 @@ impl<'a> Symbols<'a> {
         ensures { copied_table result ≡ table_of self.now }
     {
         CopiedSymbols { copy: self.table }
+    }
+
+    /// Returns the bytes in which records and names are read.
+    pub fn bytes(&self) -> &'a [u8]
+        ensures { result.now ≡ (table_of self.now).bytes }
+    {
+        self.table.bytes
+    }
+
+    /// Reads the record of a symbol, and not its name. Whether `index` is below the claimed number of symbols is not tested.
+    #[inline(always)]
+    pub fn record(&self, index: usize) -> Result<Nlist>
+        ensures { Reads (λ s. s) result (symbol_record_at (table_of self.now) index) }
+    {
+        Nlist::read(self.table.bytes, self.table.place(index), self.table.ctx)
     }
 
     /// Reads a symbol with its name. Whether `index` is below the claimed number of symbols is not tested.

@@ -1,8 +1,8 @@
 -- The names of load commands (`mach-o/loader.h`).
-use Rattle.std.specs.Prelude.{ℕ, List, [], ◌∷◌, codes}
-use Rattle.mach_base.specs.Named.{Named, name_or}
+use Rattle.std.specs.Prelude.{ℕ, List, [], ◌∷◌, ◌++◌, codes, Option, unwrap_or}
+use Rattle.mach_base.specs.Named.{Named, name_among}
 
--- each command's number and the name of its constant
+-- the number of each command of goblin's table, and the name of its constant
 abbrev pub command_names : List Named
 command_names =
     record { number = 0x1; name = codes "LC_SEGMENT" }
@@ -61,6 +61,19 @@ command_names =
     ∷ record { number = 0x8000_0035; name = codes "LC_FILESET_ENTRY" }
     ∷ []
 
--- the name of a command, or LC_UNKNOWN
-abbrev pub command_name : ℕ → List ℕ
-command_name cmd = name_or (codes "LC_UNKNOWN") command_names cmd
+-- the commands of later headers, which that table lacks
+abbrev pub newer_command_names : List Named
+newer_command_names =
+    record { number = 0x36; name = codes "LC_ATOM_INFO" }
+    ∷ record { number = 0x37; name = codes "LC_FUNCTION_VARIANTS" }
+    ∷ record { number = 0x38; name = codes "LC_FUNCTION_VARIANT_FIXUPS" }
+    ∷ record { number = 0x39; name = codes "LC_TARGET_TRIPLE" }
+    ∷ []
+
+-- the name of a command as goblin has it: that of its table, or LC_UNKNOWN
+abbrev pub port_name : ℕ → List ℕ
+port_name cmd = unwrap_or (name_among command_names cmd) (codes "LC_UNKNOWN")
+
+-- the name of a command, if a header names it
+abbrev pub command_name : ℕ → Option (List ℕ)
+command_name cmd = name_among (newer_command_names ++ command_names) cmd

@@ -4,6 +4,7 @@ use Rattle.std.specs.Prelude.{List, [], ◌∷◌}
 use Rattle.mach_base.specs.Record.{Field, num, arr, Value, number_is, bytes_are}
 use Rattle.mach_records.specs.declared.contents.UuidCommand.{UuidCommand}
 use Rattle.mach_records.specs.declared.contents.EntryPointCommand.{EntryPointCommand}
+use Rattle.mach_records.specs.declared.contents.TargetTripleCommand.{TargetTripleCommand}
 use Rattle.mach_records.specs.declared.contents.FilesetEntryCommand.{FilesetEntryCommand}
 use Rattle.mach_records.specs.declared.contents.NoteCommand.{NoteCommand}
 use Rattle.mach_records.specs.declared.contents.PrebindCksumCommand.{PrebindCksumCommand}
@@ -16,6 +17,13 @@ uuid_command_fields = num 4 ∷ num 4 ∷ arr 16 ∷ []
 
 abbrev pub uuid_command_values : UuidCommand → List Value
 uuid_command_values r = number_is r.cmd ∷ number_is r.cmdsize ∷ bytes_are r.uuid ∷ []
+
+-- struct target_triple_command
+abbrev pub target_triple_command_fields : List Field
+target_triple_command_fields = num 4 ∷ num 4 ∷ num 4 ∷ []
+
+abbrev pub target_triple_command_values : TargetTripleCommand → List Value
+target_triple_command_values r = number_is r.cmd ∷ number_is r.cmdsize ∷ number_is r.triple ∷ []
 
 -- struct entry_point_command
 abbrev pub entry_point_command_fields : List Field

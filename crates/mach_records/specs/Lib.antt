@@ -9,3 +9,4 @@ pub mod Linkedit
 pub mod Versions
 pub mod Contents
 pub mod Platform
+pub mod FixupChains

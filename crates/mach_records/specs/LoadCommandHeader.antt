@@ -2,7 +2,7 @@
 use Rattle.std.specs.Prelude.{ℕ, List, [], ◌∷◌, ◌++◌, codes}
 use Rattle.std.specs.Fmt.{decimal}
 use Rattle.mach_base.specs.Record.{Field, num, Value, number_is}
-use Rattle.mach_records.specs.CommandName.{command_name}
+use Rattle.mach_records.specs.CommandName.{port_name}
 use Rattle.mach_records.specs.declared.load_command_header.LoadCommandHeader.{LoadCommandHeader}
 
 -- struct load_command
@@ -14,4 +14,4 @@ header_values h = number_is h.cmd ∷ number_is h.cmdsize ∷ []
 
 -- the line that `Display` writes
 abbrev pub header_text : LoadCommandHeader → List ℕ
-header_text h = codes "LoadCommandHeader: " ++ command_name h.cmd ++ codes " size: " ++ decimal h.cmdsize
+header_text h = codes "LoadCommandHeader: " ++ port_name h.cmd ++ codes " size: " ++ decimal h.cmdsize

@@ -2,7 +2,7 @@
 -- For each record: its fields in order, and their values.
 use Rattle.std.specs.Prelude.{List, [], ◌∷◌}
 use Rattle.mach_base.specs.Record.{Field, num, arr, Value, number_is, bytes_are, number_among}
-use Rattle.mach_records.specs.declared.command_name.TheConstants.{LC_SYMTAB, LC_DYSYMTAB}
+use Rattle.mach_records.specs.declared.command_names.TheConstants.{LC_SYMTAB, LC_DYSYMTAB}
 use Rattle.mach_records.specs.declared.symbol_tables.TheConstants.{SIZEOF_SYMTAB_COMMAND, SIZEOF_DYSYMTAB_COMMAND}
 use Rattle.mach_records.specs.declared.symbol_tables.SymtabCommand.{SymtabCommand}
 use Rattle.mach_records.specs.declared.symbol_tables.DysymtabCommand.{DysymtabCommand}

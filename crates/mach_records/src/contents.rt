@@ -47,6 +47,50 @@ impl Record for UuidCommand {
     }
 }
 
+/// The target triple that the image was compiled for (struct target_triple_command, `LC_TARGET_TRIPLE`).
+#[derive(Clone, Copy, Debug)]
+pub struct TargetTripleCommand {
+    /// Its number: one of the `LC_` constants.
+    pub cmd: u32,
+    /// Its size in bytes.
+    pub cmdsize: u32,
+    /// The triple.
+    pub triple: LcStr,
+}
+
+/// The size of a `TargetTripleCommand` in bytes.
+pub const SIZEOF_TARGET_TRIPLE_COMMAND: usize = 12;
+
+impl Record for TargetTripleCommand {
+    const SIZE: usize = SIZEOF_TARGET_TRIPLE_COMMAND;
+
+    ghost SIZE = { 12 };
+
+    ghost use Rattle.mach_records.specs.Contents.{target_triple_command_fields, target_triple_command_values};
+    ghost use Rattle.std.proofs.Common.{rules};
+
+    ghost fields = { target_triple_command_fields };
+
+    ghost values = { target_triple_command_values };
+
+    ghost lawful = { Prim.search rules };
+
+    fn load(bytes: &[u8], le: Endian) -> Self {
+        TargetTripleCommand {
+            cmd: le.u32_at(bytes, 0),
+            cmdsize: le.u32_at(bytes, 4),
+            triple: le.u32_at(bytes, 8),
+        }
+    }
+
+    fn store(self, le: Endian) -> RecordBytes {
+        RecordBytes::new()
+            .u32(le, self.cmd)
+            .u32(le, self.cmdsize)
+            .u32(le, self.triple)
+    }
+}
+
 /// Where a program begins (struct entry_point_command, `LC_MAIN`).
 #[derive(Clone, Copy, Debug)]
 pub struct EntryPointCommand {

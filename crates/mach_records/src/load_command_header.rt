@@ -1,6 +1,6 @@
 //! The header with which every load command begins (`mach-o/loader.h`).
 
-use crate::command_name::cmd_to_str;
+use crate::command_names::cmd_to_str;
 use mach_base::{Endian, Record, RecordBytes};
 use std::fmt;
 

@@ -2,7 +2,7 @@
 
 ghost use Rattle.std.specs.Prelude.{◌≡◌};
 
-use crate::command_name::{LC_DYSYMTAB, LC_SYMTAB};
+use crate::command_names::{LC_DYSYMTAB, LC_SYMTAB};
 use crate::numbers::u32s;
 use mach_base::{Endian, Record, RecordBytes, array_at};
 

@@ -6,3 +6,14 @@ pub mod SpecialPromise
 pub mod ReportedNone
 pub mod AsSigned
 pub mod SignedFacts
+pub mod Unescaped
+pub mod Gaps
+pub mod EntitlementSteps
+pub mod Entitled
+pub mod XmlTexts
+pub mod Debuggers
+pub mod Expressions
+pub mod ExpressionLaws
+pub mod Plain
+pub mod Simple
+pub mod WrittenTexts

@@ -69,7 +69,7 @@ fn readable_version(version: u32) -> Result<u32>
     ensures { Reads (λ v. v) result (defined.readable_version version) }
 {
     if version < 0x20001 || version > 0x2f000 {
-        return Err(Error::Malformed("the version of a code directory"));
+        return Err(Error::Malformed("a code directory is of an unknown version"));
     }
     Ok(version)
 }
@@ -80,10 +80,10 @@ fn sized_hash(head: &DirectoryHead, hash: HashType) -> Result<HashType>
     ensures power { OnOk result (head.now.page_size ≤ 31) }
 {
     if head.hash_size != hash.size() {
-        return Err(Error::Malformed("the hash size of a code directory"));
+        return Err(Error::Malformed("a code directory has a hash size that is not its hash's"));
     }
     if head.page_size > 31 {
-        return Err(Error::Malformed("the page size of a code directory"));
+        return Err(Error::Malformed("a code directory has pages of more than 2^31 bytes"));
     }
     Ok(hash)
 }
@@ -181,7 +181,7 @@ fn name_at(bytes: &[u8], place: Option<u32>) -> Result<Option<&str>>
     }
     let rest = try_rest_at(bytes, place as usize)?;
     if !rest.contains(&0) {
-        return Err(Error::Malformed("a name of a code directory"));
+        return Err(Error::Malformed("a name of a code directory has no end"));
     }
     let name = read_text(bytes, place as usize)?;
     Ok(Some(name))
@@ -208,7 +208,7 @@ impl<'a> CodeDirectory<'a> {
         let version = readable_version(head.version)?;
         room(bytes, fields_len(version))?;
         let Some(found) = HashType::of(head.hash_type) else {
-            return Err(Error::Malformed("the hash type of a code directory"));
+            return Err(Error::Malformed("a code directory is of an unknown hash type"));
         };
         let sized = sized_hash(&head, found)?;
         let hash = with_slots(bytes, &head, sized)?;

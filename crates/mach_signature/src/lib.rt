@@ -17,8 +17,15 @@ mod special_faults;
 
 // The signature of an image: where its command places it, and its faults.
 pub mod image;
+pub mod page;
 mod plist;
 mod signature_place;
+
+// Entitlements.
+pub mod entitlements;
+
+// Requirements.
+pub mod requirements;
 
 // Laws.
 pub mod laws;

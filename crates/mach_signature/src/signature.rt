@@ -52,7 +52,7 @@ impl<'a> CodeSignature<'a> {
         }
         let length = head.length as usize;
         if length < 12 {
-            return Err(Error::Malformed("the length of a signature"));
+            return Err(Error::Malformed("a signature is shorter than its header"));
         }
         if length > bytes.len() {
             return Err(Error::Scroll(ScrollError::TooBig {
@@ -86,7 +86,7 @@ impl<'a> CodeSignature<'a> {
         let offset = BE.u32_at(self.bytes, 16 + 8 * index as usize) as usize;
         let head = BlobHead::read(self.bytes, offset, BE)?;
         if head.length < 8 {
-            return Err(Error::Malformed("the length of a blob"));
+            return Err(Error::Malformed("a blob is shorter than its header"));
         }
         let bytes = bytes_at(self.bytes, offset, head.length as usize)?;
         Ok(Blob {
@@ -157,8 +157,8 @@ impl<'a> CodeSignature<'a> {
         self.content(SLOT_DER_ENTITLEMENTS)
     }
 
-    /// Returns the requirements, if there are any.
-    pub fn requirements(&self) -> Result<Option<&'a [u8]>>
+    /// Returns the bytes of the requirements after the head of their blob, if there are any.
+    pub fn requirement_bytes(&self) -> Result<Option<&'a [u8]>>
         ensures { Reads (option_map (λ content. content.now)) result (content_of (signature_view self.now) 2) }
     {
         self.content(SLOT_REQUIREMENTS)

@@ -13,6 +13,7 @@ use Rattle.goblin_mach.specs.FirstBytes.{foreign_words}
 use Rattle.mach_cli.specs.Foreigners.{refused_kind}
 use Rattle.mach_cli.specs.Names.{names_text}
 use Rattle.mach_cli.specs.Refusals.{complaint}
+use Rattle.mach_cli.specs.declared.entries.OutOfFile.{OutOfFile}
 use Rattle.goblin_mach.specs.declared.first_bytes.Foreign.{Foreign}
 use Rattle.machaudit.specs.declared.report.ImageReport.{ImageReport}
 use Rattle.machaudit.specs.declared.report.ImageReport.TheVariants as images
@@ -40,6 +41,11 @@ abbrev pub foreign_message : (file bytes : List ℕ) → Option Error → List �
 foreign_message file bytes None = []
 foreign_message file bytes (Some e) = kind_message file (refused_kind bytes e)
 
+-- there is none about an entry that is out of its fat file: it has no bytes, and the report says why
+abbrev pub message_about : Option OutOfFile → (file bytes : List ℕ) → Option Error → List ℕ
+message_about None file bytes refusal = foreign_message file bytes refusal
+message_about (Some outside) file bytes refusal = []
+
 -- The error for which a whole file is refused, if it is: no image opens in any mode, and it is no fat file whose table can be
 -- read.
 pub data IsWholeRefusal (bytes : List ℕ) : Option Error → Type 0 where
@@ -50,8 +56,8 @@ pub data IsWholeRefusal (bytes : List ℕ) : Option Error → Type 0 where
   unread_table : (file : FatFile) (e : Error) → HasFatMagic bytes → fat_file_in bytes ≡ Ok file → IsReported e → FailsAs e (arches_in file)
       → IsWholeRefusal bytes (Some e)
 
--- The line about a file was written.
-pub record SaysForeign (file bytes : List ℕ) (err_old err_new : Option (List ℕ)) : Type 0 where
+-- The line about a file, or about an entry that may be out of it, was written.
+pub record SaysForeign (outside : Option OutOfFile) (file bytes : List ℕ) (err_old err_new : Option (List ℕ)) : Type 0 where
   pub refusal : Option Error
   pub is_refusal : IsWholeRefusal bytes refusal
-  pub message : Appends err_old err_new (foreign_message file bytes refusal)
+  pub message : Appends err_old err_new (message_about outside file bytes refusal)

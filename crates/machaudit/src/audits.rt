@@ -27,6 +27,7 @@ impl<W: Write + Drop, B: Allocator> FileView<BufWriter<W, B>> for Audits {
             options: self.options,
             name,
             heading: self.only.as_str() != name,
+            outside: None,
         };
         let err = &mut rt.stderr();
         match run_for(&rt.alloc(), self.cpu, call, bytes, out, err) {

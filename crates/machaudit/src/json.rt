@@ -6,13 +6,16 @@ ghost use Rattle.machaudit.specs.Json as defined;
 pub mod fault;
 pub mod part;
 
-use crate::json::fault::{NoImage, Refusal};
+use crate::json::fault::NoImage;
 use crate::json::part::{Unreported, write_layout, write_part, write_parts};
 use crate::report::{ArchiveReport, EntryReport, FatReport, ImageReport, MemberReport, Report};
+use crate::source::{Source, refusal_of_image};
 use crate::verdict::Verdict;
-use goblin_mach::Error;
+use goblin_mach::describe;
+use goblin_mach::fat::FatArch;
 use mach_archive::Member;
-use mach_cli::{JsonString, comma_before};
+use mach_cli::entries::{OutOfFile, outside_at};
+use mach_cli::{JsonString, Refusal, comma_before};
 use std::alloc::Allocator;
 use std::io;
 use std::io::Write;
@@ -20,13 +23,14 @@ use std::io::Write;
 /// Writes the object of a file on a line: its name, whether it is sound, what it is, and its images.
 pub fn print_object<A: Allocator, O: Write>(
     name: &str,
+    source: Source<'_>,
     report: &Report<'_, A>,
     out: &mut O,
 ) -> io::Result<()> {
     write!(out, "{{\"container\":[")?;
     write_container(report, out)?;
     write!(out, "],\"images\":[")?;
-    write_images(report, out)?;
+    write_images(source, report, out)?;
     write_end(name, report, out)
 }
 
@@ -48,7 +52,10 @@ fn write_fat<A: Allocator, O: Write>(fat: &FatReport<'_, A>, out: &mut O) -> io:
 // Writes the part of the table itself: why it can't be read, or its faults.
 fn write_table<A: Allocator, O: Write>(fat: &FatReport<'_, A>, out: &mut O) -> io::Result<()> {
     match &fat.table {
-        Some(error) => write_part("table", &[Refusal(error)], Unreported::NOTHING, out),
+        Some(error) => {
+            let refusal = Refusal::Fault(describe(error));
+            write_part("table", &[refusal], Unreported::NOTHING, out)
+        }
         None => write_layout("table", fat.container.as_slice(), out),
     }
 }
@@ -68,37 +75,43 @@ fn write_entries<A: Allocator, O: Write>(fat: &FatReport<'_, A>, out: &mut O) ->
 }
 
 // Writes the images of a file: its entries, or itself.
-fn write_images<A: Allocator, O: Write>(report: &Report<'_, A>, out: &mut O) -> io::Result<()> {
+fn write_images<A: Allocator, O: Write>(
+    source: Source<'_>,
+    report: &Report<'_, A>,
+    out: &mut O,
+) -> io::Result<()> {
     match report {
-        Report::Image(image) => write_image(image, out),
-        Report::Fat(fat) => write_each(fat.entries.as_slice(), out),
+        Report::Image(image) => write_image(source.outside, image, out),
+        Report::Fat(fat) => write_each(source.bytes, fat.entries.as_slice(), out),
     }
 }
 
-// Writes the entries of a fat file.
+// Writes the entries of a fat file, which has these bytes.
 fn write_each<A: Allocator, O: Write>(
+    bytes: &[u8],
     entries: &[EntryReport<'_, A>],
     out: &mut O,
 ) -> io::Result<()> {
-    let mut is_first = true;
-    'entries: for entry in entries {
-        write_entry(entry, is_first, out)?;
-        is_first = false;
+    'entries: for (index, entry) in entries.iter().enumerate() {
+        write_entry(bytes, index, entry, out)?;
     }
     Ok(())
 }
 
-// Writes an entry of a fat file, after a comma unless it is the first.
+// Writes the entry with this number of a fat file, after a comma unless it is the first.
 fn write_entry<A: Allocator, O: Write>(
+    bytes: &[u8],
+    index: usize,
     entry: &EntryReport<'_, A>,
-    is_first: bool,
     out: &mut O,
 ) -> io::Result<()> {
-    let comma = comma_before(is_first);
+    let comma = comma_before(index == 0);
     write!(out, "{comma}")?;
     match entry {
         EntryReport::Archive(archive) => write_archive(archive, out),
-        EntryReport::Image(image) => write_image(image, out),
+        EntryReport::Image(image) => {
+            write_image(outside_at::<FatArch>(bytes, Some(index)), image, out)
+        }
     }
 }
 
@@ -124,7 +137,10 @@ fn write_archive_part<A: Allocator, O: Write>(
         ..Unreported::NOTHING
     };
     match archive.error() {
-        Some(error) => write_part("archive", &[Refusal(error)], unreported, out),
+        Some(error) => {
+            let refusal = Refusal::Fault(describe(error));
+            write_part("archive", &[refusal], unreported, out)
+        }
         None => write_part::<Refusal<'_>, O>("archive", &[], unreported, out),
     }
 }
@@ -141,7 +157,7 @@ fn write_members<A: Allocator, O: Write>(
             write!(out, "{comma}{{\"kind\":\"image\",\"member\":")?;
             write_name(*member, out)?;
             write!(out, ",")?;
-            write_opened(image, out)?;
+            write_opened(None, image, out)?;
             is_first = false;
         }
     }
@@ -159,14 +175,22 @@ fn write_name<O: Write>(member: Member<'_>, out: &mut O) -> io::Result<()> {
     }
 }
 
-// Writes an image: how it opens, and its parts.
-fn write_image<A: Allocator, O: Write>(image: &ImageReport<A>, out: &mut O) -> io::Result<()> {
+// Writes an image: how it opens, and its parts; of an entry that is out of the file, where both end.
+fn write_image<A: Allocator, O: Write>(
+    outside: Option<OutOfFile>,
+    image: &ImageReport<A>,
+    out: &mut O,
+) -> io::Result<()> {
     write!(out, "{{\"kind\":\"image\",")?;
-    write_opened(image, out)
+    write_opened(outside, image, out)
 }
 
 // Writes how an image opens, and its parts, and the end of its object.
-fn write_opened<A: Allocator, O: Write>(image: &ImageReport<A>, out: &mut O) -> io::Result<()> {
+fn write_opened<A: Allocator, O: Write>(
+    outside: Option<OutOfFile>,
+    image: &ImageReport<A>,
+    out: &mut O,
+) -> io::Result<()> {
     let opens = words_of_opening(image);
     write!(out, "\"opens\":\"{opens}\",\"parts\":[")?;
     match image {
@@ -175,17 +199,17 @@ fn write_opened<A: Allocator, O: Write>(image: &ImageReport<A>, out: &mut O) -> 
             write_parts(parts, out)?;
         }
         ImageReport::OpensLossily(error, parts) => {
-            write_refused(error, out)?;
+            write_refused(Refusal::Fault(describe(error)), out)?;
             write_parts(parts, out)?;
         }
-        ImageReport::Refused(error) => write_refused(error, out)?,
+        ImageReport::Refused(error) => write_refused(refusal_of_image(outside, error), out)?,
     }
     write!(out, "]}}")
 }
 
 // Writes the part of an image that doesn't open strictly.
-fn write_refused<O: Write>(error: &Error, out: &mut O) -> io::Result<()> {
-    write_part("opens", &[Refusal(error)], Unreported::NOTHING, out)
+fn write_refused<O: Write>(refusal: Refusal<'_>, out: &mut O) -> io::Result<()> {
+    write_part("opens", &[refusal], Unreported::NOTHING, out)
 }
 
 // Returns how an image opens.

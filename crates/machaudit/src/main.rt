@@ -19,6 +19,7 @@ mod layout_text;
 mod options;
 mod output;
 mod signature_text;
+mod source;
 mod text;
 
 use crate::audits::Audits;
@@ -73,11 +74,12 @@ fn audit_files(rt: &HostRuntime, call: &Call<'_, Global, SharedOnly>) -> Result<
     let Ok(only) = only_of(rt.alloc(), others.are_several(files.len()), files) else {
         return Err(PROGRAM.out_of_memory(rt));
     };
+    let limit = call.limit.unwrap_or(DEFAULT_LIMIT);
     let audits = Audits {
         cpu: call.cpu,
         options: Options {
             format: call.format,
-            limit: call.limit.unwrap_or(DEFAULT_LIMIT),
+            limit,
         },
         only,
     };
@@ -87,6 +89,7 @@ fn audit_files(rt: &HostRuntime, call: &Call<'_, Global, SharedOnly>) -> Result<
         cpu: call.cpu,
         has_titles: false,
         has_parts: true,
+        limit,
     };
     shown.show(rt, &audits, files, others, &mut lines)
 }

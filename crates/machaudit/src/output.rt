@@ -6,7 +6,7 @@ ghost use Rattle.std.specs.Io.KnownBytes.{Appends};
 ghost use Rattle.machaudit.specs.Sound.{IsSound, IsLong};
 ghost use Rattle.mach_cli.specs.Escapes.{IsOneLine};
 ghost use Rattle.mach_cli.specs.Foreigners.{refused_kind};
-ghost use Rattle.machaudit.specs.Foreign.{SaysForeign, foreign_message, kind_message, refusal_in};
+ghost use Rattle.machaudit.specs.Foreign.{SaysForeign, foreign_message, kind_message, message_about, refusal_in};
 ghost use Rattle.machaudit.specs.Quiet.{quiet_line};
 ghost use Rattle.machaudit.specs.Verdicts.{Judges, status_of, verdict_of_report};
 ghost use Rattle.mach_cli.specs.declared.options.Format.TheVariants as formats;
@@ -16,9 +16,11 @@ use crate::audit::audit;
 use crate::json::print_object;
 use crate::options::Options;
 use crate::report::Report;
+use crate::source::Source;
 use crate::text::print_report;
 use crate::verdict::Verdict;
 use goblin_mach::Error;
+use mach_cli::entries::OutOfFile;
 use mach_cli::{Escaped, Format, Label, Names, Refusal, ShowFailure, complain, refused_kind};
 use std::alloc::Allocator;
 use std::io;
@@ -28,7 +30,7 @@ use std::io::{BufWriter, Write};
 pub const NAME: &str = "machaudit";
 
 /// How a file is reported.
-#[derive(Clone, Copy, Debug)]
+#[derive(Clone, Copy)]
 pub struct Call<'a> {
     /// The options.
     pub options: Options,
@@ -36,13 +38,15 @@ pub struct Call<'a> {
     pub name: &'a str,
     /// Whether the name is printed before the lines.
     pub heading: bool,
+    /// If it is an entry that isn't all in its fat file: where both end.
+    pub outside: Option<OutOfFile>,
 }
 
 /// Audits the bytes of a file, prints the report, and returns the exit status.
 ///
 /// It is 0 if the file is sound and none of its lists is longer than the limit, else 1. All that is printed has left the buffer
 /// then. With `--quiet` it is one line, which says the same as the status. If the file doesn't open and is not Mach-O, `err` has
-/// a line with its kind.
+/// a line with its kind, unless it is an entry that is out of its fat file.
 pub fn run<A: Allocator + Clone, W: Write + Drop, B: Allocator, E: Write>(
     alloc: &A,
     call: Call<'_>,
@@ -58,14 +62,30 @@ pub fn run<A: Allocator + Clone, W: Write + Drop, B: Allocator, E: Write>(
         × Judges (IsSound bytes.now) (IsLong call.entry.options.limit bytes.now) v × IsOneLine (quiet_line call.entry.name.now v)
         × Appends (writer_contents W.contents out.old) (writer_contents W.contents out.new) (quiet_line call.entry.name.now v)) }
     ensures flushed { OnOk result (writer_buffer out.new ≡ []) }
-    ensures message { OnOk result (SaysForeign call.entry.name.now bytes.now (E.contents err.old) (E.contents err.new)) }
+    ensures message { OnOk result (SaysForeign call.entry.outside call.entry.name.now bytes.now (E.contents err.old) (E.contents err.new)) }
 {
     let Ok(report) = audit(alloc, bytes, call.options.limit) else {
         return Err(ShowFailure::Memory);
     };
-    write_report(call, &report, out)?;
-    say_refusal(call.name, bytes, &report, err)?;
+    write_report(call, bytes, &report, out)?;
+    say_unless_outside(call, bytes, &report, err)?;
     Ok(status(report.verdict()))
+}
+
+// Prints the kind of a file as `say_refusal` does, but nothing of an entry that is out of its fat file.
+fn say_unless_outside<A: Allocator, E: Write>(
+    call: Call<'_>,
+    bytes: &[u8],
+    report: &Report<'_, A>,
+    err: &mut E,
+) -> io::Result<()>
+    ensures { OnOk result (Appends (E.contents err.old) (E.contents err.new)
+        (message_about call.entry.outside call.entry.name.now bytes.now (refusal_in report.now))) }
+{
+    match call.outside {
+        Some(_) => Ok(()),
+        None => say_refusal(call.name, bytes, report, err),
+    }
 }
 
 // Prints the kind of a file, if it is refused as a whole and is not Mach-O.
@@ -125,6 +145,7 @@ fn status(verdict: Verdict) -> u8
 // Prints the report of a file and flushes it.
 fn write_report<A: Allocator, W: Write + Drop, B: Allocator>(
     call: Call<'_>,
+    bytes: &[u8],
     report: &Report<'_, A>,
     out: &mut BufWriter<W, B>,
 ) -> io::Result<()>
@@ -132,29 +153,34 @@ fn write_report<A: Allocator, W: Write + Drop, B: Allocator>(
         → Appends (writer_contents W.contents out.old) (writer_contents W.contents out.new) (quiet_line call.entry.name.now (verdict_of_report report.now))) }
     ensures flushed { OnOk result (writer_buffer out.new ≡ []) }
 {
-    print(call, report, out)?;
+    print(call, bytes, report, out)?;
     out.flush()
 }
 
 // Prints the report of a file.
 fn print<A: Allocator, O: Write>(
     call: Call<'_>,
+    bytes: &[u8],
     report: &Report<'_, A>,
     out: &mut O,
 ) -> io::Result<()>
     ensures { OnOk result (call.entry.options.format ≡ formats.Quiet
         → Appends (O.contents out.old) (O.contents out.new) (quiet_line call.entry.name.now (verdict_of_report report.now))) }
 {
+    let source = Source {
+        bytes,
+        outside: call.outside,
+    };
     match call.options.format {
         Format::Text => {
             if call.heading {
                 let name = Escaped(call.name);
                 writeln!(out, "{name}:")?;
             }
-            print_report(report, out)
+            print_report(source, report, out)
         }
         Format::Quiet => print_verdict(call.name, report.verdict(), out),
-        Format::Json => print_object(call.name, report, out),
+        Format::Json => print_object(call.name, source, report, out),
     }
 }
 

@@ -12,6 +12,7 @@ use crate::output::{Call, NAME, refuse, run};
 use crate::overlaid::entries_within;
 use goblin_mach::fat::FatArch;
 use goblin_mach::{Error, Mach, MachO, MultiArch};
+use mach_cli::entries::outside_at;
 use mach_cli::{Cpu, Names, Refusal, ShowFailure};
 use std::alloc::{AllocError, Allocator};
 use std::io::{BufWriter, Write};
@@ -156,7 +157,11 @@ fn run_entries<A: Allocator + Clone, W: Write + Drop, B: Allocator, E: Write>(
     let mut worst = 0u8;
     'archs: for (index, arch) in archs.iter().enumerate() {
         if cpu.takes_entry(arch) {
-            let status = run_entry(alloc, call, index, arch.slice(bytes), out, err)?;
+            let entry_call = Call {
+                outside: outside_at::<FatArch>(bytes, Some(index)),
+                ..call
+            };
+            let status = run_entry(alloc, entry_call, index, arch.slice(bytes), out, err)?;
             worst = worst.max(status);
         }
     }
@@ -181,6 +186,7 @@ fn run_entry<A: Allocator + Clone, W: Write + Drop, B: Allocator, E: Write>(
         options: call.options,
         name: &name,
         heading: true,
+        outside: call.outside,
     };
     run(alloc, call, entry, out, err)
 }

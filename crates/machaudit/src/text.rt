@@ -8,10 +8,13 @@ use crate::report::{
     MemberReport, PartReport, Parts, Records, Report,
 };
 use crate::signature_text::print_signature;
+use crate::source::{Source, refusal_of_image};
 use crate::verdict::Verdict;
-use goblin_mach::{Error, describe};
+use goblin_mach::describe;
+use goblin_mach::fat::FatArch;
 use mach_archive::Member;
-use mach_cli::Escaped;
+use mach_cli::entries::{OutOfFile, outside_at};
+use mach_cli::{Escaped, Refusal};
 use std::alloc::Allocator;
 use std::io::Write;
 use std::{fmt, io};
@@ -110,24 +113,30 @@ fn print_parts<A: Allocator, O: Write>(parts: &Parts<A>, out: &mut O) -> io::Res
     print_layout("layout", parts.layout.as_slice(), out)
 }
 
-// Prints the error of something that doesn't open.
-fn print_refusal<O: Write>(part: &str, error: &Error, out: &mut O) -> io::Result<()> {
-    writeln!(out, "  {part}: {}", describe(error))
+// Prints why something doesn't open.
+fn print_refusal<O: Write>(part: &str, refusal: Refusal<'_>, out: &mut O) -> io::Result<()> {
+    writeln!(out, "  {part}: {refusal}")
 }
 
-// Prints the report of an image.
-fn print_image<A: Allocator, O: Write>(image: &ImageReport<A>, out: &mut O) -> io::Result<()> {
+// Prints the report of an image; of an entry that is out of the file, where both end.
+fn print_image<A: Allocator, O: Write>(
+    outside: Option<OutOfFile>,
+    image: &ImageReport<A>,
+    out: &mut O,
+) -> io::Result<()> {
     match image {
         ImageReport::Opens(parts) => {
             writeln!(out, "  opens: ok")?;
             print_parts(parts, out)
         }
         ImageReport::OpensLossily(error, parts) => {
-            print_refusal("opens", error, out)?;
+            print_refusal("opens", Refusal::Fault(describe(error)), out)?;
             writeln!(out, "  opens lossily: ok")?;
             print_parts(parts, out)
         }
-        ImageReport::Refused(error) => print_refusal("opens", error, out),
+        ImageReport::Refused(error) => {
+            print_refusal("opens", refusal_of_image(outside, error), out)
+        }
     }
 }
 
@@ -145,7 +154,7 @@ fn print_member<A: Allocator, O: Write>(
         }
         Err(_) => writeln!(out, "arch {index}(at {})", member.offset)?,
     }
-    print_image(image, out)
+    print_image(None, image, out)
 }
 
 // Prints the report of an archive that is the entry with this number, and those of its members.
@@ -155,7 +164,7 @@ fn print_archive<A: Allocator, O: Write>(
     out: &mut O,
 ) -> io::Result<()> {
     match archive.error() {
-        Some(error) => print_refusal("archive", error, out)?,
+        Some(error) => print_refusal("archive", Refusal::Fault(describe(error)), out)?,
         None if archive.cut => writeln!(out, "  archive: limit met")?,
         None => writeln!(out, "  archive: ok")?,
     }
@@ -167,8 +176,9 @@ fn print_archive<A: Allocator, O: Write>(
     Ok(())
 }
 
-// Prints the report of the fat file's entry with this number.
+// Prints the report of the entry with this number of a fat file, which has these bytes.
 fn print_entry<A: Allocator, O: Write>(
+    bytes: &[u8],
     index: usize,
     entry: &EntryReport<'_, A>,
     out: &mut O,
@@ -176,22 +186,28 @@ fn print_entry<A: Allocator, O: Write>(
     writeln!(out, "arch {index}")?;
     match entry {
         EntryReport::Archive(archive) => print_archive(index, archive, out),
-        EntryReport::Image(image) => print_image(image, out),
+        EntryReport::Image(image) => {
+            print_image(outside_at::<FatArch>(bytes, Some(index)), image, out)
+        }
     }
 }
 
-// Prints the report of a fat file.
-fn print_fat<A: Allocator, O: Write>(fat: &FatReport<'_, A>, out: &mut O) -> io::Result<()> {
+// Prints the report of a fat file, which has these bytes.
+fn print_fat<A: Allocator, O: Write>(
+    bytes: &[u8],
+    fat: &FatReport<'_, A>,
+    out: &mut O,
+) -> io::Result<()> {
     writeln!(out, "fat file of {}", fat.count)?;
     match &fat.table {
-        Some(error) => print_refusal("table", error, out)?,
+        Some(error) => print_refusal("table", Refusal::Fault(describe(error)), out)?,
         None => print_layout("table", fat.container.as_slice(), out)?,
     }
     if fat.count == 0 {
         writeln!(out, "  entries: no image")?;
     }
     'entries: for (index, entry) in fat.entries.as_slice().iter().enumerate() {
-        print_entry(index, entry, out)?;
+        print_entry(bytes, index, entry, out)?;
     }
     if fat.cut {
         writeln!(out, "  entries: limit met")?;
@@ -200,13 +216,17 @@ fn print_fat<A: Allocator, O: Write>(fat: &FatReport<'_, A>, out: &mut O) -> io:
 }
 
 /// Prints the report of a file, and whether it is sound.
-pub fn print_report<A: Allocator, O: Write>(report: &Report<'_, A>, out: &mut O) -> io::Result<()> {
+pub fn print_report<A: Allocator, O: Write>(
+    source: Source<'_>,
+    report: &Report<'_, A>,
+    out: &mut O,
+) -> io::Result<()> {
     match report {
         Report::Image(image) => {
             writeln!(out, "image")?;
-            print_image(image, out)?;
+            print_image(source.outside, image, out)?;
         }
-        Report::Fat(fat) => print_fat(fat, out)?,
+        Report::Fat(fat) => print_fat(source.bytes, fat, out)?,
     }
     let verdict = report.verdict();
     writeln!(out, "{verdict}")

@@ -1,4 +1,5 @@
 pub mod ItemLines
 pub mod Items
 pub mod Reported
+pub mod Verified
 pub mod MembersReported

@@ -18,13 +18,13 @@ use Rattle.machfat.specs.Refusals.{FatFault, Refuses, RefusesFaults, RefusesRead
 use Rattle.machfat.specs.Written.{WritesAs}
 
 reports_by : {Y : Type 0} (bytes : List ℕ) (why : EntryRefusal) (kind : Option Foreign) (there : Result Y Unfit) → kind_by_front bytes why ≡ kind
-    → RefusesAs why there → Refuses bytes there (said_by kind why)
+    → RefusesAs why there → Refuses bytes there (said_by bytes kind why)
 reports_by bytes why (Some kind) there is refuses = (why, refuses, is)
-reports_by bytes why None there is refuses = (refuses, is)
+reports_by bytes why None there is refuses = (refuses, is, refl)
 
 -- the refusal says why there is nothing
 pub reports_of : {Y : Type 0} (bytes : List ℕ) (why : EntryRefusal) (there : Result Y Unfit) → RefusesAs why there
-    → Refuses bytes there (said_by (kind_by_front bytes why) why)
+    → Refuses bytes there (said_by bytes (kind_by_front bytes why) why)
 reports_of bytes why there refuses = reports_by bytes why (kind_by_front bytes why) there refl refuses
 
 -- a refused allocation is reported without the kind of the file

@@ -7,6 +7,7 @@ pub mod ListedFiles
 pub mod Made
 pub mod Members
 pub mod OfCpu
+pub mod Permissions
 pub mod Refusals
 pub mod Same
 pub mod Names
@@ -15,3 +16,4 @@ pub mod SymbolLines
 pub mod ArchiveLines
 pub mod Written
 pub mod ShownFiles
+pub mod Outside

@@ -7,7 +7,6 @@ use Rattle.mach_base.specs.declared.error.Error.{Error}
 use Rattle.mach_fat_writer.specs.EntriesRead.{slice_of}
 use Rattle.mach_fat_writer.specs.FatForms.{FatForm}
 use Rattle.mach_fat_writer.specs.FatTables.{form_in, fat_table_in}
-use Rattle.mach_fat_writer.specs.Unfit.{entry_refusal_words}
 use Rattle.mach_fat_writer.specs.declared.entry_record.EntryRecord.{EntryRecord}
 use Rattle.mach_fat_writer.specs.declared.refusal.EntryRefusal.TheVariants.{OutOfFile}
 use Rattle.mach_parts.specs.Magic.{magic_at}
@@ -15,16 +14,20 @@ use Rattle.mach_cli.specs.declared.image_view.Outcome.{Outcome}
 use Rattle.machfat.specs.ArchiveLines.{AreArchiveLines}
 use Rattle.goblin_mach.specs.FirstBytes.{is_image_magic}
 use Rattle.machfat.specs.Names.{refused_line}
+use Rattle.machfat.specs.Outside.{refused_entries, refused_entries_words}
 
 -- the outcome if no line of a list is printed: whether it is whole
 abbrev pub stays : (left : ℕ) → (whole : Bool) → Outcome
 stays left whole = record { whole = whole; left = left }
 
+-- the line of entry i, if it isn't in the file
+abbrev pub out_of_file_line : List ℕ → ℕ → List ℕ
+out_of_file_line bytes i = codes "refused: " ++ (refused_entries_words (refused_entries bytes (OutOfFile i)) ++ codes "\n")
+
 -- The text of the entry of record i: it isn't in the file; it is an image; it is no archive, for this error; or it is an archive,
 -- with its lines, no more than `left`.
 pub data AreContentLines (limit left : ℕ) (bytes : List ℕ) (i : ℕ) (r : EntryRecord) : List ℕ → Outcome → Type 0 where
-  out_of_the_file : slice_of bytes r ≡ None
-      → AreContentLines limit left bytes i r (codes "refused: " ++ (entry_refusal_words (OutOfFile i) ++ codes "\n")) (stays left false)
+  out_of_the_file : slice_of bytes r ≡ None → AreContentLines limit left bytes i r (out_of_file_line bytes i) (stays left false)
   an_image : (slice : List ℕ) → slice_of bytes r ≡ Some slice → is_image_magic (magic_at slice 0) ≡ true
       → AreContentLines limit left bytes i r (codes "image\n") (stays left true)
   no_archive : (slice : List ℕ) (e : Error) → slice_of bytes r ≡ Some slice → is_image_magic (magic_at slice 0) ≡ false

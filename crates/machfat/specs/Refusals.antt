@@ -6,7 +6,7 @@ use Rattle.mach_base.specs.Fault.{Fault}
 use Rattle.mach_base.specs.Words.{words_of}
 use Rattle.mach_parts.specs.FatRecords.{HasFat64Magic}
 use Rattle.mach_base.specs.declared.error.Error.{Error}
-use Rattle.mach_fat_writer.specs.Unfit.{RefusesAs, Unfit, entry_refusal_words}
+use Rattle.mach_fat_writer.specs.Unfit.{RefusesAs, Unfit}
 use Rattle.mach_fat_writer.specs.declared.refusal.EntryRefusal.{EntryRefusal}
 use Rattle.mach_fat_writer.specs.declared.refusal.EntryRefusal.TheVariants.{Unread}
 use Rattle.goblin_mach.specs.Image.{Opens}
@@ -21,6 +21,7 @@ use Rattle.mach_cli.specs.declared.cpu.Cpu.{Cpu}
 use Rattle.goblin_mach.specs.declared.first_bytes.Foreign as declared
 use Rattle.goblin_mach.specs.declared.first_bytes.Foreign.TheVariants.{Archive}
 use Rattle.machfat.specs.Members.{MembersFault}
+use Rattle.machfat.specs.Outside.{refused_entries, refused_entries_words}
 use Rattle.machfat.specs.declared.refusal.WriteFailure.TheVariants as failures
 use Rattle.machfat.specs.declared.refusal.WriteFailure.{WriteFailure}
 use Rattle.machfat.specs.declared.refusal.Refusal.TheVariants.{Refused, Foreign, NotFat, Entries, NoEntryOf}
@@ -30,7 +31,7 @@ abbrev pub refusal_words : Refusal → List ℕ
 refusal_words (Refused e) = words_of e
 refusal_words (Foreign kind) = foreign_words kind
 refusal_words NotFat = codes "not a fat file"
-refusal_words (Entries why) = entry_refusal_words why
+refusal_words (Entries refused) = refused_entries_words refused
 refusal_words (NoEntryOf cpu) = no_entry_words cpu
 
 -- the line on the error output, with the file's name
@@ -78,32 +79,32 @@ kind_by_front bytes (Unread e) = refused_kind bytes e
 kind_by_front bytes _ = None
 
 -- the refusal of a file whose entries are refused
-abbrev pub said_by : Option declared.Foreign → EntryRefusal → Refusal
-said_by (Some kind) why = Foreign kind
-said_by None why = Entries why
+abbrev pub said_by : List ℕ → Option declared.Foreign → EntryRefusal → Refusal
+said_by bytes (Some kind) why = Foreign kind
+said_by bytes None why = Entries (refused_entries bytes why)
 
 -- an answer, or the refusal of the file
 abbrev pub said_in : {X : Type 0} → List ℕ → Result X EntryRefusal → Result X Refusal
 said_in bytes (Ok x) = Ok x
-said_in bytes (Err why) = Err (said_by (kind_by_front bytes why) why)
+said_in bytes (Err why) = Err (said_by bytes (kind_by_front bytes why) why)
 
 -- Why what a fat file has, `there`, can't be printed or written: it can't be read, and the first bytes show the kind of the file,
--- or don't; it isn't there; or an allocation was refused.
+-- or don't; it isn't there; or an allocation was refused. Of an entry that is out of the file the refusal has where both end.
 abbrev pub Refuses : {Y : Type 0} → List ℕ → Result Y Unfit → Refusal → Type 0
 Refuses bytes there (Refused e) = ErrorMeets (λ f. ⊥) e
 Refuses bytes there (Foreign kind) = (why : EntryRefusal) × RefusesAs why there × (kind_by_front bytes why ≡ Some kind)
 Refuses bytes there NotFat = ⊥
-Refuses bytes there (Entries why) = RefusesAs why there × (kind_by_front bytes why ≡ None)
+Refuses bytes there (Entries r) = RefusesAs r.why there × (kind_by_front bytes r.why ≡ None) × (r ≡ refused_entries bytes r.why)
 Refuses bytes there (NoEntryOf cpu) = ⊥
 
 -- Why the first entry for a cpu can't be written, given what the file has for it: the file is refused, or the entry is not in it;
 -- it has no entry for this cpu; or an allocation was refused. The kind of the file isn't reported.
-abbrev pub RefusesCpu : Result (Option (List ℕ)) Unfit → Cpu → Refusal → Type 0
-RefusesCpu there cpu (Refused e) = ErrorMeets (λ f. ⊥) e
-RefusesCpu there cpu (Foreign kind) = ⊥
-RefusesCpu there cpu NotFat = ⊥
-RefusesCpu there cpu (Entries why) = RefusesAs why there
-RefusesCpu there cpu (NoEntryOf other) = (other ≡ cpu) × (there ≡ Ok None)
+abbrev pub RefusesCpu : List ℕ → Result (Option (List ℕ)) Unfit → Cpu → Refusal → Type 0
+RefusesCpu bytes there cpu (Refused e) = ErrorMeets (λ f. ⊥) e
+RefusesCpu bytes there cpu (Foreign kind) = ⊥
+RefusesCpu bytes there cpu NotFat = ⊥
+RefusesCpu bytes there cpu (Entries r) = RefusesAs r.why there × (r ≡ refused_entries bytes r.why)
+RefusesCpu bytes there cpu (NoEntryOf other) = (other ≡ cpu) × (there ≡ Ok None)
 
 -- the refusal, if it is one, satisfies P
 abbrev pub IsRefusal : (Refusal → Type 0) → WriteFailure → Type 0

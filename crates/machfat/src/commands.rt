@@ -15,6 +15,7 @@ ghost use Rattle.machfat.specs.declared.refusal.Refusal.{Refusal};
 
 use crate::entry::{entry_bytes, list};
 use crate::new_file::place_file;
+use crate::permissions::NewMode;
 use crate::refusal::{Refusal, WriteFailure};
 use mach_cli::output::failed;
 use mach_cli::{Names, most_items};
@@ -94,18 +95,20 @@ pub fn run_extract<R: Files, E: Write>(
     ensures refused { result ≡ 1 → (refusal : Refusal) × Refuses bytes.now (indexed_entry_in bytes.now index) refusal
         × Appends (E.contents err.old) (E.contents err.new) (refusal_line file.now refusal) }
 {
+    let mode = NewMode::as_file(files, file);
     status(
-        extract(files, alloc, bytes, index, target),
+        extract(files, alloc, mode, bytes, index, target),
         file,
         target,
         err,
     )
 }
 
-// Writes an entry to a file, and returns the file. Nothing is written if there is no such entry.
+// Writes an entry to a file with some permissions, and returns the file. Nothing is written if there is no such entry.
 fn extract<R: Files>(
     files: &R,
     alloc: Global,
+    mode: NewMode,
     bytes: &[u8],
     index: usize,
     target: &str,
@@ -115,7 +118,7 @@ fn extract<R: Files>(
     ensures refused { IfErr result (IsRefusal (Refuses bytes.now (indexed_entry_in bytes.now index))) }
 {
     let entry = entry_bytes(alloc, bytes, index)?;
-    place_file(files, alloc, entry, target)
+    place_file(files, alloc, mode, entry, target)
 }
 
 /// Returns the exit status of a file that was written, or reports on `err` why it wasn't: a failed write with the name of the

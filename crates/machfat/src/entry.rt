@@ -8,6 +8,7 @@ ghost use Rattle.machfat.specs.ListedFiles.{has_at_most, listed_file_in, listed_
 ghost use Rattle.machfat.specs.Refusals.{Refuses, RefusesUnwritten, kind_by_front, said_in};
 
 use crate::listed::{Listed, list_of};
+use crate::outside::refused_entries;
 use crate::refusal::{Refusal, WriteFailure};
 use crate::text::{CpuText, EndText, write_record};
 use goblin_mach::Foreign;
@@ -35,7 +36,7 @@ pub fn said<T>(bytes: &[u8], answer: Result<T, EntryRefusal>) -> Result<T, Refus
         Ok(found) => Ok(found),
         Err(why) => match kind_by_front(bytes, &why) {
             Some(kind) => Err(Refusal::Foreign(kind)),
-            None => Err(Refusal::Entries(why)),
+            None => Err(Refusal::Entries(refused_entries(bytes, why))),
         },
     }
 }

@@ -1,6 +1,6 @@
 //! Fat files that are created from files.
 
-ghost use Rattle.std.specs.Prelude.{◌≡◌, ◌≤◌, List, ℕ};
+ghost use Rattle.std.specs.Prelude.{◌≡◌, ◌≤◌, ◌∷◌, [], List, ℕ};
 ghost use Rattle.std.specs.Io.KnownBytes.{Appends};
 ghost use Rattle.mach_base.specs.Answer.{ErrorMeets};
 ghost use Rattle.mach_base.specs.declared.error.Error.{Error};
@@ -10,13 +10,15 @@ ghost use Rattle.mach_fat_writer.specs.FatTables.{form_of};
 ghost use Rattle.mach_fat_writer.specs.declared.refusal.MakeRefusal.{MakeRefusal};
 ghost use Rattle.mach_cli.specs.Statuses.{IsStatus};
 ghost use Rattle.machfat.specs.Entry.{WasWritten};
-ghost use Rattle.machfat.specs.Made.{given_name, make_line};
+ghost use Rattle.machfat.specs.Made.{given_text, make_line};
 ghost use Rattle.machfat.specs.Refusals.{refusal_line};
 ghost use Rattle.machfat.specs.Same.{AreOther};
 ghost use Rattle.machfat.specs.declared.refusal.Refusal.TheVariants.{Refused};
 
 use crate::commands::{NAME, refused, status};
 use crate::new_file::{first_same, place_file};
+use crate::outside::refused_entries;
+use crate::permissions::NewMode;
 use crate::refusal::Refusal;
 use mach_cli::Escaped;
 use mach_fat_writer::{FileRefusal, Form, MakeRefusal, create, remove, replace};
@@ -42,14 +44,17 @@ pub fn run_create<R: Files, E: Write>(
     ensures created { result ≡ 0 → (made : List ℕ) × IsCreated (form_of form) (texts_now inputs.now) made × WasWritten R.File.contents made }
     ensures apart { result ≡ 0 → AreOther names.now target.now }
     ensures refused { result ≡ 1 → (refusal : MakeRefusal) × RefusesCreate (form_of form) (texts_now inputs.now) refusal
-        × Appends (E.contents err.old) (E.contents err.new) (make_line names.now target.now refusal) }
+        × Appends (E.contents err.old) (E.contents err.new) (make_line names.now inputs.now target.now refusal) }
 {
     if let Some(name) = first_same(files, names, target) {
         return one_file(name, target, err);
     }
     match create(&alloc, form, inputs) {
-        Ok(made) => place_made(files, alloc, made.as_slice(), target, err),
-        Err(refusal) => refuse(names, target, refusal, err),
+        Ok(made) => {
+            let mode = NewMode::of_any(files, names);
+            place_made(files, alloc, mode, made.as_slice(), target, err)
+        }
+        Err(refusal) => refuse(names, inputs, target, refusal, err),
     }
 }
 
@@ -68,14 +73,17 @@ pub fn run_replace<R: Files, E: Write>(
     ensures replaced { result ≡ 0 → (made : List ℕ) × IsReplaced bytes.now new.now made × WasWritten R.File.contents made }
     ensures apart { result ≡ 0 → AreOther both.now target.now }
     ensures refused { result ≡ 1 → (refusal : MakeRefusal) × RefusesReplace bytes.now new.now refusal
-        × Appends (E.contents err.old) (E.contents err.new) (make_line both.now target.now refusal) }
+        × Appends (E.contents err.old) (E.contents err.new) (make_line both.now (bytes.entry ∷ new.entry ∷ []) target.now refusal) }
 {
     if let Some(name) = first_same(files, both, target) {
         return one_file(name, target, err);
     }
     match replace(&alloc, bytes, new) {
-        Ok(made) => place_made(files, alloc, made.as_slice(), target, err),
-        Err(refusal) => refuse(both, target, refusal, err),
+        Ok(made) => {
+            let mode = NewMode::as_first(files, both);
+            place_made(files, alloc, mode, made.as_slice(), target, err)
+        }
+        Err(refusal) => refuse(both, &[bytes, new], target, refusal, err),
     }
 }
 
@@ -94,21 +102,25 @@ pub fn run_remove<R: Files, E: Write>(
     ensures removed { result ≡ 0 → (made : List ℕ) × IsWithout bytes.now index made × WasWritten R.File.contents made }
     ensures apart { result ≡ 0 → AreOther only.now target.now }
     ensures refused { result ≡ 1 → (refusal : MakeRefusal) × RefusesRemove bytes.now index refusal
-        × Appends (E.contents err.old) (E.contents err.new) (make_line only.now target.now refusal) }
+        × Appends (E.contents err.old) (E.contents err.new) (make_line only.now (bytes.entry ∷ []) target.now refusal) }
 {
     if let Some(name) = first_same(files, only, target) {
         return one_file(name, target, err);
     }
     match remove(&alloc, bytes, index) {
-        Ok(made) => place_made(files, alloc, made.as_slice(), target, err),
-        Err(refusal) => refuse(only, target, refusal, err),
+        Ok(made) => {
+            let mode = NewMode::as_first(files, only);
+            place_made(files, alloc, mode, made.as_slice(), target, err)
+        }
+        Err(refusal) => refuse(only, &[bytes], target, refusal, err),
     }
 }
 
-// Writes a created file, and returns the exit status.
+// Writes a created file with some permissions, and returns the exit status.
 fn place_made<R: Files, E: Write>(
     files: &R,
     alloc: Global,
+    mode: NewMode,
     made: &[u8],
     target: &str,
     err: &mut E,
@@ -118,17 +130,30 @@ fn place_made<R: Files, E: Write>(
     ensures wanting { result ≡ 1 → (e : Error) × ErrorMeets (λ f. ⊥) e
         × Appends (E.contents err.old) (E.contents err.new) (refusal_line target.now (Refused e)) }
 {
-    status(place_file(files, alloc, made, target), target, target, err)
+    status(
+        place_file(files, alloc, mode, made, target),
+        target,
+        target,
+        err,
+    )
 }
 
-// Reports a refusal, with the name of the file that is refused or else of the target, and returns the status.
-fn refuse<E: Write>(names: &[&str], target: &str, refusal: MakeRefusal, err: &mut E) -> u8
+// Reports a refusal of files with these names and bytes, with the name of the file that is refused or else of the target, and
+// returns the status.
+fn refuse<E: Write>(
+    names: &[&str],
+    inputs: &[&[u8]],
+    target: &str,
+    refusal: MakeRefusal,
+    err: &mut E,
+) -> u8
     ensures status { IsStatus result }
     ensures not_zero { 1 ≤ result }
-    ensures reported { result ≡ 1 → Appends (E.contents err.old) (E.contents err.new) (make_line names.now target.now refusal) }
+    ensures reported { result ≡ 1 → Appends (E.contents err.old) (E.contents err.new) (make_line names.now inputs.now target.now refusal) }
 {
     match refusal {
         MakeRefusal::OfFile(FileRefusal { file, why }) => {
+            let why = refused_entries(given_bytes(inputs, file), why);
             refused(given_name(names, file), &Refusal::Entries(why), err)
         }
         MakeRefusal::OfAll(error) => refused(target, &Refusal::Refused(error), err),
@@ -137,11 +162,21 @@ fn refuse<E: Write>(names: &[&str], target: &str, refusal: MakeRefusal, err: &mu
 
 // Returns the name of a file, by its index among the given ones.
 fn given_name<'a>(names: &[&'a str], index: usize) -> &'a str
-    ensures { result.now ≡ given_name names.now index }
+    ensures { result.now ≡ given_text names.now index }
 {
     match names.get(index) {
         Some(name) => name,
         None => "",
+    }
+}
+
+// Returns the bytes of a file, by its index among the given ones.
+fn given_bytes<'a>(inputs: &[&'a [u8]], index: usize) -> &'a [u8]
+    ensures { result.now ≡ given_text inputs.now index }
+{
+    match inputs.get(index) {
+        Some(bytes) => bytes,
+        None => &[],
     }
 }
 

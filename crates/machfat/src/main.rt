@@ -19,6 +19,8 @@ mod listed;
 mod made;
 mod members;
 mod new_file;
+mod outside;
+mod permissions;
 mod refusal;
 mod shown;
 mod text;
@@ -201,6 +203,7 @@ fn shown_whole(shown: Shown) -> Files
         cpu: Cpu::Any,
         has_titles: !matches!(shown, Shown::Object),
         has_parts: false,
+        limit: usize::MAX,
     }
 }
 

@@ -4,16 +4,17 @@ ghost use Rattle.std.specs.Prelude.{◌≡◌, ◌≤◌, ◌⊎◌, [], true, f
 ghost use Rattle.std.specs.Io.Buffered.{writer_buffer, writer_contents};
 ghost use Rattle.std.specs.Io.KnownBytes.{Appends};
 ghost use Rattle.mach_fat_writer.specs.FatTables.{fat_table_in, form_in, form_of};
-ghost use Rattle.mach_fat_writer.specs.Unfit.{entry_refusal_words};
 ghost use Rattle.mach_cli.specs.Bounds.{most_items};
 ghost use Rattle.mach_cli.specs.Foreigners.{refused_kind};
 ghost use Rattle.mach_cli.specs.Statuses.{IsStatus};
 ghost use Rattle.machfat.specs.Members.{AreContentLines, AreEntryLines, AreFileLines};
+ghost use Rattle.machfat.specs.Outside.{refused_entries, refused_entries_words};
 ghost use Rattle.machfat.specs.Refusals.{but_archive, refused_by, RefusesFile, RefusesMembers, RefusesUnwritten};
 ghost use Rattle.machfat.specs.Written.{WritesAs};
 
 use crate::archive::{print_archive, print_refused};
 use crate::commands::reported;
+use crate::outside::refused_entries;
 use crate::refusal::{Refusal, WriteFailure, refused_by};
 use goblin_mach::Foreign;
 use goblin_mach::first_bytes::begins_image;
@@ -132,8 +133,8 @@ fn print_content<O: Write>(
     ensures { IfOk result (λ outcome. WritesAs (AreContentLines limit left bytes.now index arch.now) outcome (O.contents out.old) (O.contents out.new)) }
 {
     let Some(entry) = arch.slice(bytes) else {
-        let refusal = EntryRefusal::OutOfFile(index);
-        writeln!(out, "refused: {refusal}")?;
+        let refused = refused_entries(bytes, EntryRefusal::OutOfFile(index));
+        writeln!(out, "refused: {refused}")?;
         return Ok(Outcome { whole: false, left });
     };
     if begins_image(entry) {

@@ -5,9 +5,10 @@ ghost use Rattle.machfat.specs.Entry.{Took, TookLast};
 ghost use Rattle.machfat.specs.Refusals.{IsRefusal, IsWant};
 ghost use Rattle.machfat.specs.Same.{is_one_file, is_one_node, AreOther, IsSame};
 
+use crate::permissions::NewMode;
 use crate::refusal::WriteFailure;
 use std::alloc::Global;
-use std::fs::{File, OpenFile};
+use std::fs::OpenFile;
 use std::io::{ErrorKind, Write};
 use std::os::unix::fs::MetadataExt;
 use std::rt::Files;
@@ -72,13 +73,15 @@ fn is_one_node(here: Option<Node>, there: Option<Node>) -> bool
     }
 }
 
-/// Writes bytes under another name beside the target, and renames that file once it is whole. Returns the file.
+/// Writes bytes under another name beside the target, with some permissions, and renames that file once it is whole. Returns the
+/// file.
 ///
 /// Until then the target is unchanged. If a step fails, it stays unchanged and nothing is left beside it. Nothing is written if
 /// something other than a plain file has the target's name.
 pub fn place_file<R: Files>(
     files: &R,
     alloc: Global,
+    mode: NewMode,
     bytes: &[u8],
     target: &str,
 ) -> Result<R::File, WriteFailure>
@@ -88,8 +91,8 @@ pub fn place_file<R: Files>(
     if !is_free(files, target) {
         return Err(taken());
     }
-    let (name, file) = new_file(files, alloc, target)?;
-    match complete(files, bytes, file, name.as_str(), target) {
+    let (name, file) = new_file(files, alloc, mode, target)?;
+    match complete(files, mode, bytes, file, name.as_str(), target) {
         Ok(file) => Ok(file),
         Err(failure) => {
             let _ = fs::remove_file(files, name.as_str());
@@ -106,17 +109,18 @@ fn is_free<R: Files>(files: &R, path: &str) -> bool {
     }
 }
 
-// Creates a file with a new name beside a path.
+// Creates a file with some permissions, and a new name beside a path.
 fn new_file<R: Files>(
     files: &R,
     alloc: Global,
+    mode: NewMode,
     path: &str,
 ) -> Result<(String, R::File), WriteFailure>
     ensures { IfErr result (IsRefusal IsWant) }
 {
     for number in 0..NAMES {
         let name = format!(in alloc; "{path}.{number}.part")?;
-        match File::create_new(files, name.as_str()) {
+        match mode.create(files, name.as_str()) {
             Ok(file) => return Ok((name, file)),
             Err(error) if error.kind() == ErrorKind::AlreadyExists => {}
             Err(error) => return Err(WriteFailure::Unwritten(error)),
@@ -143,9 +147,10 @@ fn fill<F: Write + OpenFile>(bytes: &[u8], file: &mut F) -> Result<(), WriteFail
     Ok(())
 }
 
-// Writes bytes to a new file, and nothing else, and gives it the name of the target. Returns the file.
+// Gives a new file its permissions, writes bytes to it, and nothing else, and gives it the name of the target. Returns the file.
 fn complete<R: Files>(
     files: &R,
+    mode: NewMode,
     bytes: &[u8],
     mut file: R::File,
     name: &str,
@@ -154,6 +159,7 @@ fn complete<R: Files>(
     ensures written { IfOk result (λ filled. Took R.File.contents file filled bytes.now) }
     ensures refused { IfErr result (IsRefusal IsWant) }
 {
+    mode.set(&file)?;
     fill(bytes, &mut file)?;
     fs::rename(files, name, target)?;
     Ok(file)

@@ -5,9 +5,9 @@ ghost use Rattle.machfat.specs.Refusals.{refused_by};
 ghost use Rattle.machfat.specs.declared.refusal.Refusal.TheVariants as refusals;
 ghost use Rattle.machfat.specs.declared.refusal.WriteFailure.TheVariants as failures;
 
+use crate::outside::RefusedEntries;
 use goblin_mach::{Error, Foreign, describe};
 use mach_cli::Cpu;
-use mach_fat_writer::EntryRefusal;
 use std::alloc::AllocError;
 use std::fmt::{Display, Formatter, Write};
 use std::{fmt, io};
@@ -22,7 +22,7 @@ pub enum Refusal {
     /// It is one image.
     NotFat,
     /// Its entries are refused, or it doesn't have the selected one.
-    Entries(EntryRefusal),
+    Entries(RefusedEntries),
     /// It has no entry for this cpu.
     NoEntryOf(Cpu),
 }
@@ -32,14 +32,6 @@ impl From<Error> for Refusal {
 
     fn from(error: Error) -> Refusal {
         Refusal::Refused(error)
-    }
-}
-
-impl From<EntryRefusal> for Refusal {
-    ghost from_gives = { λ entries refusal. refusal ≡ refusals.Entries entries };
-
-    fn from(entries: EntryRefusal) -> Refusal {
-        Refusal::Entries(entries)
     }
 }
 

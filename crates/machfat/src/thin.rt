@@ -14,6 +14,8 @@ ghost use Rattle.machfat.specs.declared.refusal.Refusal.{Refusal};
 use crate::commands::status;
 use crate::made::one_file;
 use crate::new_file::{is_same_file, place_file};
+use crate::outside::refused_entries;
+use crate::permissions::NewMode;
 use crate::refusal::{Refusal, WriteFailure};
 use mach_cli::{Arch, Cpu, cputype_in};
 use mach_fat_writer::{EntryRecord, EntryRefusal, fat_records};
@@ -52,23 +54,30 @@ pub fn run_thin<R: Files, E: Write>(
     ensures status { IsStatus result }
     ensures thinned { result ≡ 0 → (entry : List ℕ) × (cpu_entry_in bytes.now cpu ≡ Ok (Some entry)) × WasWritten R.File.contents entry }
     ensures apart { result ≡ 0 → IsOther file.now target.now }
-    ensures refused { result ≡ 1 → (refusal : Refusal) × RefusesCpu (cpu_entry_in bytes.now cpu) cpu refusal
+    ensures refused { result ≡ 1 → (refusal : Refusal) × RefusesCpu bytes.now (cpu_entry_in bytes.now cpu) cpu refusal
         × Appends (E.contents err.old) (E.contents err.new) (refusal_line file.now refusal) }
 {
     if is_same_file(files, file, target) {
         return one_file(file, target, err);
     }
-    status(thin(files, alloc, bytes, cpu, target), file, target, err)
+    let mode = NewMode::as_file(files, file);
+    status(
+        thin(files, alloc, mode, bytes, cpu, target),
+        file,
+        target,
+        err,
+    )
 }
 
 // Returns the bytes of the first entry for a cpu, or why there are none.
 fn entry_of_cpu(alloc: Global, bytes: &[u8], cpu: Cpu) -> Result<&[u8], Refusal>
     ensures found { IfOk result (λ entry. cpu_entry_in bytes.now cpu ≡ Ok (Some entry.now)) }
-    ensures refused { IfErr result (RefusesCpu (cpu_entry_in bytes.now cpu) cpu) }
+    ensures refused { IfErr result (RefusesCpu bytes.now (cpu_entry_in bytes.now cpu) cpu) }
 {
-    match cpu_entry(alloc, bytes, cpu)? {
-        Some(entry) => Ok(entry),
-        None => Err(Refusal::NoEntryOf(cpu)),
+    match cpu_entry(alloc, bytes, cpu) {
+        Ok(Some(entry)) => Ok(entry),
+        Ok(None) => Err(Refusal::NoEntryOf(cpu)),
+        Err(why) => Err(Refusal::Entries(refused_entries(bytes, why))),
     }
 }
 
@@ -99,17 +108,19 @@ fn first_entry<'a>(
     Ok(None)
 }
 
-// Writes the first entry for a cpu to a file, and returns the file. Nothing is written if there is no such entry.
+// Writes the first entry for a cpu to a file with some permissions, and returns the file. Nothing is written if there is no such
+// entry.
 fn thin<R: Files>(
     files: &R,
     alloc: Global,
+    mode: NewMode,
     bytes: &[u8],
     cpu: Cpu,
     target: &str,
 ) -> Result<R::File, WriteFailure>
     ensures thinned { IfOk result (λ file. (entry : List ℕ) × (cpu_entry_in bytes.now cpu ≡ Ok (Some entry)) × TookLast R.File.contents file entry) }
-    ensures refused { IfErr result (IsRefusal (RefusesCpu (cpu_entry_in bytes.now cpu) cpu)) }
+    ensures refused { IfErr result (IsRefusal (RefusesCpu bytes.now (cpu_entry_in bytes.now cpu) cpu)) }
 {
     let entry = entry_of_cpu(alloc, bytes, cpu)?;
-    place_file(files, alloc, entry, target)
+    place_file(files, alloc, mode, entry, target)
 }

@@ -6,7 +6,7 @@ use Rattle.mach_base.specs.declared.context.Endian.{Endian}
 use Rattle.mach_chained.specs.Fixups.{Fixup}
 use Rattle.mach_chained.specs.Header.{Fixups}
 use Rattle.mach_chained.specs.Starts.{starts_at}
-use Rattle.mach_chained.specs.declared.starts.ChainedStartsInSegment.{ChainedStartsInSegment}
+use Rattle.mach_records.specs.declared.fixup_chains.ChainedStartsInSegment.{ChainedStartsInSegment}
 use Rattle.mach_parts.specs.Segment.{SegmentView, segment_view}
 use Rattle.machfixups.specs.declared.stored_pointers.StoredPointers as declared
 

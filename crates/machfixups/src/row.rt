@@ -211,7 +211,7 @@ fn import_in<'a>(table: &Option<ChainedFixups<'a>>, index: u32) -> Result<Chaine
 {
     match table {
         Some(table) => table.import(index),
-        None => Err(Error::Malformed("an import is one of a table")),
+        None => Err(Error::Malformed("there is no table of imports")),
     }
 }
 

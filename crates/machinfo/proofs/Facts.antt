@@ -70,20 +70,20 @@ module _ {A : Type 0} (m : MachO A) (bytes : List ℕ) (o : ℕ) (p : IsImage by
   tool_rows items is = ((items, ((build_tools_are m).strict bytes o p items).1 is, refl), refl)
 
   pub command_rows : (items : List CommandRowView)
-      → items ≡ rows_of_commands (ctx_view m).le m.header.cputype (numbered_commands_from (bytes_view m) 0 (commands_view m))
+      → items ≡ rows_of_commands m.header.cputype (numbered_commands_from (ctx_view m).le (bytes_view m) 0 (commands_view m))
       → HasRows words.Commands bytes o (as_rows command_row (command_rows_there items)) 0
   command_rows items is = (
     items,
     (facts_are bytes o m (strict-lossy bytes o m p)
-        (λ f. items ≡ rows_of_commands f.ctx.le f.header.cputype (numbered_commands_from f.bytes 0 f.commands))).1 is,
+        (λ f. items ≡ rows_of_commands f.header.cputype (numbered_commands_from f.ctx.le f.bytes 0 f.commands))).1 is,
     refl,
     refl,
   )
 
-  pub command_rows_alone : (items : List NumberedCommandView) → items ≡ numbered_commands_from (bytes_view m) 0 (commands_view m)
+  pub command_rows_alone : (items : List NumberedCommandView) → items ≡ numbered_commands_from (ctx_view m).le (bytes_view m) 0 (commands_view m)
       → HasRows words.CommandsAlone bytes o (as_rows command_row (commands_there items)) 0
   command_rows_alone items is =
-      (items, (facts_are bytes o m (strict-lossy bytes o m p) (λ f. items ≡ numbered_commands_from f.bytes 0 f.commands)).1 is, refl, refl)
+      (items, (facts_are bytes o m (strict-lossy bytes o m p) (λ f. items ≡ numbered_commands_from f.ctx.le f.bytes 0 f.commands)).1 is, refl, refl)
 
   pub note_rows : (items : List (Result NumberedNoteView Fault)) → items ≡ numbered_notes_from (bytes_view m) 0 (commands_view m)
       → HasRows words.Notes bytes o (as_rows note_row items) 0

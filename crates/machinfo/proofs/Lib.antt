@@ -1,5 +1,6 @@
 mod InBounds
 mod Counted
+mod ExportRows
 mod Facts
 mod Flags
 mod RowLines

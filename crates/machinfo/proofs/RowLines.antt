@@ -3,7 +3,7 @@ use Rattle.std.proofs.Common.{◌≡◌, ◌++◌, ℕ, true, codes, rules}
 use Rattle.mach_cli.specs.Escapes.{has_no_feed, IsOneLine}
 use Rattle.mach_cli.specs.Fields.{fields_line, fields_pairs}
 use Rattle.mach_cli.proofs.OneLine.{no_feeds, line-end}
-use Rattle.machinfo.specs.FactRows.{FactView, uuid_fact, platform_fact, tool_fact, library_fact, path_fact}
+use Rattle.mach_audit.specs.FactRows.{FactView, uuid_fact, platform_fact, tool_fact, library_fact, path_fact}
 use Rattle.machinfo.specs.FactTexts.{fact_text}
 use Rattle.machinfo.specs.Platforms.{platform_name}
 use Rattle.machinfo.specs.RowFields.{row_fields}

@@ -1,15 +1,19 @@
 -- What is shown of a load command, field by field (`mach-o/loader.h`).
-use Rattle.std.specs.Prelude.{◌∷◌, ◌++◌, ℕ, List, [], codes, bytes_eq, drop, map, take, if◌then◌else◌}
+use Rattle.std.specs.Prelude.{◌∷◌, ◌++◌, ℕ, List, [], codes, bytes_eq, drop, map, take, Option, Some, None, unwrap_or, if◌then◌else◌}
 use Rattle.std.specs.Result.{result_ok}
+use Rattle.mach_base.specs.declared.context.Endian.{Endian}
 use Rattle.mach_base.specs.Record.{Value, bytes_among, number_among}
 use Rattle.mach_base.specs.Text.{text_at}
 use Rattle.mach_records.specs.CommandName.{command_name}
 use Rattle.mach_load.specs.Command.{Command, cmd_of, cmdsize_of}
 use Rattle.mach_load.specs.Commands.{Kind}
 use Rattle.mach_load.specs.Commands as kinds
-use Rattle.mach_cli.specs.Fields.{FieldView, ValueView, alone_field, field_of, hex, named, number, object_field, optional_text, source_version, text}
+use Rattle.mach_load.specs.Newer.{Newer, NewerKind, newer_at}
+use Rattle.mach_load.specs.Newer as newer
+use Rattle.mach_cli.specs.Fields.{FieldView, ValueView, alone_field, field_of, hex, named, number, object_field, optional_text, source_version}
 use Rattle.mach_cli.specs.Fields.{uuid, version, wide_field}
 use Rattle.machinfo.specs.Platforms.{platform_name}
+use Rattle.mach_cli.specs.JsonText.{name_in_field}
 use Rattle.machinfo.specs.Segments.{rights_text}
 
 -- how the value of a field is shown: a number in decimal or in hexadecimal, or by a name; a version; a UUID; a name of at most
@@ -48,7 +52,7 @@ value_by bytes values as_rights place = named (number_among values place) (right
 value_by bytes values as_version place = version (number_among values place)
 value_by bytes values as_source_version place = source_version (number_among values place)
 value_by bytes values as_uuid place = uuid (bytes_among values place)
-value_by bytes values as_name place = optional_text (result_ok (text_at (bytes_among values place) 0))
+value_by bytes values as_name place = optional_text (name_in_field (bytes_among values place))
 value_by bytes values as_text place = optional_text (result_ok (text_at bytes (number_among values place)))
 
 abbrev pub field_shown : (bytes : List ℕ) → List Value → CommandField → FieldView
@@ -231,6 +235,11 @@ fileset_entry_shown =
     shown_field (codes "entry_id") 4 as_text ∷ shown_field (codes "entry_id_offset") 4 in_decimal ∷ shown_field (codes "vmaddr") 2 in_hex
     ∷ shown_field (codes "fileoff") 3 in_hex ∷ shown_field (codes "reserved") 5 in_decimal ∷ []
 
+-- the target that an image was compiled for (struct target_triple_command)
+abbrev pub target_triple_shown : List CommandField
+target_triple_shown =
+    shown_field (codes "triple") 2 as_text ∷ shown_field (codes "triple_offset") 2 in_decimal ∷ []
+
 abbrev pub shown_fields : Kind → List CommandField
 shown_fields kinds.segment32 = segment_shown
 shown_fields kinds.segment64 = segment_shown
@@ -288,22 +297,34 @@ shown_fields kinds.ident = []
 shown_fields kinds.prepage = []
 shown_fields kinds.unimplemented = []
 
+-- those of a command that goblin's table lacks
+abbrev pub newer_shown : NewerKind → List CommandField
+newer_shown newer.atom_info = linkedit_data_shown
+newer_shown newer.function_variants = linkedit_data_shown
+newer_shown newer.function_variant_fixups = linkedit_data_shown
+newer_shown newer.target_triple = target_triple_shown
+
 -- ---- a command
 
 -- its bytes: as many as its cmdsize says, if there are so many
 abbrev pub bytes_of_command : (bytes : List ℕ) → Command → List ℕ
 bytes_of_command bytes c = take (cmdsize_of c) (drop c.offset bytes)
 
--- the number of a command, its offset, its size and its name, and in an object also its number in the format
+-- the number of a command, its offset, its size and its name, if it has one, and in an object also its number in the format
 abbrev pub command_head : (number : ℕ) → Command → List FieldView
 command_head n c =
     wide_field 3 (field_of (codes "number") (number n) 1)
     ∷ wide_field 7 (field_of (codes "command_offset") (hex c.offset) 2)
     ∷ wide_field 4 (field_of (codes "cmdsize") (number (cmdsize_of c)) 3)
-    ∷ field_of (codes "cmd") (named (cmd_of c) (if_known (codes "LC_UNKNOWN") (command_name (cmd_of c)))) 4
-    ∷ alone_field (codes "command") (text (command_name (cmd_of c)))
+    ∷ field_of (codes "cmd") (named (cmd_of c) (unwrap_or (command_name (cmd_of c)) [])) 4
+    ∷ alone_field (codes "command") (optional_text (command_name (cmd_of c)))
     ∷ []
 
--- the same, and then the fields of its record
-abbrev pub command_fields : (bytes : List ℕ) → (number : ℕ) → Command → List FieldView
-command_fields bytes n c = command_head n c ++ fields_by (shown_fields c.kind) (bytes_of_command bytes c) c.values
+-- the fields of its record: of what it is, if goblin's table lacks it, or else of its kind
+abbrev pub own_fields : (own : List ℕ) → Command → Option Newer → List FieldView
+own_fields own c None = fields_by (shown_fields c.kind) own c.values
+own_fields own c (Some n) = fields_by (newer_shown n.kind) own n.values
+
+-- a command of an image with these bytes in this order
+abbrev pub command_fields : Endian → (bytes : List ℕ) → (number : ℕ) → Command → List FieldView
+command_fields le bytes n c = command_head n c ++ own_fields (bytes_of_command bytes c) c (newer_at le bytes c)

@@ -4,7 +4,6 @@ use Rattle.std.specs.List.{flat_map}
 use Rattle.mach_base.specs.declared.context.Container.{Container}
 use Rattle.mach_base.specs.declared.context.Container.TheVariants.{Little, Big}
 use Rattle.mach_base.specs.declared.context.Ctx.{Ctx}
-use Rattle.mach_base.specs.declared.context.Endian.{Endian}
 use Rattle.mach_base.specs.Answer.{◌>>=◌}
 use Rattle.mach_base.specs.Fault.{Fault}
 use Rattle.mach_base.specs.Items.{items_from}
@@ -51,9 +50,9 @@ abbrev pub command_sections_from : Ctx → (own : List ℕ) → (n count k : ℕ
 command_sections_from ctx own n count k = in_front (items_from (command_section_at ctx own n) k (count - k))
 
 -- the sections of a segment's command of this width
-abbrev pub command_sections_of : Container → Endian → NumberedCommandView → List CommandSectionView
-command_sections_of width le it =
-    command_sections_from (record { container = width; le = le }) (bytes_of_command it.bytes it.command) it.number (number_among it.command.values 9) 0
+abbrev pub command_sections_of : Container → NumberedCommandView → List CommandSectionView
+command_sections_of width it =
+    command_sections_from (record { container = width; le = it.le }) (bytes_of_command it.bytes it.command) it.number (number_among it.command.values 9) 0
 
 -- ---- rows
 
@@ -65,26 +64,26 @@ pub data CommandRowView : Type 0 where
 
 -- what a command of this kind holds: a segment its sections (LC_SEGMENT, LC_SEGMENT_64), and a thread its registers
 -- (LC_THREAD, LC_UNIXTHREAD)
-abbrev pub rows_below_kind : Kind → Endian → (cputype : ℕ) → NumberedCommandView → List CommandRowView
-rows_below_kind segment32 le cputype it = map (λ s. section_below s) (command_sections_of Little le it)
-rows_below_kind segment64 le cputype it = map (λ s. section_below s) (command_sections_of Big le it)
-rows_below_kind thread le cputype it = map (λ r. register_below r) (thread_registers cputype it.number it.command.values)
-rows_below_kind unixthread le cputype it = map (λ r. register_below r) (thread_registers cputype it.number it.command.values)
-rows_below_kind _ le cputype it = []
+abbrev pub rows_below_kind : Kind → (cputype : ℕ) → NumberedCommandView → List CommandRowView
+rows_below_kind segment32 cputype it = map (λ s. section_below s) (command_sections_of Little it)
+rows_below_kind segment64 cputype it = map (λ s. section_below s) (command_sections_of Big it)
+rows_below_kind thread cputype it = map (λ r. register_below r) (thread_registers it.le cputype it.number it.command.values)
+rows_below_kind unixthread cputype it = map (λ r. register_below r) (thread_registers it.le cputype it.number it.command.values)
+rows_below_kind _ cputype it = []
 
-abbrev pub rows_below : Endian → (cputype : ℕ) → NumberedCommandView → List CommandRowView
-rows_below le cputype it = rows_below_kind it.command.kind le cputype it
+abbrev pub rows_below : (cputype : ℕ) → NumberedCommandView → List CommandRowView
+rows_below cputype it = rows_below_kind it.command.kind cputype it
 
 -- the rows of a command
-abbrev pub rows_of_command : Endian → (cputype : ℕ) → NumberedCommandView → List CommandRowView
-rows_of_command le cputype it = command_itself it ∷ rows_below le cputype it
+abbrev pub rows_of_command : (cputype : ℕ) → NumberedCommandView → List CommandRowView
+rows_of_command cputype it = command_itself it ∷ rows_below cputype it
 
-abbrev pub rows_of_commands : Endian → (cputype : ℕ) → List NumberedCommandView → List CommandRowView
-rows_of_commands le cputype commands = flat_map (rows_of_command le cputype) commands
+abbrev pub rows_of_commands : (cputype : ℕ) → List NumberedCommandView → List CommandRowView
+rows_of_commands cputype commands = flat_map (rows_of_command cputype) commands
 
 -- these are the rows of the commands of the image at an offset
 abbrev pub HasCommandRows : List ℕ → ℕ → List CommandRowView → Type 0
-HasCommandRows bytes o items = OfFacts bytes o (λ f. items ≡ rows_of_commands f.ctx.le f.header.cputype (numbered_commands_from f.bytes 0 f.commands))
+HasCommandRows bytes o items = OfFacts bytes o (λ f. items ≡ rows_of_commands f.header.cputype (numbered_commands_from f.ctx.le f.bytes 0 f.commands))
 
 -- ---- what the code's values mean
 
@@ -117,4 +116,4 @@ rows_below_left (parts.Registers it) = map (λ r. register_below r) (registers_l
 rows_below_left parts.None = []
 
 abbrev pub command_rows_left : CommandRows → List CommandRowView
-command_rows_left it = rows_below_left it.below ++ rows_of_commands it.le it.cputype (numbered_commands_left it.commands)
+command_rows_left it = rows_below_left it.below ++ rows_of_commands it.cputype (numbered_commands_left it.commands)

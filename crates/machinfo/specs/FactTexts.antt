@@ -10,12 +10,12 @@ use Rattle.mach_cli.specs.Fields.{FieldView, fields_line, fields_object}
 use Rattle.mach_cli.specs.JsonText.{json_string}
 use Rattle.mach_cli.specs.Listings.{reported_by}
 use Rattle.mach_cli.specs.Values.{uuid_text, version_text}
-use Rattle.machinfo.specs.FactRows.{FactView, uuid_fact, platform_fact, tool_fact, library_fact, path_fact, fact_view, fact_rows_left}
+use Rattle.mach_audit.specs.FactRows.{FactView, uuid_fact, platform_fact, tool_fact, library_fact, path_fact, fact_view, fact_rows_left}
 use Rattle.machinfo.specs.Platforms.{platform_name}
 use Rattle.machinfo.specs.Tools.{tool_text}
 use Rattle.machinfo.specs.RowFields.{library_fields}
-use Rattle.machinfo.specs.declared.command_facts.PlatformFact.{PlatformFact}
-use Rattle.machinfo.specs.declared.fact.Fact.{Fact}
+use Rattle.mach_audit.specs.declared.command_facts.PlatformFact.{PlatformFact}
+use Rattle.mach_audit.specs.declared.fact.Fact.{Fact}
 use Rattle.machinfo.specs.declared.fact.FactLines.{FactLines}
 use Rattle.machinfo.specs.declared.fact.FactObjects.{FactObjects}
 

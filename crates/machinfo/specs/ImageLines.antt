@@ -13,7 +13,7 @@ use Rattle.mach_cli.specs.JsonArrays.{AreMembersInBounds}
 use Rattle.mach_signature.specs.Directories.{Directory}
 use Rattle.mach_signature.specs.SignedFacts.{HasCodeDirectory}
 use Rattle.machinfo.specs.Counts.{AreCounts, counted_words}
-use Rattle.machinfo.specs.Exports.{HasExportFields}
+use Rattle.machinfo.specs.ExportRows.{HasExportFields}
 use Rattle.machinfo.specs.Imports.{HasImportFields}
 use Rattle.machinfo.specs.Lists.{HasRows}
 use Rattle.machinfo.specs.PartLines.{AreLinesOfParts}
@@ -23,7 +23,7 @@ use Rattle.machinfo.specs.Rows.{RowView}
 use Rattle.machinfo.specs.Words.{spelling_of}
 use Rattle.machinfo.specs.Signed.{AreSignatureLinesOf, is_readable}
 use Rattle.machinfo.specs.StateLines.{state_lines}
-use Rattle.machinfo.specs.States.{state_of_commands}
+use Rattle.mach_audit.specs.States.{state_of_commands}
 use Rattle.machinfo.specs.Summary.{AreFrontLines, AreUsedLines}
 use Rattle.machinfo.specs.declared.word.Choice.{Choice}
 use Rattle.machinfo.specs.declared.word.Choice.TheVariants as choices
@@ -118,7 +118,7 @@ pub record AreImageSummaryMembers (limit left : ℕ) (bytes : List ℕ) (text : 
 -- The lines of what is selected, or of the summary. The line of an address has no name of a file before it.
 abbrev pub AreInfoLines : Option Choice → (file : List ℕ) → (limit : ℕ) → ImageLines
 AreInfoLines (Some (choices.Word word)) file limit = AreImageListLines word limit
-AreInfoLines (Some choices.Exports) file limit = λ left bytes. AreListedLines (HasExportFields bytes) limit left
+AreInfoLines (Some choices.Exports) file limit = λ left bytes. AreListedLines (HasExportFields left bytes) limit left
 AreInfoLines (Some choices.Imports) file limit = λ left bytes. AreListedLines (HasImportFields bytes) limit left
 AreInfoLines (Some (choices.At address)) file limit = AreAddressLines address false false file limit
 AreInfoLines None file limit = AreImageSummaryLines limit
@@ -126,7 +126,7 @@ AreInfoLines None file limit = AreImageSummaryLines limit
 -- The same as members.
 abbrev pub AreInfoMembers : Option Choice → (file : List ℕ) → (limit : ℕ) → ImageLines
 AreInfoMembers (Some (choices.Word word)) file limit = AreImageListMembers word
-AreInfoMembers (Some choices.Exports) file limit = λ left bytes. AreListedMembers (codes "exports") (HasExportFields bytes) left
+AreInfoMembers (Some choices.Exports) file limit = λ left bytes. AreListedMembers (codes "exports") (HasExportFields left bytes) left
 AreInfoMembers (Some choices.Imports) file limit = λ left bytes. AreListedMembers (codes "imports") (HasImportFields bytes) left
 AreInfoMembers (Some (choices.At address)) file limit = AreAddressMembers address file limit
 AreInfoMembers None file limit = AreImageSummaryMembers limit

@@ -1,5 +1,6 @@
 -- What dyld binds in an image as a list, and what is shown of each bind.
-use Rattle.std.specs.Prelude.{◌≡◌, ℕ, ℤ, pos, List, [], ◌∷◌, codes, length, map, not, Option, Some, None, option_map, Result, Ok}
+use Rattle.std.specs.Prelude.{◌≡◌, ℕ, ℤ, pos, List, [], ◌∷◌, codes, length, map, not, Option, Some, None, option_and_then}
+use Rattle.std.specs.Prelude.{bytes_eq, Result, Ok, if◌then◌else◌}
 use Rattle.std.specs.Ordering.{int_eq}
 use Rattle.mach_base.specs.Answer.{◌>>=◌}
 use Rattle.mach_base.specs.Fault.{Fault}
@@ -17,14 +18,17 @@ use Rattle.machinfo.specs.declared.imports.ImportList.{ImportList}
 
 -- ---- where a pointer is
 
--- the name of a segment
-abbrev pub import_segment_name : Option SegmentStretches → Option (List ℕ)
-import_segment_name part = option_map (λ p. stretch_name p.memory) part
+-- a printed name, none if it is the one of all that have none
+abbrev pub unless_dash : List ℕ → Option (List ℕ)
+unless_dash name = if bytes_eq name (codes "-") then None else Some name
 
--- the name of the first section of a segment that holds an address
+-- the name of a segment, if it has one
+abbrev pub import_segment_name : Option SegmentStretches → Option (List ℕ)
+import_segment_name part = option_and_then (λ p. unless_dash (stretch_name p.memory)) part
+
+-- the name of the first section of a segment that holds an address, if it has one
 abbrev pub import_section_name : (address : ℕ) → Option SegmentStretches → Option (List ℕ)
-import_section_name address None = None
-import_section_name address (Some p) = section_with address p.sections
+import_section_name address part = option_and_then unless_dash (option_and_then (λ p. section_with address p.sections) part)
 
 -- ---- what is shown of a bind
 

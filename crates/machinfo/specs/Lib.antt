@@ -13,11 +13,8 @@ pub mod ProvidedSymbols
 pub mod SectionRows
 pub mod Parts
 pub mod PartFields
-pub mod Security
 pub mod Rows
-pub mod FactRows
 pub mod Lists
-pub mod States
 pub mod StateLines
 pub mod Segments
 pub mod HeaderWords
@@ -27,5 +24,6 @@ pub mod RowFields
 pub mod FactTexts
 pub mod ListLines
 pub mod Exports
+pub mod ExportRows
 pub mod Imports
 pub mod PartLines

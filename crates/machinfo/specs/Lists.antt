@@ -21,7 +21,7 @@ use Rattle.machinfo.specs.ProvidedSymbols.{HasProvidedSymbols, provided_left, sy
 use Rattle.machinfo.specs.Parts.{HasPart, part_past_name, part_rows_left, part_rows_past, part_name_of}
 use Rattle.machinfo.specs.Rows.{RowView, command_row, start_row, slot_row, indirect_row, data_row, option_row, tool_row, note_row}
 use Rattle.machinfo.specs.Rows.{provided_row, library_row, rebase_row, weak_row, part_row, verdict_row}
-use Rattle.machinfo.specs.Security.{HasFindings, findings_left}
+use Rattle.mach_audit.specs.Security.{HasFindings, findings_left}
 use Rattle.machinfo.specs.declared.list.ImageList.{ImageList}
 use Rattle.machinfo.specs.declared.list.ImageList.TheVariants as lists
 use Rattle.machinfo.specs.declared.word.Word.{Word}

@@ -1,9 +1,7 @@
 -- What the rows of parts of an image show, field by field: as lines, and as objects of JSON (`mach-o/loader.h`).
 use Rattle.std.specs.Prelude.{◌==◌, ◌&&◌, ◌∷◌, ◌++◌, ℕ, ◌-◌, ◌/◌, ◌%◌, List, []}
 use Rattle.std.specs.Prelude.{codes, length, map, bit_and, Bool, not, Option, Some, None, option_map, if◌then◌else◌}
-use Rattle.std.specs.Result.{result_ok}
 use Rattle.mach_base.specs.Named.{Named, name_or}
-use Rattle.mach_base.specs.Text.{text_at}
 use Rattle.mach_parts.specs.Cpu.{caps_of_cpu, kind_of_cpu}
 use Rattle.mach_parts.specs.HeaderNames.{flag_name, flag_names}
 use Rattle.mach_parts.specs.Segment.{SegmentView}
@@ -16,6 +14,7 @@ use Rattle.mach_cli.specs.Cpus.{arch_rows, cpu_named}
 use Rattle.mach_cli.specs.ImageKinds.{image_kind}
 use Rattle.machinfo.specs.CommandFields.{if_known}
 use Rattle.machinfo.specs.Parts.{EntryView, PartRowView, entry_part, header_part, rpath_part, section_part, segment_part, uuid_part}
+use Rattle.mach_cli.specs.JsonText.{if_not_empty, name_in_field}
 use Rattle.machinfo.specs.Segments.{rights_text}
 use Rattle.machinfo.specs.HeaderWords.{flag_short_name}
 use Rattle.machinfo.specs.declared.parts.UuidRow.{UuidRow}
@@ -25,10 +24,6 @@ use Rattle.machinfo.specs.declared.sections.SectionRow.{SectionRow}
 abbrev pub text_or_dash : Option (List ℕ) → List ℕ
 text_or_dash None = codes "-"
 text_or_dash (Some t) = if length t == 0 then codes "-" else t
-
--- the name in a field of sixteen bytes
-abbrev pub name_in_field : List ℕ → Option (List ℕ)
-name_in_field field = result_ok (text_at field 0)
 
 -- the column of a field that a line has only if something is so
 abbrev pub column_if : Bool → (column : ℕ) → ℕ
@@ -121,7 +116,7 @@ section_members row =
     ∷ wide_field 8 (field_of (codes "size") (hex s.size) 5)
     ∷ wide_field 8 (field_of (codes "file_offset") (hex s.offset) 6)
     ∷ field_of (codes "type") (named (s.flags % 0x100) type_name) 7
-    ∷ alone_field (codes "type_name") (text type_name)
+    ∷ alone_field (codes "type_name") (optional_text (if_not_empty (Some type_name)))
     ∷ object_field (codes "align") (number s.align)
     ∷ object_field (codes "attributes") (hex (s.flags - s.flags % 0x100))
     ∷ object_field (codes "relocation_offset") (hex s.reloff)

@@ -18,7 +18,7 @@ use Rattle.goblin_mach.specs.NamedParts.{symbols_within}
 use Rattle.goblin_mach.specs.NearestSymbol.{IsSymbolAt}
 use Rattle.goblin_mach.specs.declared.macho.nearest.SymbolAt.{SymbolAt}
 use Rattle.mach_parts.specs.declared.segment.numbered.NumberedSection.{NumberedSection}
-use Rattle.machinfo.specs.FactRows.{uuid_by}
+use Rattle.mach_audit.specs.FactRows.{uuid_by}
 use Rattle.machinfo.specs.SectionRows.{section_rows_in, sections_counted_left, sections_past}
 use Rattle.machinfo.specs.declared.sections.SectionRow.{SectionRow}
 use Rattle.machinfo.specs.declared.parts.EntryRow.{EntryRow}

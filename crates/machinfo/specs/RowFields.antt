@@ -1,5 +1,5 @@
 -- What the rows of lists show, field by field: as lines, and as objects of JSON.
-use Rattle.std.specs.Prelude.{◌||◌, ℕ, List, [], ◌∷◌, codes, length, map, Bool, true, false, not, Result, Ok, if◌then◌else◌}
+use Rattle.std.specs.Prelude.{◌||◌, ℕ, List, [], ◌∷◌, codes, length, map, Bool, true, false, not, Some, Result, Ok, if◌then◌else◌}
 use Rattle.mach_base.specs.Answer.{◌>>=◌}
 use Rattle.mach_base.specs.Fault.{Fault}
 use Rattle.mach_records.specs.declared.linkedit.DataInCodeEntry.{DataInCodeEntry}
@@ -16,9 +16,11 @@ use Rattle.goblin_mach.specs.Libraries.{LibraryView}
 use Rattle.goblin_mach.specs.declared.libraries.LibraryAttributes.{LibraryAttributes}
 use Rattle.goblin_mach.specs.declared.libraries.LibraryKind.{LibraryKind}
 use Rattle.goblin_mach.specs.declared.libraries.LibraryKind.TheVariants.{Lazy}
+use Rattle.mach_audit.specs.Security.{finding_words}
+use Rattle.mach_audit.specs.declared.security.Finding.{Finding}
 use Rattle.mach_cli.specs.Fields.{FieldView, number, named, signed, hex, text, version, flag, flags, field_of, line_field}
-use Rattle.mach_cli.specs.Fields.{fields_line, fields_pairs, object_field}
-use Rattle.mach_cli.specs.Fields.{whether}
+use Rattle.mach_cli.specs.Fields.{fields_line, fields_pairs, object_field, optional_text}
+use Rattle.mach_cli.specs.Fields.{whether, wide_field}
 use Rattle.mach_cli.specs.Listings.{reported_by}
 use Rattle.mach_cli.specs.Signing.{diverse_by, diversity_by, has_auth, key_by, rebase_type}
 use Rattle.machinfo.specs.CommandRowFields.{command_row_fields}
@@ -27,7 +29,7 @@ use Rattle.machinfo.specs.PartFields.{column_if, flag_field, part_fields}
 use Rattle.machinfo.specs.ProvidedSymbols.{ProvidedView}
 use Rattle.machinfo.specs.Rows.{RowView, command_row, start_row, slot_row, indirect_row, data_row, option_row, tool_row, note_row}
 use Rattle.machinfo.specs.Rows.{provided_row, library_row, rebase_row, weak_row, part_row, verdict_row, list_row_view}
-use Rattle.machinfo.specs.Security.{finding_fields}
+use Rattle.mach_cli.specs.JsonText.{if_not_empty}
 use Rattle.machinfo.specs.Lists.{list_rows_left}
 use Rattle.machinfo.specs.Tools.{tool_name}
 use Rattle.machinfo.specs.declared.list.ImageList.{ImageList}
@@ -70,7 +72,7 @@ abbrev pub note_fields : NumberedNoteView → List FieldView
 note_fields n =
     field_of (codes "command") (number n.number) 1
     ∷ field_of (codes "offset") (hex n.place) 3
-    ∷ field_of (codes "owner") (text n.note.owner) 2
+    ∷ field_of (codes "owner") (optional_text (if_not_empty (Some n.note.owner))) 2
     ∷ field_of (codes "size") (number (length n.note.data_bytes)) 4
     ∷ []
 
@@ -175,6 +177,16 @@ strong_row_fields name = flag_field (codes "is_strong") true (codes "strong") 1 
 abbrev pub weak_row_fields : WeakBind → List FieldView
 weak_row_fields (strong_name name) = strong_row_fields name
 weak_row_fields (weakly_bound b) = binding_fields b
+
+-- ---- verdicts
+
+-- the name of the verdict, whether it holds, and what `yes` means
+abbrev pub finding_fields : Finding → List FieldView
+finding_fields it =
+    field_of (codes "is_so") (flag it.is_so (codes "yes") (codes "no ")) 2
+    ∷ field_of (codes "meaning") (text (finding_words it.verdict).1) 3
+    ∷ wide_field 22 (field_of (codes "name") (text (finding_words it.verdict).0) 1)
+    ∷ []
 
 -- ---- rows
 

@@ -14,7 +14,7 @@ use Rattle.machinfo.specs.CommandRows.{CommandRowView, command_row_view}
 use Rattle.machinfo.specs.NumberedNotes.{NumberedNoteView, numbered_note_view}
 use Rattle.machinfo.specs.ProvidedSymbols.{ProvidedView, provided_view}
 use Rattle.machinfo.specs.Parts.{PartRowView, part_row_view}
-use Rattle.machinfo.specs.declared.security.Finding.{Finding}
+use Rattle.mach_audit.specs.declared.security.Finding.{Finding}
 use Rattle.machinfo.specs.declared.row.Row.{Row}
 use Rattle.machinfo.specs.declared.row.Row.TheVariants as rows
 

@@ -2,15 +2,13 @@
 use Rattle.std.specs.Prelude.{◌==◌, ◌-◌, ℕ, List, ◌++◌, codes, length, map, bit_and, Option, Some, None}
 use Rattle.std.specs.Prelude.{Result, Ok, if◌then◌else◌}
 use Rattle.std.specs.Fmt.{decimal}
-use Rattle.std.specs.Result.{result_ok}
 use Rattle.mach_base.specs.Answer.{◌>>=◌}
 use Rattle.mach_base.specs.Fault.{Fault}
 use Rattle.mach_base.specs.Items.{items_in_bounds}
-use Rattle.mach_base.specs.Text.{text_at}
 use Rattle.mach_parts.specs.Segment.{SegmentView, sections_of}
 use Rattle.mach_parts.specs.SectionItems.{sections_left}
 use Rattle.mach_parts.specs.declared.segment.section.Section.{Section}
-use Rattle.mach_cli.specs.JsonText.{json_string}
+use Rattle.mach_cli.specs.JsonText.{name_in_field, string_or_null}
 use Rattle.mach_cli.specs.Listings.{reported_by}
 use Rattle.machinfo.specs.declared.segments.SectionList.{SectionList}
 use Rattle.machinfo.specs.declared.segments.SectionObjects.{SectionObjects}
@@ -32,15 +30,10 @@ sections_past_the_end s = length (sections_of s) - length (items_in_bounds (sect
 
 -- ---- as objects
 
--- a name, or `null`
-abbrev pub name_or_null : Option (List ℕ) → List ℕ
-name_or_null (Some name) = json_string name
-name_or_null None = codes "null"
-
 abbrev pub section_object : Section → List ℕ
 section_object s =
     codes "{\"address\":"
-    ++ (decimal s.addr ++ (codes ",\"name\":" ++ (name_or_null (result_ok (text_at s.sectname 0)) ++ (codes ",\"size\":" ++ (decimal s.size ++ codes "}")))))
+    ++ (decimal s.addr ++ (codes ",\"name\":" ++ (string_or_null (name_in_field s.sectname) ++ (codes ",\"size\":" ++ (decimal s.size ++ codes "}")))))
 
 -- ---- what the code's values mean
 

@@ -2,7 +2,7 @@
 use Rattle.std.specs.Prelude.{ℕ, List, ◌++◌, codes, Bool, if◌then◌else◌}
 use Rattle.std.specs.Fmt.{decimal}
 use Rattle.machinfo.specs.Counts.{past_text}
-use Rattle.machinfo.specs.declared.state.State.{State}
+use Rattle.mach_audit.specs.declared.state.State.{State}
 
 abbrev pub yes_or_no : Bool → List ℕ
 yes_or_no is_so = if is_so then codes "yes" else codes "no"

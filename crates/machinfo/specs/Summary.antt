@@ -4,6 +4,7 @@ use Rattle.std.specs.Prelude.{Result, if◌then◌else◌}
 use Rattle.std.specs.Io.KnownBytes.{Appends}
 use Rattle.std.specs.List.{flat_map, range_with_len}
 use Rattle.mach_base.specs.Fault.{Fault}
+use Rattle.goblin_mach.specs.Fixups.{base_of}
 use Rattle.goblin_mach.specs.ImageFacts.{Facts}
 use Rattle.mach_parts.specs.Cpu.{kind_of_cpu}
 use Rattle.mach_parts.specs.HeaderNames.{flag_name}
@@ -12,9 +13,9 @@ use Rattle.mach_parts.specs.declared.header.Header.{Header}
 use Rattle.mach_cli.specs.Cpus.{arch_rows, cpu_named}
 use Rattle.mach_cli.specs.Escapes.{escaped_text}
 use Rattle.mach_cli.specs.Listings.{hex_text, AreFirstLines}
-use Rattle.machinfo.specs.FactRows.{FactView, command_facts, library_facts, path_facts, tool_facts}
+use Rattle.mach_audit.specs.FactRows.{FactView, command_facts, library_facts, path_facts, tool_facts}
 use Rattle.machinfo.specs.FactTexts.{fact_texts}
-use Rattle.machinfo.specs.declared.command_facts.Question.TheVariants.{Platform, Uuid}
+use Rattle.mach_audit.specs.declared.command_facts.Question.TheVariants.{Platform, Uuid}
 use Rattle.machinfo.specs.HeaderWords.{flag_short_name}
 
 -- ---- the header
@@ -47,6 +48,10 @@ flag_word flag = if flag == 0 then [] else codes " " ++ flag_text flag (flag_sho
 abbrev pub flags_line : ℕ → List ℕ
 flags_line flags = codes "flags:" ++ (flat_map (λ bit. flag_word (bit_and flags (2 ^ bit))) (range_with_len 0 32) ++ codes "\n")
 
+-- the address of the first byte
+abbrev pub base_line : (base : ℕ) → List ℕ
+base_line base = codes "base: " ++ (hex_text base ++ codes "\n")
+
 -- ---- lists
 
 -- The text is a line for each of these rows in order, up to the limit, and a line if there are more. It is whole if there are no
@@ -55,8 +60,8 @@ pub record AreFactLines (refused : List ℕ) (limit : ℕ) (rows : List (Result 
   pub rest : ℕ
   pub lines : AreFirstLines refused limit limit (fact_texts rows) [] 0 text whole rest
 
--- the first lines of the summary: the kind of the file and the cpu, the name as a library, the UUIDs, the platforms, the tools, and the
--- flags of the header
+-- the first lines of the summary: the kind of the file and the cpu, the name as a library, the UUIDs, the platforms, the tools, the
+-- flags of the header, and the address of the first byte
 pub record AreFrontLines (limit : ℕ) (f : Facts) (text : List ℕ) (whole : Bool) : Type 0 where
   pub uuids : List ℕ
   pub uuids_whole : Bool
@@ -67,7 +72,8 @@ pub record AreFrontLines (limit : ℕ) (f : Facts) (text : List ℕ) (whole : Bo
   pub tools : List ℕ
   pub tools_whole : Bool
   pub are_tools : AreFactLines (codes "tool: refused") limit (tool_facts f) tools tools_whole
-  pub is_text : text ≡ kind_lines f.header ++ (own_name_line f.name ++ (uuids ++ (platforms ++ (tools ++ flags_line f.header.flags))))
+  pub is_text : text ≡ kind_lines f.header
+      ++ (own_name_line f.name ++ (uuids ++ (platforms ++ (tools ++ (flags_line f.header.flags ++ base_line (base_of f.segments))))))
   pub is_whole : whole ≡ ((uuids_whole && platforms_whole) && tools_whole)
 
 -- the lines of the libraries and of the run paths

@@ -3,6 +3,8 @@
 use Rattle.std.specs.Prelude.{◌==◌, ◌&&◌, ℕ, ◌+◌, ◌-◌, ◌*◌, ◌^◌, List, [], ◌∷◌, codes, length, take, Option, Some, None, if◌then◌else◌}
 use Rattle.mach_base.specs.Record.{Value, number_among}
 use Rattle.mach_base.specs.Text.{texts}
+use Rattle.mach_base.specs.declared.context.Endian.{Endian}
+use Rattle.mach_base.specs.declared.context.Endian.TheVariants.{Little, Big}
 use Rattle.mach_dyld.specs.Exports.{text_in}
 use Rattle.mach_load.specs.ThreadState.{state_words}
 use Rattle.machinfo.specs.declared.registers.Layout.{Layout}
@@ -68,25 +70,29 @@ single_registers n total names [] = []
 single_registers n total [] (word ∷ words) = register_before n total (word ∷ words) None word ∷ single_registers n total [] words
 single_registers n total (name ∷ names) (word ∷ words) = register_before n total (word ∷ words) (Some name) word ∷ single_registers n total names words
 
--- The registers that words hold: first those of two words each, the low one first, and then those of one. A last word that should be
--- one of two has no name.
-abbrev pub registers_in : (n total : ℕ) → (doubles singles : List (List ℕ)) → (words : List ℕ) → List RegisterView
-registers_in n total [] singles words = single_registers n total singles words
-registers_in n total (name ∷ doubles) singles [] = []
-registers_in n total (name ∷ doubles) singles (word ∷ []) = register_before n total (word ∷ []) None word ∷ []
-registers_in n total (name ∷ doubles) singles (low ∷ high ∷ words) =
-    register_before n total (low ∷ high ∷ words) (Some name) (low + 2 ^ 32 * high) ∷ registers_in n total doubles singles words
+-- a register of two words, which are a number of eight bytes in the image's byte order
+abbrev pub double_value : Endian → (first second : ℕ) → ℕ
+double_value Little first second = first + 2 ^ 32 * second
+double_value Big first second = second + 2 ^ 32 * first
 
-abbrev pub registers_by : Layout → (n : ℕ) → (words : List ℕ) → List RegisterView
-registers_by layout n words = registers_in n (length words) (double_names layout) (single_names layout) words
+-- The registers that words hold: first those of two words each, and then those of one. A last word that should be one of two has no name.
+abbrev pub registers_in : Endian → (n total : ℕ) → (doubles singles : List (List ℕ)) → (words : List ℕ) → List RegisterView
+registers_in le n total [] singles words = single_registers n total singles words
+registers_in le n total (name ∷ doubles) singles [] = []
+registers_in le n total (name ∷ doubles) singles (word ∷ []) = register_before n total (word ∷ []) None word ∷ []
+registers_in le n total (name ∷ doubles) singles (first ∷ second ∷ words) =
+    register_before n total (first ∷ second ∷ words) (Some name) (double_value le first second) ∷ registers_in le n total doubles singles words
+
+abbrev pub registers_by : Layout → Endian → (n : ℕ) → (words : List ℕ) → List RegisterView
+registers_by layout le n words = registers_in le n (length words) (double_names layout) (single_names layout) words
 
 -- the words of a record: as many as its count says
 abbrev pub words_of_state : List Value → List ℕ
 words_of_state values = take (number_among values 3) (state_words values)
 
 -- the registers in the record of command n, of a cpu: those of its flavor
-abbrev pub thread_registers : (cputype n : ℕ) → List Value → List RegisterView
-thread_registers cputype n values = registers_by (layout_of cputype (number_among values 2)) n (words_of_state values)
+abbrev pub thread_registers : Endian → (cputype n : ℕ) → List Value → List RegisterView
+thread_registers le cputype n values = registers_by (layout_of cputype (number_among values 2)) le n (words_of_state values)
 
 -- ---- what the code's values mean
 
@@ -94,4 +100,4 @@ abbrev pub register_view : Register → RegisterView
 register_view r = record { command = r.command; word = r.word; name = text_in r.name; value = r.value }
 
 abbrev pub registers_left : Registers → List RegisterView
-registers_left it = registers_in it.command it.total (texts it.doubles.now) (texts it.singles.now) it.words.now
+registers_left it = registers_in it.le it.command it.total (texts it.doubles.now) (texts it.singles.now) it.words.now

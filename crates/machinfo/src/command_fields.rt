@@ -1,11 +1,12 @@
 //! What is shown of a load command, field by field: as a line, and as an object of JSON.
 
-ghost use Rattle.std.specs.Prelude.{◌≡◌, ◌++◌, [], codes, drop, map, take, OnOk};
+ghost use Rattle.std.specs.Prelude.{◌≡◌, ◌++◌, [], codes, drop, map, take, unwrap_or, OnOk};
 ghost use Rattle.std.specs.Io.KnownBytes.{Appends};
 ghost use Rattle.std.specs.Result.{result_ok};
 ghost use Rattle.mach_base.specs.Text.{text_at};
+ghost use Rattle.mach_records.specs.CommandName.{command_name};
 ghost use Rattle.mach_records.specs.Contents.{entry_point_command_values, fileset_entry_command_values, note_command_values};
-ghost use Rattle.mach_records.specs.Contents.{prebind_cksum_command_values, uuid_command_values};
+ghost use Rattle.mach_records.specs.Contents.{prebind_cksum_command_values, target_triple_command_values, uuid_command_values};
 ghost use Rattle.mach_records.specs.Libraries.{dylib_command_values, dylinker_command_values, fvmfile_command_values, fvmlib_command_values};
 ghost use Rattle.mach_records.specs.Libraries.{prebound_dylib_command_values, rpath_command_values};
 ghost use Rattle.mach_records.specs.Linkedit.{dyld_info_command_values, encryption_info_command32_values, encryption_info_command64_values};
@@ -18,6 +19,7 @@ ghost use Rattle.mach_records.specs.Umbrellas.{sub_client_command_values, sub_fr
 ghost use Rattle.mach_records.specs.Umbrellas.{sub_umbrella_command_values};
 ghost use Rattle.mach_records.specs.Versions.{build_version_command_values, source_version_command_values, version_min_command_values};
 ghost use Rattle.mach_load.specs.Command.{cmdsize_of};
+ghost use Rattle.mach_load.specs.NewerViews.{newer_view};
 ghost use Rattle.mach_load.specs.ThreadState.{thread_values};
 ghost use Rattle.mach_load.specs.Variants.{command_of, kind_in, variant_values};
 ghost use Rattle.mach_dyld.specs.Exports.{text_in};
@@ -27,10 +29,10 @@ ghost use Rattle.machinfo.specs.Segments.{rights_text};
 ghost use Rattle.machinfo.specs.CommandFields.{bytes_of_command, command_head, fields_by, if_known, shown_fields};
 ghost use Rattle.machinfo.specs.CommandFields.{build_version_shown, dyld_info_shown, dylib_shown, dylinker_shown, dysymtab_shown};
 ghost use Rattle.machinfo.specs.CommandFields.{encryption_info64_shown, encryption_info_shown, entry_point_shown, fileset_entry_shown, fvmfile_shown};
-ghost use Rattle.machinfo.specs.CommandFields.{fvmlib_shown, linkedit_data_shown, linker_option_shown, note_shown, prebind_cksum_shown};
+ghost use Rattle.machinfo.specs.CommandFields.{fvmlib_shown, linkedit_data_shown, linker_option_shown, newer_shown, note_shown, prebind_cksum_shown};
 ghost use Rattle.machinfo.specs.CommandFields.{prebound_dylib_shown, routines_shown, rpath_shown, segment_shown, source_version_shown};
 ghost use Rattle.machinfo.specs.CommandFields.{sub_client_shown, sub_framework_shown, sub_library_shown, sub_umbrella_shown, symseg_shown};
-ghost use Rattle.machinfo.specs.CommandFields.{symtab_shown, thread_shown, twolevel_hints_shown, uuid_shown, version_min_shown};
+ghost use Rattle.machinfo.specs.CommandFields.{symtab_shown, target_triple_shown, thread_shown, twolevel_hints_shown, uuid_shown, version_min_shown};
 ghost use Rattle.machinfo.specs.NumberedCommands.{numbered_command_fields, numbered_command_view};
 
 use crate::commands::NumberedCommand;
@@ -40,13 +42,14 @@ use goblin_mach::load_command::{
     BuildVersionCommand, CommandVariant, DyldInfoCommand, DylibCommand, DylinkerCommand,
     DysymtabCommand, EncryptionInfoCommand32, EncryptionInfoCommand64, EntryPointCommand,
     FilesetEntryCommand, FvmfileCommand, FvmlibCommand, LinkeditDataCommand, LoadCommand,
-    NoteCommand, PrebindCksumCommand, PreboundDylibCommand, RoutinesCommand32, RoutinesCommand64,
-    RpathCommand, SegmentCommand32, SegmentCommand64, SourceVersionCommand, SubClientCommand,
-    SubFrameworkCommand, SubLibraryCommand, SubUmbrellaCommand, SymsegCommand, SymtabCommand,
-    ThreadCommand, TwolevelHintsCommand, UuidCommand, VersionMinCommand, cmd_to_str,
+    NewerCommand, NoteCommand, PrebindCksumCommand, PreboundDylibCommand, RoutinesCommand32,
+    RoutinesCommand64, RpathCommand, SegmentCommand32, SegmentCommand64, SourceVersionCommand,
+    SubClientCommand, SubFrameworkCommand, SubLibraryCommand, SubUmbrellaCommand, SymsegCommand,
+    SymtabCommand, TargetTripleCommand, ThreadCommand, TwolevelHintsCommand, UuidCommand,
+    VersionMinCommand, command_name,
 };
 use mach_base::read_text;
-use mach_cli::{Field, FieldsForm, Value};
+use mach_cli::{Field, FieldsForm, Value, name_in_field};
 use std::io;
 use std::io::Write;
 
@@ -61,7 +64,20 @@ pub fn write_command<F: FieldsForm, O: Write>(
     let command = numbered.command;
     let head = command_head(numbered.number, command);
     let own = bytes_of_command(numbered.bytes, command);
-    write_record::<F, O>(&head, own, &command.command, out)
+    match NewerCommand::of(numbered.bytes, numbered.le, command) {
+        Some(newer) => write_newer::<F, O>(&head, own, &newer, out),
+        None => write_record::<F, O>(&head, own, &command.command, out),
+    }
+}
+
+// Returns the number of a command by its name, if it has one.
+fn named_command(cmd: u32) -> Value<'static>
+    ensures { value_view result ≡ named cmd (unwrap_or (command_name cmd) []) }
+{
+    match command_name(cmd) {
+        Some(name) => Value::Named(u64::from(cmd), name),
+        None => Value::Named(u64::from(cmd), ""),
+    }
 }
 
 // Returns the number of a command, its offset, its size and its name.
@@ -69,14 +85,13 @@ fn command_head(number: usize, command: &LoadCommand) -> [Field<'static>; 5]
     ensures { map field_view result ≡ command_head number (command_of command.now) }
 {
     let cmd = command.command.cmd();
-    let name = cmd_to_str(cmd);
     let size = command.command.cmdsize();
     [
         Field::new("number", Value::Number(number as u64), 1).wide(3),
         Field::new("command_offset", Value::Hex(command.offset as u64), 2).wide(7),
         Field::new("cmdsize", Value::Number(size as u64), 3).wide(4),
-        Field::new("cmd", named(cmd, name, "LC_UNKNOWN"), 4),
-        Field::alone("command", Value::Text(name)),
+        Field::new("cmd", named_command(cmd), 4),
+        Field::alone("command", Value::OptionalText(command_name(cmd))),
     ]
 }
 
@@ -208,12 +223,34 @@ fn write_record<F: FieldsForm, O: Write>(
     }
 }
 
+// Writes fields, and after them those of the record of a command that goblin's table lacks.
+fn write_newer<F: FieldsForm, O: Write>(
+    head: &[Field<'_>],
+    own: &[u8],
+    command: &NewerCommand,
+    out: &mut O,
+) -> io::Result<()>
+    ensures { OnOk result (Appends (O.contents out.old) (O.contents out.new)
+        (F.fields_text (map field_view head.now ++ fields_by (newer_shown (newer_view command.now).kind) own.now (newer_view command.now).values))) }
+{
+    match command {
+        NewerCommand::AtomInfo(c)
+        | NewerCommand::FunctionVariants(c)
+        | NewerCommand::FunctionVariantFixups(c) => F::write_both(
+            head,
+            &linkedit_data_fields(c),
+            out,
+        ),
+        NewerCommand::TargetTriple(c) => F::write_both(head, &target_triple_fields(own, c), out),
+    }
+}
+
 // Returns the fields of a segment.
 fn segment32_fields<'a>(c: &'a SegmentCommand32) -> [Field<'a>; 9]
     ensures { map field_view result ≡ fields_by segment_shown [] (segment_command32_values c.now) }
 {
     [
-        Field::of_object("segname", Value::OptionalText(text_from(&c.segname, 0))),
+        Field::of_object("segname", Value::OptionalText(name_in_field(&c.segname))),
         Field::of_object("vmaddr", Value::Hex(u64::from(c.vmaddr))),
         Field::of_object("vmsize", Value::Hex(u64::from(c.vmsize))),
         Field::of_object("fileoff", Value::Hex(u64::from(c.fileoff))),
@@ -230,7 +267,7 @@ fn segment64_fields<'a>(c: &'a SegmentCommand64) -> [Field<'a>; 9]
     ensures { map field_view result ≡ fields_by segment_shown [] (segment_command64_values c.now) }
 {
     [
-        Field::of_object("segname", Value::OptionalText(text_from(&c.segname, 0))),
+        Field::of_object("segname", Value::OptionalText(name_in_field(&c.segname))),
         Field::of_object("vmaddr", Value::Hex(c.vmaddr)),
         Field::of_object("vmsize", Value::Hex(c.vmsize)),
         Field::of_object("fileoff", Value::Hex(c.fileoff)),
@@ -497,6 +534,19 @@ fn linkedit_data_fields(c: &LinkeditDataCommand) -> [Field<'static>; 2]
     ]
 }
 
+// Returns the fields of the target that an image was compiled for.
+fn target_triple_fields<'a>(own: &'a [u8], c: &TargetTripleCommand) -> [Field<'a>; 2]
+    ensures { map field_view result ≡ fields_by target_triple_shown own.now (target_triple_command_values c.now) }
+{
+    [
+        Field::of_object(
+            "triple",
+            Value::OptionalText(text_from(own, c.triple as usize)),
+        ),
+        Field::of_object("triple_offset", Value::Number(u64::from(c.triple))),
+    ]
+}
+
 // Returns the fields of options for the linker; their texts are a list of their own.
 fn linker_option_fields(c: &LinkeditDataCommand) -> [Field<'static>; 1]
     ensures { map field_view result ≡ fields_by linker_option_shown [] (linkedit_data_command_values c.now) }
@@ -569,7 +619,7 @@ fn note_fields<'a>(c: &'a NoteCommand) -> [Field<'a>; 3]
     [
         Field::of_object(
             "data_owner",
-            Value::OptionalText(text_from(&c.data_owner, 0)),
+            Value::OptionalText(name_in_field(&c.data_owner)),
         ),
         Field::of_object("offset", Value::Hex(c.offset)),
         Field::of_object("size", Value::Number(c.size)),

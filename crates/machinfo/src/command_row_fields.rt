@@ -10,13 +10,13 @@ ghost use Rattle.machinfo.specs.CommandRowFields as defined;
 ghost use Rattle.machinfo.specs.CommandRows.{command_row_view, command_section_view};
 ghost use Rattle.machinfo.specs.ThreadRegisters.{register_view};
 
-use crate::command_fields::{text_from, write_command};
+use crate::command_fields::write_command;
 use crate::command_rows::CommandRow;
 use crate::command_sections::{CommandSection, SectionRecord};
 use crate::part_fields::section_type;
 use crate::registers::Register;
 use goblin_mach::load_command::{Section32, Section64};
-use mach_cli::{Field, FieldsForm, Value};
+use mach_cli::{Field, FieldsForm, Value, name_in_field};
 use std::io;
 use std::io::Write;
 
@@ -71,8 +71,8 @@ fn narrow_fields<'a>(s: &'a Section32) -> [Field<'a>; 12]
     ensures { map field_view result ≡ defined.section_record_shown Little (section32_values s.now) }
 {
     [
-        Field::of_object("sectname", Value::OptionalText(text_from(&s.sectname, 0))),
-        Field::of_object("segname", Value::OptionalText(text_from(&s.segname, 0))),
+        Field::of_object("sectname", Value::OptionalText(name_in_field(&s.sectname))),
+        Field::of_object("segname", Value::OptionalText(name_in_field(&s.segname))),
         Field::of_object("addr", Value::Hex(u64::from(s.addr))),
         Field::of_object("size", Value::Hex(u64::from(s.size))),
         Field::of_object("offset", Value::Hex(u64::from(s.offset))),
@@ -91,8 +91,8 @@ fn wide_fields<'a>(s: &'a Section64) -> [Field<'a>; 13]
     ensures { map field_view result ≡ defined.section_record_shown Big (section64_values s.now) }
 {
     [
-        Field::of_object("sectname", Value::OptionalText(text_from(&s.sectname, 0))),
-        Field::of_object("segname", Value::OptionalText(text_from(&s.segname, 0))),
+        Field::of_object("sectname", Value::OptionalText(name_in_field(&s.sectname))),
+        Field::of_object("segname", Value::OptionalText(name_in_field(&s.segname))),
         Field::of_object("addr", Value::Hex(s.addr)),
         Field::of_object("size", Value::Hex(s.size)),
         Field::of_object("offset", Value::Hex(u64::from(s.offset))),

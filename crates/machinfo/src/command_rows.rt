@@ -10,7 +10,7 @@ use crate::command_sections::{CommandSection, CommandSections};
 use crate::commands::{NumberedCommand, NumberedCommands};
 use crate::registers::{Register, Registers};
 use goblin_mach::load_command::CommandVariant;
-use goblin_mach::{Container, Endian, MachO};
+use goblin_mach::{Container, MachO};
 use std::alloc::Allocator;
 
 /// A row: a command, or one of what the command before it holds.
@@ -39,32 +39,28 @@ pub struct CommandRows<'a, 'b> {
     pub below: CommandParts<'a, 'b>,
     /// The commands after it.
     pub commands: NumberedCommands<'a, 'b>,
-    /// The byte order.
-    pub le: Endian,
     /// The cpu's type.
     pub cputype: u32,
 }
 
 impl<'a, 'b> CommandParts<'a, 'b> {
     // Returns what a command holds.
-    fn of(le: Endian, cputype: u32, numbered: &NumberedCommand<'a, 'b>) -> Self
-        ensures { defined.rows_below_left result ≡ defined.rows_below le cputype (numbered_command_view numbered.now) }
+    fn of(cputype: u32, numbered: &NumberedCommand<'a, 'b>) -> Self
+        ensures { defined.rows_below_left result ≡ defined.rows_below cputype (numbered_command_view numbered.now) }
     {
         match &numbered.command.command {
             CommandVariant::Segment32(c) => CommandParts::Sections(CommandSections::of(
                 Container::Little,
-                le,
                 numbered,
                 c.nsects,
             )),
             CommandVariant::Segment64(c) => CommandParts::Sections(CommandSections::of(
                 Container::Big,
-                le,
                 numbered,
                 c.nsects,
             )),
             CommandVariant::Thread(c) | CommandVariant::Unixthread(c) => CommandParts::Registers(
-                Registers::of(cputype, numbered.number, c),
+                Registers::of(numbered.le, cputype, numbered.number, c),
             ),
             _ => CommandParts::None,
         }
@@ -86,13 +82,12 @@ impl<'a, 'b> CommandRows<'a, 'b> {
     /// Returns the rows of an image's commands.
     pub fn of<A: Allocator>(image: &'b MachO<'a, A>) -> Self
         ensures { defined.command_rows_left result
-            ≡ defined.rows_of_commands (ctx_view image.now).le image.now.header.cputype
-            (numbered_commands_from (bytes_view image.now) 0 (commands_view image.now)) }
+            ≡ defined.rows_of_commands image.now.header.cputype
+            (numbered_commands_from (ctx_view image.now).le (bytes_view image.now) 0 (commands_view image.now)) }
     {
         CommandRows {
             below: CommandParts::None,
             commands: NumberedCommands::of(image),
-            le: image.ctx().le,
             cputype: image.header.cputype,
         }
     }
@@ -105,7 +100,7 @@ impl<'a, 'b> CommandRows<'a, 'b> {
             return Some(row);
         }
         let command = self.commands.take_next()?;
-        self.below = CommandParts::of(self.le, self.cputype, &command);
+        self.below = CommandParts::of(self.cputype, &command);
         Some(CommandRow::Itself(command))
     }
 }

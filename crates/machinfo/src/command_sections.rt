@@ -12,7 +12,7 @@ use crate::command_fields::bytes_of_command;
 use crate::commands::NumberedCommand;
 use goblin_mach::load_command::{Section32, Section64};
 use goblin_mach::segment::place_of;
-use goblin_mach::{Container, Ctx, Endian, Record, Result};
+use goblin_mach::{Container, Ctx, Record, Result};
 
 /// The record of a section, of a 32-bit or a 64-bit segment.
 #[derive(Clone, Copy)]
@@ -72,15 +72,15 @@ fn section_in(own: &[u8], ctx: Ctx, command: usize, number: u32) -> Result<Comma
 
 impl<'a> CommandSections<'a> {
     /// Returns the sections of a segment's command of this width, which counts so many.
-    pub fn of(width: Container, le: Endian, numbered: &NumberedCommand<'a, '_>, count: u32) -> Self
+    pub fn of(width: Container, numbered: &NumberedCommand<'a, '_>, count: u32) -> Self
         ensures { let it = numbered_command_view numbered.now in defined.command_sections_left result
-            ≡ defined.command_sections_from (record { container = width; le = le }) (bytes_of_command it.bytes it.command) it.number count 0 }
+            ≡ defined.command_sections_from (record { container = width; le = it.le }) (bytes_of_command it.bytes it.command) it.number count 0 }
     {
         CommandSections {
             command: numbered.number,
             ctx: Ctx {
                 container: width,
-                le,
+                le: numbered.le,
             },
             own: bytes_of_command(numbered.bytes, numbered.command),
             count,

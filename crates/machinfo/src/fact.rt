@@ -2,56 +2,16 @@
 
 ghost use Rattle.std.specs.Prelude.{OnOk};
 ghost use Rattle.std.specs.Io.KnownBytes.{Appends};
-ghost use Rattle.std.specs.Iterator.{YieldsFirstBy};
 ghost use Rattle.goblin_mach.specs.Libraries.{library_view};
-ghost use Rattle.machinfo.specs.FactRows.{fact_read, fact_rows_left};
 ghost use Rattle.machinfo.specs.FactTexts.{fact_lines_left, fact_object_shown, fact_objects_left, fact_shown, library_fact_text, versions_text};
 
-use crate::command_facts::{CommandFacts, PlatformFact};
 use crate::fields::write_library;
 use crate::text::{PlatformObject, PlatformText, ToolText};
-use goblin_mach::load_command::BuildToolVersion;
-use goblin_mach::{BuildToolIterator, Library, LibraryIterator, Result};
+use goblin_mach::{Library, Result};
+use mach_audit::{Fact, FactList};
 use mach_cli::{Escaped, FieldsForm, JsonString, Line, Listing, Object, UuidText, VersionText};
 use std::io;
 use std::io::Write;
-use std::slice::Iter;
-
-/// A row of a list of the summary.
-#[derive(Clone, Copy)]
-pub enum Fact<'a> {
-    Uuid([u8; 16]),
-    Platform(PlatformFact),
-    Tool(BuildToolVersion),
-    Library(Library<'a>),
-    RunPath(&'a str),
-}
-
-/// What is left of a list of the summary.
-#[derive(Drop)]
-pub enum FactList<'a, 'b> {
-    Commands(CommandFacts<'b>),
-    Tools(BuildToolIterator<'a, 'b>),
-    Libraries(LibraryIterator<'a, 'b>),
-    Paths(Iter<'b, &'a str>),
-}
-
-impl<'a> FactList<'a, '_> {
-    // Returns the next row, or the error if it can't be read.
-    fn take_next(&mut self) -> Option<Result<Fact<'a>>>
-        ensures { YieldsFirstBy fact_read fact_rows_left self.old result self.new }
-    {
-        match self {
-            FactList::Commands(list) => Some(Ok(list.take_next()?)),
-            FactList::Tools(list) => match list.next()? {
-                Ok((_, tool)) => Some(Ok(Fact::Tool(tool))),
-                Err(error) => Some(Err(error)),
-            },
-            FactList::Libraries(list) => Some(Ok(Fact::Library(list.next()?))),
-            FactList::Paths(list) => Some(Ok(Fact::RunPath(*list.next()?))),
-        }
-    }
-}
 
 /// The rows of a list as lines.
 #[derive(Drop)]

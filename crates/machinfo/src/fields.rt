@@ -10,7 +10,7 @@ ghost use Rattle.mach_cli.specs.Fields.{field_view};
 ghost use Rattle.machinfo.specs.NumberedNotes.{numbered_note_view};
 ghost use Rattle.machinfo.specs.ProvidedSymbols.{provided_view};
 ghost use Rattle.machinfo.specs.PartFields.{column_if, flag_field};
-ghost use Rattle.machinfo.specs.RowFields.{binding_fields, data_fields, fields_shown, indirect_fields};
+ghost use Rattle.machinfo.specs.RowFields.{binding_fields, data_fields, fields_shown, finding_fields, indirect_fields};
 ghost use Rattle.machinfo.specs.RowFields.{is_lazy_kind, is_plain, library_fields, note_fields, option_fields, provided_fields, rebase_row_fields};
 ghost use Rattle.machinfo.specs.RowFields.{slot_fields, slot_kind_text, strong_row_fields, tool_fields};
 
@@ -19,12 +19,14 @@ use crate::notes::NumberedNote;
 use crate::part_fields::write_part;
 use crate::providers::Provided;
 use crate::row::Row;
-use crate::security::finding_fields;
 use crate::text::tool_name;
 use goblin_mach::load_command::{BuildToolVersion, DataInCodeEntry};
 use goblin_mach::slots::{IndirectSymbol, SlotKind, SlotSymbol, SymbolSlot};
 use goblin_mach::{Binding, Library, LibraryAttributes, LibraryKind, Provider, Rebase, WeakBind};
-use mach_cli::{Field, FieldsForm, Value, diverse_by, diversity_by, has_auth, key_by, rebase_type};
+use mach_audit::Finding;
+use mach_cli::{
+    Field, FieldsForm, Value, diverse_by, diversity_by, has_auth, if_not_empty, key_by, rebase_type,
+};
 use std::io;
 use std::io::Write;
 
@@ -137,10 +139,11 @@ fn tool_fields(number: usize, tool: BuildToolVersion) -> [Field<'static>; 4]
 fn note_fields<'a>(note: NumberedNote<'a>) -> [Field<'a>; 4]
     ensures { map field_view result ≡ note_fields (numbered_note_view note.entry) }
 {
+    let owner = if_not_empty(Some(note.note.owner));
     [
         Field::new("command", Value::Number(note.number as u64), 1),
         Field::new("offset", Value::Hex(note.place), 3),
-        Field::new("owner", Value::Text(note.note.owner), 2),
+        Field::new("owner", Value::OptionalText(owner), 2),
         Field::new("size", Value::Number(note.note.data.len() as u64), 4),
     ]
 }
@@ -301,5 +304,22 @@ fn strong_fields<'a>(name: &'a str) -> [Field<'a>; 2]
     [
         flag_field("is_strong", true, "strong", 1),
         Field::new("name", Value::Text(name), 2),
+    ]
+}
+
+// Returns the fields of a finding: the name of the verdict, whether it holds, and what `yes` means.
+fn finding_fields(finding: Finding) -> [Field<'static>; 3]
+    ensures { map field_view result ≡ finding_fields finding }
+{
+    let (name, meaning) = finding.verdict.words();
+    let is_so = Value::Flag {
+        is_so: finding.is_so,
+        yes: "yes",
+        no: "no ",
+    };
+    [
+        Field::new("is_so", is_so, 2),
+        Field::new("meaning", Value::Text(meaning), 3),
+        Field::new("name", Value::Text(name), 1).wide(22),
     ]
 }

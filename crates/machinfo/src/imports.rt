@@ -7,7 +7,7 @@ ghost use Rattle.mach_parts.specs.Bindings.{binding_view};
 ghost use Rattle.mach_cli.specs.AllStretches.{part_view, part_with, parts_view};
 ghost use Rattle.mach_cli.specs.Fields.{field_view};
 ghost use Rattle.machinfo.specs.Imports.{imported_fields, import_from, import_shown, shown_import_view, shown_imports_left, import_section_name};
-ghost use Rattle.machinfo.specs.Imports.{import_segment_name};
+ghost use Rattle.machinfo.specs.Imports.{import_segment_name, unless_dash};
 
 use crate::fields::{column_if, flag_field};
 use crate::part_fields::text_or_dash;
@@ -78,27 +78,28 @@ fn placed<'a, 'p, A: Allocator>(parts: &'p AllStretches<A>, binding: Binding<'a>
     }
 }
 
-// Returns the name of a segment.
+// Returns a printed name, none if it says that there is none.
+fn unless_dash(name: &str) -> Option<&str>
+    ensures { text_in result ≡ unless_dash name.now }
+{
+    if name == "-" { None } else { Some(name) }
+}
+
+// Returns the name of a segment, if it has one.
 fn segment_name<'p, A: Allocator>(part: Option<&'p SegmentStretches<A>>) -> Option<&'p str>
     ensures { text_in result ≡ import_segment_name (option_map (λ p. part_view p.now) part.entry) }
 {
-    match part {
-        Some(part) => Some(part.name()),
-        None => None,
-    }
+    unless_dash(part?.name())
 }
 
-// Returns the name of the first section of a segment that holds an address.
+// Returns the name of the first section of a segment that holds an address, if it has one.
 fn section_name<'p, A: Allocator>(
     address: u64,
     part: Option<&'p SegmentStretches<A>>,
 ) -> Option<&'p str>
     ensures { text_in result ≡ import_section_name address (option_map (λ p. part_view p.now) part.entry) }
 {
-    match part {
-        Some(part) => part.section_with(address),
-        None => None,
-    }
+    unless_dash(part?.section_with(address)?)
 }
 
 // Returns the field for the image that a symbol comes from: its short name; if there is none, only a line has it, with the ordinal.

@@ -4,13 +4,13 @@ ghost use Rattle.std.specs.Prelude.{ℕ, List, [], codes, IfErr, IfOk, OnOk};
 ghost use Rattle.std.specs.Io.KnownBytes.{Appends};
 ghost use Rattle.goblin_mach.specs.OpenImage.{IsImage};
 ghost use Rattle.mach_cli.specs.Failures.{IfMemory};
-ghost use Rattle.machinfo.specs.Exports.{HasExportFields};
+ghost use Rattle.machinfo.specs.ExportRows.{HasExportFields};
 ghost use Rattle.machinfo.specs.Imports.{HasImportFields};
 ghost use Rattle.machinfo.specs.ImageLines.{AreImageListMembers, AreImageSummaryMembers, AreInfoMembers, AreItemMembers, AreListedMembers};
 ghost use Rattle.machinfo.specs.ImageLines.{counts_end};
 
 use crate::counts::{COUNTED, Form, print_counts};
-use crate::exports::{ExportList, exports_of};
+use crate::export_rows::{ExportForm, print_exports_of, walk_of};
 use crate::imports::ImportList;
 use crate::list::ImageList;
 use crate::members::write_front;
@@ -68,7 +68,7 @@ fn write_rows<A: Allocator, O: Write>(
     write_items(word.name(), ImageList::of(word, image), left, out)
 }
 
-// Writes the exports of an image as objects, at most `left` of them, or the fault of its trie.
+// Writes the exports of an image as objects as a walk meets them, at most `left` of them. A fault of the trie is the last object.
 fn write_exports<A: Allocator + Clone, O: Write>(
     alloc: &A,
     image: &MachO<'_, A>,
@@ -76,16 +76,17 @@ fn write_exports<A: Allocator + Clone, O: Write>(
     out: &mut O,
 ) -> Result<Outcome, ShowFailure>
     ensures shown { (bytes : List ℕ) → IsImage bytes 0 image.now → IfOk result (λ outcome. (text : List ℕ)
-        × AreListedMembers (codes "exports") (HasExportFields bytes) left text outcome.whole outcome.left
+        × AreListedMembers (codes "exports") (HasExportFields left bytes) left text outcome.whole outcome.left
         × Appends (O.contents out.old) (O.contents out.new) text) }
     ensures memory { IfErr result (IfMemory (Appends (O.contents out.old) (O.contents out.new) [])) }
 {
-    let (exports, refusal) = exports_of(alloc, image)?;
-    let list = ExportList {
-        refusal,
-        exports: exports.as_slice(),
-    };
-    Ok(write_items("exports", list, left, out)?)
+    let walk = walk_of(alloc, image)?;
+    write!(out, "\"exports\":")?;
+    write!(out, "[")?;
+    let shown = print_exports_of(ExportForm::Objects, image.base(), walk, left, out)?;
+    write!(out, "]")?;
+    write!(out, ",")?;
+    Ok(print_end_past(shown, 0, out)?)
 }
 
 // Writes what dyld binds in an image as objects, at most `left` of them.

@@ -15,13 +15,13 @@ use crate::notes::NumberedNotes;
 use crate::parts::PartList;
 use crate::providers::ProvidedSymbols;
 use crate::row::Row;
-use crate::security::Findings;
 use crate::word::Word;
 use goblin_mach::slots::{IndirectSymbolIterator, SlotIterator};
 use goblin_mach::{
     BuildToolIterator, DataInCodeIterator, FunctionStartIterator, LibraryIterator,
     LinkerOptionIterator, MachO, RebaseIterator, Result, WeakBindIterator,
 };
+use mach_audit::Findings;
 use mach_cli::{FieldsForm, ItemList};
 use std::alloc::Allocator;
 use std::io;

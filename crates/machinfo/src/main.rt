@@ -17,7 +17,6 @@ ghost use Rattle.machinfo.specs.ImageLines.{AreInfoLines, AreInfoMembers};
 ghost use Rattle.machinfo.specs.Words as words;
 
 // The summary of an image.
-mod command_facts;
 mod counts;
 mod fact;
 mod json;
@@ -36,9 +35,9 @@ mod command_row_fields;
 mod command_rows;
 mod command_sections;
 mod commands;
+mod export_rows;
 mod exports;
 mod fields;
-mod hardening;
 mod imports;
 mod list;
 mod list_lines;
@@ -49,7 +48,6 @@ mod providers;
 mod registers;
 mod row;
 mod sections;
-mod security;
 
 // What a call selects.
 mod selection;

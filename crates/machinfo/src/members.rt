@@ -6,18 +6,18 @@ ghost use Rattle.mach_parts.specs.HeaderNames.{flag_name};
 ghost use Rattle.machinfo.specs.HeaderWords.{flag_short_name};
 ghost use Rattle.machinfo.specs.Summary.{flag_text, WritesSome};
 
-use crate::command_facts::{CommandFacts, Question};
-use crate::fact::{FactList, FactObjects};
+use crate::fact::FactObjects;
 use crate::list::ImageList;
-use crate::segments::{TextOrNull, write_segments};
+use crate::segments::write_segments;
 use crate::signed::{is_ad_hoc, is_readable};
-use crate::state::{State, state_of};
 use crate::summary::flag_short_name;
 use crate::word::{Part, Word};
 use goblin_mach::header::Header;
 use goblin_mach::{Error, MachO, Result, describe};
+use mach_audit::{CommandFacts, FactList, Question, State, state_of};
 use mach_cli::{
-    InForm, ListProgress, Object, comma_before, cpu_name, image_kind, print_member, then,
+    InForm, ListProgress, Object, StringOrNull, comma_before, cpu_name, image_kind, print_member,
+    then,
 };
 use mach_signature::CodeDirectory;
 use mach_signature::image::code_directory;
@@ -36,7 +36,7 @@ pub fn write_front<A: Allocator, O: Write>(
 ) -> io::Result<bool>
     ensures { OnOk result (WritesSome (O.contents out.old) (O.contents out.new)) }
 {
-    write_header(&image.header, image.name, image.entry, out)?;
+    write_header(&image.header, image.name, image.base(), image.entry, out)?;
     write_flags(image.header.flags, out)?;
     let entry = write_entry(image, out)?;
     let lists = write_lists(image, limit, out)?;
@@ -99,22 +99,23 @@ fn write_list<O: Write>(
     Ok(reported)
 }
 
-// Writes the cpu, the entry point, the kind of the file, and the name as a library.
+// Writes the address of the first byte, the cpu, the entry point, the kind of the file, and the name as a library.
 fn write_header<O: Write>(
     header: &Header,
     name: Option<&str>,
+    base: u64,
     entry: u64,
     out: &mut O,
 ) -> io::Result<()>
     ensures { OnOk result (WritesSome (O.contents out.old) (O.contents out.new)) }
 {
     let (cputype, cpusubtype) = (header.cputype, header.cpusubtype);
-    let cpu = TextOrNull(cpu_name(cputype, cpusubtype % 0x100_0000));
+    let cpu = StringOrNull(cpu_name(cputype, cpusubtype % 0x100_0000));
     let words = image_kind(header.filetype);
-    let name = TextOrNull(name);
+    let name = StringOrNull(name);
     write!(
         out,
-        "\"cpu\":{cpu},\"cpusubtype\":{cpusubtype},\"cputype\":{cputype},"
+        "\"base\":{base},\"cpu\":{cpu},\"cpusubtype\":{cpusubtype},\"cputype\":{cputype},"
     )?;
     write!(
         out,
@@ -200,9 +201,9 @@ fn write_directory<O: Write>(directory: &CodeDirectory<'_>, out: &mut O) -> io::
     ensures { OnOk result (WritesSome (O.contents out.old) (O.contents out.new)) }
 {
     let flags = directory.head.flags;
-    let identifier = TextOrNull(directory.identifier().ok().flatten());
+    let identifier = StringOrNull(directory.identifier().ok().flatten());
     let ad_hoc = is_ad_hoc(flags);
-    let team = TextOrNull(directory.team().ok().flatten());
+    let team = StringOrNull(directory.team().ok().flatten());
     write!(
         out,
         "\"signature\":{{\"flags\":{flags},\"identifier\":{identifier},"

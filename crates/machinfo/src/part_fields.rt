@@ -11,7 +11,7 @@ ghost use Rattle.machinfo.specs.PartFields.{name_of_found, entry_symbol_name};
 ghost use Rattle.machinfo.specs.PartFields.{part_fields, rpath_part_fields, section_members, section_type_name, segment_of_found};
 ghost use Rattle.machinfo.specs.PartFields.{segment_part_fields, stub_fields, stubs_in, text_or_dash, uuid_part_fields};
 
-use crate::command_fields::{named, rights, text_from};
+use crate::command_fields::{named, rights};
 use crate::fields::{column_if, flag_field};
 use crate::parts::{EntryRow, EntrySymbol, PartRow, UuidRow};
 use crate::sections::SectionRow;
@@ -26,7 +26,7 @@ use goblin_mach::header::{
 };
 use goblin_mach::load_command::Section64;
 use goblin_mach::segment::{NumberedSection, Segment};
-use mach_cli::{Field, FieldsForm, Value, cpu_name, image_kind};
+use mach_cli::{Field, FieldsForm, Value, cpu_name, if_not_empty, image_kind, name_in_field};
 use std::io;
 use std::io::Write;
 
@@ -65,7 +65,7 @@ pub fn text_or_dash(text: Option<&str>) -> &str
 fn segment_fields<'a>(number: usize, segment: &'a Segment<'_>) -> [Field<'a>; 17]
     ensures { map field_view result ≡ segment_part_fields (number, segment_view segment.now) }
 {
-    let name = text_from(&segment.segname, 0);
+    let name = name_in_field(&segment.segname);
     let (most, flags) = (segment.maxprot, segment.flags);
     let is_writable_code = most & 2 != 0 && most & 4 != 0;
     [
@@ -127,8 +127,8 @@ fn section_fields<'a>(row: &'a SectionRow) -> [Field<'a>; 18]
 {
     let section = &row.section.section;
     let (segname, sectname) = (
-        text_from(&section.segname, 0),
-        text_from(&section.sectname, 0),
+        name_in_field(&section.segname),
+        name_in_field(&section.sectname),
     );
     let kind = section.flags % 0x100;
     let name = section_type(kind);
@@ -143,7 +143,7 @@ fn section_fields<'a>(row: &'a SectionRow) -> [Field<'a>; 18]
         Field::new("size", Value::Hex(section.size), 5).wide(8),
         Field::new("file_offset", Value::Hex(u64::from(section.offset)), 6).wide(8),
         Field::new("type", Value::Named(u64::from(kind), name), 7),
-        Field::alone("type_name", Value::Text(name)),
+        Field::alone("type_name", Value::OptionalText(if_not_empty(Some(name)))),
         Field::of_object("align", Value::Number(u64::from(section.align))),
         Field::of_object("attributes", Value::Hex(u64::from(section.flags - kind))),
         Field::of_object("relocation_offset", Value::Hex(u64::from(section.reloff))),
@@ -210,7 +210,7 @@ fn segment_of_found(found: &Option<NumberedSection>) -> Option<&str>
     ensures { text_in result ≡ segment_of_found found.now }
 {
     match found {
-        Some(found) => text_from(&found.section.segname, 0),
+        Some(found) => name_in_field(&found.section.segname),
         None => None,
     }
 }
@@ -220,7 +220,7 @@ fn name_of_found(found: &Option<NumberedSection>) -> Option<&str>
     ensures { text_in result ≡ name_of_found found.now }
 {
     match found {
-        Some(found) => text_from(&found.section.sectname, 0),
+        Some(found) => name_in_field(&found.section.sectname),
         None => None,
     }
 }

@@ -12,13 +12,13 @@ ghost use Rattle.machinfo.specs.Parts.{paths_numbered_left, rpath_rows_from, seg
 ghost use Rattle.machinfo.specs.Parts.{segments_numbered_left, uuid_row_by, uuid_rows_left};
 ghost use Rattle.machinfo.specs.declared.word.Part.TheVariants as parts;
 
-use crate::command_facts::uuid_by;
 use crate::sections::{CountedSections, SectionRow, sections_past};
 use crate::word::Part;
 use goblin_mach::header::Header;
 use goblin_mach::load_command::LoadCommand;
 use goblin_mach::segment::{NumberedSection, Segment};
 use goblin_mach::{MachO, Result};
+use mach_audit::uuid_by;
 use std::alloc::Allocator;
 
 /// A row of a part of an image.

@@ -1,12 +1,13 @@
 //! The registers in the state of a thread.
 
-ghost use Rattle.std.specs.Prelude.{◌≡◌, ◌+◌, ◌*◌, ◌^◌, []};
+ghost use Rattle.std.specs.Prelude.{◌≡◌, []};
 ghost use Rattle.std.specs.Iterator.{YieldsFirstBy};
 ghost use Rattle.mach_base.specs.Text.{texts};
 ghost use Rattle.mach_dyld.specs.Exports.{text_in};
 ghost use Rattle.mach_load.specs.ThreadState.{thread_values};
 ghost use Rattle.machinfo.specs.ThreadRegisters as defined;
 
+use goblin_mach::Endian;
 use goblin_mach::cputype::{
     CPU_TYPE_ARM, CPU_TYPE_ARM64, CPU_TYPE_ARM64_32, CPU_TYPE_POWERPC, CPU_TYPE_X86,
     CPU_TYPE_X86_64,
@@ -101,6 +102,8 @@ pub struct Register {
 pub struct Registers<'b> {
     /// The number of the command.
     pub command: usize,
+    /// The byte order of the image.
+    pub le: Endian,
     /// How many words the state has.
     pub total: usize,
     /// The names of the registers of two words each.
@@ -111,10 +114,14 @@ pub struct Registers<'b> {
     pub words: &'b [u32],
 }
 
-// Returns a register of two words.
-fn double(low: u32, high: u32) -> u64
-    ensures { result ≡ low + 2 ^ 32 * high }
+// Returns a register of two words, as a number of eight bytes in the image's byte order.
+fn double(le: Endian, first: u32, second: u32) -> u64
+    ensures { result ≡ defined.double_value le first second }
 {
+    let (low, high) = match le {
+        Endian::Little => (first, second),
+        Endian::Big => (second, first),
+    };
     u64::from(low) + u64::from(high) * 0x1_0000_0000
 }
 
@@ -126,14 +133,15 @@ fn state_words(command: &ThreadCommand) -> &[u32]
 }
 
 impl<'b> Registers<'b> {
-    /// Returns the registers of a command with this number, of a cpu.
-    pub fn of(cputype: u32, number: usize, command: &'b ThreadCommand) -> Self
-        ensures { defined.registers_left result ≡ defined.thread_registers cputype number (thread_values command.now) }
+    /// Returns the registers of a command with this number, in this byte order, of a cpu.
+    pub fn of(le: Endian, cputype: u32, number: usize, command: &'b ThreadCommand) -> Self
+        ensures { defined.registers_left result ≡ defined.thread_registers le cputype number (thread_values command.now) }
     {
         let layout = layout_of(cputype, command.flavor);
         let words = state_words(command);
         Registers {
             command: number,
+            le,
             total: words.len(),
             doubles: layout.doubles(),
             singles: layout.singles(),
@@ -167,8 +175,9 @@ impl<'b> Registers<'b> {
                 self.words = &[];
                 Some(register)
             }
-            [low, high, words @ ..] => {
-                let register = self.register(Some(name), double(*low, *high));
+            [first, second, words @ ..] => {
+                let value = double(self.le, *first, *second);
+                let register = self.register(Some(name), value);
                 self.doubles = doubles;
                 self.words = words;
                 Some(register)

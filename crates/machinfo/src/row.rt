@@ -3,7 +3,7 @@
 ghost use Rattle.std.specs.Prelude.{◌++◌, codes};
 ghost use Rattle.mach_cli.specs.Escapes.{IsOneLine};
 ghost use Rattle.mach_cli.specs.Fields.{fields_line, fields_pairs};
-ghost use Rattle.machinfo.specs.FactRows.{FactView};
+ghost use Rattle.mach_audit.specs.FactRows.{FactView};
 ghost use Rattle.machinfo.specs.FactTexts.{fact_text};
 ghost use Rattle.machinfo.specs.RowFields.{row_fields};
 ghost use Rattle.machinfo.specs.Rows.{RowView};
@@ -14,10 +14,10 @@ use crate::command_rows::CommandRow;
 use crate::notes::NumberedNote;
 use crate::parts::PartRow;
 use crate::providers::Provided;
-use crate::security::Finding;
 use goblin_mach::load_command::{BuildToolVersion, DataInCodeEntry};
 use goblin_mach::slots::{IndirectSymbol, SymbolSlot};
 use goblin_mach::{Library, Rebase, WeakBind};
+use mach_audit::Finding;
 
 /// A row of a list.
 #[derive(Clone, Copy)]

@@ -4,21 +4,19 @@ ghost use Rattle.std.specs.Prelude.{◌≡◌, Some, codes, OnOk};
 ghost use Rattle.std.specs.Io.KnownBytes.{Appends};
 ghost use Rattle.std.specs.Iterator.{YieldsFirstBy};
 ghost use Rattle.mach_base.specs.Items.{items_in_bounds, read_as};
-ghost use Rattle.std.specs.Result.{result_ok};
-ghost use Rattle.mach_base.specs.Text.{text_at};
 ghost use Rattle.mach_parts.specs.Segment.{sections_of, segment_view};
-ghost use Rattle.mach_dyld.specs.Exports.{text_in};
 ghost use Rattle.mach_parts.specs.SectionItems.{sections_left};
-ghost use Rattle.machinfo.specs.Segments.{name_or_null, rights_text, section_object, section_objects_left};
+ghost use Rattle.machinfo.specs.Segments.{rights_text, section_object, section_objects_left};
 ghost use Rattle.machinfo.specs.Summary.{WritesSome};
 ghost use Rattle.machinfo.specs.Segments.{sections_named, sections_past_the_end};
 
 use goblin_mach::Result;
 use goblin_mach::segment::{Section, SectionIterator, Segment};
-use mach_cli::{JsonString, ListProgress, Listing, comma_before, print_array, then};
-use std::fmt::{Display, Formatter};
+use mach_cli::{
+    ListProgress, Listing, StringOrNull, comma_before, name_in_field, print_array, then,
+};
+use std::io;
 use std::io::Write;
-use std::{fmt, io};
 
 /// Returns the letters of a protection.
 pub fn rights_name(protection: u32) -> &'static str
@@ -72,34 +70,6 @@ impl<'a> SectionList<'a> {
     }
 }
 
-// A name, or `null` if it is no text.
-#[derive(Clone, Copy)]
-pub struct TextOrNull<'a>(pub Option<&'a str>);
-
-impl Display for TextOrNull<'_> {
-    ghost output = { λ t. Some (name_or_null (text_in t.0)) };
-
-    fn fmt<W: fmt::Write>(&self, f: &mut Formatter<W>) -> fmt::Result {
-        match self.0 {
-            Some(text) => {
-                let text = JsonString(text);
-                write!(f, "{text}")
-            }
-            None => write!(f, "null"),
-        }
-    }
-}
-
-// Returns the name of a section, if it is text.
-fn section_name(section: &Section) -> Option<&str>
-    ensures { text_in result ≡ result_ok (text_at section.now.sectname 0) }
-{
-    match section.name() {
-        Ok(name) => Some(name),
-        Err(_) => None,
-    }
-}
-
 // The same sections as objects.
 #[derive(Drop)]
 struct SectionObjects<'a>(SectionList<'a>);
@@ -133,7 +103,7 @@ impl Listing for SectionObjects<'_> {
     fn write_row<O: Write>(row: &Section, out: &mut O) -> io::Result<()>
         ensures { OnOk result (Appends (O.contents out.old) (O.contents out.new) (section_object row.now)) }
     {
-        let name = TextOrNull(section_name(row));
+        let name = StringOrNull(name_in_field(&row.sectname));
         let (address, size) = (row.addr, row.size);
         write!(
             out,
@@ -175,7 +145,7 @@ fn write_segment<O: Write>(
     ensures { OnOk result (WritesSome (O.contents out.old) (O.contents out.new)) }
 {
     let comma = comma_before(is_first);
-    let name = TextOrNull(segment.name().ok());
+    let name = StringOrNull(name_in_field(&segment.segname));
     let (address, size) = (segment.vmaddr, segment.vmsize);
     let rights = rights_name(segment.initprot);
     write!(

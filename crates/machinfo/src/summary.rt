@@ -4,16 +4,16 @@ ghost use Rattle.std.specs.Prelude.{◌≡◌, ℕ, List, IfOk, OnOk};
 ghost use Rattle.std.specs.Io.KnownBytes.{Appends};
 ghost use Rattle.mach_dyld.specs.Exports.{text_in};
 ghost use Rattle.goblin_mach.specs.ImageFacts.{facts_view};
-ghost use Rattle.machinfo.specs.FactRows.{fact_rows_left};
-ghost use Rattle.machinfo.specs.Summary.{cpu_line, flag_word, flags_line, kind_lines, own_name_line};
+ghost use Rattle.mach_audit.specs.FactRows.{fact_rows_left};
+ghost use Rattle.machinfo.specs.Summary.{base_line, cpu_line, flag_word, flags_line, kind_lines, own_name_line};
 ghost use Rattle.mach_parts.specs.HeaderNames.{flag_name};
 ghost use Rattle.machinfo.specs.HeaderWords.{flag_short_name};
 ghost use Rattle.machinfo.specs.Summary.{AreFactLines, AreFrontLines, AreUsedLines};
 
-use crate::command_facts::{CommandFacts, Question};
-use crate::fact::{FactLines, FactList};
+use crate::fact::FactLines;
 use goblin_mach::MachO;
 use goblin_mach::header::{Header, flag_to_str};
+use mach_audit::{CommandFacts, FactList, Question};
 use mach_cli::{Escaped, cpu_name, image_kind, print_listing};
 use std::alloc::Allocator;
 use std::io;
@@ -37,6 +37,7 @@ pub fn print_front<A: Allocator, O: Write>(
     let list = FactList::Tools(image.build_tools());
     let tools = print_list(list, "tool: refused", limit, out)?;
     print_flags(image.header.flags, out)?;
+    print_base(image.base(), out)?;
     Ok(uuids & platforms & tools)
 }
 
@@ -128,6 +129,13 @@ fn print_flag<O: Write>(flag: u32, out: &mut O) -> io::Result<()>
         Some(name) => write!(out, " {name}"),
         None => write!(out, " 0x{flag:x}"),
     }
+}
+
+// Prints the address of the first byte.
+fn print_base<O: Write>(base: u64, out: &mut O) -> io::Result<()>
+    ensures { OnOk result (Appends (O.contents out.old) (O.contents out.new) (base_line base)) }
+{
+    writeln!(out, "base: 0x{base:x}")
 }
 
 /// Returns the name of a bit of the header's flags without its prefix, if it has one.

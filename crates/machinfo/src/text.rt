@@ -5,13 +5,13 @@ ghost use Rattle.machinfo.specs.FactTexts.{platform_object, platform_text, sdk_o
 ghost use Rattle.machinfo.specs.Platforms.{platform_name};
 ghost use Rattle.machinfo.specs.Tools.{tool_name, tool_text};
 
-use crate::command_facts::PlatformFact;
 use goblin_mach::load_command::{
     PLATFORM_BRIDGEOS, PLATFORM_DRIVERKIT, PLATFORM_IOS, PLATFORM_IOSSIMULATOR,
     PLATFORM_MACCATALYST, PLATFORM_MACOS, PLATFORM_TVOS, PLATFORM_TVOSSIMULATOR, PLATFORM_VISIONOS,
     PLATFORM_VISIONOSSIMULATOR, PLATFORM_WATCHOS, PLATFORM_WATCHOSSIMULATOR, TOOL_CLANG, TOOL_LD,
     TOOL_LLD, TOOL_SWIFT,
 };
+use mach_audit::PlatformFact;
 use mach_cli::VersionText;
 use std::fmt;
 use std::fmt::{Display, Formatter, Write};

@@ -4,23 +4,24 @@ ghost use Rattle.std.specs.Prelude.{◌≡◌, ℕ, List, [], IfErr, IfOk};
 ghost use Rattle.std.specs.Io.KnownBytes.{Appends};
 ghost use Rattle.goblin_mach.specs.OpenImage.{IsImage};
 ghost use Rattle.mach_cli.specs.Failures.{IfMemory};
-ghost use Rattle.machinfo.specs.Exports.{HasExportFields};
+ghost use Rattle.machinfo.specs.ExportRows.{HasExportFields};
 ghost use Rattle.machinfo.specs.Imports.{HasImportFields};
 ghost use Rattle.machinfo.specs.ImageLines.{AreImageListLines, AreImageSummaryLines, AreInfoLines, AreListedLines};
 ghost use Rattle.machinfo.specs.RowFields.{has_names};
 
 use crate::counts::{COUNTED, Form, print_counts};
-use crate::exports::{ExportList, exports_of};
+use crate::export_rows::{ExportForm, print_exports_of, walk_of};
 use crate::imports::ImportList;
 use crate::list_lines::print_in_form;
 use crate::part_lines::print_parts;
 use crate::signed::print_signed;
-use crate::state::{print_state, state_of};
+use crate::state::print_state;
 use crate::summary::{print_front, print_used};
 use crate::word::{Choice, Part, Word};
 use goblin_mach::MachO;
+use mach_audit::state_of;
 use mach_cli::{
-    AddressLinesOf, AllStretches, ImageView, InForm, Line, Outcome, Pairs, ShowFailure,
+    AddressLinesOf, AllStretches, ImageView, InForm, Line, Outcome, Pairs, ShowFailure, print_cut,
     print_listing,
 };
 use std::alloc::Allocator;
@@ -81,7 +82,7 @@ fn print_list<A: Allocator, O: Write>(
     }
 }
 
-// Prints the exports of an image, at most `left` of them, or the fault of its trie.
+// Prints the exports of an image as a walk meets them, at most `left` of them. A fault of the trie is the last line.
 fn print_exports<A: Allocator + Clone, O: Write>(
     alloc: &A,
     image: &MachO<'_, A>,
@@ -90,16 +91,16 @@ fn print_exports<A: Allocator + Clone, O: Write>(
     out: &mut O,
 ) -> Result<Outcome, ShowFailure>
     ensures shown { (bytes : List ℕ) → IsImage bytes 0 image.now → IfOk result (λ outcome. (text : List ℕ)
-        × AreListedLines (HasExportFields bytes) limit left text outcome.whole outcome.left × Appends (O.contents out.old) (O.contents out.new) text) }
+        × AreListedLines (HasExportFields left bytes) limit left text outcome.whole outcome.left × Appends (O.contents out.old) (O.contents out.new) text) }
     ensures memory { IfErr result (IfMemory (Appends (O.contents out.old) (O.contents out.new) [])) }
 {
-    let (exports, refusal) = exports_of(alloc, image)?;
-    let list = ExportList {
-        refusal,
-        exports: exports.as_slice(),
-    };
-    let mut lines = InForm { list, form: Line };
-    Ok(print_listing(&mut lines, "refused", limit, left, out)?)
+    let walk = walk_of(alloc, image)?;
+    let shown = print_exports_of(ExportForm::Lines, image.base(), walk, left, out)?;
+    print_cut(limit, shown.more, out)?;
+    Ok(Outcome {
+        whole: shown.whole & !shown.more,
+        left: shown.left,
+    })
 }
 
 // Prints what dyld binds in an image, at most `left` binds; one that can't be read is a line that says why.

@@ -4,8 +4,8 @@ use Rattle.std.specs.Prelude.{codes}
 use Rattle.mach_cli.specs.Escapes.{has_no_feed, IsOneLine}
 use Rattle.mach_cli.proofs.OneLine.{no_feeds, line-end}
 use Rattle.mach_parts.specs.Bindings.{Provider, of_library, itself, main_executable, flat, weak_lookup}
-use Rattle.machresolve.specs.Answers.{Answer}
-use Rattle.machresolve.specs.Follow.{SymbolPlace, found, leads_back, no_library, missing, not_given, not_found, no_main}
+use Rattle.mach_resolve.specs.Answers.{Answer}
+use Rattle.mach_resolve.specs.Follow.{SymbolPlace, found, leads_back, no_library, missing, not_given, not_found, no_main}
 use Rattle.machresolve.specs.Lines.{answer_text, found_text, place_text, provider_text, text_before_place, weak_text}
 
 no_feed-provider : (p : Provider) → has_no_feed (provider_text p) ≡ true

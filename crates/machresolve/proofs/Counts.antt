@@ -6,8 +6,8 @@ use Rattle.std.proofs.lemmas.List.Sums.{sum_by-cons}
 use Rattle.std.proofs.lemmas.Slice.Zip.{AllZip-long}
 use Rattle.mach_parts.specs.Bindings.{Binding}
 use Rattle.mach_cli.specs.declared.cpu.Cpu.{Cpu}
-use Rattle.machresolve.specs.Answers.{IsAnswer}
-use Rattle.machresolve.specs.Given.{GivenFile}
+use Rattle.mach_resolve.specs.Answers.{IsAnswer}
+use Rattle.mach_resolve.specs.Given.{GivenFile}
 use Rattle.machresolve.specs.Report.{Outcome, answer_count, IsOutcome, resolved, fault, IsEntryOutcome, an_archive, an_image, entry_of_program}
 use Rattle.machresolve.specs.Report.{AreEntryOutcomes, Report, answers_in, IsProgramReport, image, image_of_cpu, other_image, fat, entry, no_entry}
 use Rattle.machresolve.specs.Report.{unopened, unfound}

@@ -5,9 +5,9 @@ use Rattle.std.proofs.lemmas.List.{append-nil, append_assoc}
 use Rattle.std.specs.Io.KnownBytes.{Appends}
 use Rattle.mach_base.proofs.Written.{Appends-none}
 use Rattle.mach_cli.specs.Escapes.{escaped_text}
-use Rattle.machresolve.specs.Answers.{Answer}
-use Rattle.machresolve.specs.Follow.{not_given}
-use Rattle.machresolve.specs.Note.{Note}
+use Rattle.mach_resolve.specs.Answers.{Answer}
+use Rattle.mach_resolve.specs.Follow.{not_given}
+use Rattle.mach_resolve.specs.Note.{Note}
 use Rattle.machresolve.specs.Report.{Outcome}
 use Rattle.machresolve.specs.Lines.{ResolveCall, place_text, answer_text, lines_of, entry_heading}
 use Rattle.machresolve.specs.Lines.{entry_text, entries_text, note_text, message_line, message_lines}

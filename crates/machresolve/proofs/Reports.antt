@@ -1,5 +1,5 @@
 -- The reports of programs, and of refused files.
-use Rattle.std.proofs.Common.{◌≡◌, ◌∙◌, ℕ, Bool, true, false, List, Option, Some, None, Result, Ok, Err, sym, ap, subst}
+use Rattle.std.proofs.Common.{◌≡◌, ◌∙◌, ℕ, Bool, true, false, List, Option, Some, None, Result, Ok, Err, refl, sym, ap, subst}
 use Rattle.std.specs.Prelude.{IfOk}
 use Rattle.mach_base.proofs.Faults.{ErrorMeets-in}
 use Rattle.mach_base.specs.Answer.{ErrorMeets}
@@ -7,21 +7,31 @@ use Rattle.mach_base.specs.Fault.{Fault}
 use Rattle.mach_base.specs.declared.error.Error.{Error}
 use Rattle.mach_parts.specs.Magic.{begins_archive}
 use Rattle.goblin_mach.proofs.Views.{reports}
+use Rattle.goblin_mach.specs.OpenImage.{IsImage, commands_view}
 use Rattle.goblin_mach.specs.View.{IsReported, ReportsFault}
+use Rattle.goblin_mach.specs.declared.macho.MachO.{MachO}
 use Rattle.mach_cli.specs.Cpus.{is_of_cpu}
 use Rattle.mach_cli.specs.declared.cpu.Cpu.{Cpu}
-use Rattle.machresolve.specs.Cpu as cpu
-use Rattle.machresolve.specs.Cpu.{FileFault, ForFault, HasNumbers}
-use Rattle.machresolve.specs.Failures.{IsFailure}
-use Rattle.machresolve.specs.Given.{GivenFile}
+use Rattle.mach_resolve.specs.Cpu as cpu
+use Rattle.mach_resolve.specs.Cpu.{FileFault, ForFault}
+use Rattle.machresolve.specs.Cpu.{HasNumbers}
+use Rattle.mach_resolve.specs.Failures.{IsFailure}
+use Rattle.mach_resolve.specs.Given.{GivenFile}
 use Rattle.machresolve.specs.Report as report
 use Rattle.machresolve.specs.Report.{IsOutcome, fault, IsEntryOutcome, an_image, IsOneOf, image, image_of_cpu, IsProgramReport, other_image, unopened, unfound}
 use Rattle.machresolve.specs.Report.{ProgramFault, ReportsError, of_file}
-use Rattle.machresolve.specs.Resolved.{ResolveFault}
-use Rattle.machresolve.specs.ResolveViews.{outcome_view, IsOutcomeOfFailure}
-use Rattle.machresolve.specs.declared.failure.ResolveFailure.{ResolveFailure}
+use Rattle.mach_resolve.specs.Resolved.{ResolveFault}
+use Rattle.machresolve.specs.ReportViews.{outcome_view, IsOutcomeOfFailure}
+use Rattle.mach_resolve.specs.declared.failure.ResolveFailure.{ResolveFailure}
 use Rattle.machresolve.specs.declared.report.Outcome.{Outcome}
 use Rattle.machresolve.specs.declared.report.Outcome.TheVariants.{Answered, Archive, Refused}
+
+-- an image that was opened has the numbers of its header's cpu
+pub of_numbers : {A : Type 0} (bytes : List ℕ) (m : MachO A) → IsImage bytes 0 m → HasNumbers bytes m.header.cputype m.header.cpusubtype
+of_numbers bytes m is = record {
+  opens = (is.ctx, commands_view m, is.opens);
+  numbers = record { ctx = is.ctx; cs = commands_view m; opens = is.opens.lossy; holds = (m.header, is.fields.header, refl, refl) };
+}
 
 -- the outcome for a failure to resolve
 pub refused_outcome : {A : Type 0} (n : ℕ) (p : GivenFile) (ls : List GivenFile) (x : ResolveFailure) (r : Result (Outcome A) ResolveFailure)
@@ -42,9 +52,9 @@ table_refused n p ls e r reported occurs =
     subst (IsProgramReport n p ls None) (sym reported.0) (unopened e (reports_fault (ProgramFault p.bytes) e reported.1 occurs))
 
 pub search_refused : (n : ℕ) (p : GivenFile) (ls : List GivenFile) (c : Cpu) (e : Error) (r : report.Report) → ReportsError e r
-    → ErrorMeets (ForFault p.bytes c) e → IsProgramReport n p ls (Some c) r
+    → ErrorMeets (ForFault p.bytes (is_of_cpu c)) e → IsProgramReport n p ls (Some c) r
 search_refused n p ls c e r reported occurs =
-    subst (IsProgramReport n p ls (Some c)) (sym reported.0) (unfound c e (reports_fault (ForFault p.bytes c) e reported.1 occurs))
+    subst (IsProgramReport n p ls (Some c)) (sym reported.0) (unfound c e (reports_fault (ForFault p.bytes (is_of_cpu c)) e reported.1 occurs))
 
 -- a program that doesn't open, whichever cpu is selected
 pub file_refused : (n : ℕ) (p : GivenFile) (ls : List GivenFile) (wanted : Option Cpu) (e : Error) (r : report.Report) → ReportsError e r
@@ -52,7 +62,7 @@ pub file_refused : (n : ℕ) (p : GivenFile) (ls : List GivenFile) (wanted : Opt
 file_refused n p ls None e r reported occurs =
     table_refused n p ls e r reported (ErrorMeets-in (FileFault p.bytes) (ProgramFault p.bytes) e (λ f s. of_file s) occurs)
 file_refused n p ls (Some c) e r reported occurs =
-    search_refused n p ls c e r reported (ErrorMeets-in (FileFault p.bytes) (ForFault p.bytes c) e (λ f s. cpu.of_file s) occurs)
+    search_refused n p ls c e r reported (ErrorMeets-in (FileFault p.bytes) (ForFault p.bytes (is_of_cpu c)) e (λ f s. cpu.of_file s) occurs)
 
 -- an entry that is no archive
 pub entry_image : (n : ℕ) (path slice bytes : List ℕ) (ls : List GivenFile) (o : report.Outcome) → slice ≡ bytes → begins_archive slice ≡ false

@@ -7,11 +7,11 @@ use Rattle.mach_cli.specs.Cpus.{cpu_words}
 use Rattle.mach_cli.specs.Escapes.{escaped_text}
 use Rattle.mach_cli.specs.declared.cpu.Cpu.{Cpu}
 use Rattle.mach_cli.specs.declared.cpu.Cpu.TheVariants.{Number}
-use Rattle.machresolve.specs.Follow.{SymbolPlace, found, leads_back, no_library, missing, not_given, not_found, no_main}
-use Rattle.machresolve.specs.Answers.{Answer}
-use Rattle.machresolve.specs.Given.{GivenFile}
+use Rattle.mach_resolve.specs.Follow.{SymbolPlace, found, leads_back, no_library, missing, not_given, not_found, no_main}
+use Rattle.mach_resolve.specs.Answers.{Answer}
+use Rattle.mach_resolve.specs.Given.{GivenFile}
 use Rattle.machresolve.specs.Refusals.{reported_words}
-use Rattle.machresolve.specs.Note.{Note, given_before, nothing_for, all_noted}
+use Rattle.mach_resolve.specs.Note.{Note, given_before, nothing_for, all_noted}
 use Rattle.machresolve.specs.Report.{Outcome, answered, archive, refused, Report, one, entries, nothing}
 
 abbrev pub provider_text : Provider → List ℕ

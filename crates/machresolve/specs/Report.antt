@@ -5,13 +5,14 @@ use Rattle.mach_base.specs.Fault.{Fault}
 use Rattle.mach_base.specs.declared.error.Error.{Error}
 use Rattle.mach_parts.specs.Magic.{begins_archive}
 use Rattle.goblin_mach.specs.View.{IsReported, ReportsFault}
-use Rattle.machresolve.specs.Answers.{Answer, is_settled}
+use Rattle.mach_resolve.specs.Answers.{Answer, is_settled}
 use Rattle.mach_cli.specs.Cpus.{is_of_cpu}
 use Rattle.mach_cli.specs.declared.cpu.Cpu.{Cpu}
-use Rattle.machresolve.specs.Cpu.{FatTableView, FileFault, FindsEntry, ForFault, HasNumbers, HasTable}
-use Rattle.machresolve.specs.Given.{GivenFile}
-use Rattle.machresolve.specs.Note.{Note}
-use Rattle.machresolve.specs.Resolved.{IsResolved, ResolveFault}
+use Rattle.mach_resolve.specs.Cpu.{FatTableView, FileFault, FindsEntry, ForFault, HasTable}
+use Rattle.machresolve.specs.Cpu.{HasNumbers}
+use Rattle.mach_resolve.specs.Given.{GivenFile}
+use Rattle.mach_resolve.specs.Note.{Note}
+use Rattle.mach_resolve.specs.Resolved.{IsResolved, ResolveFault}
 
 -- The outcome for one program: its answers, with notes, and whether it has more bindings; or it is an archive; or a file is
 -- refused, by its number.
@@ -87,11 +88,11 @@ pub data IsProgramReport (limit : ℕ) (program : GivenFile) (libraries : List G
       → IsProgramReport limit program libraries (Some cpu) (nothing cpu)
   fat : (table : FatTableView) (parts : List (List ℕ)) (outcomes : List Outcome) → HasTable program.bytes table → table.entries ≡ Ok parts
       → AreEntryOutcomes limit program libraries parts outcomes → IsProgramReport limit program libraries None (entries outcomes)
-  entry : (cpu : Cpu) (part : List ℕ) (o : Outcome) → FindsEntry program.bytes cpu (Some part)
+  entry : (cpu : Cpu) (part : List ℕ) (o : Outcome) → FindsEntry program.bytes (is_of_cpu cpu) (Some part)
       → IsEntryOutcome limit (entry_of_program program part) libraries o → IsProgramReport limit program libraries (Some cpu) (one o)
-  no_entry : (cpu : Cpu) → FindsEntry program.bytes cpu None → IsProgramReport limit program libraries (Some cpu) (nothing cpu)
+  no_entry : (cpu : Cpu) → FindsEntry program.bytes (is_of_cpu cpu) None → IsProgramReport limit program libraries (Some cpu) (nothing cpu)
   unopened : (e : Error) → ReportsFault (ProgramFault program.bytes) e → IsProgramReport limit program libraries None (one (refused 0 e))
-  unfound : (cpu : Cpu) (e : Error) → ReportsFault (ForFault program.bytes cpu) e
+  unfound : (cpu : Cpu) (e : Error) → ReportsFault (ForFault program.bytes (is_of_cpu cpu)) e
       → IsProgramReport limit program libraries (Some cpu) (one (refused 0 e))
 
 -- whether all is answered and settled, and nothing was refused

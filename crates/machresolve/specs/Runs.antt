@@ -2,7 +2,7 @@
 use Rattle.std.specs.Prelude.{◌≡◌, ◌≤◌, ℕ, Bool, List, [], codes, Option, if◌then◌else◌}
 use Rattle.std.specs.Io.KnownBytes.{Appends}
 use Rattle.mach_cli.specs.declared.cpu.Cpu.{Cpu}
-use Rattle.machresolve.specs.Given.{GivenFile}
+use Rattle.mach_resolve.specs.Given.{GivenFile}
 use Rattle.machresolve.specs.Lines.{printed, message_line, messages_of_report}
 use Rattle.machresolve.specs.Report.{Report, IsProgramReport, answers_in, all_whole}
 

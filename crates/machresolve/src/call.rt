@@ -2,9 +2,10 @@
 
 ghost use Rattle.std.specs.Prelude.{◌≡◌};
 ghost use Rattle.machresolve.specs.Lines.{file_at};
-ghost use Rattle.machresolve.specs.Opened.{call_view_of, given_view};
+ghost use Rattle.mach_resolve.specs.Opened.{given_view};
+ghost use Rattle.machresolve.specs.CallViews.{call_view_of};
 
-use crate::inputs::Given;
+use mach_resolve::Given;
 
 /// The arguments of a run.
 #[derive(Clone, Copy)]

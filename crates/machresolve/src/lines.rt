@@ -3,16 +3,14 @@
 ghost use Rattle.std.specs.Prelude.{◌≡◌, Some};
 ghost use Rattle.mach_parts.specs.Bindings.{provider_view};
 ghost use Rattle.machresolve.specs.Lines.{provider_text, place_text, front_text, answer_text, nothing_words, nothing_text, note_text};
-ghost use Rattle.machresolve.specs.Opened.{call_view_of, given_view};
-ghost use Rattle.machresolve.specs.ResolveViews.{place_view_of, answer_view, note_view_of};
+ghost use Rattle.mach_resolve.specs.Opened.{given_view};
+ghost use Rattle.machresolve.specs.CallViews.{call_view_of};
+ghost use Rattle.mach_resolve.specs.ResolveViews.{place_view_of, answer_view, note_view_of};
 
-use crate::answers::Answer;
 use crate::call::Call;
-use crate::follow::NamePlace;
-use crate::inputs::Given;
-use crate::note::Note;
 use goblin_mach::Provider;
 use mach_cli::{Cpu, Escaped};
+use mach_resolve::{Answer, Given, NamePlace, Note};
 use std::fmt;
 use std::fmt::{Display, Formatter, Write};
 
@@ -86,27 +84,31 @@ impl<'a> Display for PlaceText<'a> {
     }
 }
 
-impl<'a> Answer<'a> {
+/// The answer for a binding.
+#[derive(Clone, Copy)]
+pub struct AnswerText<'a>(pub Answer<'a>);
+
+impl<'a> AnswerText<'a> {
     // Returns the words before the place, if the name may be missing and is.
     fn front(&self) -> &'static str
-        ensures { result.now ≡ front_text (answer_view self.now) }
+        ensures { result.now ≡ front_text (answer_view self.now.0) }
     {
-        match self.place {
+        match self.0.place {
             NamePlace::Found { .. } | NamePlace::LeadsBack { .. } => "",
-            _ if self.is_weak => "weak, ",
+            _ if self.0.is_weak => "weak, ",
             _ => "",
         }
     }
 }
 
-impl<'a> Display for Answer<'a> {
-    ghost output = { λ a. Some (answer_text (answer_view a)) };
+impl<'a> Display for AnswerText<'a> {
+    ghost output = { λ t. Some (answer_text (answer_view t.0)) };
 
     fn fmt<W: Write>(&self, f: &mut Formatter<W>) -> fmt::Result {
-        let name = Escaped(self.name);
-        let provider = ProviderText(self.provider);
+        let name = Escaped(self.0.name);
+        let provider = ProviderText(self.0.provider);
         let front = self.front();
-        let place = PlaceText(self.place);
+        let place = PlaceText(self.0.place);
         write!(f, "{name} {provider} {front}{place}")
     }
 }

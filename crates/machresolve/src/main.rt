@@ -7,32 +7,22 @@
 //! `--limit` says; a line says so if an image has more than what is left.
 #![tactic(auto)]
 
-// The place of each of a program's bindings in some libraries.
-mod answers;
-mod file;
-mod files;
-mod follow;
-mod inputs;
-mod reexports;
-mod resolve;
-mod special;
+// The reports of programs.
+mod report;
 mod table;
 
-// What is printed of the answers.
+// What is printed of them.
 mod arguments;
 mod call;
-mod failure;
 mod laws;
 mod lines;
-mod note;
 mod output;
 mod refusal;
-mod report;
 
 use crate::arguments::{DEFAULT_LIMIT, selected_cpu};
-use crate::inputs::Given;
 use crate::output::{NAME, run};
 use mach_cli::{Color, Cpu, Format, Misuse, Options, Program, Progress, SharedOnly};
+use mach_resolve::Given;
 use std::io::IsTerminal;
 use std::process::ExitCode;
 

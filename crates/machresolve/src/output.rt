@@ -5,24 +5,23 @@ ghost use Rattle.std.specs.Io.Buffered.{writer_buffer, writer_contents};
 ghost use Rattle.std.specs.Io.KnownBytes.{Appends};
 ghost use Rattle.machresolve.specs.Lines.{lines_of, more_text, resolved_text, entry_text, entry_heading, entries_text, one_text, printed, notes_in};
 ghost use Rattle.machresolve.specs.Lines.{all_notes, refusal_message, first_message, message_line, message_lines, messages_of_report, notes_of};
-ghost use Rattle.machresolve.specs.Note.{all_noted};
-ghost use Rattle.machresolve.specs.Opened.{call_view_of, given_view};
+ghost use Rattle.mach_resolve.specs.Note.{all_noted};
+ghost use Rattle.mach_resolve.specs.Opened.{given_view};
+ghost use Rattle.machresolve.specs.CallViews.{call_view_of};
 ghost use Rattle.mach_cli.specs.Bounds.{most_items};
 ghost use Rattle.mach_cli.specs.Statuses.{IsStatus};
 ghost use Rattle.machresolve.specs.Runs.{run_status, IsRun};
-ghost use Rattle.machresolve.specs.ResolveViews.{answer_view, note_view_of, outcome_view, report_view};
+ghost use Rattle.mach_resolve.specs.ResolveViews.{answer_view, note_view_of};
+ghost use Rattle.machresolve.specs.ReportViews.{outcome_view, report_view};
 
-use crate::answers::Answer;
 use crate::call::Call;
-use crate::inputs::Given;
-use crate::lines::{NoteText, NothingText};
-use crate::note::{Note, Notes, note_all};
+use crate::lines::{AnswerText, NoteText, NothingText};
 use crate::refusal::RefusalText;
 use crate::report::{Outcome, Report, report_on};
-use crate::resolve::Resolved;
 use indexmap::IndexSet;
 use mach_cli::output::failed;
 use mach_cli::{Cpu, most_items};
+use mach_resolve::{Answer, Given, Note, Notes, Resolved, note_all};
 use std::alloc::{AllocFailed, Allocator};
 use std::io;
 use std::io::{BufWriter, Write};
@@ -216,7 +215,8 @@ fn print_answers<O: Write>(answers: &[Answer<'_>], out: &mut O) -> io::Result<()
     ensures { OnOk result (Appends (O.contents out.old) (O.contents out.new) (lines_of (map answer_view answers.now))) }
 {
     'answers: for answer in answers {
-        writeln!(out, "{answer}")?;
+        let text = AnswerText(*answer);
+        writeln!(out, "{text}")?;
     }
     Ok(())
 }

@@ -3,10 +3,10 @@
 ghost use Rattle.std.specs.Prelude.{◌≡◌};
 ghost use Rattle.machresolve.specs.Refusals.{has_table, kind_reported};
 
-use crate::inputs::Given;
 use goblin_mach::fat::{FatHeader, SIZEOF_FAT_ARCH, SIZEOF_FAT_HEADER};
 use goblin_mach::{Error, Foreign, describe};
 use mach_cli::{Escaped, refused_kind};
+use mach_resolve::Given;
 use std::fmt;
 use std::fmt::{Display, Formatter, Write};
 
@@ -43,7 +43,7 @@ pub struct RefusalText<'a, 'b> {
 impl Display for RefusalText<'_, '_> {
     ghost use Rattle.std.specs.Prelude.{Some};
     ghost use Rattle.machresolve.specs.Lines.{refusal_text};
-    ghost use Rattle.machresolve.specs.Opened.{given_view};
+    ghost use Rattle.mach_resolve.specs.Opened.{given_view};
 
     ghost output = { λ t. Some (refusal_text (given_view t.file) t.error.now) };
 

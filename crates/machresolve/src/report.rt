@@ -3,20 +3,18 @@
 ghost use Rattle.std.specs.Prelude.{◌≡◌, ◌≤◌, map, Some, None, IfOk, IfErr};
 ghost use Rattle.std.specs.List.{list_all};
 ghost use Rattle.goblin_mach.specs.FatFile.{file_view};
-ghost use Rattle.machresolve.specs.Cpu.{HasNumbers, HasTable, entry_bytes, fat_table_view};
-ghost use Rattle.machresolve.specs.Opened.{given_view};
+ghost use Rattle.mach_resolve.specs.Cpu.{HasTable, entry_bytes, fat_table_view};
+ghost use Rattle.machresolve.specs.Cpu.{HasNumbers};
+ghost use Rattle.mach_resolve.specs.Opened.{given_view};
 ghost use Rattle.machresolve.specs.Report.{entry_of_program, IsOneOf, IsOutcome, IsEntryOutcome, AreEntryOutcomes, IsProgramReport, ReportsError, answer_count};
 ghost use Rattle.machresolve.specs.Report.{answers_in, is_whole, all_whole};
-ghost use Rattle.machresolve.specs.ResolveViews.{outcome_view, report_view, IsOutcomeOfFailure};
-ghost use Rattle.machresolve.specs.declared.failure.ResolveFailure.TheVariants as failures;
+ghost use Rattle.machresolve.specs.ReportViews.{outcome_view, report_view, IsOutcomeOfFailure};
+ghost use Rattle.mach_resolve.specs.declared.failure.ResolveFailure.TheVariants as failures;
 
-use crate::answers::all_settled;
-use crate::failure::ResolveFailure;
-use crate::inputs::{Given, archive_error};
-use crate::resolve::{Resolved, resolve};
 use crate::table::find_entry;
 use goblin_mach::{ArchRecord, Error, FatTable, Input};
 use mach_cli::{Cpu, begins_whole_archive};
+use mach_resolve::{Given, ResolveFailure, Resolved, all_settled, archive_error, resolve};
 use std::alloc::Allocator;
 
 /// The outcome for one program.

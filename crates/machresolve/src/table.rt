@@ -2,7 +2,8 @@
 
 ghost use Rattle.mach_base.specs.Answer.{Reads};
 ghost use Rattle.goblin_mach.specs.FatFile.{archs_in, file_view};
-ghost use Rattle.machresolve.specs.Cpu.{first_arch_for};
+ghost use Rattle.mach_cli.specs.Cpus.{is_of_cpu};
+ghost use Rattle.mach_resolve.specs.Cpu.{first_arch_for};
 
 use goblin_mach::{ArchRecord, Error, FatTable};
 use mach_cli::Cpu;
@@ -13,7 +14,7 @@ pub fn find_entry<R: ArchRecord, A: Allocator>(
     container: &FatTable<'_, R, A>,
     cpu: Cpu,
 ) -> Result<Option<R>, Error>
-    ensures { Reads (λ found. found) result (first_arch_for R.arch_form cpu (archs_in R.arch_form (file_view container.now))) }
+    ensures { Reads (λ found. found) result (first_arch_for R.arch_form (is_of_cpu cpu) (archs_in R.arch_form (file_view container.now))) }
 {
     'arches: for arch in container.iter_arches() {
         let arch = arch?;

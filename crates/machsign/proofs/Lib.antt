@@ -1,8 +1,5 @@
 pub mod Written
-pub mod Expressions
-pub mod ExpressionLaws
-pub mod Plain
-pub mod Printed
+pub mod RequirementObjects
 pub mod Rows
 pub mod Slots
 pub mod ListProgress
@@ -12,7 +9,3 @@ pub mod SignedFacts
 pub mod Opened
 pub mod Feeds
 pub mod Checked
-pub mod Unescaped
-pub mod Gaps
-pub mod EntitlementSteps
-pub mod Entitled

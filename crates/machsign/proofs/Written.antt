@@ -25,10 +25,15 @@ module _ {A : Type 0} (part : A → List ℕ) where
   all_given all done left old new is none written =
       subst (λ (items : List A). Appends old new (flat_map part items)) (sym (is ∙ ap (λ rest. done ++ rest) none ∙ append-nil done)) written
 
--- three parts, and four
+-- three parts, four, and five
 pub three : (a b c d : Option (List ℕ)) (xs ys zs : List ℕ) → Appends a b xs → Appends b c ys → Appends c d zs → Appends a d (xs ++ (ys ++ zs))
 three a b c d xs ys zs first second third = Appends-both a b d xs (ys ++ zs) first (Appends-both b c d ys zs second third)
 
 pub four : (a b c d e : Option (List ℕ)) (xs ys zs ws : List ℕ) → Appends a b xs → Appends b c ys → Appends c d zs → Appends d e ws
     → Appends a e (xs ++ (ys ++ (zs ++ ws)))
 four a b c d e xs ys zs ws first second third last = Appends-both a b e xs (ys ++ (zs ++ ws)) first (three b c d e ys zs ws second third last)
+
+pub five : (a b c d e f : Option (List ℕ)) (us vs xs ys zs : List ℕ) → Appends a b us → Appends b c vs → Appends c d xs → Appends d e ys
+    → Appends e f zs → Appends a f (us ++ (vs ++ (xs ++ (ys ++ zs))))
+five a b c d e f us vs xs ys zs first second third fourth last =
+    Appends-both a b f us (vs ++ (xs ++ (ys ++ zs))) first (four b c d e f vs xs ys zs second third fourth last)

@@ -1,7 +1,7 @@
 -- What is printed of the entitlements of a signature in XML and in DER.
 use Rattle.std.specs.Prelude.{ℕ, List, [], ◌++◌, codes, Option, Some, None}
-use Rattle.machsign.specs.declared.entitlements.agreement.Agreement.{Agreement}
-use Rattle.machsign.specs.declared.entitlements.agreement.Agreement.TheVariants.{Same, Different, UnreadableXml, UnreadableDer}
+use Rattle.mach_signature.specs.declared.entitlements.agreement.Agreement.{Agreement}
+use Rattle.mach_signature.specs.declared.entitlements.agreement.Agreement.TheVariants.{Same, Different, UnreadableXml, UnreadableDer}
 
 abbrev pub agreement_words : Agreement → List ℕ
 agreement_words Same = codes "entitlements: XML and DER say the same"

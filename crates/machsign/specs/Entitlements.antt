@@ -1,19 +1,22 @@
 -- The entitlements that the program writes of a file.
-use Rattle.std.specs.Prelude.{◌≡◌, ◌⊎◌, ℕ, List, [], ◌∷◌, codes, Bool, true, false, Option, Some, None, Result, Ok, Err}
+use Rattle.std.specs.Prelude.{◌≡◌, ◌==◌, ◌⊎◌, ℕ, List, [], ◌∷◌, codes, Bool, true, false, Option, Some, None, Result, Ok, Err}
+use Rattle.std.specs.Prelude.{if◌then◌else◌}
 use Rattle.mach_base.specs.Answer.{ErrorMeets}
 use Rattle.mach_base.specs.Fault.{Fault}
 use Rattle.mach_base.specs.declared.error.Error.{Error}
 use Rattle.goblin_mach.specs.Facts.{OfImage}
 use Rattle.goblin_mach.specs.Image.{ImageFault}
 use Rattle.goblin_mach.specs.Inputs.{InputFault}
-use Rattle.goblin_mach.specs.Items.{ContentView, ItemView, content_bytes, items_in}
+use Rattle.goblin_mach.specs.Items.{ContentView, ItemView, content_bytes}
 use Rattle.goblin_mach.specs.declared.item.EntryCpu.{EntryCpu}
 use Rattle.mach_signature.specs.SuperBlob.{SuperBlob, content_of}
 use Rattle.mach_signature.specs.SignedImages.{image_signature}
 use Rattle.goblin_mach.specs.View.{ReportsFault}
 use Rattle.mach_cli.specs.Cpus.{IsTaken, is_of_cpu}
 use Rattle.mach_cli.specs.Foreigners.{refused_words}
+use Rattle.mach_cli.specs.PartsOf.{entry_counts, shown_items}
 use Rattle.mach_cli.specs.Refusals.{complaint}
+use Rattle.mach_cli.specs.TableEntries.{left_out_words}
 use Rattle.mach_cli.specs.declared.cpu.Cpu.{Cpu}
 
 -- the content, if it can be read
@@ -67,11 +70,16 @@ pub data RefusesItems (cpu : Cpu) : List ItemView → Fault → Type 0 where
   first_refuses : (x : ItemView) (xs : List ItemView) (f : Fault) → RefusesItem x f → RefusesItems cpu (x ∷ xs) f
   later_refuses : (x : ItemView) (xs : List ItemView) (f : Fault) → EntitlesItem cpu x None → RefusesItems cpu xs f → RefusesItems cpu (x ∷ xs) f
 
--- a fault of the file itself, or of such an item
+-- a fault of the file itself, or of such an item that is shown
 abbrev pub EntitlementFault : Cpu → List ℕ → Fault → Type 0
-EntitlementFault cpu bytes f = InputFault bytes f ⊎ RefusesItems cpu (items_in bytes) f
+EntitlementFault cpu bytes f = InputFault bytes f ⊎ RefusesItems cpu (shown_items bytes) f
 
--- The line says that no selected image has entitlements, or why the file is refused, or that an allocation is.
+-- why nothing is written of a file whose shown images have no entitlements: entries are left out, or no image has some
+abbrev pub none_words : (left_out : ℕ) → List ℕ
+none_words left_out = if left_out == 0 then codes "no entitlements" else left_out_words left_out
+
+-- The line says that no selected image that is shown has entitlements, or that entries are left out; or why the file is refused, or
+-- that an allocation is.
 pub data SaysWhyNone (cpu : Cpu) (names bytes : List ℕ) : (said : List ℕ) → Type 0 where
-  none_has_some : EntitlesItems cpu (items_in bytes) None → SaysWhyNone cpu names bytes (complaint names (codes "no entitlements"))
+  none_has_some : EntitlesItems cpu (shown_items bytes) None → SaysWhyNone cpu names bytes (complaint names (none_words (entry_counts bytes).left_out))
   file_is_refused : (e : Error) → ErrorMeets (EntitlementFault cpu bytes) e → SaysWhyNone cpu names bytes (complaint names (refused_words bytes e))

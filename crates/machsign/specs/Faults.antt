@@ -15,11 +15,11 @@ use Rattle.mach_signature.specs.FaultViews.{signature_fault_view}
 use Rattle.mach_signature.specs.SignWords.{hexadecimal, signature_fault_words, slot_words}
 use Rattle.mach_signature.specs.declared.fault.SignatureFault.{SignatureFault}
 use Rattle.machsign.specs.JsonNames.{json_name}
-use Rattle.machsign.specs.Pages.{page_in_fault, place_of, shown_faults}
+use Rattle.mach_signature.specs.Pages.{page_in_fault, place_of, shown_faults}
 use Rattle.machsign.specs.Special.{by_form}
 use Rattle.machsign.specs.declared.form.Form.{Form}
-use Rattle.machsign.specs.declared.page.ChangedPage.{ChangedPage}
-use Rattle.machsign.specs.declared.page.Place.{Place}
+use Rattle.mach_signature.specs.declared.page.ChangedPage.{ChangedPage}
+use Rattle.mach_signature.specs.declared.page.Place.{Place}
 
 -- ---- names of segments and sections
 

@@ -23,17 +23,17 @@ use Rattle.mach_signature.specs.declared.records.RuntimeFields.{RuntimeFields}
 use Rattle.machsign.specs.AgreementTexts.{agreement_object}
 use Rattle.machsign.specs.Blobs.{blobs_array}
 use Rattle.machsign.specs.Blocks.{full_cdhash_of}
-use Rattle.machsign.specs.EntitlementAgreement.{agreement_in}
+use Rattle.mach_signature.specs.EntitlementAgreement.{agreement_in}
 use Rattle.machsign.specs.Faults.{ReportsFaults}
 use Rattle.machsign.specs.ImageLines.{HasSigned, is_there_cut, is_there_sound}
 use Rattle.machsign.specs.JsonNames.{json_name}
 use Rattle.machsign.specs.Kinds.{has_cms, has_hardened_runtime, has_library_validation, is_ad_hoc, is_linker_signed, kind_of}
 use Rattle.machsign.specs.RequirementLines.{requirements_object}
 use Rattle.machsign.specs.Signatures.{blobs_counted, is_cut, is_unfaulted_whole, limited_count}
-use Rattle.machsign.specs.Pages.{shown_faults}
+use Rattle.mach_signature.specs.Pages.{shown_faults}
 use Rattle.machsign.specs.Special.{slots_array}
 use Rattle.machsign.specs.Texts.{runtime_text}
-use Rattle.machsign.specs.declared.entitlements.agreement.Agreement.{Agreement}
+use Rattle.mach_signature.specs.declared.entitlements.agreement.Agreement.{Agreement}
 use Rattle.machsign.specs.declared.form.Form.TheVariants.{Objects}
 use Rattle.machsign.specs.declared.kind.Kind.{Kind}
 

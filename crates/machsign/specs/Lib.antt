@@ -1,7 +1,3 @@
-pub mod Requirements
-pub mod ExpressionDepths
-pub mod RequirementViews
-pub mod RequirementTexts
 pub mod RequirementLines
 pub mod Arguments
 pub mod Texts
@@ -12,18 +8,7 @@ pub mod Kinds
 pub mod Blobs
 pub mod BlobsLeft
 pub mod JsonNames
-pub mod Pages
 pub mod Faults
-pub mod EntitlementValues
-pub mod EntitlementTexts
-pub mod EntitlementSpans
-pub mod EntitlementXml
-pub mod EntitlementDer
-pub mod EntitlementReads
-pub mod EntitlementViews
-pub mod EntitlementMarks
-pub mod EntitlementItems
-pub mod EntitlementAgreement
 pub mod AgreementTexts
 pub mod Signatures
 pub mod ImageLines

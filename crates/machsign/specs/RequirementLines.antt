@@ -1,64 +1,27 @@
--- The requirements of a signature, by their types (Security, `requirement.h` and `superblob.h`).
-use Rattle.std.specs.Prelude.{ℕ, ◌+◌, ◌*◌, List, [], ◌++◌, codes, length, nat_le, Bool, true, false, ◌==◌, ◌&&◌, if◌then◌else◌, Option, Some, None}
-use Rattle.std.specs.Prelude.{Result, Ok, Err}
-use Rattle.mach_base.specs.Answer.{◌>>=◌}
-use Rattle.mach_base.specs.Fault.{Fault, malformed}
-use Rattle.mach_signature.specs.SuperBlob.{SuperBlob, BlobThere, blob_of}
-use Rattle.machsign.specs.Requirements.{word_at}
-use Rattle.machsign.specs.RequirementTexts.{requirement_object, requirement_words}
-
--- ---- the index: that of a signature's form, with types in place of slots
-
-abbrev pub index_of_count : BlobThere → (count : ℕ) → Result SuperBlob Fault
-index_of_count blob count =
-    if blob.magic == 0xfade0c01 && nat_le (12 + 8 * count) (length blob.bytes) then Ok (record { bytes = blob.bytes; count = count })
-    else Err malformed
-
--- the index in a blob of requirements
-unfoldable pub requirements_index : BlobThere → Result SuperBlob Fault
-requirements_index blob = word_at blob.bytes 8 >>= index_of_count blob
-
-abbrev pub index_if_any : Option BlobThere → Result (Option SuperBlob) Fault
-index_if_any None = Ok None
-index_if_any (Some blob) = requirements_index blob >>= (λ index. Ok (Some index))
-
--- the index of the requirements of a signature: that of the first blob of slot 2
-unfoldable pub requirements_of : SuperBlob → Result (Option SuperBlob) Fault
-requirements_of s = blob_of s 2 >>= index_if_any
-
--- what was looked up can be read, or isn't there
-abbrev pub is_readable_blob : Result (Option BlobThere) Fault → Bool
-is_readable_blob (Ok blob) = true
-is_readable_blob (Err f) = false
-
--- the first requirements of the five types can be read
-abbrev pub has_readable_types : SuperBlob → Bool
-has_readable_types index =
-    is_readable_blob (blob_of index 1) && (is_readable_blob (blob_of index 2) && (is_readable_blob (blob_of index 3)
-    && (is_readable_blob (blob_of index 4) && is_readable_blob (blob_of index 5))))
-
-abbrev pub is_readable_index : Result (Option SuperBlob) Fault → Bool
-is_readable_index (Ok None) = true
-is_readable_index (Ok (Some index)) = has_readable_types index
-is_readable_index (Err f) = false
-
--- the requirements of a signature can be read, if it has some
-abbrev pub has_readable_requirements : SuperBlob → Bool
-has_readable_requirements s = is_readable_index (requirements_of s)
+-- The lines and the objects of a signature's requirements, by their types.
+use Rattle.std.specs.Prelude.{ℕ, List, [], ◌++◌, codes, Option, Some, None, Result, Ok, Err}
+use Rattle.mach_base.specs.Fault.{Fault}
+use Rattle.mach_cli.specs.SignatureNames.{bytes_text}
+use Rattle.mach_signature.specs.Requirements.{Expression, simple_expression}
+use Rattle.mach_signature.specs.RequirementTexts.{expression_text, requirement_words}
+use Rattle.mach_signature.specs.RequirementTypes.{requirement_of, requirements_of}
+use Rattle.mach_signature.specs.SuperBlob.{SuperBlob}
+use Rattle.mach_signature.specs.declared.requirements.term.Operator.TheVariants.{Or}
+use Rattle.mach_signature.specs.declared.requirements.text.Quotes.TheVariants.{Escaped}
 
 -- ---- lines
 
 abbrev pub found_line : (name bytes : List ℕ) → List ℕ
 found_line name bytes = (codes "requirement " ++ (name ++ codes ": ")) ++ (requirement_words bytes ++ codes "\n")
 
-abbrev pub type_line_by : (name : List ℕ) → Result (Option BlobThere) Fault → List ℕ
+abbrev pub type_line_by : (name : List ℕ) → Result (Option (List ℕ)) Fault → List ℕ
 type_line_by name (Ok None) = []
-type_line_by name (Ok (Some blob)) = found_line name blob.bytes
+type_line_by name (Ok (Some bytes)) = found_line name bytes
 type_line_by name (Err f) = codes "requirement " ++ (name ++ codes ": unreadable\n")
 
 -- the line of the first requirement of a type, if there is one
 abbrev pub type_line : SuperBlob → (name : List ℕ) → (kind : ℕ) → List ℕ
-type_line index name kind = type_line_by name (blob_of index kind)
+type_line index name kind = type_line_by name (requirement_of index kind)
 
 -- the lines of the five types (`SecRequirementType`)
 abbrev pub type_lines : SuperBlob → List ℕ
@@ -76,13 +39,21 @@ requirement_lines s = requirement_lines_by (requirements_of s)
 
 -- ---- objects
 
-abbrev pub type_object_by : Result (Option BlobThere) Fault → List ℕ
+-- the object of a requirement: its text if it is simple, and else its bytes
+abbrev pub requirement_object_by : List ℕ → Result Expression Fault → List ℕ
+requirement_object_by bytes (Ok x) = codes "{\"hex\":null,\"text\":\"" ++ (expression_text Escaped (Some Or) x ++ codes "\"}")
+requirement_object_by bytes (Err f) = codes "{\"hex\":\"" ++ (bytes_text bytes ++ codes "\",\"text\":null}")
+
+abbrev pub requirement_object : List ℕ → List ℕ
+requirement_object bytes = requirement_object_by bytes (simple_expression bytes)
+
+abbrev pub type_object_by : Result (Option (List ℕ)) Fault → List ℕ
 type_object_by (Ok None) = codes "null"
-type_object_by (Ok (Some blob)) = requirement_object blob.bytes
+type_object_by (Ok (Some bytes)) = requirement_object bytes
 type_object_by (Err f) = codes "{\"error\":\"unreadable\"}"
 
 abbrev pub type_object : SuperBlob → (kind : ℕ) → List ℕ
-type_object index kind = type_object_by (blob_of index kind)
+type_object index kind = type_object_by (requirement_of index kind)
 
 -- a member, by what is before its value
 abbrev pub type_member : SuperBlob → (before : List ℕ) → (kind : ℕ) → List ℕ

@@ -12,11 +12,12 @@ use Rattle.mach_cli.specs.Listings.{cut_line}
 use Rattle.machsign.specs.AgreementTexts.{agreement_line}
 use Rattle.machsign.specs.Blobs.{blobs_lines, other_blobs_of}
 use Rattle.machsign.specs.Blocks.{slot_directory_lines}
-use Rattle.machsign.specs.EntitlementAgreement.{agreement_in, is_agreed}
+use Rattle.mach_signature.specs.EntitlementAgreement.{agreement_in, is_agreed}
 use Rattle.machsign.specs.Faults.{has_none, ReportsFaults}
 use Rattle.machsign.specs.Kinds.{cms_of, kind_line, kind_of, unchecked_line}
-use Rattle.machsign.specs.Pages.{shown_faults}
-use Rattle.machsign.specs.RequirementLines.{has_readable_requirements, requirement_lines}
+use Rattle.mach_signature.specs.Pages.{shown_faults}
+use Rattle.mach_signature.specs.RequirementTypes.{has_readable_requirements}
+use Rattle.machsign.specs.RequirementLines.{requirement_lines}
 use Rattle.machsign.specs.declared.form.Form.TheVariants.{Lines}
 
 -- the line of its kind, the lines of its directories, in the order of the index, and those of its requirements; if no directory is

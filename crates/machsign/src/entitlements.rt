@@ -9,27 +9,19 @@ ghost use Rattle.mach_base.specs.Items.{read_as};
 ghost use Rattle.mach_signature.specs.DirectoryViews.{slot_read};
 ghost use Rattle.mach_signature.specs.SignViews.{signature_view};
 ghost use Rattle.mach_cli.specs.Names.{names_text};
+ghost use Rattle.mach_cli.specs.PartsOf.{entry_counts, shown_items};
 ghost use Rattle.mach_cli.specs.Refusals.{complaint, refusal_reason};
 ghost use Rattle.mach_cli.specs.Statuses.{IsStatus};
 ghost use Rattle.goblin_mach.specs.View.{IsReported};
 ghost use Rattle.goblin_mach.specs.OpenImage.{IsImage};
-ghost use Rattle.goblin_mach.specs.Items.{content_view, items_in};
+ghost use Rattle.goblin_mach.specs.Items.{content_view};
 ghost use Rattle.goblin_mach.specs.ItemsLeft.{input_item_read};
 ghost use Rattle.machsign.specs.Entitlements.{entitlements_of, HasEntitlements, EntitlesContent, EntitlesItem, EntitlesItems, IsSelectedImage};
-ghost use Rattle.machsign.specs.Entitlements.{RefusesItem, EntitlementFault, SaysWhyNone};
-
-pub mod agreement;
-mod compare;
-mod der;
-mod digits;
-mod front;
-mod parts;
-mod spelling;
-mod xml;
+ghost use Rattle.machsign.specs.Entitlements.{RefusesItem, EntitlementFault, SaysWhyNone, none_words};
 
 use goblin_mach::{Content, EntryCpu, Error, Input, InputItem, MachO, Result};
 use mach_cli::output::failed;
-use mach_cli::{Cpu, Label, Names, Refusal, complain, refusal_of};
+use mach_cli::{Cpu, Label, Names, Refusal, complain, entry_counts, items_shown, refusal_of};
 use mach_signature::CodeSignature;
 use mach_signature::image::code_signature;
 use std::alloc::Allocator;
@@ -120,17 +112,19 @@ fn of_item<'a, A: Allocator + Clone>(
     }
 }
 
-// Returns the entitlements of the first selected image of a file that has some: the file itself, an entry or a member.
+// Returns the entitlements of the first selected image of a file that has some: the file itself, an entry or a member. It goes over
+// the items that are shown.
 fn first_in<'a, A: Allocator + Clone>(
     alloc: &A,
     cpu: Cpu,
     bytes: &'a [u8],
 ) -> Result<Option<&'a [u8]>>
-    ensures found { IfOk result (λ found. EntitlesItems cpu (items_in bytes.now) (slot_read found)) }
+    ensures found { IfOk result (λ found. EntitlesItems cpu (shown_items bytes.now) (slot_read found)) }
     ensures refused { IfErr result (ErrorMeets (EntitlementFault cpu bytes.now)) }
 {
     let input = Input::parse(alloc.clone()?, bytes)?;
-    'items: for item in input.images() {
+    let shown = items_shown(alloc.clone()?, bytes, input.images());
+    'items: for item in shown {
         match of_item(alloc, cpu, item)? {
             Some(found) => return Ok(Some(found)),
             None => {}
@@ -147,6 +141,18 @@ fn put<W: Write + Drop, B: Allocator>(bytes: &[u8], out: &mut BufWriter<W, B>) -
     out.write_all(bytes)?;
     out.flush()?;
     Ok(())
+}
+
+// Returns why no entitlements are written of a file whose shown images have none: entries are left out, or no image has some.
+fn reason_of_none<A: Allocator>(alloc: A, bytes: &[u8]) -> Refusal<'static>
+    ensures { refusal_reason result ≡ none_words (entry_counts bytes.now).left_out }
+{
+    let left_out = entry_counts(alloc, bytes).left_out;
+    if left_out == 0 {
+        Refusal::Lacks("no entitlements")
+    } else {
+        Refusal::LeftOut(left_out)
+    }
 }
 
 // Reports why no entitlements of a file are written, and returns the status.
@@ -166,7 +172,8 @@ fn refuse<E: Write>(file: &str, refusal: Refusal<'_>, err: &mut E) -> u8
     }
 }
 
-/// Writes the entitlements of the first selected image of a file, an archive or a fat file that has some, and nothing else.
+/// Writes the entitlements of the first selected image of a file, an archive or a fat file that has some, and nothing else. Of a
+/// fat file it goes over the entries that are shown.
 ///
 /// Returns the exit status. It is 0 if they were written, and then nothing is left in the buffer. It is 1 if there are none, or
 /// the file or an allocation is refused; then `err` has a line that says why, and `out` nothing. It is 2 or 141 if a write fails.
@@ -179,7 +186,7 @@ pub fn run_entitlements<A: Allocator + Clone, W: Write + Drop, B: Allocator, E: 
     err: &mut E,
 ) -> u8
     ensures status { IsStatus result }
-    ensures written { result ≡ 0 → (found : List ℕ) × EntitlesItems cpu (items_in bytes.now) (Some found)
+    ensures written { result ≡ 0 → (found : List ℕ) × EntitlesItems cpu (shown_items bytes.now) (Some found)
         × Appends (writer_contents W.contents out.old) (writer_contents W.contents out.new) found }
     ensures flushed { result ≡ 0 → writer_buffer out.new ≡ [] }
     ensures nothing { result ≡ 1 → Appends (writer_contents W.contents out.old) (writer_contents W.contents out.new) [] }
@@ -191,7 +198,7 @@ pub fn run_entitlements<A: Allocator + Clone, W: Write + Drop, B: Allocator, E: 
             Ok(()) => 0,
             Err(error) => failed(NAME, "", error, err),
         },
-        Ok(None) => refuse(file, Refusal::Lacks("no entitlements"), err),
+        Ok(None) => refuse(file, reason_of_none(alloc, bytes), err),
         Err(error) => refuse(file, refusal_of(bytes, &error), err),
     }
 }

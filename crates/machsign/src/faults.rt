@@ -11,11 +11,11 @@ ghost use Rattle.machsign.specs.JsonNames.{json_name};
 
 use crate::form::Form;
 use crate::members::write_name;
-use crate::page::{ChangedPage, Place, first_directory, is_repeated, page_of, place_of};
 use goblin_mach::Result;
 use goblin_mach::segment::Segment;
 use mach_base::read_text;
 use mach_cli::{ListProgress, comma_before, print_name};
+use mach_signature::page::{ChangedPage, Place, first_directory, is_repeated, page_of, place_of};
 use mach_signature::{SignatureFault, SignedBytes, SlotName};
 use std::fmt::{Display, Formatter};
 use std::io::Write;

@@ -16,8 +16,8 @@ ghost use Rattle.machsign.specs.JsonNames.{json_name};
 ghost use Rattle.machsign.specs.JsonSignature as defined;
 ghost use Rattle.machsign.specs.Texts.{runtime_text};
 
+use crate::agreement::AgreementObject;
 use crate::blobs::OtherBlobs;
-use crate::entitlements::agreement::{Agreement, AgreementObject, agreement_in};
 use crate::faults::write_faults;
 use crate::form::Form;
 use crate::full_hash::print_hash_of;
@@ -29,6 +29,7 @@ use crate::text::RuntimeText;
 use goblin_mach::segment::Segment;
 use goblin_mach::{Error, MachO, Result, describe};
 use mach_cli::{JsonString, Outcome, print_array, print_bytes};
+use mach_signature::entitlements::{Agreement, agreement_in};
 use mach_signature::{CodeDirectory, ExecutableSegment, RuntimeFields, SignedBytes};
 use std::alloc::Allocator;
 use std::fmt::{Display, Formatter};

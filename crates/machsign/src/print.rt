@@ -14,9 +14,9 @@ ghost use Rattle.machsign.specs.ImageLines.{image_signed};
 ghost use Rattle.machsign.specs.Kinds.{kind_line, unchecked_line};
 ghost use Rattle.machsign.specs.Signatures as defined;
 
+use crate::agreement::print_agreement;
 use crate::blobs::OtherBlobs;
 use crate::block::print_directory;
-use crate::entitlements::agreement::{agreement_in, print_agreement};
 use crate::faults::write_faults;
 use crate::form::Form;
 use crate::kind::{Cms, Kind, cms_of};
@@ -25,6 +25,7 @@ use crate::signed::{has_sound_parts, signed_image};
 use goblin_mach::segment::Segment;
 use goblin_mach::{Error, MachO, describe};
 use mach_cli::{Outcome, print_cut, print_rows};
+use mach_signature::entitlements::agreement_in;
 use mach_signature::{CodeDirectory, SignedBytes};
 use std::alloc::Allocator;
 use std::io;

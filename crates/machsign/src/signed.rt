@@ -8,8 +8,6 @@ ghost use Rattle.mach_signature.specs.FaultViews.{signed_view};
 ghost use Rattle.machsign.specs.ImageLines.{image_signed};
 ghost use Rattle.machsign.specs.Signatures.{has_sound_parts};
 
-use crate::entitlements::agreement::{agreement_in, is_agreed};
-use crate::requirement_lines::has_readable_requirements;
 use goblin_mach::{MachO, Result};
 use mach_signature::image::{image_plist, signature_place};
 use mach_signature::{SignedBytes, code_signature};
@@ -19,7 +17,7 @@ use std::alloc::Allocator;
 pub fn has_sound_parts(signed: &SignedBytes<'_>) -> bool
     ensures { result ≡ has_sound_parts (signed_view signed.now) }
 {
-    is_agreed(agreement_in(&signed.signature)) && has_readable_requirements(&signed.signature)
+    signed.signature.entitlements_agree() && signed.signature.has_readable_requirements()
 }
 
 /// Returns the signature of an image, if it has one, with the bytes of the image.

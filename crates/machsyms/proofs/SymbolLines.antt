@@ -10,7 +10,7 @@ use Rattle.std.specs.Char.{encode_utf8, to_ascii_uppercase}
 use Rattle.std.specs.Fmt.{char_count, format_spec, is_char_start, padded, padding_before, take_chars}
 use Rattle.std.specs.List.{All, list_all, repeat}
 use Rattle.mach_base.specs.Fault.{Fault}
-use Rattle.mach_base.specs.Named.{Named}
+use Rattle.mach_base.specs.Named.{Named, name_among}
 use Rattle.mach_cli.specs.Escapes.{escaped_text, has_no_feed, IsOneLine, IsPrinted}
 use Rattle.mach_cli.proofs.OneLine.{no_feeds, no_feed-append, no_feed-if, no_feed-printed, no_feed-repeat, no_feed-space, printed-ascii, line-end}
 use Rattle.mach_parts.specs.Bindings.{Provider, of_library, itself, main_executable, flat, weak_lookup}
@@ -22,7 +22,7 @@ use Rattle.machsyms.specs.Letters.{letter, letter_at, letter_of, named_sections,
 use Rattle.mach_cli.specs.NamesShown.{file_text}
 use Rattle.machsyms.specs.Lines.{fields_text, form_text, kind_text, letter_text, line_text, padded_hex, right, stab_text, value_text}
 use Rattle.machsyms.specs.Setting.{SymbolSetting, setting_of, symbol_described}
-use Rattle.machsyms.specs.Stabs.{name_among, stab_name, stab_names}
+use Rattle.machsyms.specs.Stabs.{stab_name, stab_names}
 use Rattle.machsyms.specs.SymbolWords.{alignment_text, provider_words, kind_words, mark_words}
 use Rattle.machsyms.specs.SymbolWords.{origin_words, reach_words, section_text, undefined_words}
 use Rattle.machsyms.specs.declared.selection.Request.{Request}

@@ -1,6 +1,6 @@
 -- The names that `nm` prints for debugging entries (`mach-o/stab.h`).
 use Rattle.std.specs.Prelude.{◌==◌, ℕ, List, [], ◌∷◌, codes, Option, Some, None, if◌then◌else◌}
-use Rattle.mach_base.specs.Named.{Named}
+use Rattle.mach_base.specs.Named.{Named, name_among}
 
 abbrev pub stab_names : List Named
 stab_names =
@@ -36,10 +36,6 @@ stab_names =
     ∷ record { number = 0xe8; name = codes "ECOML" }
     ∷ record { number = 0xfe; name = codes "LENG" }
     ∷ []
-
-abbrev pub name_among : List Named → ℕ → Option (List ℕ)
-name_among [] n = None
-name_among (x ∷ xs) n = if n == x.number then Some x.name else name_among xs n
 
 -- the name of a type of entry, if it has one
 abbrev pub stab_name : ℕ → Option (List ℕ)

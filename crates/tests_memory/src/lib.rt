@@ -1,5 +1,4 @@
-//! Tests of memory that is refused: a growth, all growths, and what a heap of few bytes can't hold. The library is otherwise
-//! empty.
+//! Tests of memory that is refused, where the caller gives the allocator. The library is otherwise empty.
 #![tactic(auto)]
 
 #[cfg(test)]

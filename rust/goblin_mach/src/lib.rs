@@ -1,7 +1,10 @@
 #![doc = include_str!("../README.md")]
 #![no_std]
 #![deny(unsafe_code)]
-#![warn(missing_docs)]
+#![cfg_attr(
+    not(feature = "internals"),
+    warn(missing_docs, missing_debug_implementations)
+)]
 
 #[cfg(not(target_pointer_width = "64"))]
 compile_error!(
@@ -15,13 +18,21 @@ extern crate std;
 // Written by hand.
 mod facade;
 
-// What the programs of goblin_mach_tools use too. No part of it is promised to stay as it is.
-#[doc(hidden)]
-pub mod shim;
+// Written by hand: what the generated modules take of Rattle's standard library.
+pub(crate) mod shim;
 // Made of the sources in Rattle by tools/erase.
-#[doc(hidden)]
-pub mod generated;
+pub(crate) mod generated;
 
+// What the feature `internals` lends to goblin_mach_tools and goblin_mach_capi. No part of it is promised to stay as it is.
+#[cfg(feature = "internals")]
+#[doc(hidden)]
+pub use generated::internals;
+
+#[cfg(test)]
+mod tests;
+
+#[cfg(feature = "resolve")]
+pub use facade::resolve;
 pub use facade::{Object, bytes, container, debug, error, mach};
 #[cfg(feature = "archive")]
 pub use generated::mach_archive as archive;
@@ -37,4 +48,11 @@ pub use shim::AllocError;
 pub mod layout {
     pub use crate::generated::mach_layout::*;
     pub use crate::mach::layout::*;
+}
+
+/// Verdicts on how an image is hardened.
+#[cfg(feature = "signature")]
+pub mod audit {
+    pub use crate::facade::audit::security;
+    pub use crate::generated::mach_audit::*;
 }

@@ -53,7 +53,7 @@ fn segment(fileoff: u64, data: &[u8]) -> Segment<'_> {
     let mut segment = Segment::new(ctx, &[]);
     segment.fileoff = fileoff;
     segment.vmaddr = BASE;
-    segment.bytes = data;
+    segment.data = data;
     segment
 }
 
@@ -78,24 +78,24 @@ mod refusals {
     #[test]
     fn have_reasons() {
         for (place, byte, why) in [
-            (0, 1, "chained fixups are of version 0"),
-            (24, 1, "names of imports are not compressed"),
-            (20, 0, "imports are of one of three formats"),
-            (16, 0, "a bind's import is one of the table"),
-            (40, 23, "starts have room for each page's"),
-            (45, 0x20, "a page has 0x1000 or 0x4000 bytes"),
-            (46, 4, "pointers are of a format that is read"),
-            (48, 1, "chains know where their segment is"),
-            (62, 9, "a fixup lies in its segment's data"),
-            (63, 0x10, "a chain stays in its page"),
-            (64, 0xfc, "an ordinal is one of a provider"),
+            (0, 1, "chained fixups are not of version 0"),
+            (24, 1, "the names of imports are compressed"),
+            (20, 0, "imports are of an unknown format"),
+            (16, 0, "a bind's import is past the table"),
+            (40, 23, "starts are too short for their pages"),
+            (45, 0x20, "a page has neither 0x1000 nor 0x4000 bytes"),
+            (46, 4, "pointers are of a format that is not read"),
+            (48, 1, "chains give another address for their segment"),
+            (62, 9, "a fixup is past its segment's data"),
+            (63, 0x10, "a chain leaves its page"),
+            (64, 0xfc, "an ordinal names no provider"),
         ] {
             let payload = with(place, byte);
             assert_eq!(reason(&payload, &[segment(0x4000, &DATA)]), why, "{place}");
         }
         assert_eq!(
             reason(&PAYLOAD, &[]),
-            "a chain's segment is one of the list"
+            "a chain's segment is past the list of segments"
         );
     }
 
@@ -107,7 +107,7 @@ mod refusals {
         assert_eq!(fixups.unwrap().len(), 2);
         assert_eq!(
             reason(&PAYLOAD, &segments),
-            "a bind's place has at most 64 bits"
+            "a bind's place does not fit in 64 bits"
         );
     }
 }

@@ -5,9 +5,13 @@ use goblin_mach::bytes::{BE, LE, NATIVE, Pread, Pwrite, StrCtx};
 use goblin_mach::mach::constants::{self, cputype};
 use goblin_mach::mach::fat::FatArch;
 use goblin_mach::mach::header::Header;
-use goblin_mach::mach::load_command::SymtabCommand;
+use goblin_mach::mach::load_command::{
+    LC_UUID, LC_VERSION_MIN_IPHONEOS, Platform, SymtabCommand, VersionMinCommand,
+};
+use goblin_mach::mach::segment::Segment;
+use goblin_mach::mach::symbols::{Nlist, Nlist64};
 use goblin_mach::{Container, Ctx, Endian, Error, Object, ScrollError, debug::Goblin};
-use goblin_mach::{Mach, MachO, MultiArch, SingleArch, describe};
+use goblin_mach::{IntoCtx, Mach, MachO, MultiArch, Record, SingleArch, describe};
 
 fn check(image: &MachO) {
     let listed = image.exports().map(|all| {
@@ -28,7 +32,7 @@ fn check(image: &MachO) {
     }
     assert_eq!(image.segments.len(), image.segments.iter().count());
     for (a, b) in image.segments[..].iter().zip(&image.segments) {
-        assert_eq!((a.data(), a.vmaddr), (b.bytes, b.vmaddr));
+        assert_eq!((a.data(), a.vmaddr), (b.data, b.vmaddr));
     }
 }
 
@@ -49,7 +53,7 @@ fn same_as_the_proved_calls() {
                 assert_eq!(file.machos().len(), file.narches);
                 let wide = |arch: Result<FatArch, Error>| arch.is_ok_and(|arch| arch.is_64());
                 let found = file.find(|arch| arch.is_ok_and(|arch| arch.is_64()));
-                assert_eq!(format!("{found:?}"), format!("{:?}", file.find_with(wide)));
+                assert_eq!(format!("{found:?}"), format!("{:?}", file.find(wide)));
                 for (entry, image) in file.into_iter().zip(file.machos()) {
                     match (entry, image) {
                         (Ok(SingleArch::MachO(one)), Ok(other)) => {
@@ -173,7 +177,7 @@ fn constants_have_apples_numbers() {
 #[test]
 fn errors_are_those_of_std() {
     let error: Box<dyn std::error::Error> = Box::new(Mach::parse(b"").unwrap_err());
-    assert_eq!(error.to_string(), "malformed: a magic is 4 bytes");
+    assert_eq!(error.to_string(), "malformed: the file ends in its magic");
     let error: Box<dyn std::error::Error> = Box::new(MachO::parse(&[0xcf, 0xfa], 0).unwrap_err());
     let below = error.source().unwrap();
     assert_eq!(below.to_string(), error.to_string());
@@ -193,4 +197,170 @@ fn a_header_is_read_from_a_file() {
     let path = concat!(env!("CARGO_MANIFEST_DIR"), "/tests/data/c.macho");
     let header = FatHeader::from_fd(&mut std::fs::File::open(path).unwrap()).unwrap();
     assert_eq!(header.magic, FAT_MAGIC);
+}
+
+/// What has no answer in goblin has one here.
+#[test]
+fn calls_without_conditions() {
+    let command = |cmd| VersionMinCommand {
+        cmd,
+        ..VersionMinCommand::new(Platform::Tvos)
+    };
+    for cmd in [0, LC_UUID, 0x99, u32::MAX] {
+        assert!(matches!(command(cmd).platform(), Platform::Macos));
+        assert!(Platform::try_from(cmd).is_err());
+    }
+    assert!(matches!(
+        command(LC_VERSION_MIN_IPHONEOS).platform(),
+        Platform::Iphoneos
+    ));
+    let wide = Nlist64::read(&[7; 16], 0, LE).unwrap();
+    let mut bytes = [7; 64];
+    for ctx in [
+        Ctx::new(Container::Little, LE),
+        Ctx::new(Container::Big, BE),
+    ] {
+        for len in 0..12 {
+            Header::new(ctx).into_ctx(&mut bytes[..len], ctx);
+            Nlist::from(wide).into_ctx(&mut bytes[..len], ctx);
+            Segment::new(ctx, &[]).into_ctx(&mut bytes[..len], ctx);
+            IntoCtx::<Endian>::into_ctx(wide, &mut bytes[..len], LE);
+            assert_eq!(bytes, [7; 64]);
+        }
+    }
+}
+
+/// A signature gives its fields, and no user can change them.
+#[cfg(feature = "signature")]
+#[test]
+fn blobs_of_a_signature() {
+    let words = [0xfade_0cc0, 28, 1, 5, 20, 0xfade_7171, 8u32];
+    let bytes: Vec<u8> = words.into_iter().flat_map(u32::to_be_bytes).collect();
+    let signature = goblin_mach::signature::CodeSignature::parse(&bytes).unwrap();
+    assert_eq!((signature.count(), signature.bytes()), (1, &bytes[..]));
+    let slots: Vec<u32> = signature.blobs().map(|blob| blob.unwrap().slot).collect();
+    assert_eq!(slots, [5]);
+    assert!(signature.blobs().nth(1000).is_none());
+}
+
+#[test]
+fn data_of_sections() {
+    let mut sizes = 0;
+    for bytes in common::files() {
+        let Ok(image) = MachO::parse(&bytes, 0) else {
+            continue;
+        };
+        let listed = image
+            .segments
+            .iter()
+            .flat_map(|segment| segment.sections().unwrap());
+        for (numbered, (section, data)) in image.sections().zip(listed) {
+            let numbered = numbered.unwrap();
+            assert_eq!(numbered.name().unwrap(), section.name().unwrap());
+            assert_eq!(numbered.segment_name().unwrap(), section.segname().unwrap());
+            let found = image.section_data(&numbered);
+            assert!(
+                found.as_ref().is_ok_and(
+                    |found| found.as_ptr_range() == data.as_ptr_range() || data.is_empty()
+                )
+            );
+            sizes += found.unwrap().len();
+        }
+        assert_eq!(
+            image.sections().count(),
+            image.segments.iter().map(|one| one.nsects as usize).sum()
+        );
+    }
+    assert!(sizes > 100);
+}
+
+#[test]
+fn data_of_sections_by_their_flags() {
+    let bytes = [7; 40];
+    let file = std::fs::read("tests/data/b.macho").unwrap();
+    let image = MachO::parse(&file, 0).unwrap();
+    let mut found = image.sections().next().unwrap().unwrap();
+    found.section.flags = 0;
+    (found.section.offset, found.section.size) = (8, 32);
+    assert_eq!(
+        found.data(&bytes).unwrap().as_ptr_range(),
+        bytes[8..].as_ptr_range()
+    );
+    assert!(matches!(found.data(&bytes[..39]), Err(Error::Scroll(_))));
+    for zeros in [0x1, 0xc, 0x12] {
+        found.section.flags = 0x8000_0000 | zeros;
+        assert_eq!(found.data(&bytes[..39]).unwrap(), b"");
+    }
+    found.section.sectname = [0xff; 16];
+    assert!(found.name().is_err());
+}
+
+#[cfg(feature = "archive")]
+#[test]
+fn images_of_any_file() {
+    use goblin_mach::Input;
+    let image = std::fs::read("tests/data/b.macho").unwrap();
+    let outcomes = |bytes: &[u8]| -> Vec<Result<u32, String>> {
+        let opened = Input::parse(bytes).unwrap().machos();
+        opened
+            .map(|one| {
+                one.map(|one| one.header.cputype)
+                    .map_err(|error| error.to_string())
+            })
+            .collect()
+    };
+    assert_eq!(outcomes(&image), [Ok(0x0100_0007)]);
+    let fat = std::fs::read("tests/data/c.macho").unwrap();
+    let listed = Input::parse(&fat).unwrap();
+    let opened = listed
+        .images()
+        .map(|item| item.content.and_then(|content| content.open()));
+    let wanted: Vec<_> = opened
+        .map(|one| {
+            one.map(|one| one.header.cputype)
+                .map_err(|error| error.to_string())
+        })
+        .collect();
+    assert_eq!(outcomes(&fat), wanted);
+    assert!(wanted.iter().any(Result::is_ok) && wanted.iter().any(Result::is_err));
+    let member = |name: &str, bytes: &[u8]| {
+        [
+            format!("{name:<16}{:<32}{:<10}`\n", "0", bytes.len()).as_bytes(),
+            bytes,
+        ]
+        .concat()
+    };
+    let archive = [
+        b"!<arch>\n".to_vec(),
+        member("a.o", &image),
+        member("text", b"words "),
+    ]
+    .concat();
+    let found = outcomes(&archive);
+    assert_eq!((&found[0], found.len()), (&Ok(0x0100_0007), 2));
+    assert!(
+        found[1]
+            .as_ref()
+            .is_err_and(|error| error.contains("magic"))
+    );
+    assert!(outcomes(b"!<arch>\n").is_empty());
+}
+
+#[cfg(feature = "signature")]
+#[test]
+fn signatures_of_images() {
+    let mut signed = 0;
+    for bytes in common::files() {
+        let Ok(image) = MachO::parse(&bytes, 0) else {
+            continue;
+        };
+        let proved = goblin_mach::signature::image::code_signature(&image);
+        let (found, wanted) = (image.code_signature().unwrap(), proved.unwrap());
+        assert_eq!(
+            found.map(|one| one.bytes().as_ptr_range()),
+            wanted.map(|one| one.bytes().as_ptr_range())
+        );
+        signed += found.is_some() as usize;
+    }
+    assert!(signed > 0);
 }

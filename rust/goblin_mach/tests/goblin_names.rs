@@ -1331,6 +1331,7 @@ fn members() {
     iterator::<goblin_mach::mach::segment::SectionIterator>();
     field!(goblin_mach::mach::segment::Segment, cmd);
     field!(goblin_mach::mach::segment::Segment, cmdsize);
+    field!(goblin_mach::mach::segment::Segment, data);
     field!(goblin_mach::mach::segment::Segment, fileoff);
     field!(goblin_mach::mach::segment::Segment, filesize);
     field!(goblin_mach::mach::segment::Segment, flags);

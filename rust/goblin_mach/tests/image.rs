@@ -21,7 +21,7 @@ fn fields(image: &MachO) -> String {
     let old = if image.old_style_entry { " old" } else { "" };
     let mut text = format!("{:#x}{old} {}", image.entry, image.libs.join(" "));
     for segment in &image.segments {
-        text += &format!(", segment of {}", segment.bytes.len());
+        text += &format!(", segment of {}", segment.data.len());
     }
     if image.symbols.is_some() {
         text += ", symbols";
@@ -436,9 +436,9 @@ fn entry_past_the_last() {
 fn entry_found_by_cputype() {
     let file = MultiArch::new(FILE_C).unwrap();
     let is_arm = |arch: Result<FatArch>| arch.is_ok_and(|arch| arch.cputype == 0x0100_000c);
-    assert_eq!(entry(file.find_with(is_arm).unwrap()), "archive of 16");
+    assert_eq!(entry(file.find(is_arm).unwrap()), "archive of 16");
     let is_err = |arch: Result<FatArch>| arch.is_err();
-    assert!(file.find_with(is_err).is_none());
+    assert!(file.find(is_err).is_none());
 }
 
 #[test]

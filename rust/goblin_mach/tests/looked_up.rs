@@ -111,6 +111,65 @@ fn symbols_by_name() {
     assert_eq!(found("_a"), Some((0, 0x1100)));
     assert_eq!(found("_data"), Some((4, 0x1118)));
     assert_eq!(found("_dat"), None);
+    // Only a debugging entry has this name.
+    assert_eq!(found("stab"), None);
+}
+
+#[test]
+fn all_symbols_of_a_name() {
+    // `N_GSYM` and `N_FUN` before the symbols of their name, and an entry whose name can't be read.
+    let symbols = [
+        symbol(1, 0x20, 0, 0),
+        symbol(8, 0x24, 1, 0x1100),
+        symbol(0xffff, 0x0f, 1, 0x1108),
+        symbol(1, 0x0f, 1, 0x1110),
+        symbol(8, 0x0e, 1, 0x1120),
+        symbol(1, 0x0e, 1, 0x1130),
+        symbol(11, 0x64, 0, 0),
+    ];
+    let bytes = image_of(&symbols, 7);
+    let image = MachO::parse(&bytes, 0).unwrap();
+    let all = |name| {
+        let found = image.symbols_named(name);
+        found
+            .map(|(index, symbol)| (index, symbol.n_type, symbol.n_value))
+            .collect::<Vec<_>>()
+    };
+    let first = |name| image.symbol_named(name).map(|found| found.0);
+    assert_eq!(
+        all("_a"),
+        [(0, 0x20, 0), (3, 0x0f, 0x1110), (5, 0x0e, 0x1130)]
+    );
+    assert_eq!(all("_b"), [(1, 0x24, 0x1100), (4, 0x0e, 0x1120)]);
+    assert_eq!(all("stab"), [(6, 0x64, 0)]);
+    assert_eq!(all("_c"), []);
+    assert_eq!(
+        ["_a", "_b", "stab", "_c"].map(first),
+        [Some(3), Some(4), None, None]
+    );
+}
+
+#[test]
+fn an_unreadable_name_hides_no_symbol() {
+    // The nearest record has no name; of those before it the last of the greatest value counts.
+    let symbols = [
+        symbol(1, 0x0f, 1, 0x1100),
+        symbol(0xffff, 0x0f, 1, 0x1108),
+        symbol(8, 0x0f, 1, 0x1104),
+        symbol(4, 0x0f, 1, 0x1104),
+        symbol(0xffff, 0x0f, 1, 0x1104),
+        symbol(0xffff, 0x0f, 1, 0x1110),
+    ];
+    let bytes = image_of(&symbols, 6);
+    let image = MachO::parse(&bytes, 0).unwrap();
+    let found = |address| {
+        image
+            .symbol_at(address)
+            .map(|found| (found.index, found.name))
+    };
+    assert_eq!(found(0x1120), Some((3, "l_b")));
+    assert_eq!(found(0x1109), Some((3, "l_b")));
+    assert_eq!(found(0x1103), Some((0, "_a")));
 }
 
 #[test]

@@ -36,7 +36,7 @@ fn images_are_read_alike() {
 
 #[test]
 fn records_are_written_and_read() {
-    let mut section = Section64::load(&[5; 80], goblin_mach::LE);
+    let mut section = Section64::read(&[5; 80], 0, goblin_mach::LE).unwrap();
     section.addr = 0x0102_0304_0506_0708;
     for le in [LE, BE] {
         let mut bytes = [0; 100];
@@ -53,6 +53,23 @@ fn records_are_written_and_read() {
         section.into_ctx(&mut again, le);
         assert_eq!(again, bytes[8..88]);
         assert!(bytes.pwrite_with(section, 21, le).is_err());
+    }
+}
+
+#[test]
+fn readers_and_writers_of_fields_end_with_the_bytes() {
+    let mut bytes = [5; 80];
+    let whole = Section64::from_ctx(&bytes, LE);
+    bytes[20..].fill(0);
+    let cut = Section64::from_ctx(&bytes[..20], LE);
+    let padded = Section64::from_ctx(&bytes, LE);
+    assert_eq!(format!("{cut:?}"), format!("{padded:?}"));
+    assert_ne!(format!("{cut:?}"), format!("{whole:?}"));
+    assert_eq!(Section64::from_ctx(&[], LE).flags, 0);
+    let before = bytes;
+    for len in 0..80 {
+        whole.into_ctx(&mut bytes[..len], LE);
+        assert_eq!(bytes, before);
     }
 }
 
@@ -74,6 +91,24 @@ fn values_are_written_in_a_context() {
         let written = bytes.pwrite_with(Section::default(), 0, ctx).unwrap();
         assert_eq!(written, Section::size_with(&ctx));
     }
+}
+
+#[test]
+fn the_byte_order_is_one_type() {
+    let le: scroll::Endian = goblin_mach::LE;
+    let ctx = Ctx::from(le);
+    let mut bytes = [1, 2, 3, 4, 5, 6, 7, 8];
+    let at = &mut 2;
+    assert_eq!(bytes.gread_with::<u32>(at, ctx.le).unwrap(), 0x0605_0403);
+    assert_eq!(*at, 6);
+    assert_eq!(bytes.pwrite_with(-2i16, 0, goblin_mach::BE).unwrap(), 2);
+    assert_eq!(
+        bytes.pread_with::<i64>(0, goblin_mach::BE).unwrap(),
+        0xfffe_0304_0506_0708u64 as i64
+    );
+    let native: u16 = bytes.pread(0).unwrap();
+    assert_eq!(native, u16::from_ne_bytes([0xff, 0xfe]));
+    assert_eq!(u64::size_with(&ctx.le), 8);
 }
 
 #[test]

@@ -92,7 +92,7 @@ fn faults(image: &[u8], plist: Option<&[u8]>) -> Vec<String> {
 fn fields_of_a_directory() {
     let bytes = bytes(SIGNED_TWICE);
     let directory = signature(&bytes).directory().unwrap();
-    let head = directory.head;
+    let head = directory.head();
     assert_eq!((head.magic, head.length), (0xfade0c02, 0x186));
     assert_eq!((head.version, head.flags), (0x20400, 2));
     assert_eq!((head.hash_offset, head.ident_offset), (0x106, 0x58));
@@ -104,7 +104,7 @@ fn fields_of_a_directory() {
     assert_eq!(directory.code_limit64, Some(0));
     assert!(directory.executable.is_some());
     assert!(directory.runtime.is_none());
-    assert_eq!(directory.bytes, &bytes[CODE_LEN + 0x14e..][..0x186]);
+    assert_eq!(directory.bytes(), &bytes[CODE_LEN + 0x14e..][..0x186]);
 }
 
 #[test]
@@ -113,11 +113,11 @@ fn pages_and_slots_of_a_directory() {
     let directory = signature(&bytes).directory().unwrap();
     assert_eq!(directory.page(0), 0..0x10);
     assert_eq!(directory.page(3), 0x30..0x40);
-    let hashes = &directory.bytes[directory.head.hash_offset as usize..];
+    let hashes = &directory.bytes()[directory.head().hash_offset as usize..];
     assert_eq!(directory.code_slot(0), Some(&hashes[..32]));
     assert_eq!(directory.code_slot(3), Some(&hashes[96..128]));
     assert_eq!(directory.code_slot(4), None);
-    let sealed = &directory.bytes[directory.head.hash_offset as usize - 5 * 32..];
+    let sealed = &directory.bytes()[directory.head().hash_offset as usize - 5 * 32..];
     assert_eq!(directory.special_slot(0), None);
     assert_eq!(directory.special_slot(1), Some(&sealed[128..160]));
     assert_eq!(directory.special_slot(5), Some(&sealed[..32]));
@@ -141,7 +141,7 @@ fn blobs_by_slots() {
     let slots: Vec<u32> = signature.blobs().map(|blob| blob.unwrap().slot).collect();
     assert_eq!(slots, [0, 0x1000, 2, 5, 0x10000]);
     assert_eq!(signature.blobs().len(), 5);
-    assert_eq!(signature.requirements().unwrap(), Some(&[0; 4][..]));
+    assert_eq!(signature.requirement_bytes().unwrap(), Some(&[0; 4][..]));
     assert_eq!(signature.entitlements().unwrap(), Some(&b"<plist/>"[..]));
     assert_eq!(signature.der_entitlements().unwrap(), None);
     assert_eq!(signature.cms().unwrap(), Some(&[][..]));
@@ -223,7 +223,7 @@ fn the_signature_of_an_image() {
     let bytes = bytes(SEALED);
     let image = MachO::parse(&bytes, 0).unwrap();
     let signature = image::code_signature(&image).unwrap().unwrap();
-    assert_eq!((signature.count, signature.bytes.len()), (1, 175));
+    assert_eq!((signature.count(), signature.bytes().len()), (1, 175));
     let directory = image::code_directory(&image).unwrap().unwrap();
     assert_eq!(directory.identifier().unwrap(), Some("id"));
     assert_eq!(directory.cdhash(), signature.directory().unwrap().cdhash());

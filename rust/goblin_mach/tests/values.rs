@@ -75,7 +75,7 @@ const U16: ([u16; 12], [u16; 12]) = rows! {
 };
 
 // The constants of type u32: magics, flags, file types, cpus, sections, commands, platforms, tools.
-const U32: ([u32; 129], [u32; 129]) = rows! {
+const U32: ([u32; 133], [u32; 133]) = rows! {
     load_command: LC_REQ_DYLD = 0x80000000, LC_SEGMENT = 0x1, LC_SYMTAB = 0x2, LC_SYMSEG = 0x3,
         LC_THREAD = 0x4, LC_UNIXTHREAD = 0x5, LC_LOADFVMLIB = 0x6, LC_IDFVMLIB = 0x7, LC_IDENT = 0x8,
         LC_FVMFILE = 0x9, LC_PREPAGE = 0xa, LC_DYSYMTAB = 0xb, LC_LOAD_DYLIB = 0xc, LC_ID_DYLIB = 0xd,
@@ -91,7 +91,8 @@ const U32: ([u32; 129], [u32; 129]) = rows! {
         LC_DYLIB_CODE_SIGN_DRS = 0x2b, LC_ENCRYPTION_INFO_64 = 0x2c, LC_LINKER_OPTION = 0x2d,
         LC_LINKER_OPTIMIZATION_HINT = 0x2e, LC_VERSION_MIN_TVOS = 0x2f, LC_VERSION_MIN_WATCHOS = 0x30,
         LC_NOTE = 0x31, LC_BUILD_VERSION = 0x32, LC_DYLD_EXPORTS_TRIE = 0x80000033,
-        LC_DYLD_CHAINED_FIXUPS = 0x80000034, LC_FILESET_ENTRY = 0x80000035, PLATFORM_MACOS = 1,
+        LC_DYLD_CHAINED_FIXUPS = 0x80000034, LC_FILESET_ENTRY = 0x80000035, LC_ATOM_INFO = 0x36,
+        LC_FUNCTION_VARIANTS = 0x37, LC_FUNCTION_VARIANT_FIXUPS = 0x38, LC_TARGET_TRIPLE = 0x39, PLATFORM_MACOS = 1,
         PLATFORM_IOS = 2, PLATFORM_TVOS = 3, PLATFORM_WATCHOS = 4, PLATFORM_BRIDGEOS = 5,
         PLATFORM_MACCATALYST = 6, PLATFORM_IOSSIMULATOR = 7, PLATFORM_TVOSSIMULATOR = 8,
         PLATFORM_WATCHOSSIMULATOR = 9, PLATFORM_DRIVERKIT = 10, PLATFORM_VISIONOS = 11,
@@ -398,7 +399,7 @@ fn entries_of_a_container() {
     assert_eq!(fault(file.get(usize::MAX - 1)), FAR);
     assert_eq!(fault(file.get(usize::MAX)), "malformed");
     let is_err = |arch: Result<FatArch>| arch.is_err();
-    assert_eq!(fault(file.find_with(is_err).unwrap()), "too big 20 of 12");
+    assert_eq!(fault(file.find(is_err).unwrap()), "too big 20 of 12");
     let mut entries = (&file).into_iter();
     assert!(entries.by_ref().take(2).all(|entry| entry.is_ok()));
     assert_eq!(fault(entries.next().unwrap()), "malformed");
@@ -662,12 +663,9 @@ fn entries_of_64_bits() {
     let one = of_one_image();
     let file = MultiArch64::new(&one).unwrap();
     let is_64 = |found: Result<FatArch64>| found.is_ok_and(|arch| arch.is_64());
-    assert!(matches!(
-        file.find_with(is_64),
-        Some(Ok(SingleArch::MachO(_)))
-    ));
+    assert!(matches!(file.find(is_64), Some(Ok(SingleArch::MachO(_)))));
     let is_err = |found: Result<FatArch64>| found.is_err();
-    assert!(file.find_with(is_err).is_none());
+    assert!(file.find(is_err).is_none());
     assert_eq!((&file).into_iter().len(), 1);
     assert_eq!(file.iter_arches().len(), 1);
     assert_eq!(fault(file.get(1)), "malformed");

@@ -84,13 +84,16 @@ fn entries_of_archives() {
             &[&POWERPC[..], &POWERPC, &POWERPC][..],
             "0x12, 0x0, 2^2, 272 bytes",
         ),
-        (&[&X86_64, &ARM64], "malformed: all members are for one cpu"),
+        (
+            &[&X86_64, &ARM64],
+            "malformed: members are for different cpus",
+        ),
         (
             &[&X86_64, &X86_64, &ARM64],
-            "malformed: all members are for one cpu",
+            "malformed: members are for different cpus",
         ),
-        (&[b"xy"], "malformed: a member is an image"),
-        (&[], "malformed: an archive has a member"),
+        (&[b"xy"], "malformed: a member is not an image"),
+        (&[], "malformed: the archive has no member"),
         (
             &[&X86_64, &X86_64[..24]],
             "28 bytes are needed and 24 are left",

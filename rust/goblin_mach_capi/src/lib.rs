@@ -1,64 +1,12 @@
 //! The functions of the C library and its memory, as a static library. It takes its memory of c/goblin_mach.c, as the proved
-//! library does. It doesn't need Rust's std.
-#![no_std]
+//! library does. With the profile `c` it doesn't need Rust's std. Other profiles unwind, for which the crate uses std: so it is compiled
+//! together with the other packages, but tools/build-c makes the library by `c`.
+#![cfg_attr(panic = "abort", no_std)]
+#![deny(unsafe_code)]
 
-use core::alloc::{GlobalAlloc, Layout};
-use core::panic::PanicInfo;
-use core::ptr;
-use goblin_mach as _;
+extern crate alloc;
 
-/// What an allocation answers: whether there is memory, and where.
-#[repr(C)]
-struct Tried {
-    some: bool,
-    at: *mut u8,
-}
-
-unsafe extern "C" {
-    fn rattle_alloc(size: usize, align: usize) -> Tried;
-    fn rattle_dealloc(block: *mut u8);
-    fn rattle_realloc(block: *mut u8, kept: usize, size: usize, align: usize) -> Tried;
-    fn abort() -> !;
-}
-
-/// The allocator of the call that runs in this thread.
-struct OfCall;
-
-/// How blocks are aligned, as malloc aligns them.
-const ALIGN: usize = 16;
-
-impl Tried {
-    fn block(self) -> *mut u8 {
-        if self.some { self.at } else { ptr::null_mut() }
-    }
-}
-
-// SAFETY: blocks are those of malloc or of the caller's functions, of which the header requires the same.
-unsafe impl GlobalAlloc for OfCall {
-    unsafe fn alloc(&self, layout: Layout) -> *mut u8 {
-        if layout.align() > ALIGN {
-            return ptr::null_mut();
-        }
-        // SAFETY: it takes any size.
-        unsafe { rattle_alloc(layout.size(), layout.align()) }.block()
-    }
-
-    unsafe fn dealloc(&self, block: *mut u8, _: Layout) {
-        // SAFETY: the block is one of `alloc`'s.
-        unsafe { rattle_dealloc(block) }
-    }
-
-    unsafe fn realloc(&self, block: *mut u8, layout: Layout, size: usize) -> *mut u8 {
-        // SAFETY: the block is one of `alloc`'s.
-        unsafe { rattle_realloc(block, layout.size(), size, layout.align()) }.block()
-    }
-}
-
-#[global_allocator]
-static MEMORY: OfCall = OfCall;
-
-#[panic_handler]
-fn panic(_: &PanicInfo<'_>) -> ! {
-    // SAFETY: it is C's.
-    unsafe { abort() }
-}
+// Made of the sources in Rattle by tools/erase.
+mod generated;
+// Written by hand.
+mod shim;

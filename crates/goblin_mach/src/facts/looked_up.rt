@@ -6,9 +6,10 @@ ghost use Rattle.mach_parts.specs.SectionRecord.{section_holding};
 ghost use Rattle.goblin_mach.specs.FileOffsets.{address_at_offset, offset_at_address};
 ghost use Rattle.goblin_mach.specs.Fixups.{base_view};
 ghost use Rattle.goblin_mach.specs.ImageSlots.{symbol_table_view};
-ghost use Rattle.goblin_mach.specs.LookedUpFacts.{HasSegmentNamed, HasSectionNamed, HasSymbolNamed, HasSymbolAt, HasFunctionAt, HasAddressOf, HasOffsetOf};
+ghost use Rattle.goblin_mach.specs.LookedUpFacts.{HasSegmentNamed, HasSectionNamed, HasSymbolNamed, HasSymbolsNamed, HasSymbolAt, HasFunctionAt};
+ghost use Rattle.goblin_mach.specs.LookedUpFacts.{HasAddressOf, HasOffsetOf};
 ghost use Rattle.goblin_mach.specs.Modes.{Agrees, HoldsAs};
-ghost use Rattle.goblin_mach.specs.NamedParts.{section_of_name, segment_of_name, symbols_within, IsSymbolNamed};
+ghost use Rattle.goblin_mach.specs.NamedParts.{section_of_name, segment_of_name, symbol_of_name, symbols_of_name, symbols_within};
 ghost use Rattle.goblin_mach.specs.NearestSymbol.{IsFunctionAt, IsSymbolAt};
 ghost use Rattle.goblin_mach.specs.OpenImage.{bytes_view, commands_view, segments_view};
 ghost use Rattle.goblin_mach.specs.Tables.{AreStartsAt, starts_place_in};
@@ -29,7 +30,14 @@ pub fn named_section_of_image<A: Allocator>(image: &MachO<'_, A>)
 
 /// The symbol that `MachO::symbol_named` returns is that of the bytes.
 pub fn named_symbol_of_image<A: Allocator>(image: &MachO<'_, A>)
-    ensures { (name : List ℕ) → Agrees image.now (λ bytes o. HasSymbolNamed bytes o name) (IsSymbolNamed (symbols_within (symbol_table_view image.now)) name) }
+    ensures { (name : List ℕ) → HoldsAs image.now (λ bytes o. HasSymbolNamed bytes o name)
+        (symbol_of_name name (symbols_within (symbol_table_view image.now))) }
+{}
+
+/// The symbols that `MachO::symbols_named` returns are those of the bytes.
+pub fn named_symbols_of_image<A: Allocator>(image: &MachO<'_, A>)
+    ensures { (name : List ℕ) → HoldsAs image.now (λ bytes o. HasSymbolsNamed bytes o name)
+        (symbols_of_name name 0 (symbols_within (symbol_table_view image.now))) }
 {}
 
 /// The symbol that `MachO::symbol_at` returns is that of the bytes.

@@ -24,13 +24,13 @@ impl<'a, A: Allocator + Clone> SingleArch<'a, A> {
         ensures { OpensEntry (fat_entry_of bytes.now) result }
     {
         let Some(front) = take_hint_bytes(bytes) else {
-            return Err(Error::Malformed("an entry has 16 bytes or more"));
+            return Err(Error::Malformed("an entry is shorter than 16 bytes"));
         };
         match peek_bytes(front)? {
             Hint::Archive => Ok(SingleArch::Archive(bytes)),
             Hint::Mach(_) => Ok(SingleArch::MachO(MachO::parse(alloc.clone()?, bytes, 0)?)),
             Hint::MachFat(_) | Hint::Unknown(_) => {
-                Err(Error::Malformed("an entry is an image or an archive"))
+                Err(Error::Malformed("an entry is neither an image nor an archive"))
             }
         }
     }

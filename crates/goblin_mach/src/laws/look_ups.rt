@@ -1,4 +1,4 @@
-//! Laws of what is looked up by addresses and offsets.
+//! Laws of what is looked up by names, addresses and offsets.
 
 ghost use Rattle.std.specs.Prelude.{◌≡◌, ◌<◌, ◌^◌, ℕ, List, Option, Result, Some, option_map};
 ghost use Rattle.mach_base.specs.Fault.{Fault};
@@ -6,8 +6,16 @@ ghost use Rattle.mach_parts.specs.Segment.{SegmentView};
 ghost use Rattle.mach_parts.specs.declared.segment.numbered.NumberedSection.{NumberedSection};
 ghost use Rattle.mach_parts.specs.declared.symbols.nlist.Nlist.{Nlist};
 ghost use Rattle.goblin_mach.specs.FileOffsets.{address_at_offset, offset_at_address, maps_address, maps_offset, AtMostOne};
+ghost use Rattle.goblin_mach.specs.NamedParts.{symbol_of_name, IsFirstNamed};
 ghost use Rattle.goblin_mach.specs.NearestSymbol.{found_symbol_view, IsSymbolAt};
 ghost use Rattle.goblin_mach.specs.declared.macho.nearest.SymbolAt.{SymbolAt};
+
+/// The symbol that `MachO::symbol_named` returns is the first with the name that can be read and is no debugging entry. There
+/// is none exactly if no symbol is such a one.
+#[tactic(auto, using(crate::proofs::NamedItems::first_named))]
+pub fn first_symbol_of_a_name()
+    ensures { (items : List (Result (List ℕ × Nlist) Fault)) (name : List ℕ) → IsFirstNamed items name (symbol_of_name name items) }
+{}
 
 /// An address has one symbol or none. So `SymbolMap::symbol_at` and `MachO::symbol_at` return the same.
 #[tactic(auto, using(crate::proofs::LookUpLaws::one_symbol))]

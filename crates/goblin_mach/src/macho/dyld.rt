@@ -37,7 +37,8 @@ impl<'a, A: Allocator> MachO<'a, A> {
     }
 
     /// Returns the address of the image's first byte in memory, before sliding: the `vmaddr` of the first segment named
-    /// `__TEXT` that the image holds, or 0 if there is none. Offsets of chained fixups are counted from it.
+    /// `__TEXT` that the image holds, or 0 if there is none. The address of an export is base plus offset, if the symbol isn't
+    /// absolute (`export_address`). Offsets of chained fixups and of function starts are counted from it.
     pub fn base(&self) -> u64
         ensures { result ≡ base_view self.now }
     {

@@ -2,12 +2,14 @@
 
 ghost use Rattle.std.specs.Prelude.{◌≡◌, ℕ, List, Option, Some, None, option_map, IfOk, IfErr};
 ghost use Rattle.mach_base.specs.Answer.{ErrorMeets, IsOkUnlessMemory};
+ghost use Rattle.mach_dyld.specs.ExportAddresses.{export_address};
 ghost use Rattle.mach_dyld.specs.Exports.{info_of};
 ghost use Rattle.mach_base.specs.Text.{texts};
 ghost use Rattle.mach_dyld.specs.LookUp.{IsFirstOf, FaultOnWay};
 ghost use Rattle.mach_dyld.specs.Trie.{Info, Entry};
 ghost use Rattle.mach_dyld.specs.TrieRange.{trie_there};
 ghost use Rattle.goblin_mach.specs.Facts.{HasExports, HasExportOf};
+ghost use Rattle.goblin_mach.specs.Fixups.{base_view};
 ghost use Rattle.goblin_mach.specs.Libraries.{libraries_in, libraries_left};
 ghost use Rattle.goblin_mach.specs.LookUp.{IsAnswerInImage, IsListedAs};
 ghost use Rattle.goblin_mach.specs.OpenImage.{trie_view, bytes_view, commands_view, ctx_view};
@@ -50,6 +52,14 @@ impl<'a, A: Allocator> MachO<'a, A> {
             Some(trie) => trie.find(alloc, self.libs.as_slice(), name),
             None => Ok(None),
         }
+    }
+
+    /// Returns the address of an export of the image, before sliding: base plus offset, and of an absolute symbol its number. A
+    /// re-export has none. It goes over the segments: for many exports call `base` once, and `ExportInfo::address` for each.
+    pub fn export_address(&self, info: &ExportInfo<'_>) -> Option<u64>
+        ensures { result ≡ export_address (base_view self.now) (info_of info.now) }
+    {
+        info.address(self.base())
     }
 }
 

@@ -5,16 +5,16 @@ ghost use Rattle.mach_base.specs.Items.{read_as};
 ghost use Rattle.mach_parts.specs.NumberedLeft.{numbered_left};
 ghost use Rattle.mach_parts.specs.SectionRecord.{numbered_sections};
 ghost use Rattle.mach_parts.specs.Segment.{segment_view};
-ghost use Rattle.mach_parts.specs.Symbols.{symbols_of, table_in_bounds};
-ghost use Rattle.mach_parts.specs.SymbolViews.{table_of};
 ghost use Rattle.goblin_mach.specs.ImageSlots.{symbol_table_view};
-ghost use Rattle.goblin_mach.specs.NamedParts.{reads_as, is_section, IsSymbolNamed, section_of_name, segment_of_name, symbols_within};
+ghost use Rattle.goblin_mach.specs.NamedLeft.{named_left};
+ghost use Rattle.goblin_mach.specs.NamedParts.{reads_as, is_section, section_of_name, segment_of_name, symbol_of_name, symbols_of_name, symbols_within};
 ghost use Rattle.goblin_mach.specs.OpenImage.{segments_view};
 
 use crate::macho::MachO;
+use crate::macho::named_symbols::NamedSymbols;
 use mach_base::{Result, read_text};
 use mach_parts::segment::{NumberedSection, NumberedSections, ReadableSections, Segment};
-use mach_parts::symbols::{Nlist, Symbols};
+use mach_parts::symbols::{Nlist, SymbolIterator};
 use std::alloc::Allocator;
 
 // Whether what was read is this name.
@@ -34,21 +34,6 @@ fn is_section(found: &NumberedSection, segment: &str, section: &str) -> bool
     let record = &found.section;
     reads_as(read_text(&record.segname, 0), segment)
         && reads_as(read_text(&record.sectname, 0), section)
-}
-
-// Returns the first symbol of a table that can be read and has this name, with its number.
-fn named(table: &Symbols<'_>, name: &str) -> Option<(usize, Nlist)>
-    ensures { IsSymbolNamed (symbols_of (table_in_bounds (table_of table.now))) name.now result }
-{
-    'symbols: for (index, item) in table.in_bounds().iter().enumerate() {
-        let Ok((found, symbol)) = item else {
-            continue;
-        };
-        if found == name {
-            return Some((index, symbol));
-        }
-    }
-    None
 }
 
 impl<'a, A: Allocator> MachO<'a, A> {
@@ -86,11 +71,27 @@ impl<'a, A: Allocator> MachO<'a, A> {
         None
     }
 
-    /// Returns the first symbol with this name, of the table that the image holds, and its number in the table, if there is one.
-    /// Symbols that can't be read are skipped.
-    pub fn symbol_named(&self, name: &str) -> Option<(usize, Nlist)>
-        ensures { IsSymbolNamed (symbols_within (symbol_table_view self.now)) name.now result }
+    /// Returns all symbols with this name, of the table that the image holds, each with its number in the table, in their
+    /// order. Debugging entries are among them. Symbols that can't be read are skipped. It allocates nothing.
+    pub fn symbols_named<'b>(&self, name: &'b str) -> NamedSymbols<'a, 'b>
+        ensures { named_left result ≡ symbols_of_name name.now 0 (symbols_within (symbol_table_view self.now)) }
     {
-        named(self.symbols.as_ref()?, name)
+        match &self.symbols {
+            Some(table) => NamedSymbols::new(table.in_bounds().iter(), name),
+            None => NamedSymbols::new(SymbolIterator::default(), name),
+        }
+    }
+
+    /// Returns the first symbol with this name that is no debugging entry, of the table that the image holds, and its number in
+    /// the table. There is none exactly if no symbol that can be read is such a one.
+    pub fn symbol_named(&self, name: &str) -> Option<(usize, Nlist)>
+        ensures { result ≡ symbol_of_name name.now (symbols_within (symbol_table_view self.now)) }
+    {
+        'symbols: for (index, symbol) in self.symbols_named(name) {
+            if !symbol.is_stab() {
+                return Some((index, symbol));
+            }
+        }
+        None
     }
 }

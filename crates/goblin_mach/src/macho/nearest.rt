@@ -1,7 +1,9 @@
 //! The symbol and the function at an address.
 
 ghost use Rattle.std.specs.Prelude.{◌≡◌, ◌-◌, ℕ, List, Result, Some, None, if◌then◌else◌, map};
+ghost use Rattle.mach_base.specs.Answer.{Reads};
 ghost use Rattle.mach_base.specs.Fault.{Fault};
+ghost use Rattle.mach_base.specs.KeptText.{kept_bytes};
 ghost use Rattle.mach_load.specs.TablesLeft.{starts_left};
 ghost use Rattle.mach_parts.specs.SectionRecord.{section_holding};
 ghost use Rattle.mach_parts.specs.Segment.{segment_view};
@@ -11,11 +13,12 @@ ghost use Rattle.goblin_mach.specs.Fixups.{base_view};
 ghost use Rattle.goblin_mach.specs.ImageSlots.{symbol_table_view};
 ghost use Rattle.goblin_mach.specs.NamedParts.{symbols_within};
 ghost use Rattle.goblin_mach.specs.NearestSymbol.{section_number, is_below, is_nearer, IsNearestIn, IsSymbolAt, IsAscending, IsAround, IsFunctionIn};
-ghost use Rattle.goblin_mach.specs.NearestSymbol.{IsFunctionAt};
+ghost use Rattle.goblin_mach.specs.NearestSymbol.{name_if, symbols_if, IsFunctionAt};
 ghost use Rattle.goblin_mach.specs.OpenImage.{bytes_view, commands_view, segments_view};
 ghost use Rattle.goblin_mach.specs.Tables.{AreStartsAt, starts_place_in};
 
 use crate::macho::MachO;
+use mach_base::{KeptText, Result};
 use mach_load::FunctionStartIterator;
 use mach_parts::segment::{NumberedSection, Segment};
 use mach_parts::symbols::{N_SECT, Nlist, Symbols};
@@ -79,13 +82,29 @@ fn is_nearer(found: &Option<SymbolAt<'_>>, distance: u64) -> bool
     }
 }
 
-// Returns the symbol of a section that is nearest to an address, of those at or below it. Of several the last counts.
-fn nearest<'a>(table: &Symbols<'a>, section: usize, address: u64) -> Option<SymbolAt<'a>>
-    ensures { IsNearestIn (symbols_of (table_in_bounds (table_of table.now))) section address result }
+// Returns the name at a place if names are read, and else an empty one.
+fn name_if<'a>(is_named: bool, names: &mut KeptText<'a>, place: usize) -> Result<&'a str>
+    ensures name { Reads (λ name. name.now) result (name_if is_named (kept_bytes names.old) place) }
+    ensures bytes { kept_bytes names.new ≡ kept_bytes names.old }
 {
+    if is_named { names.read(place) } else { Ok("") }
+}
+
+// Returns the symbol of a section that is nearest to an address, of those at or below it. Of several the last counts. Without
+// `is_named` no name is read. With it a symbol's name is read only if the symbol is as near as all before it whose names can be
+// read, and symbols whose names can't be read are skipped.
+fn nearest_of<'a>(
+    table: &Symbols<'a>,
+    is_named: bool,
+    section: usize,
+    address: u64,
+) -> Option<SymbolAt<'a>>
+    ensures { IsNearestIn (symbols_if is_named (table_of table.now)) section address result }
+{
+    let mut names = KeptText::new(table.bytes());
     let mut best: Option<SymbolAt<'a>> = None;
-    'symbols: for (index, item) in table.in_bounds().iter().enumerate() {
-        let Ok((name, symbol)) = item else {
+    'symbols: for index in 0..table.len() {
+        let Ok(symbol) = table.record(index) else {
             continue;
         };
         let Some(distance) = distance_above(&symbol, section, address) else {
@@ -94,6 +113,9 @@ fn nearest<'a>(table: &Symbols<'a>, section: usize, address: u64) -> Option<Symb
         if is_nearer(&best, distance) {
             continue;
         }
+        let Ok(name) = name_if(is_named, &mut names, table.name_place(&symbol)) else {
+            continue;
+        };
         best = Some(SymbolAt {
             index,
             name,
@@ -102,6 +124,19 @@ fn nearest<'a>(table: &Symbols<'a>, section: usize, address: u64) -> Option<Symb
         });
     }
     best
+}
+
+// Returns the symbol of a section that is nearest to an address, of those at or below it that can be read. Of several the last
+// counts. It goes over the records, and reads one name. Only if that can't be read it goes over them again with their names.
+fn nearest<'a>(table: &Symbols<'a>, section: usize, address: u64) -> Option<SymbolAt<'a>>
+    ensures { IsNearestIn (symbols_of (table_in_bounds (table_of table.now))) section address result }
+{
+    let table = table.in_bounds();
+    let found = nearest_of(&table, false, section, address)?;
+    match table.get(found.index) {
+        Ok((name, _)) => Some(SymbolAt { name, ..found }),
+        Err(_) => nearest_of(&table, true, section, address),
+    }
 }
 
 // Returns the greatest start at or below an address, if there is one, and the next start after the address, at most `limit`.

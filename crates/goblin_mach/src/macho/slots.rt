@@ -10,11 +10,13 @@ ghost use Rattle.mach_parts.specs.SlotsLeft.{slots_left};
 ghost use Rattle.goblin_mach.specs.ImageSlots.{indirect_place_by, indirect_place_in, indirect_symbols_in, image_slots, image_slot_at};
 ghost use Rattle.goblin_mach.specs.ImageSlots.{names_library, bind_ordinal_of, provider_read, symbol_provider_of};
 ghost use Rattle.goblin_mach.specs.ImageSlots.{indirect_table_at, indirect_table_view, symbol_table_view};
+ghost use Rattle.goblin_mach.specs.NearestSymbol.{section_number};
 ghost use Rattle.goblin_mach.specs.OpenImage.{ctx_view, bytes_view, commands_view, segments_view};
 ghost use Rattle.mach_load.specs.Variants.{command_of};
 
 use crate::fixups::last_readable;
 use crate::macho::MachO;
+use crate::macho::nearest::section_number;
 use crate::readings::Subject;
 use mach_base::{Ctx, Result};
 use mach_load::{CommandVariant, LoadCommand};
@@ -167,5 +169,12 @@ impl<'a, A: Allocator> MachO<'a, A> {
         ensures { Reads (λ found. found) result (section_by_number (segments_view self.now) n_sect) }
     {
         section_of(self.segments.as_slice(), n_sect)
+    }
+
+    /// Returns the number by which symbols name a section of the image (`n_sect`): counted from 1 over all segments.
+    pub fn section_number(&self, section: &NumberedSection) -> usize
+        ensures { result ≡ section_number (segments_view self.now) section.now }
+    {
+        section_number(self.segments.as_slice(), section)
     }
 }

@@ -37,6 +37,6 @@ pub(crate) fn place_of(bytes: &[u8], text: &[u8], hint: usize) -> Result<(usize,
     }
     match first_place(bytes, text) {
         Some(place) => Ok((place, text.len())),
-        None => Err(Error::Malformed("a name stands in its archive")),
+        None => Err(Error::Malformed("a name is not in its archive")),
     }
 }

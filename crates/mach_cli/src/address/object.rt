@@ -1,15 +1,13 @@
 //! What an image has at an address, as a member of its object.
 
 ghost use Rattle.std.specs.Prelude.{◌≡◌, option_map, Some};
-ghost use Rattle.std.specs.Result.{result_ok};
-ghost use Rattle.mach_base.specs.Text.{text_at};
 ghost use Rattle.mach_dyld.specs.Exports.{text_in};
-ghost use Rattle.mach_cli.specs.AddressObjects.{at_member, function_members, holder_members, number_or_null, string_or_null};
+ghost use Rattle.mach_cli.specs.AddressObjects.{at_member, function_members, holder_members, number_or_null};
 
 use crate::address::FoundAt;
-use crate::json::text::JsonString;
+use crate::json::text::{StringOrNull, name_in_field};
+use goblin_mach::Function;
 use goblin_mach::segment::NumberedSection;
-use goblin_mach::{Function, read_text};
 use std::fmt;
 use std::fmt::{Display, Formatter, Write};
 
@@ -66,8 +64,8 @@ impl Display for HolderMembers {
         let Some(holder) = &self.0 else {
             return f.write_str("\"section\":null,\"segment\":null");
         };
-        let section = StringOrNull(name_in(&holder.section.sectname));
-        let segment = StringOrNull(name_in(&holder.section.segname));
+        let section = StringOrNull(name_in_field(&holder.section.sectname));
+        let segment = StringOrNull(name_in_field(&holder.section.segname));
         write!(f, "\"section\":{section},\"segment\":{segment}")
     }
 }
@@ -84,34 +82,6 @@ impl Display for NumberOrNull {
             Some(number) => write!(f, "{number}"),
             None => f.write_str("null"),
         }
-    }
-}
-
-// A text as a string, `null` if there is none.
-#[derive(Clone, Copy)]
-struct StringOrNull<'a>(Option<&'a str>);
-
-impl Display for StringOrNull<'_> {
-    ghost output = { λ t. Some (string_or_null (text_in t.0)) };
-
-    fn fmt<W: Write>(&self, f: &mut Formatter<W>) -> fmt::Result {
-        match self.0 {
-            Some(text) => {
-                let text = JsonString(text);
-                write!(f, "{text}")
-            }
-            None => f.write_str("null"),
-        }
-    }
-}
-
-// Returns the name with which bytes begin, if it can be read.
-fn name_in(bytes: &[u8]) -> Option<&str>
-    ensures { text_in result ≡ result_ok (text_at bytes.now 0) }
-{
-    match read_text(bytes, 0) {
-        Ok(name) => Some(name),
-        Err(_) => None,
     }
 }
 

@@ -1,9 +1,13 @@
 //! Texts as JSON strings.
 
-ghost use Rattle.std.specs.Prelude.{Some};
-ghost use Rattle.mach_cli.specs.JsonText.{json_inner, json_string};
+ghost use Rattle.std.specs.Prelude.{◌≡◌, Some};
+ghost use Rattle.std.specs.Result.{result_ok};
+ghost use Rattle.mach_base.specs.Text.{text_at};
+ghost use Rattle.mach_dyld.specs.Exports.{text_in};
+ghost use Rattle.mach_cli.specs.JsonText.{if_not_empty, json_inner, json_string, name_in_field, string_or_null};
 
 use crate::escaped::{Style, write_escaped};
+use goblin_mach::read_text;
 use std::fmt;
 use std::fmt::{Display, Formatter, Write};
 
@@ -30,4 +34,47 @@ impl Display for Inner<'_> {
     fn fmt<W: Write>(&self, f: &mut Formatter<W>) -> fmt::Result {
         write_escaped(f, Style::Json, self.0)
     }
+}
+
+/// A text as a string, `null` if there is none.
+#[derive(Clone, Copy)]
+pub struct StringOrNull<'a>(pub Option<&'a str>);
+
+impl Display for StringOrNull<'_> {
+    ghost output = { λ t. Some (string_or_null (text_in t.0)) };
+
+    fn fmt<W: Write>(&self, f: &mut Formatter<W>) -> fmt::Result {
+        match self.0 {
+            Some(text) => {
+                let text = JsonString(text);
+                write!(f, "{text}")
+            }
+            None => f.write_str("null"),
+        }
+    }
+}
+
+/// Returns a text, if there is one that is not empty.
+pub fn if_not_empty<'a>(text: Option<&'a str>) -> Option<&'a str>
+    ensures { text_in result ≡ if_not_empty (text_in text.entry) }
+{
+    let text = text?;
+    if text.is_empty() { None } else { Some(text) }
+}
+
+// Returns the name with which a field begins, if it can be read.
+fn text_of(field: &[u8]) -> Option<&str>
+    ensures { text_in result ≡ result_ok (text_at field.now 0) }
+{
+    match read_text(field, 0) {
+        Ok(name) => Some(name),
+        Err(_) => None,
+    }
+}
+
+/// Returns the name in a field of sixteen bytes, if it is text and not empty.
+pub fn name_in_field(field: &[u8]) -> Option<&str>
+    ensures { text_in result ≡ name_in_field field.now }
+{
+    if_not_empty(text_of(field))
 }

@@ -1,13 +1,14 @@
 //! Which parts of a file are selected.
 
 ghost use Rattle.std.specs.Prelude.{◌≡◌};
-ghost use Rattle.mach_cli.specs.Selected.{are_missed, is_part_for};
-ghost use Rattle.mach_cli.specs.PartsOf.{parts_in};
+ghost use Rattle.std.specs.Iterator.{YieldsFirstBy};
+ghost use Rattle.goblin_mach.specs.ItemsLeft.{input_item_read};
+ghost use Rattle.mach_cli.specs.Selected.{are_missed, are_more, is_part_for, parts_within, selected_parts_left, within_left};
+ghost use Rattle.mach_cli.specs.PartsOf.{parts_left};
 
 use crate::cpu::Cpu;
-use crate::parts::parts_of;
-use goblin_mach::ItemPlace;
-use std::alloc::Global;
+use crate::parts::Parts;
+use goblin_mach::{InputItem, ItemPlace};
 
 /// Whether a part is selected by the cpu of its entry. If it has no entry, its image decides.
 pub fn is_for(cpu: Cpu, place: &ItemPlace) -> bool
@@ -19,16 +20,86 @@ pub fn is_for(cpu: Cpu, place: &ItemPlace) -> bool
     }
 }
 
-/// Whether a file has parts, and none of them is selected.
-pub fn is_missed(alloc: Global, cpu: Cpu, bytes: &[u8]) -> bool
-    ensures { result ≡ are_missed cpu (parts_in bytes.now) }
+/// Whether there are parts, and none of them is selected.
+pub fn is_missed(cpu: Cpu, parts: Parts<'_>) -> bool
+    ensures { result ≡ are_missed cpu (parts_left parts.entry) }
 {
     let mut is_any = false;
-    'parts: for part in parts_of(alloc, bytes) {
+    'parts: for part in parts {
         if is_for(cpu, &part.place) {
             return false;
         }
         is_any = true;
     }
     is_any
+}
+
+/// Whether more parts are selected than a limit allows.
+pub fn are_more(limit: usize, cpu: Cpu, parts: Parts<'_>) -> bool
+    ensures { result ≡ are_more limit cpu (parts_left parts.entry) }
+{
+    let mut room = limit;
+    'parts: for part in parts {
+        if !is_for(cpu, &part.place) {
+            continue;
+        }
+        let Some(rest) = room.checked_sub(1) else {
+            return true;
+        };
+        room = rest;
+    }
+    false
+}
+
+/// The parts that are selected by the cpu of their entry, no more of them than a limit.
+#[derive(Clone, Copy)]
+pub struct SelectedParts<'a> {
+    cpu: Cpu,
+    // How many more may be given.
+    room: usize,
+    parts: Parts<'a>,
+}
+
+impl<'a> SelectedParts<'a> {
+    /// Returns the first of these parts that are selected.
+    pub fn of(limit: usize, cpu: Cpu, parts: Parts<'a>) -> Self
+        ensures { within_left result ≡ parts_within limit cpu (parts_left parts.entry) }
+    {
+        SelectedParts {
+            cpu,
+            room: limit,
+            parts,
+        }
+    }
+
+    // Returns the next part that is selected, whatever the limit.
+    fn next_selected(&mut self) -> Option<InputItem<'a>>
+        ensures given { YieldsFirstBy input_item_read selected_parts_left self.old result self.new }
+        ensures kept { self.new.room ≡ self.old.room }
+        ensures same { self.new.cpu ≡ self.old.cpu }
+    {
+        'parts: while let Some(part) = self.parts.next() {
+            if is_for(self.cpu, &part.place) {
+                return Some(part);
+            }
+        }
+        None
+    }
+}
+
+impl<'a> Iterator for SelectedParts<'a> {
+    type Item = InputItem<'a>;
+
+    ghost use Rattle.std.specs.Iterator.{YieldsFirstBy, item_count};
+
+    ghost next_gives = { YieldsFirstBy input_item_read within_left };
+
+    ghost remaining = { item_count within_left };
+
+    fn next(&mut self) -> Option<InputItem<'a>> {
+        let room = self.room.checked_sub(1)?;
+        let part = self.next_selected()?;
+        self.room = room;
+        Some(part)
+    }
 }

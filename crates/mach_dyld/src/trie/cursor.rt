@@ -141,7 +141,7 @@ impl TrieCursor {
                 self.top = *below;
                 None
             }
-            None => Some(self.refuse(Error::Malformed("an open node is one of the stack"))),
+            None => Some(self.refuse(Error::Malformed("an open node is past the stack"))),
         }
     }
 
@@ -301,7 +301,7 @@ impl TrieCursor {
             return self.close(stack);
         }
         let Some((branch, after)) = quick_branch(source.bytes, source.from, self.top.place) else {
-            return Some(self.refuse(Error::Malformed("a branch of an open node can be read")));
+            return Some(self.refuse(Error::Malformed("a branch of an open node can't be read")));
         };
         let rest = Open {
             left: self.top.left - 1,
@@ -366,10 +366,10 @@ impl<'a> ExportTrie<'a> {
             upto: self.upto,
         };
         if cursor.phase <= ON_THE_WAY && cursor.depth > stack.len() {
-            return cursor.refuse(Error::Malformed("the open nodes are those of the stack"));
+            return cursor.refuse(Error::Malformed("there are more open nodes than the stack has"));
         }
         if cursor.phase <= ON_THE_WAY && cursor.visits_left > self.upto - self.from {
-            return cursor.refuse(Error::Malformed("a node is visited once"));
+            return cursor.refuse(Error::Malformed("there are more visits left than nodes"));
         }
         'turns: while cursor.phase <= ON_THE_WAY {
             if let Some(given) = cursor.turn(&source, name, stack) {

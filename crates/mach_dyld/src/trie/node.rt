@@ -67,7 +67,7 @@ fn sum(place: usize, n: u64) -> Result<usize>
 {
     match place.checked_add(n as usize) {
         Some(sum) => Ok(sum),
-        None => Err(Error::Malformed("a place in a trie has at most 64 bits")),
+        None => Err(Error::Malformed("a place in a trie does not fit in 64 bits")),
     }
 }
 

@@ -1,22 +1,38 @@
 //! The commands that an image may have only once.
 
-ghost use Rattle.std.specs.Prelude.{◌≡◌, ◌++◌, ◌<◌, [], OnOk, IfSome, map};
+ghost use Rattle.std.specs.Prelude.{◌≡◌, ◌++◌, ◌<◌, [], OnOk, IfSome, map, option_and_then};
 ghost use Rattle.mach_base.specs.Answer.{IsOkUnlessMemory};
-ghost use Rattle.mach_load.specs.Variants.{command_of, kind_in};
+ghost use Rattle.mach_base.specs.Record.{number_among};
+ghost use Rattle.mach_load.specs.Newer.{newer_kind};
+ghost use Rattle.mach_load.specs.Variants.{command_of, kind_in, variant_values};
 ghost use Rattle.mach_layout.specs.Commands as defined;
 
 use crate::commands::{command_owner, number_of};
 use crate::fault::{LayoutFault, Owner, Rule};
 use mach_base::Result;
 use mach_load::{CommandVariant, LoadCommand};
+use mach_records::{LC_ATOM_INFO, LC_FUNCTION_VARIANT_FIXUPS, LC_FUNCTION_VARIANTS};
 use std::alloc::Allocator;
 
 // The number of sets.
-const SETS: usize = 22;
+const SETS: usize = 25;
+
+// Returns the number of the set of a command that goblin's table lacks, by the command's number.
+fn newer_set(cmd: u32) -> Option<usize>
+    ensures value { result ≡ option_and_then defined.newer_set (newer_kind cmd) }
+    ensures few { IfSome result (λ set. set < SETS) }
+{
+    match cmd {
+        LC_ATOM_INFO => Some(22),
+        LC_FUNCTION_VARIANTS => Some(23),
+        LC_FUNCTION_VARIANT_FIXUPS => Some(24),
+        _ => None,
+    }
+}
 
 // Returns the number of a command's set, if it belongs to one.
 fn set_of(command: &CommandVariant) -> Option<usize>
-    ensures value { result ≡ defined.set_of (kind_in command.now) }
+    ensures value { result ≡ defined.set_of (kind_in command.now) (number_among (variant_values command.now) 0) }
     ensures few { IfSome result (λ set. set < SETS) }
 {
     match command {
@@ -69,8 +85,8 @@ fn set_of(command: &CommandVariant) -> Option<usize>
         | CommandVariant::Rpath(_)
         | CommandVariant::ReexportDylib(_)
         | CommandVariant::LoadUpwardDylib(_)
-        | CommandVariant::FilesetEntry(_)
-        | CommandVariant::Unimplemented(_) => None,
+        | CommandVariant::FilesetEntry(_) => None,
+        CommandVariant::Unimplemented(c) => newer_set(c.cmd),
     }
 }
 

@@ -1,7 +1,9 @@
 //! The number of bytes in the struct of a command.
 
 ghost use Rattle.std.specs.Prelude.{◌≡◌};
-ghost use Rattle.mach_load.specs.Variants.{kind_in};
+ghost use Rattle.mach_base.specs.Record.{number_among};
+ghost use Rattle.mach_load.specs.Newer.{newer_kind};
+ghost use Rattle.mach_load.specs.Variants.{kind_in, variant_values};
 ghost use Rattle.mach_layout.specs.Commands as defined;
 
 use mach_base::Record;
@@ -9,11 +11,12 @@ use mach_load::CommandVariant;
 use mach_records::{
     BuildVersionCommand, DyldInfoCommand, DylibCommand, DylinkerCommand, DysymtabCommand,
     EncryptionInfoCommand32, EncryptionInfoCommand64, EntryPointCommand, FilesetEntryCommand,
-    FvmfileCommand, FvmlibCommand, LinkeditDataCommand, LinkerOptionCommand, LoadCommandHeader,
-    NoteCommand, PrebindCksumCommand, PreboundDylibCommand, RoutinesCommand32, RoutinesCommand64,
-    RpathCommand, SegmentCommand32, SegmentCommand64, SourceVersionCommand, SubClientCommand,
+    FvmfileCommand, FvmlibCommand, LC_ATOM_INFO, LC_FUNCTION_VARIANT_FIXUPS, LC_FUNCTION_VARIANTS,
+    LC_TARGET_TRIPLE, LinkeditDataCommand, LinkerOptionCommand, LoadCommandHeader, NoteCommand,
+    PrebindCksumCommand, PreboundDylibCommand, RoutinesCommand32, RoutinesCommand64, RpathCommand,
+    SegmentCommand32, SegmentCommand64, SourceVersionCommand, SubClientCommand,
     SubFrameworkCommand, SubLibraryCommand, SubUmbrellaCommand, SymsegCommand, SymtabCommand,
-    TwolevelHintsCommand, UuidCommand, VersionMinCommand,
+    TargetTripleCommand, TwolevelHintsCommand, UuidCommand, VersionMinCommand,
 };
 
 /// The number of bytes in the struct of a command.
@@ -25,9 +28,22 @@ pub enum StructSize {
     AtLeast(usize),
 }
 
+// Returns the same as `struct_size` for a number that goblin's table lacks.
+fn newer_size(cmd: u32) -> StructSize
+    ensures { result ≡ defined.newer_size (newer_kind cmd) }
+{
+    match cmd {
+        LC_ATOM_INFO | LC_FUNCTION_VARIANTS | LC_FUNCTION_VARIANT_FIXUPS => {
+            StructSize::Exactly(LinkeditDataCommand::SIZE)
+        }
+        LC_TARGET_TRIPLE => StructSize::AtLeast(TargetTripleCommand::SIZE),
+        _ => StructSize::AtLeast(LoadCommandHeader::SIZE),
+    }
+}
+
 /// Returns the number of bytes in the struct of a command, and whether other items may follow it.
 pub fn struct_size(command: &CommandVariant) -> StructSize
-    ensures { result ≡ defined.struct_size (kind_in command.now) }
+    ensures { result ≡ defined.struct_size (kind_in command.now) (number_among (variant_values command.now) 0) }
 {
     match command {
         CommandVariant::Segment32(_) => StructSize::AtLeast(SegmentCommand32::SIZE),
@@ -85,7 +101,7 @@ pub fn struct_size(command: &CommandVariant) -> StructSize
         CommandVariant::Thread(_)
         | CommandVariant::Unixthread(_)
         | CommandVariant::Ident(_)
-        | CommandVariant::Prepage(_)
-        | CommandVariant::Unimplemented(_) => StructSize::AtLeast(LoadCommandHeader::SIZE),
+        | CommandVariant::Prepage(_) => StructSize::AtLeast(LoadCommandHeader::SIZE),
+        CommandVariant::Unimplemented(c) => newer_size(c.cmd),
     }
 }

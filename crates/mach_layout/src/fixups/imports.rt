@@ -13,7 +13,7 @@ use crate::layout::Layout;
 use crate::rules::{Judges, Numbers, RuleOutcome, measured, owner_at, report_over, sound};
 use crate::symbols::{library_count, texts_end};
 use mach_base::{Endian, Result, bytes_at, read_u32};
-use mach_chained::ChainedFixupsHeader;
+use mach_records::ChainedFixupsHeader;
 use std::alloc::Allocator;
 
 /// The library and the place of the name in an import's record.

@@ -3,7 +3,7 @@
 ghost use Rattle.std.specs.Prelude.{◌≡◌, ◌++◌, ◌+◌, ◌==◌, ◌<◌, ◌^◌, OnOk};
 ghost use Rattle.mach_base.specs.Answer.{IsOkUnlessMemory};
 ghost use Rattle.mach_base.specs.Record.{record_at};
-ghost use Rattle.mach_chained.specs.StartsRecord.{starts_fields};
+ghost use Rattle.mach_records.specs.FixupChains.{starts_fields};
 ghost use Rattle.mach_layout.specs.Laid.{laid_of};
 ghost use Rattle.mach_layout.specs.Fixups as defined;
 ghost use Rattle.mach_layout.specs.FixupViews.{data_view};
@@ -14,7 +14,7 @@ use crate::layout::Layout;
 use crate::placed_sections::PlacedSegment;
 use crate::rules::{RuleOutcome, measured, reported, sound};
 use mach_base::{Record, Result, read_u32};
-use mach_chained::ChainedStartsInSegment;
+use mach_records::ChainedStartsInSegment;
 use std::alloc::Allocator;
 
 // Checks the pages and the pointers of some starts.

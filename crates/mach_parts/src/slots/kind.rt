@@ -85,7 +85,7 @@ impl SlotRun {
     {
         let len = kind.len(ctx, &n.section);
         if len == 0 {
-            return Err(Error::Malformed("a stub has a size"));
+            return Err(Error::Malformed("the size of a stub is 0"));
         }
         Ok(SlotRun {
             segment: n.segment,

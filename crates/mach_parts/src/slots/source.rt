@@ -53,10 +53,10 @@ impl<'a> HeldSource<'a> {
         ensures { Reads (λ e. e) result (slot_entry (held_tables_of self.now) run.now j) }
     {
         let Some(address) = run.address_of(j) else {
-            return Err(Error::Malformed("a slot's address has 64 bits"));
+            return Err(Error::Malformed("a slot's address does not fit in 64 bits"));
         };
         let Some(index) = run.entry_of(j, self.indirect.len()) else {
-            return Err(Error::Malformed("a slot's entry is in the table of indirect symbols"));
+            return Err(Error::Malformed("a slot's entry is past the table of indirect symbols"));
         };
         let says = self.indirect.get(index)?;
         Ok(SlotEntry {
@@ -76,7 +76,7 @@ impl<'a> HeldSource<'a> {
                 Ok((name, _)) => Ok(SlotSymbol::Named { index, name }),
                 Err(e) => Err(e),
             },
-            _ => Err(Error::Malformed("an indirect symbol is one of the table")),
+            _ => Err(Error::Malformed("an indirect symbol is past the table of symbols")),
         }
     }
 

@@ -5,8 +5,8 @@ ghost use Rattle.machaudit.specs.JsonFaults as defined;
 
 use crate::report::Finding;
 use crate::signature_text::message_of;
-use goblin_mach::{Error, describe};
-use mach_cli::comma_before;
+use goblin_mach::describe;
+use mach_cli::{Refusal, comma_before};
 use mach_layout::{Evidence, LayoutFault};
 use mach_signature::{SignatureFault, SlotName};
 use std::fmt::{Display, Formatter};
@@ -19,16 +19,12 @@ pub trait FaultObject {
     fn write_object<O: Write>(&self, part: &str, out: &mut O) -> io::Result<()>;
 }
 
-/// The error for which a part can't be read at all.
-#[derive(Clone, Copy)]
-pub struct Refusal<'a>(pub &'a Error);
-
 impl FaultObject for Refusal<'_> {
+    // Writes why a part can't be read at all.
     fn write_object<O: Write>(&self, part: &str, out: &mut O) -> io::Result<()> {
-        let words = describe(self.0);
         write!(
             out,
-            "{{\"kind\":\"unreadable\",\"owner\":\"{part}\",\"place\":\"\",\"words\":\"{words}\"}}"
+            "{{\"kind\":\"unreadable\",\"owner\":\"{part}\",\"place\":\"\",\"words\":\"{self}\"}}"
         )
     }
 }

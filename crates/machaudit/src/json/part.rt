@@ -1,8 +1,10 @@
 //! The parts of an image or of a fat file's table as JSON has them.
 
-use crate::json::fault::{FaultObject, Refusal, write_next};
+use crate::json::fault::{FaultObject, write_next};
 use crate::layout_text::Counts;
 use crate::report::{Finding, PartReport, Parts, Records, SignaturePart, SignatureReport};
+use goblin_mach::describe;
+use mach_cli::Refusal;
 use mach_layout::LayoutFault;
 use mach_signature::SignatureFault;
 use std::alloc::Allocator;
@@ -149,7 +151,8 @@ fn write_signature<A: Allocator, O: Write>(
         SignatureReport::Unsigned => Ok(()),
         SignatureReport::Unreadable(error) => {
             write!(out, ",")?;
-            write_part("signature", &[Refusal(error)], Unreported::NOTHING, out)
+            let refusal = Refusal::Fault(describe(error));
+            write_part("signature", &[refusal], Unreported::NOTHING, out)
         }
         SignatureReport::Signed(part) => write_signed(part, out),
     }

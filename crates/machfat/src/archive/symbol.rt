@@ -40,7 +40,7 @@ fn name_of<'a>(name: &'a [u8]) -> Result<&'a str>
         Ok(text) => Ok(text),
         Err(_) => Err(Error::Scroll(ScrollError::BadInput {
             size: name.len(),
-            msg: "a symbol's name is UTF-8",
+            msg: "a symbol's name is not UTF-8",
         })),
     }
 }

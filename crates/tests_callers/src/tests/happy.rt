@@ -119,7 +119,7 @@ const SIGNATURE: [u8; 12] = [0xfa, 0xde, 0x0c, 0xc0, 0, 0, 0, 12, 0, 0, 0, 0];
 #[test]
 fn signatures(rt: HostRuntime) -> Result<(), Fail> {
     let signature = CodeSignature::parse(&SIGNATURE)?;
-    assert!(rt; signature.requirements()?.is_none());
+    assert!(rt; signature.requirement_bytes()?.is_none());
     assert!(rt; signature.der_entitlements()?.is_none());
     assert!(rt; signature.cms()?.is_none());
     Ok(())

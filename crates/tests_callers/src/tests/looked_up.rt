@@ -4,7 +4,11 @@
 ghost use Rattle.std.specs.Prelude.{◌≡◌, ℕ, List, Some, IfSome, option_map};
 ghost use Rattle.mach_parts.specs.Segment.{segment_view};
 ghost use Rattle.goblin_mach.specs.FileOffsets.{maps_address, maps_offset, AtMostOne};
-ghost use Rattle.goblin_mach.specs.LookedUpFacts.{HasSegmentNamed, HasSectionNamed, HasSymbolNamed, HasFunctionAt, HasAddressOf, HasOffsetOf};
+ghost use Rattle.goblin_mach.specs.LookedUpFacts.{HasSegmentNamed, HasSectionNamed, HasSymbolNamed, HasSymbolsNamed, HasFunctionAt};
+ghost use Rattle.goblin_mach.specs.LookedUpFacts.{HasAddressOf, HasOffsetOf};
+ghost use Rattle.goblin_mach.specs.ImageSlots.{symbol_table_view};
+ghost use Rattle.goblin_mach.specs.NamedLeft.{named_left};
+ghost use Rattle.goblin_mach.specs.NamedParts.{symbols_within, IsFirstNamed};
 ghost use Rattle.goblin_mach.specs.NearestSymbol.{found_symbol_view};
 ghost use Rattle.goblin_mach.specs.OpenImage.{IsImage, segments_view};
 ghost use Rattle.goblin_mach.specs.Said.{build_version_said};
@@ -15,7 +19,7 @@ use crate::tests::same::same;
 use goblin_mach::said::BuildVersionIterator;
 use goblin_mach::segment::{NumberedSection, Segment};
 use goblin_mach::symbols::Nlist;
-use goblin_mach::{Encryption, Function, MachO, Result, SymbolAt, SymbolMap, laws};
+use goblin_mach::{Encryption, Function, MachO, NamedSymbols, Result, SymbolAt, SymbolMap, laws};
 use mach_samples::files::FILE_B;
 use std::test::Fail;
 
@@ -76,6 +80,21 @@ fn symbol_named(image: &MachO<'_>, name: &str) -> Option<(usize, Nlist)>
     image.symbol_named(name)
 }
 
+fn symbols_named<'a, 'b>(image: &MachO<'a>, name: &'b str) -> NamedSymbols<'a, 'b>
+    ensures { (bytes : List ℕ) (o : ℕ) → IsImage bytes o image.now → HasSymbolsNamed bytes o name.now (named_left result) }
+{
+    laws::named_symbols_of_image(image);
+    image.symbols_named(name)
+}
+
+// Returns the first symbol with a name that is no debugging entry, or None exactly if there is none.
+fn first_named(image: &MachO<'_>, name: &str) -> Option<(usize, Nlist)>
+    ensures { IsFirstNamed (symbols_within (symbol_table_view image.now)) name.now result }
+{
+    laws::first_symbol_of_a_name();
+    image.symbol_named(name)
+}
+
 fn function_at(image: &MachO<'_>, address: u64) -> Option<Function>
     ensures { (bytes : List ℕ) (o : ℕ) → IsImage bytes o image.now → HasFunctionAt bytes o address result }
 {
@@ -133,6 +152,8 @@ fn looked_up(rt: HostRuntime) -> std::result::Result<(), Fail> {
     assert!(rt; segment_named(&image, "__text").is_none());
     assert!(rt; section_named(&image, "__TEXT", "__text").is_some());
     assert!(rt; matches!(symbol_named(&image, "_main"), Some((0, _))));
+    assert!(rt; matches!(first_named(&image, "_main"), Some((0, _))));
+    assert!(rt; matches!(symbols_named(&image, "_main").next(), Some((0, _))));
     same(&rt, address_of(&image, 0x138), Some(0x100000138));
     same(&rt, offset_of(&image, 0x100000138), Some(0x138));
     assert!(rt;

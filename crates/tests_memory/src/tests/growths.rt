@@ -1,10 +1,10 @@
 //! Each growth refused in turn: a refused run returns the error of a refused allocation and nothing else, and the same call made
 //! again returns its answer. Each call has as many refused runs as growths, so one that swallows a refusal has too few.
 
-use crate::tests::calls::{CALLS, Call, REFUSED, Subjects, page};
+use crate::tests::calls::{CALLS, Call, REFUSED, Subjects};
 use crate::tests::refusing::Refusing;
 use crate::tests::same::same;
-use goblin_mach::segment::Segments;
+use goblin_mach::segment::{Segment, Segments};
 use goblin_mach::{Ctx, Error, MultiArch, SingleArch};
 use mach_samples::files::file_c;
 use std::alloc::Allocator;
@@ -64,6 +64,13 @@ fn each_growth_of_an_entry_refused(rt: HostRuntime) -> Result<(), Fail> {
     Ok(())
 }
 
+// Returns a segment at an address.
+fn at(vmaddr: u64) -> Segment<'static> {
+    let mut segment = Segment::new(Ctx::default(), &[]);
+    segment.vmaddr = vmaddr;
+    segment
+}
+
 // The growths of a list to which twelve segments are pushed.
 const GROWTHS_OF_TWELVE: u64 = 3;
 
@@ -79,12 +86,12 @@ fn pushed<A: Allocator>(
     list: &mut Segments<'static, A>,
     vmaddr: u64,
 ) -> Result<u64, Fail> {
-    let Err(error) = list.push(page(vmaddr)) else {
+    let Err(error) = list.push(at(vmaddr)) else {
         return Ok(0);
     };
     assert!(rt; matches!(error, Error::Memory(_)));
     assert!(rt; has_first(list, vmaddr as usize));
-    list.push(page(vmaddr))?;
+    list.push(at(vmaddr))?;
     Ok(1)
 }
 

@@ -11,8 +11,8 @@ use std::cell::Cell;
 pub struct Refusing<A> {
     inner: A,
     selected: Cell<u64>,
-    first: Cell<u64>,
-    last: Cell<u64>,
+    first: u64,
+    last: u64,
 }
 
 impl<A> Refusing<A> {
@@ -21,8 +21,8 @@ impl<A> Refusing<A> {
         Refusing {
             inner,
             selected: Cell::new(0),
-            first: Cell::new(first),
-            last: Cell::new(last),
+            first,
+            last,
         }
     }
 
@@ -36,25 +36,9 @@ impl<A> Refusing<A> {
         Refusing::between(inner, number, u64::MAX)
     }
 
-    /// Returns the allocator that refuses nothing.
-    pub fn none(inner: A) -> Refusing<A> {
-        Refusing::between(inner, u64::MAX, u64::MAX)
-    }
-
-    /// Returns how many growths were requested.
-    pub fn selected(&self) -> u64 {
-        self.selected.get()
-    }
-
     /// Whether it has refused one.
     pub fn refused(&self) -> bool {
-        self.selected.get() >= self.first.get()
-    }
-
-    /// Refuses everything from now on.
-    pub fn refuse_all(&self) {
-        self.first.set(0);
-        self.last.set(u64::MAX);
+        self.selected.get() >= self.first
     }
 
     // Returns the allocator that grants the next growth, unless that growth is refused.
@@ -63,7 +47,7 @@ impl<A> Refusing<A> {
     {
         let number = self.selected.get().saturating_add(1);
         self.selected.set(number);
-        if self.first.get() <= number && number <= self.last.get() {
+        if self.first <= number && number <= self.last {
             None
         } else {
             Some(&self.inner)

@@ -13,6 +13,7 @@
 //! ```
 use crate::generated::mach_base::{self as proved, RecordBytes, array_at, bytes_at};
 use crate::mach::{Error, Record, Result, ScrollError};
+use crate::shim::Inner;
 use core::result::Result as Or;
 
 pub use crate::mach::{
@@ -93,7 +94,7 @@ macro_rules! numbers {
         impl Record for $kind {
             const SIZE: usize = size_of::<$kind>();
 
-            fn load(bytes: &[u8], le: Endian) -> $kind {
+            fn load(bytes: &[u8], le: Endian, _: Inner) -> $kind {
                 let bytes = array_at(bytes, 0);
                 if le.is_little() { $kind::from_le_bytes(bytes) } else { $kind::from_be_bytes(bytes) }
             }
@@ -135,8 +136,8 @@ impl<'a> TryFromCtx<'a, StrCtx> for &'a str {
             StrCtx::DelimiterUntil(stop, most) => (before(stop, bytes_at(bytes, 0, most)?), 1),
             StrCtx::Length(len) => (len, 0),
         };
-        let (size, msg) = (bytes.len(), "a text is UTF-8");
-        match str::from_utf8(bytes_at(bytes, 0, len)?) {
+        let (size, msg) = (bytes.len(), "a text is not UTF-8");
+        match core::str::from_utf8(bytes_at(bytes, 0, len)?) {
             Ok(text) => Ok((text, len + after)),
             Err(_) => Err(ScrollError::BadInput { size, msg }.into()),
         }

@@ -1,6 +1,7 @@
 //! `Debug` in goblin's form, which names numbers and lists what an image's methods return.
 //!
-//! `Debug` of a value prints its fields, and of bytes only their number. `Debug` of [`Goblin`] prints what goblin prints.
+//! `Debug` of a record prints numbers in hexadecimal and names as texts, and of bytes only their number. `Debug` of [`Goblin`] prints what
+//! goblin prints.
 //!
 //! ```
 //! use goblin_mach::debug::Goblin;
@@ -10,12 +11,14 @@
 //! let shown = format!("{:?}", Goblin(&header));
 //! assert!(shown.starts_with("Header { magic: 0xfeedfacf, cputype: 7, cpusubtype: 0x0, filetype: \"EXECUTE\","));
 //! ```
+use crate::mach::exports::Export;
 use crate::mach::fat::{FatArch, FatHeader};
 use crate::mach::header::{Header, filetype_to_str};
 use crate::mach::imports::Import;
+use crate::mach::load_command::{CommandVariant, LoadCommand};
 use crate::mach::relocation::RelocationInfo;
 use crate::mach::segment::{Section, Segment};
-use crate::mach::symbols::{Nlist32, Nlist64};
+use crate::mach::symbols::{Nlist, Nlist32, Nlist64};
 use crate::mach::{Container, Ctx, Endian, Mach, MachO, MultiArch, Result};
 use alloc::vec::Vec;
 use core::fmt::{self, Debug, Formatter};
@@ -47,6 +50,30 @@ impl<T: Debug> Debug for Either<T> {
         }
     }
 }
+
+// Values that are printed as derived `Debug` prints them: the flag `-` makes records print no hexadecimal numbers.
+struct Derived<'b, T>(&'b T);
+
+impl<T: Debug> Debug for Derived<'_, T> {
+    fn fmt(&self, f: &mut Formatter<'_>) -> fmt::Result {
+        match f.alternate() {
+            true => write!(f, "{:-#?}", self.0),
+            false => write!(f, "{:-?}", self.0),
+        }
+    }
+}
+
+macro_rules! derived {
+    ($($kind:ty)*) => {$(
+        impl Debug for Goblin<'_, $kind> {
+            fn fmt(&self, f: &mut Formatter<'_>) -> fmt::Result {
+                Derived(self.0).fmt(f)
+            }
+        }
+    )*};
+}
+
+derived!(LoadCommand CommandVariant Export<'_> Nlist);
 
 // The segments of an image, which goblin prints with the image's context.
 struct Listed<'b, 'a>(&'b MachO<'a>);
@@ -81,7 +108,7 @@ shown! {
     Segment<'_>, "Segment", at {
         "cmd" at.cmd, "cmdsize" at.cmdsize, "segname" Either(at.name()), "vmaddr" at.vmaddr, "vmsize" at.vmsize,
         "fileoff" at.fileoff, "filesize" at.filesize, "maxprot" at.maxprot, "initprot" at.initprot,
-        "nsects" at.nsects, "flags" at.flags, "data" at.bytes.len(),
+        "nsects" at.nsects, "flags" at.flags, "data" at.data.len(),
         "sections()" sections(at).as_ref().map(|all| Each(all)),
     }
     RelocationInfo, "RelocationInfo", at {
@@ -110,10 +137,10 @@ shown! {
         "ctx" Ctx::new(if at.0.is_64 { Container::Big } else { Container::Little }, Endian::from(at.0.little_endian)),
     }
     MachO<'_>, "MachO", at {
-        "header" Goblin(&at.header), "load_commands" at.load_commands, "segments" Goblin(&Listed(at)),
+        "header" Goblin(&at.header), "load_commands" Derived(&at.load_commands), "segments" Goblin(&Listed(at)),
         "entry" at.entry, "old_style_entry" at.old_style_entry, "libs" at.libs, "name" at.name,
-        "little_endian" at.little_endian, "is_64" at.is_64, "symbols()" at.symbols().collect::<Vec<_>>(),
-        "exports()" at.exports(), "imports()" at.imports().as_ref().map(|all| Each(all)),
+        "little_endian" at.little_endian, "is_64" at.is_64, "symbols()" Derived(&at.symbols().collect::<Vec<_>>()),
+        "exports()" Derived(&at.exports()), "imports()" at.imports().as_ref().map(|all| Each(all)),
     }
     Import<'_>, "Import", at {
         "name" at.name, "dylib" at.dylib, "is_lazy" at.is_lazy, "offset" at.offset, "size" at.size,

@@ -2,23 +2,36 @@
 //! over a proved call.
 use crate::generated::mach as proved;
 use crate::mach::exports::{ExportInfo, ExportWalk};
+use crate::mach::load_command::{Platform, VersionMinCommand};
 use crate::mach::segment::{Segment, Segments};
 use crate::mach::{
     ArchRecord, Container, Ctx, Endian, Error, FatTable, Mach, MachO, MultiArch, Result,
     ScrollError, SingleArch,
 };
 use alloc::string::{String, ToString};
+use core::iter::FusedIterator;
 use core::{fmt, ops};
 
+#[cfg(feature = "signature")]
+pub mod audit;
 pub mod bytes;
 mod constants;
 pub mod debug;
+mod image;
+#[cfg(feature = "archive")]
+mod input;
+#[cfg(feature = "resolve")]
+pub mod resolve;
 #[cfg(feature = "scroll")]
 mod scroll;
+#[cfg(feature = "signature")]
+mod signature;
 
 /// Reads Mach-O files: what goblin calls by this path, and more.
 pub mod mach {
     pub use super::constants::constants;
+    #[cfg(feature = "archive")]
+    pub use super::input::InputMachOs;
     pub use super::proved::*;
     pub use super::{Exports, MachOIterator};
     pub use constants::cputype;
@@ -43,6 +56,13 @@ impl fmt::Display for Error {
     }
 }
 
+/// Prints what `Display` prints, since `fn main() -> Result` shows an error by `Debug`.
+impl fmt::Debug for Error {
+    fn fmt(&self, f: &mut fmt::Formatter<'_>) -> fmt::Result {
+        fmt::Display::fmt(self, f)
+    }
+}
+
 impl core::error::Error for Error {
     fn source(&self) -> Option<&(dyn core::error::Error + 'static)> {
         match self {
@@ -61,6 +81,13 @@ impl fmt::Display for ScrollError {
             }
             ScrollError::BadInput { size, msg } => write!(f, "{msg}, {size} bytes left"),
         }
+    }
+}
+
+/// Prints what `Display` prints.
+impl fmt::Debug for ScrollError {
+    fn fmt(&self, f: &mut fmt::Formatter<'_>) -> fmt::Result {
+        fmt::Display::fmt(self, f)
     }
 }
 
@@ -115,12 +142,21 @@ impl<'a> ops::Deref for Segments<'a> {
 }
 
 impl<'a> Segment<'a> {
-    /// Its bytes in the file: the field that goblin calls `data`.
+    /// Its bytes in the file: those of the field `data`.
     pub fn data(&self) -> &'a [u8] {
-        self.bytes
+        self.data
     }
 }
 
+impl VersionMinCommand {
+    /// Returns the platform that the command names. If `cmd` names none, it is macOS, since goblin's type has no other answer:
+    /// `Platform::try_from(cmd)` is an error then. The command of an image always names one.
+    pub fn platform(&self) -> Platform {
+        Platform::try_from(self.cmd).unwrap_or(Platform::Macos)
+    }
+}
+
+#[cfg(not(feature = "scroll"))]
 impl Default for Endian {
     /// The byte order of this processor.
     fn default() -> Endian {
@@ -154,6 +190,7 @@ impl From<Endian> for Ctx {
 }
 
 /// Exports one at a time, each with a name of its own: what a `for` loop over [`ExportWalk`] returns.
+#[derive(Clone, Debug)]
 pub struct Exports<'a, 'b>(ExportWalk<'a, 'b>);
 
 impl<'a> Iterator for Exports<'a, '_> {
@@ -163,6 +200,8 @@ impl<'a> Iterator for Exports<'a, '_> {
         Some(self.0.next()?.map(|(name, info)| (name.to_string(), info)))
     }
 }
+
+impl FusedIterator for Exports<'_, '_> {}
 
 impl<'a, 'b> IntoIterator for ExportWalk<'a, 'b> {
     type Item = Result<(String, ExportInfo<'a>)>;
@@ -174,8 +213,7 @@ impl<'a, 'b> IntoIterator for ExportWalk<'a, 'b> {
 }
 
 impl<'a, R: ArchRecord> FatTable<'a, R> {
-    /// Opens the first entry for whose record, or the error of reading it, `f` returns true: [`FatTable::find_with`] of errors
-    /// of this crate.
+    /// Opens the first entry for whose record, or the error of reading it, `f` returns true. Returns None if there is none.
     pub fn find<F: Fn(Result<R>) -> bool>(&self, f: F) -> Option<Result<SingleArch<'a>>> {
         self.find_with(f)
     }
@@ -183,7 +221,7 @@ impl<'a, R: ArchRecord> FatTable<'a, R> {
 
 /// The images of a fat file: what a `for` loop over goblin 0.2's `MultiArch` returns. An entry that is an archive is an error.
 /// Made by [`MultiArch::machos`].
-#[derive(Clone)]
+#[derive(Clone, Debug)]
 pub struct MachOIterator<'a, 'b>(proved::SingleArchIterator<'a, 'b>);
 
 impl<'a> MultiArch<'a> {
@@ -209,6 +247,8 @@ impl<'a> Iterator for MachOIterator<'a, '_> {
 }
 
 impl ExactSizeIterator for MachOIterator<'_, '_> {}
+
+impl FusedIterator for MachOIterator<'_, '_> {}
 
 /// A file of a kind that this crate reads, by goblin's path.
 #[derive(Debug)]

@@ -1,29 +1,13 @@
-//! The traits of the crate scroll, for the records and the values that goblin has them for.
+//! The traits of the crate scroll, for the records and the values that goblin has them for. With this module [`Endian`] is scroll's type,
+//! as in goblin.
 use crate::mach::header::Header;
 use crate::mach::load_command::*;
 use crate::mach::relocation::RelocationInfo;
 use crate::mach::segment::{Section, Segment};
 use crate::mach::symbols::{Nlist, Nlist32, Nlist64, Symbols, SymbolsCtx};
 use crate::mach::{Container, Ctx, Endian, Error, Record, ScrollError, fat, header};
+use crate::shim::Inner;
 use scroll::ctx::{FromCtx, IntoCtx, SizeWith, TryFromCtx, TryIntoCtx};
-
-impl From<scroll::Endian> for Endian {
-    fn from(le: scroll::Endian) -> Endian {
-        Endian::from(le.is_little())
-    }
-}
-
-impl From<Endian> for scroll::Endian {
-    fn from(le: Endian) -> scroll::Endian {
-        scroll::Endian::from(le.is_little())
-    }
-}
-
-impl From<scroll::Endian> for Ctx {
-    fn from(le: scroll::Endian) -> Ctx {
-        Ctx::from(Endian::from(le))
-    }
-}
 
 impl From<scroll::Error> for Error {
     #[allow(unreachable_patterns)] // scroll has more errors if it has std.
@@ -60,46 +44,48 @@ impl From<Error> for scroll::Error {
 // Records: fields one after another.
 macro_rules! records {
     ($($kind:path)*) => {$(
-        impl<'a> TryFromCtx<'a, scroll::Endian> for $kind {
+        impl<'a> TryFromCtx<'a, Endian> for $kind {
             type Error = scroll::Error;
 
-            fn try_from_ctx(bytes: &'a [u8], le: scroll::Endian) -> Result<(Self, usize), scroll::Error> {
-                Ok((<$kind as Record>::read(bytes, 0, le.into())?, <$kind as Record>::SIZE))
+            fn try_from_ctx(bytes: &'a [u8], le: Endian) -> Result<(Self, usize), scroll::Error> {
+                Ok((<$kind as Record>::read(bytes, 0, le)?, <$kind as Record>::SIZE))
             }
         }
 
-        impl TryIntoCtx<scroll::Endian> for $kind {
+        impl TryIntoCtx<Endian> for $kind {
             type Error = scroll::Error;
 
-            fn try_into_ctx(self, bytes: &mut [u8], le: scroll::Endian) -> Result<usize, scroll::Error> {
-                Ok(self.write(bytes, 0, le.into())?)
+            fn try_into_ctx(self, bytes: &mut [u8], le: Endian) -> Result<usize, scroll::Error> {
+                Ok(self.write(bytes, 0, le)?)
             }
         }
 
-        impl TryIntoCtx<scroll::Endian> for &$kind {
+        impl TryIntoCtx<Endian> for &$kind {
             type Error = scroll::Error;
 
-            fn try_into_ctx(self, bytes: &mut [u8], le: scroll::Endian) -> Result<usize, scroll::Error> {
+            fn try_into_ctx(self, bytes: &mut [u8], le: Endian) -> Result<usize, scroll::Error> {
                 (*self).try_into_ctx(bytes, le)
             }
         }
 
-        impl FromCtx<scroll::Endian> for $kind {
-            /// Panics if the bytes are too few, as scroll's readers of fields do.
-            fn from_ctx(bytes: &[u8], le: scroll::Endian) -> Self {
-                <$kind as Record>::load(bytes, le.into())
+        impl FromCtx<Endian> for $kind {
+            /// If the bytes are too few, those that are missing count as 0. scroll's readers of fields panic then.
+            fn from_ctx(bytes: &[u8], le: Endian) -> Self {
+                let (mut padded, len) = ([0; 80], bytes.len().min(80));
+                padded[..len].copy_from_slice(&bytes[..len]);
+                <$kind as Record>::load(&padded, le, Inner(()))
             }
         }
 
-        impl IntoCtx<scroll::Endian> for $kind {
-            /// Panics if the bytes are too few, as scroll's writers of fields do.
-            fn into_ctx(self, bytes: &mut [u8], le: scroll::Endian) {
-                self.write(bytes, 0, le.into()).expect("room for a record");
+        impl IntoCtx<Endian> for $kind {
+            /// If the bytes are too few, nothing is written. scroll's writers of fields panic then.
+            fn into_ctx(self, bytes: &mut [u8], le: Endian) {
+                crate::mach::IntoCtx::<Endian>::into_ctx(self, bytes, le)
             }
         }
 
-        impl SizeWith<scroll::Endian> for $kind {
-            fn size_with(_le: &scroll::Endian) -> usize {
+        impl SizeWith<Endian> for $kind {
+            fn size_with(_le: &Endian) -> usize {
                 <$kind as Record>::SIZE
             }
         }
@@ -135,8 +121,8 @@ read! {
     Section, Ctx;
     Nlist, Ctx;
     Symbols<'a>, SymbolsCtx;
-    ThreadCommand, scroll::Endian;
-    CommandVariant, scroll::Endian;
+    ThreadCommand, Endian;
+    CommandVariant, Endian;
 }
 
 macro_rules! written {

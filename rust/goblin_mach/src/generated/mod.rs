@@ -3,14 +3,14 @@
 // Names and parameters that only contracts or other crates use.
 #![allow(dead_code, unused_imports, unused_variables)]
 
-#[cfg(feature = "capi")]
-pub mod goblin_mach_c;
+#[cfg(feature = "internals")]
+pub mod internals;
 pub mod mach;
 #[cfg(feature = "archive")]
 pub mod mach_archive;
+#[cfg(feature = "signature")]
+pub mod mach_audit;
 pub mod mach_base;
-#[cfg(feature = "capi")]
-pub mod mach_c_places;
 pub mod mach_chained;
 pub mod mach_dyld;
 #[cfg(feature = "write")]
@@ -20,6 +20,8 @@ pub mod mach_layout;
 pub mod mach_load;
 pub mod mach_parts;
 pub mod mach_records;
+#[cfg(feature = "resolve")]
+pub mod mach_resolve;
 #[cfg(feature = "signature")]
 pub mod mach_signature;
 #[cfg(feature = "signature")]

@@ -2,17 +2,21 @@
 //! hand. All `unsafe` code of the crate is here. Nothing here was proved; the tests of this module test it.
 // What no other module uses if features are off.
 #![cfg_attr(
-    not(all(feature = "layout", feature = "signature", feature = "write")),
+    not(all(
+        feature = "layout",
+        feature = "signature",
+        feature = "write",
+        feature = "internals"
+    )),
     allow(dead_code, unused_imports)
 )]
 
-#[cfg(feature = "capi")]
-pub(crate) mod arrayvec;
-#[cfg(feature = "capi")]
-mod c;
+#[cfg(feature = "resolve")]
+pub mod indexmap;
 mod map;
 
 pub mod byteorder;
+pub mod shown;
 pub mod simd;
 
 use alloc::collections::TryReserveError;
@@ -21,9 +25,39 @@ use alloc::vec::Vec;
 use core::fmt;
 
 pub use map::BTreeMap;
+pub(crate) use shown::shown;
+
+/// An argument that only this crate can make, of methods of traits that have conditions on their callers.
+#[derive(Clone, Copy, Debug)]
+pub struct Inner(pub(crate) ());
+
+/// A method that has conditions on its callers. Only this crate calls it, and by the feature `internals` the crates over it.
+#[cfg(not(feature = "internals"))]
+macro_rules! inner {
+    ($(#[$about:meta])* fn $($rest:tt)*) => { $(#[$about])* pub(crate) fn $($rest)* };
+}
+
+/// A method that has conditions on its callers.
+#[cfg(feature = "internals")]
+macro_rules! inner {
+    ($(#[$about:meta])* fn $($rest:tt)*) => { $(#[$about])* #[doc(hidden)] pub fn $($rest)* };
+}
+
+pub(crate) use inner;
+
+/// What this crate reads in a byte order. With the feature `scroll` the byte order is a type of scroll, which has no such methods.
+pub trait ReadsNumbers {
+    fn u16(self, bytes: &[u8]) -> u16;
+    fn u32(self, bytes: &[u8]) -> u32;
+    fn u64(self, bytes: &[u8]) -> u64;
+    fn u8_at(self, bytes: &[u8], place: usize) -> u8;
+    fn u16_at(self, bytes: &[u8], place: usize) -> u16;
+    fn u32_at(self, bytes: &[u8], place: usize) -> u32;
+    fn u64_at(self, bytes: &[u8], place: usize) -> u64;
+}
 
 /// Memory was refused.
-#[derive(Clone, Copy, Debug, PartialEq, Eq)]
+#[derive(Clone, Copy, Debug, PartialEq, Eq, Hash)]
 pub struct AllocError;
 
 impl fmt::Display for AllocError {
@@ -217,15 +251,51 @@ pub fn try_vec<T: Copy>(item: T, len: usize) -> Result<Vec<T>, AllocError> {
 #[allow(unsafe_code)]
 #[inline(always)]
 pub(crate) fn proved_utf8(bytes: &[u8]) -> &str {
-    debug_assert!(str::from_utf8(bytes).is_ok());
+    debug_assert!(core::str::from_utf8(bytes).is_ok());
     // SAFETY: the contracts of the two callers require it, and their callers are proved to meet that.
-    unsafe { str::from_utf8_unchecked(bytes) }
+    unsafe { core::str::from_utf8_unchecked(bytes) }
 }
 
 /// Bytes that are proved to be UTF-8, as a text. They are tested all the same.
 #[cfg(feature = "checked")]
 pub(crate) fn proved_utf8(bytes: &[u8]) -> &str {
-    str::from_utf8(bytes).expect("proved to be UTF-8")
+    core::str::from_utf8(bytes).expect("proved to be UTF-8")
+}
+
+/// A number without a sign, as the number with one that has the same bits.
+pub trait ToSigned {
+    type Signed;
+    fn to_signed(self) -> Self::Signed;
+}
+
+impl ToSigned for u32 {
+    type Signed = i32;
+    #[inline(always)]
+    fn to_signed(self) -> i32 {
+        self as i32
+    }
+}
+
+impl ToSigned for u64 {
+    type Signed = i64;
+    #[inline(always)]
+    fn to_signed(self) -> i64 {
+        self as i64
+    }
+}
+
+/// A number with a sign, as the number without one that has the same bits.
+pub trait ToUnsigned {
+    type Unsigned;
+    fn to_unsigned(self) -> Self::Unsigned;
+}
+
+impl ToUnsigned for i32 {
+    type Unsigned = u32;
+    #[inline(always)]
+    fn to_unsigned(self) -> u32 {
+        self as u32
+    }
 }
 
 pub mod memchr {

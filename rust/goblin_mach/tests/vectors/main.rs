@@ -21,27 +21,27 @@ fn all_as_expected() {
 const REASONS: &[(&str, &str)] = &[
     (
         "fixups of chains, starts too short for the second",
-        "starts have room for those of a page",
+        "the starts of a page are past those of its segment",
     ),
     (
         "fixups of chains, a start in an earlier pointer",
-        "a start lies behind the chain before it",
+        "a chain starts before the end of an earlier one",
     ),
     (
         "fixups of chains, starts over each other",
-        "starts lie before the end of earlier ones",
+        "starts of a segment begin before the end of earlier ones",
     ),
     (
         "fixups of chains, segments over each other",
-        "a segment with chains lies behind the one before it",
+        "a segment with chains begins before the end of an earlier one",
     ),
     (
         "fixups of chains, addresses past 64 bits",
-        "a fixup's address has at most 64 bits",
+        "a fixup's address does not fit in 64 bits",
     ),
     (
         "bindings of chains, a sum of addends past 64 bits",
-        "a bind's addend has at most 64 bits",
+        "a bind's addend does not fit in 64 bits",
     ),
 ];
 

@@ -2,7 +2,6 @@
 //! code of the crate is here. Nothing here was proved.
 pub(crate) mod env;
 pub(crate) mod fs;
-pub(crate) mod indexmap;
 pub(crate) mod io;
 pub(crate) mod rt;
 pub(crate) mod strsim;
@@ -10,7 +9,8 @@ pub(crate) mod time;
 
 use core::fmt;
 
-pub(crate) use goblin_mach::shim::*;
+pub(crate) use goblin_mach::AllocError;
+pub(crate) use goblin_mach::internals::shim::{TryGrow, TryList, TryString, try_vec};
 
 /// A text that grows, or is refused memory and stays unchanged.
 pub(crate) trait TryText {

@@ -20,6 +20,11 @@ impl HostRuntime {
         }
     }
 
+    /// The arguments after the program's name.
+    pub(crate) fn arguments(&self) -> &[OsString] {
+        self.words.get(1..).unwrap_or_default()
+    }
+
     pub(crate) fn stdin(&self) -> Stream {
         Stream::new(0)
     }
@@ -59,14 +64,14 @@ impl Eprint for HostRuntime {
 pub(crate) trait Files {
     type File: Write + OpenFile;
 
-    /// Creates a file, if nothing has its name.
-    fn create_new(&self, path: &str) -> io::Result<Self::File>;
+    /// Opens the file with a name.
+    fn open(&self, options: &std::fs::OpenOptions, path: &str) -> io::Result<Self::File>;
 }
 
 impl Files for HostRuntime {
     type File = std::fs::File;
 
-    fn create_new(&self, path: &str) -> io::Result<std::fs::File> {
-        std::fs::File::create_new(path)
+    fn open(&self, options: &std::fs::OpenOptions, path: &str) -> io::Result<std::fs::File> {
+        options.open(path)
     }
 }

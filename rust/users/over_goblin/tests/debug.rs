@@ -26,7 +26,8 @@ fn compare(theirs: &goblin::mach::MachO, ours: &goblin_mach::MachO) -> bool {
     let mut all = true;
     for (a, b) in theirs.load_commands.iter().zip(&ours.load_commands) {
         if known(&shown(a)) {
-            assert_eq!(shown(a), shown(b));
+            assert_eq!(shown(a), shown(Goblin(b)));
+            assert_eq!(format!("{a:#?}"), format!("{:#?}", Goblin(b)));
         } else {
             all = false;
         }

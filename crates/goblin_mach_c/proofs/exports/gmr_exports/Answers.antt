@@ -11,8 +11,8 @@ use Rattle.goblin_mach_c.proofs.exports.gmr_exports.Goals as goal
 pub returns-then-walk-ne0-clause-written : goal.returns-then-walk-ne0-clause-written
 returns-then-walk-ne0-clause-written c = (
   [],
-  none_written c.args.bytes.now c.args.image.now.offset c.args.walk.now c.args.name.now c.args.stack.now c.nothing.result c.args.out.now c.args.names.now
-      c.nothing.ensures,
+  none_written c.args.bytes.now c.args.image.now.base c.args.image.now.offset c.args.walk.now c.args.name.now c.args.stack.now c.nothing.result
+      c.args.out.now c.args.names.now c.nothing.ensures,
   stays c.args.bytes.now c.args.image.now.offset c.args.walk.now c.args.name.now c.args.stack.now,
   λ end. absurd (no_end c.nothing.result c.nothing.ensures end),
 )
@@ -25,9 +25,10 @@ returns-in-Ok-clause-written c =
     moved (λ t l. GoesAlong t l c.args.walk.now new.walk c.args.name.now new.name c.args.stack.now new.stack wrote.0 new.batch.end) _ _ _ _
     c.trie_of-trie.ensures (ap texts c.as_slice.ensures.value) wrote.2 in (
       wrote.0,
-      rows_there c.args.bytes.now c.args.image.now.offset c.in-Ok.found c.in-Ok.ensures.opened c.args.walk.now c.args.name.now c.args.stack.now wrote.0
-          _ _ _ _ _ _
-          (moved (λ (t : TrieRange) l. AreWritten t.bytes (IsNumbered l)
+      rows_there c.args.bytes.now c.args.image.now.offset c.in-Ok.found c.in-Ok.ensures.opened c.args.image.now.base
+          c.args.walk.now c.args.name.now c.args.stack.now
+          wrote.0 _ _ _ _ _ _
+          (moved (λ (t : TrieRange) l. AreWritten t.bytes c.args.image.now.base (IsNumbered l)
           (IsNodeOf t l (HasWalkedTrie t l c.args.walk.now c.args.name.now c.args.stack.now)) wrote.0 new.batch.count new.batch.names_len
           c.args.out.now new.out c.args.names.now new.names)
           _ _ _ _ c.trie_of-trie.ensures (ap texts c.as_slice.ensures.value) wrote.1),
@@ -47,8 +48,8 @@ returns-in-Ok-clause-name c = λ three.
 pub returns-in-Err-clause-written : goal.returns-in-Err-clause-written
 returns-in-Err-clause-written c = (
   [],
-  none_written c.args.bytes.now c.args.image.now.offset c.args.walk.now c.args.name.now c.args.stack.now c.nothing-in-Err.result c.args.out.now
-      c.args.names.now c.nothing-in-Err.ensures,
+  none_written c.args.bytes.now c.args.image.now.base c.args.image.now.offset c.args.walk.now c.args.name.now c.args.stack.now c.nothing-in-Err.result
+      c.args.out.now c.args.names.now c.nothing-in-Err.ensures,
   stays c.args.bytes.now c.args.image.now.offset c.args.walk.now c.args.name.now c.args.stack.now,
   λ end. absurd (no_end c.nothing-in-Err.result c.nothing-in-Err.ensures end),
 )

@@ -71,7 +71,7 @@ returns-clause-written c =
     let end = c.loop-k.auto.k-end in
     let all : c.loop-k.k ≡ length c.loop-k.out = omega (arith, out_len, past, end) in (
       so.given,
-      subst (λ (n : ℕ). AreWritten c.args.trie.now.bytes (IsNumbered (texts c.args.libs.now)) (IsNodeOf c.args.trie.now (texts c.args.libs.now)
+      subst (λ (n : ℕ). AreWritten c.args.trie.now.bytes c.args.base (IsNumbered (texts c.args.libs.now)) (IsNodeOf c.args.trie.now (texts c.args.libs.now)
           (HasGivenTo c.args.trie.now (texts c.args.libs.now) c.args.cursor.now c.args.name.now c.args.stack.now)) so.given n c.loop-k.used c.args.out.now
           c.loop-k.out c.args.names.now c.loop-k.names) all so.written,
       so.walked,

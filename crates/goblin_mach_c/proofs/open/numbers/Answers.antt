@@ -16,4 +16,6 @@ returns c = record {
   symbols = c.table_numbers-symbols_at.ensures;
   entry = refl;
   entry_style = c.flag-2.ensures;
+  base = c.base.ensures;
+  reserved = refl;
 }

@@ -22,5 +22,5 @@ returns-in-Ok-clause-written c = λ _.
       following = c.following-rows.ensures.items;
       rows = mapped_fills gm_rebase_view items c.args.out.now c.fill_items.new.out n (c.fill_items.ensures.filled x over);
       rest = subst (λ (l : List (Result Rebase Fault)). AreRebasesAfter c.cursor.result x l) (c.fill_items.ensures.rest x over)
-          (c.cursor.ensures x (c.fill_items.ensures.over x over));
+          (c.cursor.ensures.items x (c.fill_items.ensures.over x over));
     })

@@ -24,5 +24,5 @@ returns-in-Ok-clause-written c = λ _.
       following = c.following-rows.ensures.items;
       rows = mapped_fills function_start_row items c.args.out.now c.fill_items.new.out n (c.fill_items.ensures.filled x over);
       rest = subst (λ (l : List (Result ℕ Fault)). AreStartsAfterCursor c.cursor.result bytes range (base_view m) l) (c.fill_items.ensures.rest x over)
-          (c.cursor.ensures bytes range (base_view m) (c.fill_items.ensures.over x over));
+          (c.cursor.ensures.items bytes range (base_view m) (c.fill_items.ensures.over x over));
     })

@@ -35,5 +35,5 @@ pub returns-clause-message : goal.returns-clause-message
 returns-clause-message g c = record {
   refusal = refusal_in c.in-Ok.report;
   is_refusal = whole_refusal _ c.args.bytes.now c.in-Ok.report c.in-Ok.ensures.reported;
-  message = c.in_ok-say_refusal.ensures;
+  message = c.in_ok-say_unless_outside.ensures;
 }

@@ -5,7 +5,11 @@ use Rattle.machfat.specs.Members.{an_archive, an_image, no_archive, out_of_the_f
 use Rattle.machfat.proofs.members.print_content.Goals as goal
 
 pub returns-in_default : goal.returns-in_default
-returns-in_default g c = record { text = _; are_lines = out_of_the_file (sym c.in_default.ensures); written = c.in_ok-writeln.ensures.bytes }
+returns-in_default g c = record {
+  text = _;
+  are_lines = out_of_the_file (sym c.in_default.ensures);
+  written = rw c.refused_entries-refused.ensures at c.in_ok-writeln.ensures.bytes;
+}
 
 pub returns-then-begins_image : goal.returns-then-begins_image
 returns-then-begins_image g c = record {

@@ -6,4 +6,6 @@ use Rattle.machfat.proofs.thin.run_thin.Goals as goal
 pub returns-clause-refused : goal.returns-clause-refused
 returns-clause-refused g c = λ one.
     let reported = c.status.ensures.refused one in
-    (reported.0, IfErr-at_err (IsRefusal (RefusesCpu (cpu_entry_in c.args.bytes.now c.args.cpu) c.args.cpu)) reported.1 c.thin.ensures.refused, reported.2)
+    let bytes = c.args.bytes.now in
+    let cpu = c.args.cpu in
+    (reported.0, IfErr-at_err (IsRefusal (RefusesCpu bytes (cpu_entry_in bytes cpu) cpu)) reported.1 c.thin.ensures.refused, reported.2)

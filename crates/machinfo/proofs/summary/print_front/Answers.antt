@@ -1,10 +1,10 @@
-use Rattle.std.proofs.Common.{ℕ, List, Result, Ok, refl, subst}
+use Rattle.std.proofs.Common.{ℕ, List, Result, Ok, refl, subst, sym}
 use Rattle.std.specs.Prelude.{codes, map}
 use Rattle.mach_base.proofs.Written.{Appends-both}
 use Rattle.mach_base.specs.Answer.{◌>>=◌}
 use Rattle.mach_base.specs.Fault.{Fault}
 use Rattle.mach_records.specs.declared.versions.BuildToolVersion.{BuildToolVersion}
-use Rattle.machinfo.specs.FactRows.{FactView, tool_fact}
+use Rattle.mach_audit.specs.FactRows.{FactView, tool_fact}
 use Rattle.machinfo.specs.Summary.{AreFactLines}
 use Rattle.machinfo.proofs.summary.print_front.Goals as goal
 
@@ -34,5 +34,7 @@ returns g c =
       Appends-both _ _ _ _ _ c.in_ok-print_kind.ensures
           (Appends-both _ _ _ _ _ c.in_ok-print_image_name.ensures
           (Appends-both _ _ _ uuids.0 _ uuids.2
-          (Appends-both _ _ _ platforms.0 _ platforms.2 (Appends-both _ _ _ tools.0 _ tools.2 c.in_ok-print_flags.ensures)))),
+          (Appends-both _ _ _ platforms.0 _ platforms.2
+          (Appends-both _ _ _ tools.0 _ tools.2 (Appends-both _ _ _ _ _ c.in_ok-print_flags.ensures
+          (rw (sym c.base.ensures) c.in_ok-print_base.ensures)))))),
     )

@@ -3,7 +3,7 @@ use Rattle.std.specs.Prelude.{codes, map}
 use Rattle.mach_base.proofs.Written.{Appends-both}
 use Rattle.mach_base.specs.Text.{texts}
 use Rattle.goblin_mach.specs.Libraries.{LibraryView}
-use Rattle.machinfo.specs.FactRows.{library_fact, path_fact}
+use Rattle.mach_audit.specs.FactRows.{library_fact, path_fact}
 use Rattle.machinfo.specs.Summary.{AreFactLines}
 use Rattle.machinfo.proofs.summary.print_used.Goals as goal
 

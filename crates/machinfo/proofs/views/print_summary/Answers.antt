@@ -8,8 +8,8 @@ use Rattle.goblin_mach.specs.OpenImage.{bytes_view, commands_view}
 use Rattle.mach_signature.proofs.SignedFacts.{directory_is}
 use Rattle.mach_signature.specs.SignedImages.{image_directory}
 use Rattle.machinfo.specs.Signed.{is_readable}
-use Rattle.machinfo.specs.States.{state_of_commands}
-use Rattle.machinfo.specs.declared.state.State.{State}
+use Rattle.mach_audit.specs.States.{state_of_commands}
+use Rattle.mach_audit.specs.declared.state.State.{State}
 use Rattle.machinfo.proofs.views.print_summary.Goals as goal
 
 pub returns : goal.returns

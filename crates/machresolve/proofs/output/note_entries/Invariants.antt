@@ -1,6 +1,7 @@
 use Rattle.std.proofs.Common.{◌≡◌, map, drop}
 use Rattle.machresolve.specs.Lines.{all_notes}
-use Rattle.machresolve.specs.ResolveViews.{note_view_of, outcome_view}
+use Rattle.mach_resolve.specs.ResolveViews.{note_view_of}
+use Rattle.machresolve.specs.ReportViews.{outcome_view}
 use Rattle.machresolve.proofs.output.note_entries.Given as goal
 
 -- adding the notes of the outcomes that are left gives the same as adding all

@@ -4,7 +4,7 @@ use Rattle.std.specs.Prelude.{codes}
 use Rattle.std.specs.Io.KnownBytes.{Appends}
 use Rattle.mach_base.proofs.Written.{Appends-both}
 use Rattle.machresolve.specs.Lines.{answer_text, lines_of}
-use Rattle.machresolve.specs.ResolveViews.{answer_view}
+use Rattle.mach_resolve.specs.ResolveViews.{answer_view}
 use Rattle.machresolve.proofs.Printed.{lines_push}
 use Rattle.machresolve.proofs.output.print_answers.Goals as goal
 

@@ -1,7 +1,7 @@
 use Rattle.std.proofs.Common.{map, take}
 use Rattle.std.specs.Io.KnownBytes.{Appends}
 use Rattle.machresolve.specs.Lines.{lines_of}
-use Rattle.machresolve.specs.ResolveViews.{answer_view}
+use Rattle.mach_resolve.specs.ResolveViews.{answer_view}
 use Rattle.machresolve.proofs.output.print_answers.Given as goal
 
 abbrev pub invariant-answers : goal.invariant-answers

@@ -3,8 +3,8 @@ use Rattle.std.proofs.lemmas.List.{map_push, take_more, length-map, length-take-
 use Rattle.std.specs.Io.KnownBytes.{Appends}
 use Rattle.mach_base.proofs.Written.{Appends-both}
 use Rattle.machresolve.specs.Lines.{entry_heading, entry_text, entries_text}
-use Rattle.machresolve.specs.Opened.{call_view_of}
-use Rattle.machresolve.specs.ResolveViews.{outcome_view}
+use Rattle.machresolve.specs.CallViews.{call_view_of}
+use Rattle.machresolve.specs.ReportViews.{outcome_view}
 use Rattle.machresolve.proofs.Printed.{entries_push}
 use Rattle.machresolve.proofs.output.print_entries.Goals as goal
 

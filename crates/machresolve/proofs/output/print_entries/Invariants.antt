@@ -1,8 +1,8 @@
 use Rattle.std.proofs.Common.{map, take}
 use Rattle.std.specs.Io.KnownBytes.{Appends}
 use Rattle.machresolve.specs.Lines.{entries_text}
-use Rattle.machresolve.specs.Opened.{call_view_of}
-use Rattle.machresolve.specs.ResolveViews.{outcome_view}
+use Rattle.machresolve.specs.CallViews.{call_view_of}
+use Rattle.machresolve.specs.ReportViews.{outcome_view}
 use Rattle.machresolve.proofs.output.print_entries.Given as goal
 
 abbrev pub invariant-outcomes : goal.invariant-outcomes

@@ -1,7 +1,7 @@
 use Rattle.std.proofs.Common.{ap}
 use Rattle.machresolve.specs.Lines.{first_message}
-use Rattle.machresolve.specs.Opened.{call_view_of}
-use Rattle.machresolve.specs.ResolveViews.{report_view}
+use Rattle.machresolve.specs.CallViews.{call_view_of}
+use Rattle.machresolve.specs.ReportViews.{report_view}
 use Rattle.machresolve.proofs.Printed.{nothing_written}
 use Rattle.machresolve.proofs.output.say_first.Goals as goal
 

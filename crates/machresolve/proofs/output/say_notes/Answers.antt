@@ -3,8 +3,8 @@ use Rattle.std.proofs.lemmas.List.{map_push, take_more}
 use Rattle.std.specs.Io.KnownBytes.{Appends}
 use Rattle.mach_base.proofs.Written.{Appends-both}
 use Rattle.machresolve.specs.Lines.{note_text, message_line, message_lines}
-use Rattle.machresolve.specs.Opened.{call_view_of}
-use Rattle.machresolve.specs.ResolveViews.{note_view_of}
+use Rattle.machresolve.specs.CallViews.{call_view_of}
+use Rattle.mach_resolve.specs.ResolveViews.{note_view_of}
 use Rattle.machresolve.proofs.Printed.{said_push}
 use Rattle.machresolve.proofs.output.say_notes.Goals as goal
 

@@ -1,8 +1,8 @@
 use Rattle.std.proofs.Common.{map, take}
 use Rattle.std.specs.Io.KnownBytes.{Appends}
 use Rattle.machresolve.specs.Lines.{message_lines}
-use Rattle.machresolve.specs.Opened.{call_view_of}
-use Rattle.machresolve.specs.ResolveViews.{note_view_of}
+use Rattle.machresolve.specs.CallViews.{call_view_of}
+use Rattle.mach_resolve.specs.ResolveViews.{note_view_of}
 use Rattle.machresolve.proofs.output.say_notes.Given as goal
 
 abbrev pub invariant-notes : goal.invariant-notes

@@ -1,9 +1,9 @@
 use Rattle.std.proofs.Common.{◌∙◌, map, sym, ap}
 use Rattle.std.proofs.lemmas.Result.{IfOk-weaker}
 use Rattle.mach_parts.specs.Magic.{begins_archive}
-use Rattle.machresolve.specs.Opened.{given_view}
+use Rattle.mach_resolve.specs.Opened.{given_view}
 use Rattle.machresolve.specs.Report.{an_archive}
-use Rattle.machresolve.specs.ResolveViews.{outcome_view}
+use Rattle.machresolve.specs.ReportViews.{outcome_view}
 use Rattle.machresolve.proofs.Reports.{entry_image}
 use Rattle.machresolve.proofs.report.entry_outcome.Goals as goal
 

@@ -2,10 +2,10 @@ use Rattle.std.proofs.Common.{◌≡◌, ◌∙◌, ◌+◌, ◌++◌, ◌∷◌
 use Rattle.std.specs.Prelude.{sum_by}
 use Rattle.std.proofs.lemmas.List.{map_push, take_more}
 use Rattle.std.proofs.lemmas.List.Sums.{sum_by_push}
-use Rattle.machresolve.specs.Cpu.{entry_bytes}
-use Rattle.machresolve.specs.Opened.{given_view}
+use Rattle.mach_resolve.specs.Cpu.{entry_bytes}
+use Rattle.mach_resolve.specs.Opened.{given_view}
 use Rattle.machresolve.specs.Report.{answer_count, AreEntryOutcomes}
-use Rattle.machresolve.specs.ResolveViews.{outcome_view}
+use Rattle.machresolve.specs.ReportViews.{outcome_view}
 use Rattle.machresolve.proofs.Counts.{entry_few, outcomes_more}
 use Rattle.machresolve.proofs.report.entry_outcomes.Goals as goal
 

@@ -1,9 +1,9 @@
 use Rattle.std.proofs.Common.{◌≡◌, ◌-◌, map, take}
 use Rattle.std.specs.Prelude.{sum_by}
-use Rattle.machresolve.specs.Cpu.{entry_bytes}
+use Rattle.mach_resolve.specs.Cpu.{entry_bytes}
 use Rattle.machresolve.specs.Report.{answer_count, AreEntryOutcomes}
-use Rattle.machresolve.specs.Opened.{given_view}
-use Rattle.machresolve.specs.ResolveViews.{outcome_view}
+use Rattle.mach_resolve.specs.Opened.{given_view}
+use Rattle.machresolve.specs.ReportViews.{outcome_view}
 use Rattle.machresolve.proofs.report.entry_outcomes.Given as goal
 
 abbrev pub invariant-arches : goal.invariant-arches

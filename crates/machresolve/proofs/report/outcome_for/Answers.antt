@@ -1,6 +1,6 @@
 use Rattle.std.proofs.Common.{map}
 use Rattle.machresolve.specs.Report.{resolved}
-use Rattle.machresolve.specs.Opened.{given_view}
+use Rattle.mach_resolve.specs.Opened.{given_view}
 use Rattle.machresolve.proofs.Reports.{refused_outcome}
 use Rattle.machresolve.proofs.report.outcome_for.Goals as goal
 

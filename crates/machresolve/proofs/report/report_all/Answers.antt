@@ -2,11 +2,11 @@ use Rattle.std.proofs.Common.{map, subst}
 use Rattle.std.proofs.lemmas.Result.{IfOk-weaker}
 use Rattle.mach_base.proofs.Faults.{ErrorMeets-failed}
 use Rattle.goblin_mach.specs.FatFile.{arch_table_in, file_view}
-use Rattle.machresolve.specs.Cpu.{entry_bytes, fat_table_view}
-use Rattle.machresolve.specs.Opened.{given_view}
+use Rattle.mach_resolve.specs.Cpu.{entry_bytes, fat_table_view}
+use Rattle.mach_resolve.specs.Opened.{given_view}
 use Rattle.machresolve.specs.Report.{AreEntryOutcomes, ProgramFault, fat, of_table}
-use Rattle.machresolve.specs.ResolveViews.{outcome_view, report_view}
-use Rattle.machresolve.proofs.Cpus.{table_entries}
+use Rattle.machresolve.specs.ReportViews.{outcome_view, report_view}
+use Rattle.mach_resolve.proofs.Cpus.{table_entries}
 use Rattle.machresolve.proofs.Reports.{table_refused}
 use Rattle.machresolve.proofs.report.report_all.Goals as goal
 

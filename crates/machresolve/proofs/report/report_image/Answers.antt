@@ -1,8 +1,8 @@
 use Rattle.std.proofs.Common.{map, sym, subst}
 use Rattle.std.proofs.lemmas.Result.{IfOk-weaker}
-use Rattle.machresolve.specs.Opened.{given_view}
+use Rattle.mach_resolve.specs.Opened.{given_view}
 use Rattle.machresolve.specs.Report.{IsProgramReport}
-use Rattle.machresolve.specs.ResolveViews.{report_view}
+use Rattle.machresolve.specs.ReportViews.{report_view}
 use Rattle.machresolve.proofs.Reports.{image_of_another, image_of_selected, one_of_all}
 use Rattle.machresolve.proofs.report.report_image.Goals as goal
 

@@ -1,9 +1,10 @@
 use Rattle.std.proofs.Common.{map}
 use Rattle.std.proofs.lemmas.Result.{IfOk-weaker}
-use Rattle.machresolve.specs.Opened.{given_view}
-use Rattle.machresolve.specs.ResolveViews.{report_view}
+use Rattle.mach_resolve.specs.Opened.{given_view}
+use Rattle.machresolve.specs.ReportViews.{report_view}
 use Rattle.machresolve.proofs.Counts.{report_few}
-use Rattle.machresolve.proofs.Cpus.{archive_fault, input_fault, narrow_table, of_numbers, wide_table}
+use Rattle.mach_resolve.proofs.Cpus.{archive_fault, input_fault, narrow_table, wide_table}
+use Rattle.machresolve.proofs.Reports.{of_numbers}
 use Rattle.machresolve.proofs.Reports.{file_refused}
 use Rattle.machresolve.proofs.report.report_on.Goals as goal
 

@@ -5,10 +5,10 @@ use Rattle.std.specs.Io.KnownBytes.{Appends}
 use Rattle.mach_base.proofs.Written.{Appends-both}
 use Rattle.mach_parts.specs.Segment.{segment_view}
 use Rattle.machsign.specs.Faults.{shown_fault_text, object_by}
-use Rattle.machsign.specs.Pages.{place_of}
+use Rattle.mach_signature.specs.Pages.{place_of}
 use Rattle.machsign.specs.declared.form.Form.{Form}
-use Rattle.machsign.specs.declared.page.ChangedPage.{ChangedPage}
-use Rattle.machsign.specs.declared.page.Place.{Place}
+use Rattle.mach_signature.specs.declared.page.ChangedPage.{ChangedPage}
+use Rattle.mach_signature.specs.declared.page.Place.{Place}
 use Rattle.machsign.proofs.faults.write_fault.Goals as goal
 
 pub returns-in_ok-write-in-Objects : goal.returns-in_ok-write-in-Objects

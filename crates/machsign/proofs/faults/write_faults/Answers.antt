@@ -13,7 +13,7 @@ use Rattle.mach_signature.specs.Directories.{Directory}
 use Rattle.mach_signature.specs.FaultViews.{signature_fault_view, signature_faults_left, signed_view}
 use Rattle.mach_signature.specs.declared.fault.SignatureFault.{SignatureFault}
 use Rattle.machsign.specs.Faults.{fault_line, fault_object, shown_fault_text, faults_text, has_none}
-use Rattle.machsign.specs.Pages.{is_repeated, is_shown, page_in_fault}
+use Rattle.mach_signature.specs.Pages.{is_repeated, is_shown, page_in_fault}
 use Rattle.machsign.specs.declared.form.Form.{Form}
 use Rattle.machsign.specs.declared.form.Form.TheVariants.{Lines, Objects}
 use Rattle.machsign.proofs.ListProgress.{one_passed}

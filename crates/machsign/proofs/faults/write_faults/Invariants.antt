@@ -5,7 +5,7 @@ use Rattle.mach_signature.specs.AsSigned.{signature_faults_of}
 use Rattle.mach_signature.specs.FaultViews.{signature_faults_left, signed_view}
 use Rattle.mach_signature.specs.declared.fault.SignatureFault.{SignatureFault}
 use Rattle.machsign.specs.Faults.{faults_text}
-use Rattle.machsign.specs.Pages.{is_shown}
+use Rattle.mach_signature.specs.Pages.{is_shown}
 use Rattle.machsign.proofs.ListProgress.{Passes}
 use Rattle.machsign.proofs.faults.write_faults.Given as goal
 

@@ -7,14 +7,14 @@ use Rattle.mach_parts.specs.Segment.{segment_view}
 use Rattle.mach_signature.specs.AsSigned.{signature_faults_of}
 use Rattle.mach_signature.specs.FaultViews.{signed_view}
 use Rattle.machsign.specs.Blobs.{blobs_array, other_blobs_of}
-use Rattle.machsign.specs.EntitlementAgreement.{agreement_in}
+use Rattle.mach_signature.specs.EntitlementAgreement.{agreement_in}
 use Rattle.machsign.specs.Faults.{ReportsFaults}
 use Rattle.machsign.specs.JsonSignature.{before_faults, after_faults}
-use Rattle.machsign.specs.Pages.{shown_faults}
+use Rattle.mach_signature.specs.Pages.{shown_faults}
 use Rattle.machsign.specs.Signatures.{is_cut}
-use Rattle.machsign.specs.declared.entitlements.agreement.Agreement.{Agreement}
+use Rattle.mach_signature.specs.declared.entitlements.agreement.Agreement.{Agreement}
 use Rattle.machsign.specs.declared.form.Form.TheVariants.{Objects}
-use Rattle.machsign.proofs.Entitled.{both_same}
+use Rattle.mach_signature.proofs.Entitled.{both_same}
 use Rattle.machsign.proofs.Limited.{blobs_arrayed}
 use Rattle.machsign.proofs.ListProgress.{counted}
 use Rattle.machsign.proofs.Written.{three}

@@ -5,10 +5,10 @@ use Rattle.mach_signature.specs.AsSigned.{signature_faults_of}
 use Rattle.mach_signature.specs.FaultViews.{signed_view}
 use Rattle.machsign.specs.Blobs.{blobs_lines, other_blobs_of}
 use Rattle.machsign.specs.Faults.{ReportsFaults}
-use Rattle.machsign.specs.Pages.{shown_faults}
+use Rattle.mach_signature.specs.Pages.{shown_faults}
 use Rattle.machsign.specs.Signatures.{back_lines, front_lines, is_cut}
 use Rattle.machsign.specs.declared.form.Form.TheVariants.{Lines}
-use Rattle.machsign.proofs.Entitled.{both_same}
+use Rattle.mach_signature.proofs.Entitled.{both_same}
 use Rattle.machsign.proofs.Limited.{blobs_written}
 use Rattle.machsign.proofs.ListProgress.{counted}
 use Rattle.machsign.proofs.Written.{four}

@@ -3,6 +3,4 @@ use Rattle.mach_base.proofs.Written.{Appends-both}
 use Rattle.machsign.proofs.requirement_lines.print_line.Goals as goal
 
 pub returns : goal.returns
-returns g c =
-    on_ok_weaker c.writeln.result
-    (λ last. Appends-both _ _ _ _ _ c.in_ok-write.ensures.bytes (Appends-both _ _ _ _ _ c.in_ok-print_requirement.ensures last)) c.writeln.ensures.bytes
+returns g c = on_ok_weaker c.writeln.result (λ last. Appends-both _ _ _ _ _ c.in_ok-write.ensures.bytes last) c.writeln.ensures.bytes

@@ -14,6 +14,13 @@ pub struct ChainBindings<'a, 'b> {
     bindings: ChainedBindIterator<'a, 'b>,
 }
 
+impl<'a, 'b> core::fmt::Debug for ChainBindings<'a, 'b> {
+    /// Prints the name of the type.
+    fn fmt(&self, f: &mut core::fmt::Formatter<'_>) -> core::fmt::Result {
+        f.debug_struct("ChainBindings").finish_non_exhaustive()
+    }
+}
+
 impl<'a, 'b> ChainBindings<'a, 'b> {
     /// Returns the bindings of the chains.
     pub(crate) fn over(bindings: ChainedBindIterator<'a, 'b>) -> Self {
@@ -47,6 +54,13 @@ pub struct BindingIterator<'a, 'b> {
     opcodes: OpcodeBindingIterator<'a, 'b>,
     chains: ChainBindings<'a, 'b>,
     ended: bool,
+}
+
+impl<'a, 'b> core::fmt::Debug for BindingIterator<'a, 'b> {
+    /// Prints the name of the type.
+    fn fmt(&self, f: &mut core::fmt::Formatter<'_>) -> core::fmt::Result {
+        f.debug_struct("BindingIterator").finish_non_exhaustive()
+    }
 }
 
 impl<'a, 'b> BindingIterator<'a, 'b> {
@@ -96,6 +110,8 @@ impl<'a, 'b> Iterator for BindingIterator<'a, 'b> {
         self.step()
     }
 }
+
+impl<'a, 'b> core::iter::FusedIterator for BindingIterator<'a, 'b> {}
 
 impl<'a, 'b> Default for BindingIterator<'a, 'b> {
     /// Returns an iterator without bindings.

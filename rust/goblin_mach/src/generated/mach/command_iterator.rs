@@ -7,7 +7,8 @@ use crate::generated::mach_load::LoadCommand;
 
 /// An iterator over load commands. The first that can't be read ends it with an error. It allocates nothing. It is built
 /// from numbers, and its fields are these numbers: an iterator with the same numbers returns the same items.
-#[derive(Clone, Copy)]
+#[derive(Clone, Copy, Eq, PartialEq)]
+#[cfg_attr(not(feature = "internals"), non_exhaustive)]
 pub struct CommandIterator<'a> {
     /// The bytes that hold the commands.
     pub bytes: &'a [u8],
@@ -19,12 +20,21 @@ pub struct CommandIterator<'a> {
     pub le: Endian,
 }
 
+impl<'a> core::fmt::Debug for CommandIterator<'a> {
+    /// Prints the name of the type.
+    fn fmt(&self, f: &mut core::fmt::Formatter<'_>) -> core::fmt::Result {
+        f.debug_struct("CommandIterator").finish_non_exhaustive()
+    }
+}
+
 impl<'a> CommandIterator<'a> {
     /// Returns an iterator over `count` commands from a place on.
     ///
-    /// # Proved
+    /// <details><summary>Proved</summary>
     ///
     /// - `commands_left result ≡ commands_from le bytes place count`
+    ///
+    /// </details>
     pub fn at(bytes: &'a [u8], place: usize, count: usize, le: Endian) -> Self {
         CommandIterator {
             bytes,
@@ -54,3 +64,5 @@ impl<'a> Iterator for CommandIterator<'a> {
         }
     }
 }
+
+impl<'a> core::iter::FusedIterator for CommandIterator<'a> {}

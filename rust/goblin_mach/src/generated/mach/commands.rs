@@ -38,11 +38,13 @@ fn push_parsed(
 
 /// Reads `count` load commands, one after the other from `first` on.
 ///
-/// # Proved
+/// <details><summary>Proved</summary>
 ///
 /// - *chain*: if `Ok(v)`: `IsChain le bytes first (map command_of v.items)`
 /// - *count*: if `Ok(v)`: `length (map command_of v.items) ≡ count`
 /// - *refused*: if `Err(e)`: `ErrorMeets (IsBroken le bytes first count) e`
+///
+/// </details>
 pub fn read_commands(
     bytes: &[u8],
     first: usize,

@@ -7,12 +7,20 @@ use crate::generated::mach_base::{Error, Result, read_text};
 use crate::generated::mach_load::{CommandVariant, LoadCommand};
 
 /// The address and the place in the file of a segment.
-#[derive(Clone, Copy)]
+#[derive(Clone, Copy, Eq, Hash, PartialEq)]
+#[cfg_attr(not(feature = "internals"), non_exhaustive)]
 pub struct Mapping {
     /// Its address in memory.
     pub vmaddr: u64,
     /// Its file offset.
     pub fileoff: u64,
+}
+
+impl core::fmt::Debug for Mapping {
+    /// Prints the name of the type.
+    fn fmt(&self, f: &mut core::fmt::Formatter<'_>) -> core::fmt::Result {
+        f.debug_struct("Mapping").finish_non_exhaustive()
+    }
 }
 
 impl Mapping {
@@ -21,16 +29,20 @@ impl Mapping {
         let sum = u128::from(place) + u128::from(self.vmaddr);
         match sum.checked_sub(u128::from(self.fileoff)) {
             Some(address) if address <= u128::from(u64::MAX) => Ok(address as u64),
-            _ => Err(Error::Malformed("an entry is an address of 64 bits")),
+            _ => Err(Error::Malformed(
+                "the entry point's address does not fit in 64 bits",
+            )),
         }
     }
 }
 
 /// Whether the name field of a segment holds `__TEXT`: the text up to the first zero byte.
 ///
-/// # Proved
+/// <details><summary>Proved</summary>
 ///
 /// - `result ≡ is_text_name segname`
+///
+/// </details>
 pub fn is_text(segname: &[u8; 16]) -> bool {
     match read_text(segname, 0) {
         Ok(name) => name == "__TEXT",
@@ -48,8 +60,16 @@ fn text_mapping(segname: &[u8; 16], vmaddr: u64, fileoff: u64) -> Option<Mapping
 }
 
 /// The segments of the program's text.
-#[derive(Clone, Copy)]
+#[derive(Clone, Copy, Eq, Hash, PartialEq)]
+#[cfg_attr(not(feature = "internals"), non_exhaustive)]
 pub struct Texts;
+
+impl core::fmt::Debug for Texts {
+    /// Prints the name of the type.
+    fn fmt(&self, f: &mut core::fmt::Formatter<'_>) -> core::fmt::Result {
+        f.debug_struct("Texts").finish_non_exhaustive()
+    }
+}
 
 impl Subject for Texts {
     type Value = Mapping;
@@ -67,8 +87,16 @@ impl Subject for Texts {
 }
 
 /// The commands that name the main program: its place in the file.
-#[derive(Clone, Copy)]
+#[derive(Clone, Copy, Eq, Hash, PartialEq)]
+#[cfg_attr(not(feature = "internals"), non_exhaustive)]
 pub struct Mains;
+
+impl core::fmt::Debug for Mains {
+    /// Prints the name of the type.
+    fn fmt(&self, f: &mut core::fmt::Formatter<'_>) -> core::fmt::Result {
+        f.debug_struct("Mains").finish_non_exhaustive()
+    }
+}
 
 impl Subject for Mains {
     type Value = u64;
@@ -82,10 +110,18 @@ impl Subject for Mains {
 }
 
 /// The thread states with which an image begins: their instruction pointers, by the cpu.
-#[derive(Clone, Copy)]
+#[derive(Clone, Copy, Eq, Hash, PartialEq)]
+#[cfg_attr(not(feature = "internals"), non_exhaustive)]
 pub struct Pointers {
     /// The cpu: one of the `CPU_TYPE_` constants.
     pub cputype: u32,
+}
+
+impl core::fmt::Debug for Pointers {
+    /// Prints the name of the type.
+    fn fmt(&self, f: &mut core::fmt::Formatter<'_>) -> core::fmt::Result {
+        f.debug_struct("Pointers").finish_non_exhaustive()
+    }
 }
 
 impl Subject for Pointers {
@@ -103,18 +139,20 @@ impl Subject for Pointers {
 fn address_of_main(text: Option<Mapping>, entryoff: u64) -> Result<u64> {
     match text {
         Some(text) => text.address(entryoff),
-        None => Err(Error::Malformed("a main program has a segment of text")),
+        None => Err(Error::Malformed("the main command has no __TEXT segment")),
     }
 }
 
 /// Returns the address at which an image begins, and whether a thread's state holds it. It is that of the first main
 /// program, else of the first thread, else 0.
 ///
-/// # Proved
+/// <details><summary>Proved</summary>
 ///
 /// - *found*: if `Ok(e)`: `entry_point_in cputype (map command_of commands) ≡ Ok (record { address = e.0; old_style = e.1 })`
 /// - *threads*: if `Ok(_)`: `AllRead (pointer_by cputype) (map command_of commands)`
 /// - *refused*: if `Err(e)`: `ErrorMeets (EntryPointFault cputype (map command_of commands)) e`
+///
+/// </details>
 pub fn entry(commands: &[LoadCommand], cputype: u32) -> Result<(u64, bool)> {
     let pointer = first_read(&Pointers { cputype }, commands)?;
     match first_readable(&Mains, commands) {

@@ -6,10 +6,12 @@ use crate::generated::mach_dyld::exports::Export;
 
 /// Finds the first export of a name. Returns None if there is none.
 ///
-/// # Proved
+/// <details><summary>Proved</summary>
 ///
 /// - *found*: if `Some(x)`: there is `i : ℕ` with: `IsFirstExport name (entries exports) i (entry_of x)`
 /// - *none*: if `None`: `IsNotExported name (entries exports)`
+///
+/// </details>
 pub fn find_export<'b, 'a>(exports: &'b [Export<'a>], name: &str) -> Option<&'b Export<'a>> {
     for export in exports {
         if export.name.as_str() == name {

@@ -13,6 +13,8 @@ use crate::generated::mach_load::LoadCommand;
 use crate::generated::mach_parts::segment::Segment;
 
 /// The fields that strict and lossy mode read from the commands in different ways.
+#[derive(Clone)]
+#[cfg_attr(not(feature = "internals"), non_exhaustive)]
 pub struct Fields<'a> {
     pub segments: Vec<Segment<'a>>,
     pub libs: Vec<&'a str>,
@@ -20,14 +22,23 @@ pub struct Fields<'a> {
     pub once: Once<'a>,
 }
 
+impl<'a> core::fmt::Debug for Fields<'a> {
+    /// Prints the name of the type.
+    fn fmt(&self, f: &mut core::fmt::Formatter<'_>) -> core::fmt::Result {
+        f.debug_struct("Fields").finish_non_exhaustive()
+    }
+}
+
 impl<'a> Fields<'a> {
     /// Reads all fields. Fails if one can't be read.
     ///
-    /// # Proved
+    /// <details><summary>Proved</summary>
     ///
     /// - *found*: if `Ok(f)`: `let cs = map command_of commands in AreFields ctx bytes (read_of (segment_by ctx bytes) cs) (libs_in bytes cs) cs f`
     /// - *all*: if `Ok(_)`: `AllReadable ctx bytes (map command_of commands)`
     /// - *refused*: if `Err(e)`: `ErrorMeets (IsUnreadable ctx bytes (map command_of commands)) e`
+    ///
+    /// </details>
     pub fn read(bytes: &'a [u8], ctx: Ctx, commands: &[LoadCommand]) -> Result<Fields<'a>> {
         let mut fields = Fields::empty()?;
         let mut names = KeptText::new(bytes);
@@ -40,10 +51,12 @@ impl<'a> Fields<'a> {
 
     /// Reads the fields that can be read. Data that aren't in the bytes are empty.
     ///
-    /// # Proved
+    /// <details><summary>Proved</summary>
     ///
     /// - *found*: if `Ok(f)`: `let cs = map command_of commands in AreFields ctx bytes (read_of (lossy_segment_by ctx bytes) cs) (libs_in bytes cs) cs f`
     /// - *only*: the result is `Ok`, unless memory is refused
+    ///
+    /// </details>
     pub fn read_lossy(bytes: &'a [u8], ctx: Ctx, commands: &[LoadCommand]) -> Result<Fields<'a>> {
         let mut fields = Fields::empty()?;
         let mut names = KeptText::new(bytes);

@@ -9,9 +9,11 @@ use core::fmt::{Display, Formatter};
 
 /// Whether bytes begin as an image does.
 ///
-/// # Proved
+/// <details><summary>Proved</summary>
 ///
 /// - `result ≡ is_image_magic (magic_at bytes 0)`
+///
+/// </details>
 pub fn begins_image(bytes: &[u8]) -> bool {
     match parse_magic_and_ctx(bytes, 0) {
         Ok((_, Some(_))) => true,
@@ -20,7 +22,8 @@ pub fn begins_image(bytes: &[u8]) -> bool {
 }
 
 /// A kind of file that isn't Mach-O.
-#[derive(Clone, Copy)]
+#[derive(Clone, Copy, Eq, Hash, PartialEq)]
+#[cfg_attr(not(feature = "internals"), non_exhaustive)]
 pub enum Foreign {
     /// No bytes.
     Empty,
@@ -36,11 +39,20 @@ pub enum Foreign {
     Bitcode,
 }
 
+impl core::fmt::Debug for Foreign {
+    /// Prints the name of the type.
+    fn fmt(&self, f: &mut core::fmt::Formatter<'_>) -> core::fmt::Result {
+        f.debug_struct("Foreign").finish_non_exhaustive()
+    }
+}
+
 /// Returns the kind of a file that isn't Mach-O, if its first bytes show it.
 ///
-/// # Proved
+/// <details><summary>Proved</summary>
 ///
 /// - `result ≡ foreign_kind bytes`
+///
+/// </details>
 pub fn foreign_kind(bytes: &[u8]) -> Option<Foreign> {
     if bytes.is_empty() {
         Some(Foreign::Empty)

@@ -11,8 +11,16 @@ use crate::generated::mach_parts::segment::Segment;
 use crate::generated::mach_records::LinkeditDataCommand;
 
 /// The commands that place the data of chained fixups.
-#[derive(Clone, Copy)]
+#[derive(Clone, Copy, Eq, Hash, PartialEq)]
+#[cfg_attr(not(feature = "internals"), non_exhaustive)]
 pub struct ChainedPlaces;
+
+impl core::fmt::Debug for ChainedPlaces {
+    /// Prints the name of the type.
+    fn fmt(&self, f: &mut core::fmt::Formatter<'_>) -> core::fmt::Result {
+        f.debug_struct("ChainedPlaces").finish_non_exhaustive()
+    }
+}
 
 impl Subject for ChainedPlaces {
     type Value = LinkeditDataCommand;
@@ -28,9 +36,11 @@ impl Subject for ChainedPlaces {
 
 /// Returns what the last readable command on a subject says.
 ///
-/// # Proved
+/// <details><summary>Proved</summary>
 ///
 /// - `option_map S.seen result ≡ last_of (read_of (S.reading subject) (map command_of commands))`
+///
+/// </details>
 pub fn last_readable<S: Subject>(subject: &S, commands: &[LoadCommand]) -> Option<S::Value> {
     let mut last = None;
     for command in commands {
@@ -41,9 +51,11 @@ pub fn last_readable<S: Subject>(subject: &S, commands: &[LoadCommand]) -> Optio
 
 /// Returns the place and the size of the data that the last such command names, if there is one.
 ///
-/// # Proved
+/// <details><summary>Proved</summary>
 ///
 /// - `result ≡ chained_place_in (map command_of commands)`
+///
+/// </details>
 pub fn chained_place(commands: &[LoadCommand]) -> Option<(u32, u32)> {
     let place = last_readable(&ChainedPlaces, commands)?;
     Some((place.dataoff, place.datasize))
@@ -51,9 +63,11 @@ pub fn chained_place(commands: &[LoadCommand]) -> Option<(u32, u32)> {
 
 /// Returns the chained fixups that the last such command names, if there is one.
 ///
-/// # Proved
+/// <details><summary>Proved</summary>
 ///
 /// - `Reads chained_option_view result (chained_at le bytes (chained_place_in (map command_of commands)))`
+///
+/// </details>
 pub fn chained_fixups<'a>(
     bytes: &'a [u8],
     le: Endian,
@@ -68,9 +82,11 @@ pub fn chained_fixups<'a>(
 
 /// Returns the address of an image's first byte in memory: that of its first segment named `__TEXT`, or 0.
 ///
-/// # Proved
+/// <details><summary>Proved</summary>
 ///
 /// - `result ≡ defined.base_of (map segment_view segments)`
+///
+/// </details>
 pub fn base_of(segments: &[Segment<'_>]) -> u64 {
     for segment in segments {
         if is_text(&segment.segname) {
@@ -86,6 +102,13 @@ pub struct FixupIterator<'a, 'b> {
     // The error of the fixups' header, until it is returned.
     refusal: Option<Error>,
     chains: crate::generated::mach_chained::FixupIterator<'a, 'b>,
+}
+
+impl<'a, 'b> core::fmt::Debug for FixupIterator<'a, 'b> {
+    /// Prints the name of the type.
+    fn fmt(&self, f: &mut core::fmt::Formatter<'_>) -> core::fmt::Result {
+        f.debug_struct("FixupIterator").finish_non_exhaustive()
+    }
 }
 
 impl<'a, 'b> FixupIterator<'a, 'b> {
@@ -123,6 +146,8 @@ impl<'a, 'b> Iterator for FixupIterator<'a, 'b> {
         self.step()
     }
 }
+
+impl<'a, 'b> core::iter::FusedIterator for FixupIterator<'a, 'b> {}
 
 impl<'a, 'b> Default for FixupIterator<'a, 'b> {
     /// Returns an iterator without fixups.

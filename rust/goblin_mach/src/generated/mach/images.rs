@@ -48,6 +48,13 @@ pub struct Images<'a> {
     members: Option<Members<'a>>,
 }
 
+impl<'a> core::fmt::Debug for Images<'a> {
+    /// Prints the name of the type.
+    fn fmt(&self, f: &mut core::fmt::Formatter<'_>) -> core::fmt::Result {
+        f.debug_struct("Images").finish_non_exhaustive()
+    }
+}
+
 // The place of a whole file.
 const ALONE: ItemPlace = ItemPlace {
     entry: None,
@@ -205,9 +212,22 @@ fn table_of<'a, R: ArchRecord>(file: &FatTable<'a, R>) -> Option<Table<'a>> {
 impl<'a> Input<'a> {
     /// Returns the items in the file, one after the other.
     ///
-    /// # Proved
+    /// ```
+    /// # let bytes = std::fs::read("tests/data/c.macho")?;
+    /// for item in goblin_mach::Input::parse(&bytes)?.images() {
+    ///     match item.content.and_then(|content| content.open()) {
+    ///         Ok(image) => println!("at {:#x}: {} commands", item.place.offset, image.load_commands.len()),
+    ///         Err(error) => println!("at {:#x}: {error}", item.place.offset),
+    ///     }
+    /// }
+    /// # Ok::<(), Box<dyn std::error::Error>>(())
+    /// ```
+    ///
+    /// <details><summary>Proved</summary>
     ///
     /// - for each `bytes : List ℕ`, if `IsInput bytes self`, `input_items_left result ≡ items_in bytes`
+    ///
+    /// </details>
     pub fn images(&self) -> Images<'a> {
         Images::of(match self {
             Input::Image(image) => Entries::Image(image.bytes()),
@@ -236,3 +256,5 @@ impl<'a> Iterator for Images<'a> {
         Some(self.begin(place, whole))
     }
 }
+
+impl<'a> core::iter::FusedIterator for Images<'a> {}

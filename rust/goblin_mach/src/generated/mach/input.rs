@@ -11,7 +11,7 @@ use crate::generated::mach_parts::FAT_MAGIC_64;
 use crate::generated::mach_parts::magic::peek;
 
 /// A file of any kind that can hold images.
-#[derive(Debug)]
+#[derive(Debug, Clone)]
 pub enum Input<'a> {
     /// One image.
     Image(MachO<'a>),
@@ -25,9 +25,11 @@ pub enum Input<'a> {
 
 /// Whether the bytes begin like an archive, or like a thin archive, whose members are other files.
 ///
-/// # Proved
+/// <details><summary>Proved</summary>
 ///
 /// - `result ≡ begins_any_archive bytes`
+///
+/// </details>
 pub fn begins_archive(bytes: &[u8]) -> bool {
     bytes.starts_with(b"!<arch>\n") || bytes.starts_with(b"!<thin>\n")
 }
@@ -45,7 +47,16 @@ impl<'a> Input<'a> {
     /// error except `Error::Memory` is a fault in the file. For all bytes except archives and fat files of 64 bits, the
     /// result is that of `Mach::parse`.
     ///
-    /// # Proved
+    /// ```
+    /// use goblin_mach::Input;
+    ///
+    /// let bytes = std::fs::read("tests/data/c.macho")?;
+    /// let file = Input::parse(&bytes)?;
+    /// println!("{} images", file.machos().filter(Result::is_ok).count());
+    /// # Ok::<(), Box<dyn std::error::Error>>(())
+    /// ```
+    ///
+    /// <details><summary>Proved</summary>
     ///
     /// - *opened*: if `Ok(x)`: `IsInput bytes x`
     /// - *only*: if `InputOpens bytes`, the result is `Ok`, unless memory is refused
@@ -53,6 +64,8 @@ impl<'a> Input<'a> {
     /// - *fat*: if `IsNeither bytes`, if `IsFat bytes`, the result is `Ok`
     /// - *fat 64*: if `IsFat64 bytes`, the result is `Ok`
     /// - *refused*: if `Err(e)`: `ErrorMeets (InputFault bytes) e`
+    ///
+    /// </details>
     pub fn parse(bytes: &'a [u8]) -> Result<Input<'a>> {
         if begins_archive(bytes) {
             return Ok(Input::Archive(Archive::parse(bytes)?));

@@ -7,7 +7,8 @@ use crate::generated::mach_archive::Member;
 use crate::generated::mach_base::Result;
 
 /// The cpu that an entry of a fat file is for, by its record.
-#[derive(Clone, Copy, Debug, PartialEq)]
+#[derive(Clone, Copy, Debug, PartialEq, Eq, Hash)]
+#[cfg_attr(not(feature = "internals"), non_exhaustive)]
 pub struct EntryCpu {
     /// The cpu, one of the `CPU_TYPE_` constants.
     pub cputype: u32,
@@ -16,7 +17,8 @@ pub struct EntryCpu {
 }
 
 /// The place of an item. Programs build its label from this.
-#[derive(Clone, Copy, Debug)]
+#[derive(Clone, Copy, Debug, Eq, Hash, PartialEq)]
+#[cfg_attr(not(feature = "internals"), non_exhaustive)]
 pub struct ItemPlace {
     /// The index of its entry, in a fat file.
     pub entry: Option<usize>,
@@ -40,9 +42,11 @@ pub enum Content<'a> {
 impl<'a> Content<'a> {
     /// Returns the bytes that may be an image; none for an archive without members.
     ///
-    /// # Proved
+    /// <details><summary>Proved</summary>
     ///
     /// - `result ≡ content_bytes (content_view self)`
+    ///
+    /// </details>
     pub fn bytes(&self) -> &'a [u8] {
         match self {
             Content::File(bytes) => bytes,
@@ -53,11 +57,13 @@ impl<'a> Content<'a> {
 
     /// Opens the image in it, strictly. Each error except `Error::Memory` is a fault in its bytes.
     ///
-    /// # Proved
+    /// <details><summary>Proved</summary>
     ///
     /// - *opened*: if `Ok(x)`: `IsImage (content_bytes (content_view self)) 0 x`
     /// - *only*: if `Opens (content_bytes (content_view self)) 0`, the result is `Ok`, unless memory is refused
     /// - *refused*: if `Err(e)`: `ErrorMeets (ImageFault (content_bytes (content_view self)) 0) e`
+    ///
+    /// </details>
     pub fn open(&self) -> Result<MachO<'a>> {
         MachO::parse(self.bytes(), 0)
     }
@@ -65,6 +71,7 @@ impl<'a> Content<'a> {
 
 /// An item of a file.
 #[derive(Debug)]
+#[cfg_attr(not(feature = "internals"), non_exhaustive)]
 pub struct InputItem<'a> {
     /// The place of the item.
     pub place: ItemPlace,

@@ -11,9 +11,11 @@ use crate::generated::mach_layout::Layout;
 
 /// Returns what the rules read of an image that was opened at the first of its bytes.
 ///
-/// # Proved
+/// <details><summary>Proved</summary>
 ///
 /// - `laid_of result ≡ laid_view image`
+///
+/// </details>
 pub fn layout_of<'a, 'b>(image: &'b MachO<'a>) -> Layout<'a, 'b> {
     Layout {
         bytes: image.bytes(),

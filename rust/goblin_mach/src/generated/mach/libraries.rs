@@ -11,7 +11,8 @@ use core::fmt::{Debug, Formatter};
 use core::slice::Iter;
 
 /// The way an image loads a library: which of the five library commands it uses (`mach-o/loader.h`).
-#[derive(Clone, Copy, Debug, PartialEq)]
+#[derive(Clone, Copy, Debug, PartialEq, Eq, Hash)]
+#[cfg_attr(not(feature = "internals"), non_exhaustive)]
 pub enum LibraryKind {
     /// `LC_LOAD_DYLIB`: the image needs it.
     Required,
@@ -26,7 +27,8 @@ pub enum LibraryKind {
 }
 
 /// How a library is used (struct dylib_use_command): by the flags of its command if it has any, else by the command's number.
-#[derive(Clone, Copy, Debug, PartialEq)]
+#[derive(Clone, Copy, Debug, PartialEq, Eq, Hash)]
+#[cfg_attr(not(feature = "internals"), non_exhaustive)]
 pub struct LibraryAttributes {
     /// It may be missing.
     pub is_weak: bool,
@@ -62,9 +64,11 @@ impl LibraryAttributes {
     /// Returns how the library of a command of this kind is used: by the four bytes at 24, if the command has the marker of
     /// a struct dylib_use_command, else by the kind.
     ///
-    /// # Proved
+    /// <details><summary>Proved</summary>
     ///
     /// - `result ≡ library_attributes le bytes (command_of command) kind`
+    ///
+    /// </details>
     pub fn of(
         bytes: &[u8],
         le: Endian,
@@ -83,7 +87,8 @@ impl LibraryAttributes {
 }
 
 /// A library that an image loads (struct dylib).
-#[derive(Clone, Copy, Debug)]
+#[derive(Clone, Copy, Debug, Eq, Hash, PartialEq)]
+#[cfg_attr(not(feature = "internals"), non_exhaustive)]
 pub struct Library<'a> {
     /// Its place in the image's `libs`, by which imports and re-exports name it: 1 for the first.
     pub ordinal: usize,
@@ -103,9 +108,11 @@ pub struct Library<'a> {
 
 /// Returns the way a command loads a library, with its struct dylib, if it loads one.
 ///
-/// # Proved
+/// <details><summary>Proved</summary>
 ///
 /// - `let c = command_of command in result ≡ option_map (λ kind. (kind, dylib_of_values c.values)) (library_kind c.kind)`
+///
+/// </details>
 #[inline(always)]
 pub fn brought(command: &LoadCommand) -> Option<(LibraryKind, Dylib)> {
     match &command.command {
@@ -207,6 +214,8 @@ impl<'a, 'b> Iterator for LibraryIterator<'a, 'b> {
         }
     }
 }
+
+impl<'a, 'b> core::iter::FusedIterator for LibraryIterator<'a, 'b> {}
 
 impl Debug for LibraryIterator<'_, '_> {
     /// Formats the number of commands left, the next ordinal and, of the bytes, only their number.

@@ -2,13 +2,15 @@
 //! The kind of a file: an image or a fat file.
 #![forbid(unsafe_code)]
 
+use crate::shim::ReadsNumbers;
+
 use crate::generated::mach::fat_file::table::MultiArch;
 use crate::generated::mach::macho::MachO;
 use crate::generated::mach_base::{Endian, Error, Result};
 use crate::generated::mach_parts::fat::FAT_MAGIC;
 
 /// A file: an image or a fat file.
-#[derive(Debug)]
+#[derive(Debug, Clone)]
 pub enum Mach<'a> {
     /// Images and archives for several cpus.
     Fat(MultiArch<'a>),
@@ -20,15 +22,28 @@ impl<'a> Mach<'a> {
     /// Opens a file: a fat file if its magic says so, which takes no memory, else an image. Each error except
     /// `Error::Memory` is a fault in the file.
     ///
-    /// # Proved
+    /// ```
+    /// use goblin_mach::Mach;
+    ///
+    /// let bytes = std::fs::read("tests/data/c.macho")?;
+    /// match Mach::parse(&bytes)? {
+    ///     Mach::Binary(image) => println!("one image for cpu {:#x}", image.header.cputype),
+    ///     Mach::Fat(file) => println!("{} images", file.narches),
+    /// }
+    /// # Ok::<(), Box<dyn std::error::Error>>(())
+    /// ```
+    ///
+    /// <details><summary>Proved</summary>
     ///
     /// - *opened*: if `Ok(x)`: `IsMach IsImage bytes x`
     /// - *only*: if `MachOpens Opens bytes`, the result is `Ok`, unless memory is refused
     /// - *fat*: if `IsFat bytes`, the result is `Ok`
     /// - *refused*: if `Err(e)`: `ErrorMeets (MachFault ImageFault bytes) e`
+    ///
+    /// </details>
     pub fn parse(bytes: &'a [u8]) -> Result<Mach<'a>> {
         if bytes.len() < 4 {
-            return Err(Error::Malformed("a magic is 4 bytes"));
+            return Err(Error::Malformed("the file ends in its magic"));
         }
         if Endian::Big.u32_at(bytes, 0) == FAT_MAGIC {
             return Ok(Mach::Fat(MultiArch::new(bytes)?));
@@ -39,15 +54,17 @@ impl<'a> Mach<'a> {
     /// Opens a file, and skips what can't be read of its image, as `MachO::parse_lossy` does. The images of a fat file are
     /// still opened strictly.
     ///
-    /// # Proved
+    /// <details><summary>Proved</summary>
     ///
     /// - *opened*: if `Ok(x)`: `IsMach IsLossyImage bytes x`
     /// - *only*: if `MachOpens LossyOpens bytes`, the result is `Ok`, unless memory is refused
     /// - *fat*: if `IsFat bytes`, the result is `Ok`
     /// - *refused*: if `Err(e)`: `ErrorMeets (MachFault LossyFault bytes) e`
+    ///
+    /// </details>
     pub fn parse_lossy(bytes: &'a [u8]) -> Result<Mach<'a>> {
         if bytes.len() < 4 {
-            return Err(Error::Malformed("a magic is 4 bytes"));
+            return Err(Error::Malformed("the file ends in its magic"));
         }
         if Endian::Big.u32_at(bytes, 0) == FAT_MAGIC {
             return Ok(Mach::Fat(MultiArch::new(bytes)?));

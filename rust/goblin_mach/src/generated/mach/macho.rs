@@ -8,6 +8,7 @@ mod debug;
 mod dyld;
 pub mod look_up;
 mod named;
+mod named_symbols;
 mod nearest;
 mod offsets;
 mod said;
@@ -16,6 +17,7 @@ mod streams;
 mod tables;
 
 use crate::generated::mach::fields::Fields;
+pub use crate::generated::mach::macho::named_symbols::NamedSymbols;
 pub use crate::generated::mach::macho::nearest::{Function, SymbolAt};
 pub(crate) use crate::generated::mach::macho::nearest::{distance_above, section_number};
 use crate::generated::mach::opened::Opened;
@@ -29,6 +31,7 @@ use crate::generated::mach_parts::segment::Segments;
 use crate::generated::mach_parts::symbols::{SymbolIterator, Symbols};
 
 /// A Mach-O image: an executable, a library or an object file for one cpu.
+#[derive(Clone)]
 pub struct MachO<'a> {
     /// The header, in one form for 32 and 64 bits.
     pub header: Header,
@@ -62,11 +65,22 @@ pub struct MachO<'a> {
 impl<'a> MachO<'a> {
     /// Opens the image at a place of the bytes. Each error except `Error::Memory` is a fault there.
     ///
-    /// # Proved
+    /// ```
+    /// use goblin_mach::MachO;
+    ///
+    /// let bytes = std::fs::read("tests/data/b.macho")?;
+    /// let image = MachO::parse(&bytes, 0)?;
+    /// println!("{} load commands", image.load_commands.len());
+    /// # Ok::<(), Box<dyn std::error::Error>>(())
+    /// ```
+    ///
+    /// <details><summary>Proved</summary>
     ///
     /// - *opened*: if `Ok(x)`: `IsImage bytes offset x`
     /// - *only*: if `Opens bytes offset`, the result is `Ok`, unless memory is refused
     /// - *refused*: if `Err(e)`: `ErrorMeets (ImageFault bytes offset) e`
+    ///
+    /// </details>
     pub fn parse(bytes: &'a [u8], offset: usize) -> Result<MachO<'a>> {
         MachO::open(bytes, offset)
     }
@@ -75,11 +89,23 @@ impl<'a> MachO<'a> {
     /// symbol tables, names, ids and run paths are left out. Each error except `Error::Memory` is a fault there, also in
     /// lossy mode.
     ///
-    /// # Proved
+    /// ```
+    /// use goblin_mach::MachO;
+    ///
+    /// let bytes = std::fs::read("tests/data/b.macho")?;
+    /// let cut = &bytes[..bytes.len() - 1];
+    /// assert!(MachO::parse(cut, 0).is_err());
+    /// assert_eq!(MachO::parse_lossy(cut, 0)?.header, MachO::parse(&bytes, 0)?.header);
+    /// # Ok::<(), Box<dyn std::error::Error>>(())
+    /// ```
+    ///
+    /// <details><summary>Proved</summary>
     ///
     /// - *opened*: if `Ok(x)`: `IsLossyImage bytes offset x`
     /// - *only*: if `LossyOpens bytes offset`, the result is `Ok`, unless memory is refused
     /// - *refused*: if `Err(e)`: `ErrorMeets (LossyFault bytes offset) e`
+    ///
+    /// </details>
     pub fn parse_lossy(bytes: &'a [u8], offset: usize) -> Result<MachO<'a>> {
         MachO::open_lossy(bytes, offset)
     }
@@ -123,10 +149,22 @@ impl<'a> MachO<'a> {
 impl<'a> MachO<'a> {
     /// Returns the symbols that the image holds, one after the other; none if it holds no table.
     ///
-    /// # Proved
+    /// ```
+    /// # let bytes = std::fs::read("tests/data/b.macho")?;
+    /// # let image = goblin_mach::MachO::parse(&bytes, 0)?;
+    /// for symbol in image.symbols() {
+    ///     let (name, nlist) = symbol?;
+    ///     println!("{:#x} {name}", nlist.n_value);
+    /// }
+    /// # Ok::<(), Box<dyn std::error::Error>>(())
+    /// ```
+    ///
+    /// <details><summary>Proved</summary>
     ///
     /// - *items*: `symbols_left result ≡ symbols_view self.symbols`
     /// - *bounded*: `length (symbols_left result) < 2 ^ 64`
+    ///
+    /// </details>
     pub fn symbols(&self) -> SymbolIterator<'a> {
         match &self.symbols {
             Some(symbols) => symbols.iter(),
@@ -137,12 +175,23 @@ impl<'a> MachO<'a> {
     /// Returns the exports of the image, over the libraries that it holds; none if no command names a trie. Each error
     /// except `Error::Memory` is a fault in the trie.
     ///
-    /// # Proved
+    /// ```
+    /// # let bytes = std::fs::read("tests/data/b.macho")?;
+    /// # let image = goblin_mach::MachO::parse(&bytes, 0)?;
+    /// for export in image.exports()? {
+    ///     println!("{} {:?}", export.name, image.export_address(&export.info));
+    /// }
+    /// # Ok::<(), Box<dyn std::error::Error>>(())
+    /// ```
+    ///
+    /// <details><summary>Proved</summary>
     ///
     /// - *listed*: if `Ok(v)`: `ListsImageExports (trie_view self) (texts self.libs.items) (entries v.items)`
     /// - *only*: for each `list : List Entry`, if `ListsImageExports (trie_view self) (texts self.libs.items) list`, the result is `Ok`, unless memory is refused
     /// - *refused*: if `Err(e)`: `ErrorMeets (ImageExportsFault (trie_view self) (texts self.libs.items)) e`
     /// - *few exports*: if `Ok(v)`: `length v.items ≤ trie_len (trie_view self)`
+    ///
+    /// </details>
     pub fn exports(&self) -> Result<Vec<Export<'a>>> {
         match &self.export_trie {
             Some(trie) => trie.exports(self.libs.as_slice()),
@@ -154,10 +203,22 @@ impl<'a> MachO<'a> {
     /// none if no command names a trie. `next` lends each name until it is called again. The walk takes a mark for each byte
     /// of the trie, the open nodes and one name, and no allocation for an export.
     ///
-    /// # Proved
+    /// ```
+    /// # let bytes = std::fs::read("tests/data/b.macho")?;
+    /// # let image = goblin_mach::MachO::parse(&bytes, 0)?;
+    /// for export in image.walk_exports()? {
+    ///     let (name, info) = export?;
+    ///     println!("{name} {info:?}");
+    /// }
+    /// # Ok::<(), Box<dyn std::error::Error>>(())
+    /// ```
+    ///
+    /// <details><summary>Proved</summary>
     ///
     /// - *given*: if `Ok(w)`: `HasGiven (trie_or_empty (trie_view self)) (texts self.libs.items) [] w`
     /// - *memory*: the result is `Ok`, unless memory is refused
+    ///
+    /// </details>
     pub fn walk_exports<'b>(&'b self) -> Result<ExportWalk<'a, 'b>> {
         match &self.export_trie {
             Some(trie) => trie.walk(self.libs.as_slice()),
@@ -165,14 +226,26 @@ impl<'a> MachO<'a> {
         }
     }
 
-    /// Returns the imports of the image, over the libraries and the segments that it holds; none if no command names binds.
-    /// Each error except `Error::Memory` is a fault in the binds.
+    /// Returns an import for each bind of opcodes only; `bindings` has what dyld binds, chains of fixups too. They are over the
+    /// libraries and the segments that the image holds. There are none if no command names binds. Each error except
+    /// `Error::Memory` is a fault in the binds.
     ///
-    /// # Proved
+    /// ```
+    /// # let bytes = std::fs::read("tests/data/b.macho")?;
+    /// # let image = goblin_mach::MachO::parse(&bytes, 0)?;
+    /// for import in image.imports()? {
+    ///     println!("{} of {}", import.name, import.dylib);
+    /// }
+    /// # Ok::<(), Box<dyn std::error::Error>>(())
+    /// ```
+    ///
+    /// <details><summary>Proved</summary>
     ///
     /// - *listed*: if `Ok(v)`: `ListsImageImports (binds_view self) (pointer_size (ctx_view self).container) (texts self.libs.items) (segments_view self) (bind_imports_view v.items)`
     /// - *only*: for each `list : List (binds.Import)`, if `ListsImageImports (binds_view self) (pointer_size (ctx_view self).container) (texts self.libs.items) (segments_view self) list`, the result is `Ok`, unless memory is refused
     /// - *refused*: if `Err(e)`: `ErrorMeets (ImageImportsFault (binds_view self) (pointer_size (ctx_view self).container) (texts self.libs.items) (segments_view self)) e`
+    ///
+    /// </details>
     pub fn imports(&self) -> Result<Vec<Import<'a>>> {
         match &self.bind_interpreter {
             Some(binds) => binds.imports(self.libs.as_slice(), self.segments.as_slice(), self.ctx),
@@ -180,13 +253,23 @@ impl<'a> MachO<'a> {
         }
     }
 
-    /// Returns the imports of the image one at a time, over the libraries and the segments that it holds: those of the
-    /// non-lazy stream, then those of the lazy stream. The first fault is the last item. There are none if no command names
-    /// binds. It allocates nothing.
+    /// Returns an import for each bind of opcodes only, one at a time; `bindings` has what dyld binds, chains of fixups too. They
+    /// are over the libraries and the segments that the image holds: those of the non-lazy stream, then those of the lazy
+    /// stream. The first fault is the last item. There are none if no command names binds. It allocates nothing.
     ///
-    /// # Proved
+    /// ```
+    /// # let bytes = std::fs::read("tests/data/b.macho")?;
+    /// # let image = goblin_mach::MachO::parse(&bytes, 0)?;
+    /// let lazy = image.iter_imports().filter(|import| import.as_ref().is_ok_and(|import| import.is_lazy));
+    /// println!("{} lazy imports", lazy.count());
+    /// # Ok::<(), Box<dyn std::error::Error>>(())
+    /// ```
+    ///
+    /// <details><summary>Proved</summary>
     ///
     /// - `AreImageBindItems (binds_view self) (pointer_size (ctx_view self).container) (texts self.libs.items) (segments_view self) (imports_left result)`
+    ///
+    /// </details>
     pub fn iter_imports<'b>(&'b self) -> BindIterator<'a, 'b> {
         let Some(binds) = &self.bind_interpreter else {
             return BindIterator::default();
@@ -196,9 +279,11 @@ impl<'a> MachO<'a> {
 
     /// Whether the image is an object file.
     ///
-    /// # Proved
+    /// <details><summary>Proved</summary>
     ///
     /// - the result is `true` exactly if `self.header.filetype ≡ 1`
+    ///
+    /// </details>
     pub fn is_object_file(&self) -> bool {
         self.header.filetype == MH_OBJECT
     }
@@ -207,9 +292,22 @@ impl<'a> MachO<'a> {
     /// segment, counted from 0, and an iterator over its relocations. The first unreadable section of any segment is the
     /// error of the whole.
     ///
-    /// # Proved
+    /// ```
+    /// # let bytes = std::fs::read("tests/data/b.macho")?;
+    /// # let image = goblin_mach::MachO::parse(&bytes, 0)?;
+    /// for (_, relocations, section) in image.relocations()? {
+    ///     for relocation in relocations {
+    ///         println!("{} {:#x}", section.name()?, relocation?.r_address);
+    ///     }
+    /// }
+    /// # Ok::<(), Box<dyn std::error::Error>>(())
+    /// ```
+    ///
+    /// <details><summary>Proved</summary>
     ///
     /// - `Gives (λ v. map relocated_view v.items) result (relocated_sections_in (ctx_view self) (bytes_view self) (segments_view self))`
+    ///
+    /// </details>
     pub fn relocations(&self) -> Result<Vec<RelocatedSection<'a>>> {
         relocations(self.bytes, self.segments.as_slice(), self.ctx)
     }

@@ -15,9 +15,11 @@ pub mod libraries;
 mod macho;
 mod named_bytes;
 mod opened;
+#[doc(hidden)]
 pub mod readings;
 mod rebases;
 mod relocations;
+#[doc(hidden)]
 pub mod said;
 mod single_value;
 mod subjects;
@@ -27,6 +29,7 @@ mod weak_binds;
 
 // A file: an image, a fat file, or anything else that holds images.
 mod fat_file;
+#[doc(hidden)]
 pub mod first_bytes;
 #[cfg(feature = "archive")]
 mod images;
@@ -41,57 +44,117 @@ mod view;
 #[cfg(feature = "layout")]
 pub mod layout;
 
+#[doc(hidden)]
 pub mod laws;
 
 pub use crate::generated::mach::bindings::BindingIterator;
 pub use crate::generated::mach::command_iterator::CommandIterator;
 pub use crate::generated::mach::exported::find_export;
-pub use crate::generated::mach::fat_file::arches::{
-    ArchIterator, FatArch64Iterator, FatArchIterator,
-};
+pub use crate::generated::mach::fat_file::arches::ArchIterator;
+pub use crate::generated::mach::fat_file::arches::FatArch64Iterator;
+pub use crate::generated::mach::fat_file::arches::FatArchIterator;
 pub use crate::generated::mach::fat_file::entry::SingleArch;
-pub use crate::generated::mach::fat_file::table::{
-    EntryIterator, FatTable, MultiArch, MultiArch64, SingleArch64Iterator, SingleArchIterator,
-};
+pub use crate::generated::mach::fat_file::table::EntryIterator;
+pub use crate::generated::mach::fat_file::table::FatTable;
+pub use crate::generated::mach::fat_file::table::MultiArch;
+pub use crate::generated::mach::fat_file::table::MultiArch64;
+pub use crate::generated::mach::fat_file::table::SingleArch64Iterator;
+pub use crate::generated::mach::fat_file::table::SingleArchIterator;
 pub use crate::generated::mach::first_bytes::Foreign;
 pub use crate::generated::mach::fixups::FixupIterator;
 #[cfg(feature = "archive")]
 pub use crate::generated::mach::images::Images;
 #[cfg(feature = "archive")]
-pub use crate::generated::mach::input::{Input, begins_archive};
+pub use crate::generated::mach::input::Input;
 #[cfg(feature = "archive")]
-pub use crate::generated::mach::item::{Content, EntryCpu, InputItem, ItemPlace};
-pub use crate::generated::mach::libraries::{
-    Library, LibraryAttributes, LibraryIterator, LibraryKind,
-};
+pub use crate::generated::mach::input::begins_archive;
+#[cfg(feature = "archive")]
+pub use crate::generated::mach::item::Content;
+#[cfg(feature = "archive")]
+pub use crate::generated::mach::item::EntryCpu;
+#[cfg(feature = "archive")]
+pub use crate::generated::mach::item::InputItem;
+#[cfg(feature = "archive")]
+pub use crate::generated::mach::item::ItemPlace;
+pub use crate::generated::mach::libraries::Library;
+pub use crate::generated::mach::libraries::LibraryAttributes;
+pub use crate::generated::mach::libraries::LibraryIterator;
+pub use crate::generated::mach::libraries::LibraryKind;
 pub use crate::generated::mach::mach::Mach;
-pub use crate::generated::mach::macho::{Function, MachO, SymbolAt};
+pub use crate::generated::mach::macho::Function;
+pub use crate::generated::mach::macho::MachO;
+pub use crate::generated::mach::macho::NamedSymbols;
+pub use crate::generated::mach::macho::SymbolAt;
 pub use crate::generated::mach::rebases::RebaseIterator;
-pub use crate::generated::mach::said::{BuildVersion, Encryption, FilesetEntry};
-pub use crate::generated::mach::subjects::{id_place, library_place, run_path_place};
+pub use crate::generated::mach::said::BuildVersion;
+pub use crate::generated::mach::said::Encryption;
+pub use crate::generated::mach::said::FilesetEntry;
+pub use crate::generated::mach::subjects::id_place;
+pub use crate::generated::mach::subjects::library_place;
+pub use crate::generated::mach::subjects::run_path_place;
 pub use crate::generated::mach::symbol_map::SymbolMap;
-pub use crate::generated::mach::view::{LinkView, link_view};
-pub use crate::generated::mach_base::{
-    BE, Container, Ctx, Description, Endian, Error, Hint, HintData, IntoCtx, LE, Record, Result,
-    ScrollError, SizeWith, Sleb128, Steps, TryFromCtx, TryIntoCtx, Uleb128, describe, gread_with,
-    pread_with, pwrite_with, read_text, take_hint_bytes,
-};
+pub use crate::generated::mach::view::LinkView;
+pub use crate::generated::mach::view::link_view;
+pub use crate::generated::mach_base::BE;
+pub use crate::generated::mach_base::Container;
+pub use crate::generated::mach_base::Ctx;
+pub use crate::generated::mach_base::Description;
+pub use crate::generated::mach_base::Endian;
+pub use crate::generated::mach_base::Error;
+pub use crate::generated::mach_base::Hint;
+pub use crate::generated::mach_base::HintData;
+pub use crate::generated::mach_base::IntoCtx;
+pub use crate::generated::mach_base::LE;
+pub use crate::generated::mach_base::Record;
+pub use crate::generated::mach_base::Result;
+pub use crate::generated::mach_base::ScrollError;
+pub use crate::generated::mach_base::SizeWith;
+pub use crate::generated::mach_base::Sleb128;
+pub use crate::generated::mach_base::Steps;
+pub use crate::generated::mach_base::TryFromCtx;
+pub use crate::generated::mach_base::TryIntoCtx;
+pub use crate::generated::mach_base::Uleb128;
+pub use crate::generated::mach_base::describe;
+pub use crate::generated::mach_base::gread_with;
+pub use crate::generated::mach_base::pread_with;
+pub use crate::generated::mach_base::pwrite_with;
+pub use crate::generated::mach_base::read_text;
+pub use crate::generated::mach_base::take_hint_bytes;
+pub use crate::generated::mach_dyld::OpcodeRebaseIterator;
+pub use crate::generated::mach_dyld::Rebase;
+pub use crate::generated::mach_dyld::RebaseKind;
+pub use crate::generated::mach_dyld::RebaseStream;
+pub use crate::generated::mach_dyld::WeakBind;
+pub use crate::generated::mach_dyld::WeakBindIterator;
+pub use crate::generated::mach_dyld::WeakBindStream;
+pub use crate::generated::mach_dyld::bind_opcodes;
 pub use crate::generated::mach_dyld::bindings::OpcodeBindingIterator;
-pub use crate::generated::mach_dyld::{
-    OpcodeRebaseIterator, Rebase, RebaseKind, RebaseStream, WeakBind, WeakBindIterator,
-    WeakBindStream, bind_opcodes, exports, imports, rebase_opcodes,
-};
-pub use crate::generated::mach_load::{
-    BuildToolIterator, DataInCodeIterator, FunctionStartIterator, FunctionStarts,
-    LinkerOptionIterator, Note, NoteIterator,
-};
-pub use crate::generated::mach_parts::binding::{Binding, Provider};
-pub use crate::generated::mach_parts::magic::{parse_magic_and_ctx, peek, peek_bytes};
-pub use crate::generated::mach_parts::{
-    ArchRecord, FAT_MAGIC_64, FatArch64, SIZEOF_FAT_ARCH_64, fat, header, relocation, segment,
-    symbols,
-};
-pub use crate::generated::mach_records::{constants, cputype};
+pub use crate::generated::mach_dyld::exports;
+pub use crate::generated::mach_dyld::imports;
+pub use crate::generated::mach_dyld::rebase_opcodes;
+pub use crate::generated::mach_load::BuildToolIterator;
+pub use crate::generated::mach_load::DataInCodeIterator;
+pub use crate::generated::mach_load::FunctionStartIterator;
+pub use crate::generated::mach_load::FunctionStarts;
+pub use crate::generated::mach_load::LinkerOptionIterator;
+pub use crate::generated::mach_load::Note;
+pub use crate::generated::mach_load::NoteIterator;
+pub use crate::generated::mach_parts::ArchRecord;
+pub use crate::generated::mach_parts::FAT_MAGIC_64;
+pub use crate::generated::mach_parts::FatArch64;
+pub use crate::generated::mach_parts::SIZEOF_FAT_ARCH_64;
+pub use crate::generated::mach_parts::binding::Binding;
+pub use crate::generated::mach_parts::binding::Provider;
+pub use crate::generated::mach_parts::fat;
+pub use crate::generated::mach_parts::header;
+pub use crate::generated::mach_parts::magic::parse_magic_and_ctx;
+pub use crate::generated::mach_parts::magic::peek;
+pub use crate::generated::mach_parts::magic::peek_bytes;
+pub use crate::generated::mach_parts::relocation;
+pub use crate::generated::mach_parts::segment;
+pub use crate::generated::mach_parts::symbols;
+pub use crate::generated::mach_records::constants;
+pub use crate::generated::mach_records::cputype;
 
 /// Chained fixups: what the data of `LC_DYLD_CHAINED_FIXUPS` and the pointers of the segments hold.
 pub mod chained_fixups {
@@ -116,6 +179,7 @@ pub mod slots {
 pub mod load_command {
     pub use crate::generated::mach_load::CommandVariant;
     pub use crate::generated::mach_load::LoadCommand;
+    pub use crate::generated::mach_load::NewerCommand;
     pub use crate::generated::mach_load::ThreadCommand;
     pub use crate::generated::mach_records::BuildToolVersion;
     pub use crate::generated::mach_records::BuildVersionCommand;
@@ -137,6 +201,7 @@ pub mod load_command {
     pub use crate::generated::mach_records::Fvmlib;
     pub use crate::generated::mach_records::FvmlibCommand;
     pub use crate::generated::mach_records::IdentCommand;
+    pub use crate::generated::mach_records::LC_ATOM_INFO;
     pub use crate::generated::mach_records::LC_BUILD_VERSION;
     pub use crate::generated::mach_records::LC_CODE_SIGNATURE;
     pub use crate::generated::mach_records::LC_DATA_IN_CODE;
@@ -151,6 +216,8 @@ pub mod load_command {
     pub use crate::generated::mach_records::LC_ENCRYPTION_INFO_64;
     pub use crate::generated::mach_records::LC_FILESET_ENTRY;
     pub use crate::generated::mach_records::LC_FUNCTION_STARTS;
+    pub use crate::generated::mach_records::LC_FUNCTION_VARIANT_FIXUPS;
+    pub use crate::generated::mach_records::LC_FUNCTION_VARIANTS;
     pub use crate::generated::mach_records::LC_FVMFILE;
     pub use crate::generated::mach_records::LC_ID_DYLIB;
     pub use crate::generated::mach_records::LC_ID_DYLINKER;
@@ -184,6 +251,7 @@ pub mod load_command {
     pub use crate::generated::mach_records::LC_SUB_UMBRELLA;
     pub use crate::generated::mach_records::LC_SYMSEG;
     pub use crate::generated::mach_records::LC_SYMTAB;
+    pub use crate::generated::mach_records::LC_TARGET_TRIPLE;
     pub use crate::generated::mach_records::LC_THREAD;
     pub use crate::generated::mach_records::LC_TWOLEVEL_HINTS;
     pub use crate::generated::mach_records::LC_UNIXTHREAD;
@@ -243,6 +311,7 @@ pub mod load_command {
     pub use crate::generated::mach_records::SIZEOF_SUB_UMBRELLA_COMMAND;
     pub use crate::generated::mach_records::SIZEOF_SYMSEG_COMMAND;
     pub use crate::generated::mach_records::SIZEOF_SYMTAB_COMMAND;
+    pub use crate::generated::mach_records::SIZEOF_TARGET_TRIPLE_COMMAND;
     pub use crate::generated::mach_records::SIZEOF_UUID_COMMAND;
     pub use crate::generated::mach_records::SIZEOF_VERSION_MIN_COMMAND;
     pub use crate::generated::mach_records::Section32;
@@ -260,9 +329,11 @@ pub mod load_command {
     pub use crate::generated::mach_records::TOOL_LD;
     pub use crate::generated::mach_records::TOOL_LLD;
     pub use crate::generated::mach_records::TOOL_SWIFT;
+    pub use crate::generated::mach_records::TargetTripleCommand;
     pub use crate::generated::mach_records::TwolevelHint;
     pub use crate::generated::mach_records::TwolevelHintsCommand;
     pub use crate::generated::mach_records::UuidCommand;
     pub use crate::generated::mach_records::VersionMinCommand;
     pub use crate::generated::mach_records::cmd_to_str;
+    pub use crate::generated::mach_records::command_name;
 }

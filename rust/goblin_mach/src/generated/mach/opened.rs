@@ -12,6 +12,8 @@ use crate::generated::mach_parts::header::Header;
 use crate::generated::mach_parts::magic::parse_magic_and_ctx;
 
 /// What strict and lossy mode read in the same way.
+#[derive(Clone)]
+#[cfg_attr(not(feature = "internals"), non_exhaustive)]
 pub struct Opened {
     pub ctx: Ctx,
     pub header: Header,
@@ -19,6 +21,13 @@ pub struct Opened {
     /// The address at which the image begins, as `entry` returns it.
     pub address: u64,
     pub old_style_entry: bool,
+}
+
+impl core::fmt::Debug for Opened {
+    /// Prints the name of the type.
+    fn fmt(&self, f: &mut core::fmt::Formatter<'_>) -> core::fmt::Result {
+        f.debug_struct("Opened").finish_non_exhaustive()
+    }
 }
 
 // Returns the context and the header of the image at a place, if its counts can be those of an image.
@@ -38,12 +47,14 @@ fn read_header(bytes: &[u8], offset: usize) -> Result<(Ctx, Header)> {
 impl Opened {
     /// Reads them at a place.
     ///
-    /// # Proved
+    /// <details><summary>Proved</summary>
     ///
     /// - *opened*: if `Ok(x)`: `LossyOpensAs bytes offset x.ctx (commands_of x)`
     /// - *header*: if `Ok(x)`: `IsHeader x.ctx bytes offset x.header`
     /// - *entry*: if `Ok(x)`: `entry_point_in (cputype_at x.ctx bytes offset) (commands_of x) ≡ Ok (record { address = x.address; old_style = x.old_style_entry })`
     /// - *refused*: if `Err(e)`: `ErrorMeets (LossyFault bytes offset) e`
+    ///
+    /// </details>
     pub fn read(bytes: &[u8], offset: usize) -> Result<Opened> {
         let (ctx, header) = read_header(bytes, offset)?;
         let first = offset + Header::size_with(&ctx);

@@ -15,19 +15,23 @@ pub trait Subject {
 
     /// Reads a command, if it concerns the subject.
     ///
-    /// # Proved
+    /// <details><summary>Proved</summary>
     ///
     /// - `view_of_read seen result ≡ reading self (command_of command)`
+    ///
+    /// </details>
     fn read(&self, command: &LoadCommand) -> Option<Result<Self::Value>>;
 }
 
 /// Adds what a command says on a subject to a list.
 ///
-/// # Proved
+/// <details><summary>Proved</summary>
 ///
 /// - *kept*: if `Ok`: `map S.seen values.new.items ≡ map S.seen values.old.items ++ values_read (S.reading subject (command_of command))`
 /// - *read*: if `Ok`: `IsRead (S.reading subject (command_of command))`
 /// - *refused*: if `Err(e)`: `ErrorMeets (IsRefused (S.reading subject (command_of command))) e`
+///
+/// </details>
 #[inline(always)]
 pub fn add<S: Subject>(
     values: &mut Vec<S::Value>,
@@ -42,10 +46,12 @@ pub fn add<S: Subject>(
 
 /// Adds what a command says on a subject to a list, if it can be read.
 ///
-/// # Proved
+/// <details><summary>Proved</summary>
 ///
 /// - *kept*: if `Ok`: `map S.seen values.new.items ≡ map S.seen values.old.items ++ values_read (S.reading subject (command_of command))`
 /// - *only*: the result is `Ok`, unless memory is refused
+///
+/// </details>
 pub fn add_readable<S: Subject>(
     values: &mut Vec<S::Value>,
     subject: &S,
@@ -59,11 +65,13 @@ pub fn add_readable<S: Subject>(
 
 /// Replaces what an earlier command said on a subject by what this one says.
 ///
-/// # Proved
+/// <details><summary>Proved</summary>
 ///
 /// - *kept*: if `Ok`: `option_map S.seen last.new ≡ last_or (option_map S.seen last.old) (values_read (S.reading subject (command_of command)))`
 /// - *read*: if `Ok`: `IsRead (S.reading subject (command_of command))`
 /// - *refused*: if `Err(e)`: `ErrorMeets (IsRefused (S.reading subject (command_of command))) e`
+///
+/// </details>
 pub fn put<S: Subject>(
     last: &mut Option<S::Value>,
     subject: &S,
@@ -77,9 +85,11 @@ pub fn put<S: Subject>(
 
 /// Replaces what an earlier command said on a subject by what this one says, if it can be read.
 ///
-/// # Proved
+/// <details><summary>Proved</summary>
 ///
 /// - `option_map S.seen last.new ≡ last_or (option_map S.seen last.old) (values_read (S.reading subject (command_of command)))`
+///
+/// </details>
 pub fn put_readable<S: Subject>(last: &mut Option<S::Value>, subject: &S, command: &LoadCommand) {
     if let Some(Ok(value)) = subject.read(command) {
         *last = Some(value);
@@ -90,9 +100,11 @@ pub fn put_readable<S: Subject>(last: &mut Option<S::Value>, subject: &S, comman
 pub(crate) trait TextSubject {
     /// Returns the place of the text that a command names, if the command concerns the subject.
     ///
-    /// # Proved
+    /// <details><summary>Proved</summary>
     ///
     /// - `reading self (command_of command) ≡ option_map (text_at (bytes self)) result`
+    ///
+    /// </details>
     fn place(&self, command: &LoadCommand) -> Option<usize>;
 }
 
@@ -117,10 +129,10 @@ pub(crate) fn add_readable_text<'a, S: TextSubject>(
     names: &mut KeptText<'a>,
     command: &LoadCommand,
 ) -> Result<()> {
-    if let Some(place) = subject.place(command)
-        && let Ok(text) = names.read(place)
-    {
-        values.try_push(text)?;
+    if let Some(place) = subject.place(command) {
+        if let Ok(text) = names.read(place) {
+            values.try_push(text)?;
+        }
     }
     Ok(())
 }
@@ -146,20 +158,22 @@ pub(crate) fn put_readable_text<'a, S: TextSubject>(
     names: &mut KeptText<'a>,
     command: &LoadCommand,
 ) {
-    if let Some(place) = subject.place(command)
-        && let Ok(text) = names.read(place)
-    {
-        *last = Some(text);
+    if let Some(place) = subject.place(command) {
+        if let Ok(text) = names.read(place) {
+            *last = Some(text);
+        }
     }
 }
 
 /// Returns what the first command on a subject says. Fails if a command on it can't be read.
 ///
-/// # Proved
+/// <details><summary>Proved</summary>
 ///
 /// - *found*: if `Ok(first)`: `option_map S.seen first ≡ first_of (read_of (S.reading subject) (map command_of commands))`
 /// - *all*: if `Ok(_)`: `AllRead (S.reading subject) (map command_of commands)`
 /// - *refused*: if `Err(e)`: `ErrorMeets (IsUnread (S.reading subject) (map command_of commands)) e`
+///
+/// </details>
 pub fn first_read<S: Subject>(subject: &S, commands: &[LoadCommand]) -> Result<Option<S::Value>> {
     let mut first = None;
     for command in commands {
@@ -177,9 +191,11 @@ pub fn first_read<S: Subject>(subject: &S, commands: &[LoadCommand]) -> Result<O
 
 /// Returns what the first readable command on a subject says.
 ///
-/// # Proved
+/// <details><summary>Proved</summary>
 ///
 /// - `option_map S.seen result ≡ first_of (read_of (S.reading subject) (map command_of commands))`
+///
+/// </details>
 pub fn first_readable<S: Subject>(subject: &S, commands: &[LoadCommand]) -> Option<S::Value> {
     for command in commands {
         let Some(found) = subject.read(command) else {

@@ -10,9 +10,17 @@ use crate::generated::mach_dyld::{OpcodeRebaseIterator, Rebase, RebaseKind, Reba
 use crate::generated::mach_load::{CommandVariant, LoadCommand};
 
 /// The stream of rebases of the image.
-#[derive(Clone, Copy)]
+#[derive(Clone, Copy, Eq, Hash, PartialEq)]
+#[cfg_attr(not(feature = "internals"), non_exhaustive)]
 pub struct RebaseStreams<'a> {
     pub bytes: &'a [u8],
+}
+
+impl<'a> core::fmt::Debug for RebaseStreams<'a> {
+    /// Prints the name of the type.
+    fn fmt(&self, f: &mut core::fmt::Formatter<'_>) -> core::fmt::Result {
+        f.debug_struct("RebaseStreams").finish_non_exhaustive()
+    }
 }
 
 impl<'a> Subject for RebaseStreams<'a> {
@@ -51,6 +59,13 @@ pub struct ChainRebases<'a, 'b> {
     fixups: FixupIterator<'a, 'b>,
 }
 
+impl<'a, 'b> core::fmt::Debug for ChainRebases<'a, 'b> {
+    /// Prints the name of the type.
+    fn fmt(&self, f: &mut core::fmt::Formatter<'_>) -> core::fmt::Result {
+        f.debug_struct("ChainRebases").finish_non_exhaustive()
+    }
+}
+
 impl<'a, 'b> ChainRebases<'a, 'b> {
     // Returns the next rebase, or an error.
     #[inline(always)]
@@ -75,6 +90,13 @@ pub struct RebaseIterator<'a, 'b> {
     opcodes: OpcodeRebaseIterator<'a, 'b>,
     chains: ChainRebases<'a, 'b>,
     ended: bool,
+}
+
+impl<'a, 'b> core::fmt::Debug for RebaseIterator<'a, 'b> {
+    /// Prints the name of the type.
+    fn fmt(&self, f: &mut core::fmt::Formatter<'_>) -> core::fmt::Result {
+        f.debug_struct("RebaseIterator").finish_non_exhaustive()
+    }
 }
 
 impl<'a, 'b> RebaseIterator<'a, 'b> {
@@ -124,6 +146,8 @@ impl<'a, 'b> Iterator for RebaseIterator<'a, 'b> {
         self.step()
     }
 }
+
+impl<'a, 'b> core::iter::FusedIterator for RebaseIterator<'a, 'b> {}
 
 impl<'a, 'b> Default for RebaseIterator<'a, 'b> {
     /// Returns an iterator without rebases.

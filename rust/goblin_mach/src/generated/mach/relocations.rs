@@ -14,9 +14,11 @@ pub type RelocatedSection<'a> = (usize, RelocationIterator<'a>, Section);
 /// Returns the sections that have relocations, segment by segment in order, each with its number in its segment, counted
 /// from 0. The first section of all that isn't in the bytes is the error of the whole.
 ///
-/// # Proved
+/// <details><summary>Proved</summary>
 ///
 /// - `Gives (λ v. map relocated_view v.items) result (relocated_sections_in ctx bytes (map segment_view segments))`
+///
+/// </details>
 pub fn relocations<'a>(
     bytes: &'a [u8],
     segments: &[Segment<'a>],

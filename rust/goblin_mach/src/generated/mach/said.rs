@@ -16,7 +16,7 @@ use core::fmt::{Debug, Formatter};
 use core::slice::Iter;
 
 /// A system that an image was built for (struct build_version_command, struct version_min_command).
-#[derive(Clone, Copy, Debug, PartialEq)]
+#[derive(Clone, Copy, Debug, PartialEq, Eq, Hash)]
 pub struct BuildVersion {
     /// The system: one of the `PLATFORM_` constants.
     pub platform: u32,
@@ -27,7 +27,7 @@ pub struct BuildVersion {
 }
 
 /// The encrypted bytes of an image (struct encryption_info_command, struct encryption_info_command_64).
-#[derive(Clone, Copy, Debug, PartialEq)]
+#[derive(Clone, Copy, Debug, PartialEq, Eq, Hash)]
 pub struct Encryption {
     /// Their offset in the image.
     pub offset: u32,
@@ -38,7 +38,8 @@ pub struct Encryption {
 }
 
 /// An image within a file set, such as a kernel extension (struct fileset_entry_command).
-#[derive(Clone, Copy, Debug)]
+#[derive(Clone, Copy, Debug, Eq, Hash, PartialEq)]
+#[cfg_attr(not(feature = "internals"), non_exhaustive)]
 pub struct FilesetEntry<'a> {
     /// Its name: a slice of the bytes.
     pub name: &'a str,
@@ -55,10 +56,12 @@ pub trait CommandReader {
 
     /// Reads a command, if it concerns the subject.
     ///
-    /// # Proved
+    /// <details><summary>Proved</summary>
     ///
     /// - *item*: `option_map seen result ≡ said self.old (command_of command)`
     /// - *same*: `said self.new ≡ said self.old`
+    ///
+    /// </details>
     fn read(&mut self, command: &LoadCommand) -> Option<Self::Item>;
 }
 
@@ -96,6 +99,8 @@ impl<'b, R: CommandReader> Iterator for SubjectIterator<'b, R> {
     }
 }
 
+impl<'b, R: CommandReader> core::iter::FusedIterator for SubjectIterator<'b, R> {}
+
 impl<R> Debug for SubjectIterator<'_, R> {
     /// Formats only the number of commands left.
     fn fmt(&self, f: &mut Formatter<'_>) -> fmt::Result {
@@ -111,8 +116,16 @@ pub(crate) fn first_said<R: CommandReader>(reader: R, commands: &[LoadCommand]) 
 }
 
 /// Reads the UUIDs of images.
-#[derive(Clone, Copy)]
+#[derive(Clone, Copy, Eq, Hash, PartialEq)]
+#[cfg_attr(not(feature = "internals"), non_exhaustive)]
 pub struct Uuids;
+
+impl core::fmt::Debug for Uuids {
+    /// Prints the name of the type.
+    fn fmt(&self, f: &mut core::fmt::Formatter<'_>) -> core::fmt::Result {
+        f.debug_struct("Uuids").finish_non_exhaustive()
+    }
+}
 
 impl CommandReader for Uuids {
     type Item = [u8; 16];
@@ -126,10 +139,18 @@ impl CommandReader for Uuids {
 }
 
 /// Reads the systems that an image was built for.
-#[derive(Clone, Copy)]
+#[derive(Clone, Copy, Eq, Hash, PartialEq)]
+#[cfg_attr(not(feature = "internals"), non_exhaustive)]
 pub struct BuildVersions {
     /// The cpu of the image: one of the `CPU_TYPE_` constants.
     pub cputype: u32,
+}
+
+impl core::fmt::Debug for BuildVersions {
+    /// Prints the name of the type.
+    fn fmt(&self, f: &mut core::fmt::Formatter<'_>) -> core::fmt::Result {
+        f.debug_struct("BuildVersions").finish_non_exhaustive()
+    }
 }
 
 /// The systems that an image was built for.
@@ -180,8 +201,16 @@ impl CommandReader for BuildVersions {
 }
 
 /// Reads the versions of sources.
-#[derive(Clone, Copy)]
+#[derive(Clone, Copy, Eq, Hash, PartialEq)]
+#[cfg_attr(not(feature = "internals"), non_exhaustive)]
 pub struct SourceVersions;
+
+impl core::fmt::Debug for SourceVersions {
+    /// Prints the name of the type.
+    fn fmt(&self, f: &mut core::fmt::Formatter<'_>) -> core::fmt::Result {
+        f.debug_struct("SourceVersions").finish_non_exhaustive()
+    }
+}
 
 impl CommandReader for SourceVersions {
     type Item = u64;
@@ -195,8 +224,16 @@ impl CommandReader for SourceVersions {
 }
 
 /// Reads which bytes are encrypted.
-#[derive(Clone, Copy)]
+#[derive(Clone, Copy, Eq, Hash, PartialEq)]
+#[cfg_attr(not(feature = "internals"), non_exhaustive)]
 pub struct Encryptions;
+
+impl core::fmt::Debug for Encryptions {
+    /// Prints the name of the type.
+    fn fmt(&self, f: &mut core::fmt::Formatter<'_>) -> core::fmt::Result {
+        f.debug_struct("Encryptions").finish_non_exhaustive()
+    }
+}
 
 // Returns a range of encrypted bytes.
 fn encrypted(offset: u32, size: u32, id: u32) -> Option<Encryption> {
@@ -221,6 +258,13 @@ pub struct Dylinkers<'a> {
     pub(crate) source: NamedBytes<'a>,
 }
 
+impl<'a> core::fmt::Debug for Dylinkers<'a> {
+    /// Prints the name of the type.
+    fn fmt(&self, f: &mut core::fmt::Formatter<'_>) -> core::fmt::Result {
+        f.debug_struct("Dylinkers").finish_non_exhaustive()
+    }
+}
+
 impl<'a> CommandReader for Dylinkers<'a> {
     type Item = Result<&'a str>;
 
@@ -238,6 +282,13 @@ impl<'a> CommandReader for Dylinkers<'a> {
 #[derive(Clone, Copy)]
 pub struct DyldSettings<'a> {
     pub(crate) source: NamedBytes<'a>,
+}
+
+impl<'a> core::fmt::Debug for DyldSettings<'a> {
+    /// Prints the name of the type.
+    fn fmt(&self, f: &mut core::fmt::Formatter<'_>) -> core::fmt::Result {
+        f.debug_struct("DyldSettings").finish_non_exhaustive()
+    }
 }
 
 /// The settings for the dynamic linker that are in an image, or their errors.
@@ -260,6 +311,13 @@ impl<'a> CommandReader for DyldSettings<'a> {
 #[derive(Clone, Copy)]
 pub struct FilesetEntries<'a> {
     pub(crate) source: NamedBytes<'a>,
+}
+
+impl<'a> core::fmt::Debug for FilesetEntries<'a> {
+    /// Prints the name of the type.
+    fn fmt(&self, f: &mut core::fmt::Formatter<'_>) -> core::fmt::Result {
+        f.debug_struct("FilesetEntries").finish_non_exhaustive()
+    }
 }
 
 /// The images of a file set, or the errors of their names.

@@ -11,11 +11,20 @@ use crate::generated::mach_load::{CommandVariant, LoadCommand};
 use crate::generated::mach_parts::symbols::Symbols;
 
 /// The fields of which an image has one.
+#[derive(Clone)]
+#[cfg_attr(not(feature = "internals"), non_exhaustive)]
 pub struct Once<'a> {
     pub symbols: Option<Symbols<'a>>,
     pub name: Option<&'a str>,
     pub export_trie: Option<ExportTrie<'a>>,
     pub bind_interpreter: Option<BindInterpreter<'a>>,
+}
+
+impl<'a> core::fmt::Debug for Once<'a> {
+    /// Prints the name of the type.
+    fn fmt(&self, f: &mut core::fmt::Formatter<'_>) -> core::fmt::Result {
+        f.debug_struct("Once").finish_non_exhaustive()
+    }
 }
 
 // Whether a command may concern one of them.

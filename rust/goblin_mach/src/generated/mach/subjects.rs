@@ -17,9 +17,11 @@ pub(crate) fn place_of(start: usize, offset: u32) -> usize {
 
 /// Returns the place of the library name in the bytes, if the command loads a library.
 ///
-/// # Proved
+/// <details><summary>Proved</summary>
 ///
 /// - `let c = command_of command in result ≡ (if is_library c.kind then Some (name_place c) else None)`
+///
+/// </details>
 pub fn library_place(command: &LoadCommand) -> Option<usize> {
     match &command.command {
         CommandVariant::LoadDylib(c)
@@ -33,9 +35,11 @@ pub fn library_place(command: &LoadCommand) -> Option<usize> {
 
 /// Returns the place of the image's own name in the bytes, if the command gives one.
 ///
-/// # Proved
+/// <details><summary>Proved</summary>
 ///
 /// - `let c = command_of command in result ≡ (if is_id c.kind then Some (name_place c) else None)`
+///
+/// </details>
 pub fn id_place(command: &LoadCommand) -> Option<usize> {
     match &command.command {
         CommandVariant::IdDylib(c) => Some(place_of(command.offset, c.dylib.name)),
@@ -45,9 +49,11 @@ pub fn id_place(command: &LoadCommand) -> Option<usize> {
 
 /// Returns the place of the path on which libraries are searched, if the command gives one.
 ///
-/// # Proved
+/// <details><summary>Proved</summary>
 ///
 /// - `let c = command_of command in result ≡ (if is_run_path c.kind then Some (name_place c) else None)`
+///
+/// </details>
 pub fn run_path_place(command: &LoadCommand) -> Option<usize> {
     match &command.command {
         CommandVariant::Rpath(c) => Some(place_of(command.offset, c.path)),
@@ -56,9 +62,17 @@ pub fn run_path_place(command: &LoadCommand) -> Option<usize> {
 }
 
 /// The libraries that the image needs, by name.
-#[derive(Clone, Copy)]
+#[derive(Clone, Copy, Eq, Hash, PartialEq)]
+#[cfg_attr(not(feature = "internals"), non_exhaustive)]
 pub struct Libraries<'a> {
     pub bytes: &'a [u8],
+}
+
+impl<'a> core::fmt::Debug for Libraries<'a> {
+    /// Prints the name of the type.
+    fn fmt(&self, f: &mut core::fmt::Formatter<'_>) -> core::fmt::Result {
+        f.debug_struct("Libraries").finish_non_exhaustive()
+    }
 }
 
 impl<'a> TextSubject for Libraries<'a> {
@@ -69,9 +83,17 @@ impl<'a> TextSubject for Libraries<'a> {
 }
 
 /// The name of the image itself.
-#[derive(Clone, Copy)]
+#[derive(Clone, Copy, Eq, Hash, PartialEq)]
+#[cfg_attr(not(feature = "internals"), non_exhaustive)]
 pub struct Ids<'a> {
     pub bytes: &'a [u8],
+}
+
+impl<'a> core::fmt::Debug for Ids<'a> {
+    /// Prints the name of the type.
+    fn fmt(&self, f: &mut core::fmt::Formatter<'_>) -> core::fmt::Result {
+        f.debug_struct("Ids").finish_non_exhaustive()
+    }
 }
 
 impl<'a> TextSubject for Ids<'a> {
@@ -81,9 +103,17 @@ impl<'a> TextSubject for Ids<'a> {
 }
 
 /// The paths on which the image's libraries are searched.
-#[derive(Clone, Copy)]
+#[derive(Clone, Copy, Eq, Hash, PartialEq)]
+#[cfg_attr(not(feature = "internals"), non_exhaustive)]
 pub struct RunPaths<'a> {
     pub bytes: &'a [u8],
+}
+
+impl<'a> core::fmt::Debug for RunPaths<'a> {
+    /// Prints the name of the type.
+    fn fmt(&self, f: &mut core::fmt::Formatter<'_>) -> core::fmt::Result {
+        f.debug_struct("RunPaths").finish_non_exhaustive()
+    }
 }
 
 impl<'a> TextSubject for RunPaths<'a> {
@@ -94,10 +124,18 @@ impl<'a> TextSubject for RunPaths<'a> {
 }
 
 /// The segments of the image, with their data.
-#[derive(Clone, Copy)]
+#[derive(Clone, Copy, Eq, PartialEq)]
+#[cfg_attr(not(feature = "internals"), non_exhaustive)]
 pub struct SegmentData<'a> {
     pub bytes: &'a [u8],
     pub ctx: Ctx,
+}
+
+impl<'a> core::fmt::Debug for SegmentData<'a> {
+    /// Prints the name of the type.
+    fn fmt(&self, f: &mut core::fmt::Formatter<'_>) -> core::fmt::Result {
+        f.debug_struct("SegmentData").finish_non_exhaustive()
+    }
 }
 
 impl<'a> Subject for SegmentData<'a> {
@@ -115,10 +153,18 @@ impl<'a> Subject for SegmentData<'a> {
 }
 
 /// The segments of the image. Data that aren't in the bytes are empty.
-#[derive(Clone, Copy)]
+#[derive(Clone, Copy, Eq, PartialEq)]
+#[cfg_attr(not(feature = "internals"), non_exhaustive)]
 pub struct LossySegmentData<'a> {
     pub bytes: &'a [u8],
     pub ctx: Ctx,
+}
+
+impl<'a> core::fmt::Debug for LossySegmentData<'a> {
+    /// Prints the name of the type.
+    fn fmt(&self, f: &mut core::fmt::Formatter<'_>) -> core::fmt::Result {
+        f.debug_struct("LossySegmentData").finish_non_exhaustive()
+    }
 }
 
 impl<'a> Subject for LossySegmentData<'a> {
@@ -140,10 +186,18 @@ impl<'a> Subject for LossySegmentData<'a> {
 }
 
 /// The symbols of the image.
-#[derive(Clone, Copy)]
+#[derive(Clone, Copy, Eq, PartialEq)]
+#[cfg_attr(not(feature = "internals"), non_exhaustive)]
 pub struct SymbolTables<'a> {
     pub bytes: &'a [u8],
     pub ctx: Ctx,
+}
+
+impl<'a> core::fmt::Debug for SymbolTables<'a> {
+    /// Prints the name of the type.
+    fn fmt(&self, f: &mut core::fmt::Formatter<'_>) -> core::fmt::Result {
+        f.debug_struct("SymbolTables").finish_non_exhaustive()
+    }
 }
 
 impl<'a> Subject for SymbolTables<'a> {
@@ -158,9 +212,17 @@ impl<'a> Subject for SymbolTables<'a> {
 }
 
 /// The export trie of the image.
-#[derive(Clone, Copy)]
+#[derive(Clone, Copy, Eq, Hash, PartialEq)]
+#[cfg_attr(not(feature = "internals"), non_exhaustive)]
 pub struct Tries<'a> {
     pub bytes: &'a [u8],
+}
+
+impl<'a> core::fmt::Debug for Tries<'a> {
+    /// Prints the name of the type.
+    fn fmt(&self, f: &mut core::fmt::Formatter<'_>) -> core::fmt::Result {
+        f.debug_struct("Tries").finish_non_exhaustive()
+    }
 }
 
 impl<'a> Subject for Tries<'a> {
@@ -181,9 +243,17 @@ impl<'a> Subject for Tries<'a> {
 }
 
 /// The binds of the image.
-#[derive(Clone, Copy)]
+#[derive(Clone, Copy, Eq, Hash, PartialEq)]
+#[cfg_attr(not(feature = "internals"), non_exhaustive)]
 pub struct Binds<'a> {
     pub bytes: &'a [u8],
+}
+
+impl<'a> core::fmt::Debug for Binds<'a> {
+    /// Prints the name of the type.
+    fn fmt(&self, f: &mut core::fmt::Formatter<'_>) -> core::fmt::Result {
+        f.debug_struct("Binds").finish_non_exhaustive()
+    }
 }
 
 impl<'a> Subject for Binds<'a> {

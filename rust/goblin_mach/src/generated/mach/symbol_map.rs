@@ -20,9 +20,17 @@ struct MappedSymbol {
 
 /// The symbols of an image, sorted for many look-ups by address. It holds those that are defined in a section and can be read,
 /// without debugging entries: 24 bytes for each.
+#[derive(Clone)]
 pub struct SymbolMap<'a, 'b> {
     image: &'b MachO<'a>,
     symbols: Vec<MappedSymbol>,
+}
+
+impl<'a, 'b> core::fmt::Debug for SymbolMap<'a, 'b> {
+    /// Prints the name of the type.
+    fn fmt(&self, f: &mut core::fmt::Formatter<'_>) -> core::fmt::Result {
+        f.debug_struct("SymbolMap").finish_non_exhaustive()
+    }
 }
 
 // Returns the symbol with a number as a map holds it, if it is defined in a section and can be read.
@@ -103,10 +111,12 @@ fn nearest_by<'a>(
 impl<'a, 'b> SymbolMap<'a, 'b> {
     /// Builds the map of the symbols of the table that an image holds, in n log n steps. It is refused only if memory runs out.
     ///
-    /// # Proved
+    /// <details><summary>Proved</summary>
     ///
     /// - *mapped*: if `Ok(m)`: `image_of_map m ≡ image`
     /// - *memory*: the result is `Ok`, unless memory is refused
+    ///
+    /// </details>
     pub fn new(image: &'b MachO<'a>) -> Result<SymbolMap<'a, 'b>> {
         let symbols = symbols_of_map(&image.symbols)?;
         Ok(SymbolMap { image, symbols })
@@ -116,27 +126,33 @@ impl<'a, 'b> SymbolMap<'a, 'b> {
 impl<'a, 'b> SymbolMap<'a, 'b> {
     /// Returns the image whose symbols the map holds.
     ///
-    /// # Proved
+    /// <details><summary>Proved</summary>
     ///
     /// - `result ≡ image_of_map self`
+    ///
+    /// </details>
     pub fn image(&self) -> &'b MachO<'a> {
         self.image
     }
 
     /// Returns the number of symbols that the map holds.
     ///
-    /// # Proved
+    /// <details><summary>Proved</summary>
     ///
     /// - `result ≡ count_by is_defined_symbol (image_symbols (image_of_map self))`
+    ///
+    /// </details>
     pub fn len(&self) -> usize {
         self.symbols.len()
     }
 
     /// Whether the map holds no symbol.
     ///
-    /// # Proved
+    /// <details><summary>Proved</summary>
     ///
     /// - `result ≡ (count_by is_defined_symbol (image_symbols (image_of_map self)) == 0)`
+    ///
+    /// </details>
     pub fn is_empty(&self) -> bool {
         self.symbols.is_empty()
     }
@@ -144,9 +160,11 @@ impl<'a, 'b> SymbolMap<'a, 'b> {
     /// Returns the symbol that is nearest to an address, before sliding, of the symbols at or below it whose `n_sect` is the given
     /// number. Of several with its value the last of the table counts. It takes log n steps, and no section is read.
     ///
-    /// # Proved
+    /// <details><summary>Proved</summary>
     ///
     /// - `IsNearestIn (image_symbols (image_of_map self)) n_sect address result`
+    ///
+    /// </details>
     pub fn symbol_in_section(&self, n_sect: usize, address: u64) -> Option<SymbolAt<'a>> {
         let table = self.image.symbols.as_ref()?;
         nearest_by(self.symbols.as_slice(), table, n_sect, address)
@@ -155,9 +173,11 @@ impl<'a, 'b> SymbolMap<'a, 'b> {
     /// Returns the symbol at an address, before sliding, as `MachO::symbol_at` does. After the section is found, as `section_at`
     /// finds it, it takes log n steps.
     ///
-    /// # Proved
+    /// <details><summary>Proved</summary>
     ///
     /// - `IsSymbolAt (segments_view (image_of_map self)) (image_symbols (image_of_map self)) (section_holding (segments_view (image_of_map self)) address) address result`
+    ///
+    /// </details>
     pub fn symbol_at(&self, address: u64) -> Option<SymbolAt<'a>> {
         let section = self.image.section_at(address)?;
         let number = section_number(self.image.segments.as_slice(), &section);

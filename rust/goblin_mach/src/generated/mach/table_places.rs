@@ -8,8 +8,16 @@ use crate::generated::mach_load::{CommandVariant, LoadCommand};
 use crate::generated::mach_records::LinkeditDataCommand;
 
 /// The commands that place function starts.
-#[derive(Clone, Copy)]
+#[derive(Clone, Copy, Eq, Hash, PartialEq)]
+#[cfg_attr(not(feature = "internals"), non_exhaustive)]
 pub struct StartPlaces;
+
+impl core::fmt::Debug for StartPlaces {
+    /// Prints the name of the type.
+    fn fmt(&self, f: &mut core::fmt::Formatter<'_>) -> core::fmt::Result {
+        f.debug_struct("StartPlaces").finish_non_exhaustive()
+    }
+}
 
 impl Subject for StartPlaces {
     type Value = LinkeditDataCommand;
@@ -24,8 +32,16 @@ impl Subject for StartPlaces {
 }
 
 /// The commands that place a data-in-code table.
-#[derive(Clone, Copy)]
+#[derive(Clone, Copy, Eq, Hash, PartialEq)]
+#[cfg_attr(not(feature = "internals"), non_exhaustive)]
 pub struct DataPlaces;
+
+impl core::fmt::Debug for DataPlaces {
+    /// Prints the name of the type.
+    fn fmt(&self, f: &mut core::fmt::Formatter<'_>) -> core::fmt::Result {
+        f.debug_struct("DataPlaces").finish_non_exhaustive()
+    }
+}
 
 impl Subject for DataPlaces {
     type Value = LinkeditDataCommand;

@@ -16,12 +16,13 @@ use core::fmt;
 use core::fmt::{Debug, Formatter};
 
 /// What one image or archive links.
+#[derive(Clone, Eq, Hash, PartialEq)]
 pub enum LinkView<'a> {
     /// An image.
     Image {
         /// The symbols that it gives to others.
         exports: Vec<Export<'a>>,
-        /// The symbols that it takes from others.
+        /// The symbols that it takes from others by bind opcodes only, as `MachO::imports` lists them.
         imports: Vec<Import<'a>>,
     },
     /// An archive: its bytes.
@@ -116,11 +117,13 @@ fn file_items<'a>(file: &Mach<'a>) -> Result<Vec<Result<LinkView<'a>>>> {
 /// fault in that entry alone. The whole fails if the file does not open, if the table of a fat file can't be read, or if
 /// memory runs out.
 ///
-/// # Proved
+/// <details><summary>Proved</summary>
 ///
 /// - *viewed*: if `Ok(v)`: there is `entries : List (Result FatEntry Fault)` with: `HasEntries bytes entries × AreViewItems entries v.items`
 /// - *only*: for each `entries : List (Result FatEntry Fault)`, if `HasEntries bytes entries`, the result is `Ok`, unless memory is refused
 /// - *refused*: if `Err(e)`: `ErrorMeets (ViewFault bytes) e`
+///
+/// </details>
 pub fn link_view<'a>(bytes: &'a [u8]) -> Result<Vec<Result<LinkView<'a>>>> {
     let file = Mach::parse(bytes)?;
     file_items(&file)

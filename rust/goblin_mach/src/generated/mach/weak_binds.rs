@@ -8,9 +8,17 @@ use crate::generated::mach_dyld::WeakBindStream;
 use crate::generated::mach_load::{CommandVariant, LoadCommand};
 
 /// The stream of weak binds of the image.
-#[derive(Clone, Copy)]
+#[derive(Clone, Copy, Eq, Hash, PartialEq)]
+#[cfg_attr(not(feature = "internals"), non_exhaustive)]
 pub struct WeakBindStreams<'a> {
     pub bytes: &'a [u8],
+}
+
+impl<'a> core::fmt::Debug for WeakBindStreams<'a> {
+    /// Prints the name of the type.
+    fn fmt(&self, f: &mut core::fmt::Formatter<'_>) -> core::fmt::Result {
+        f.debug_struct("WeakBindStreams").finish_non_exhaustive()
+    }
 }
 
 impl<'a> Subject for WeakBindStreams<'a> {

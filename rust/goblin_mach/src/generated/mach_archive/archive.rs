@@ -2,6 +2,8 @@
 //! An archive: its form, its index, its list of names and its members.
 #![forbid(unsafe_code)]
 
+use crate::shim::ReadsNumbers;
+
 use crate::generated::mach_archive::field::{trimmed, word};
 use crate::generated::mach_archive::header::Header;
 use crate::generated::mach_archive::member::Member;
@@ -18,7 +20,7 @@ const MAGIC: &[u8] = b"!<arch>\n";
 const THIN_MAGIC: &[u8] = b"!<thin>\n";
 
 /// How the short names of an archive are written.
-#[derive(Clone, Copy, Debug, PartialEq)]
+#[derive(Clone, Copy, Debug, PartialEq, Eq, Hash)]
 pub enum ArchiveKind {
     /// GNU: a short name ends with a slash, and long names are in a list of names.
     Gnu,
@@ -42,13 +44,17 @@ impl<'a> Archive<'a> {
     /// or else the first member's header. Fails with the fault of a header that is read, as `BadMagic`
     /// of the first four bytes if it is no archive, and as `Malformed` if it is a thin archive.
     ///
-    /// # Proved
+    /// <details><summary>Proved</summary>
     ///
     /// - `Reads archive_of result (archive_in bytes)`
+    ///
+    /// </details>
     pub fn parse(bytes: &'a [u8]) -> Result<Archive<'a>> {
         let magic = bytes_at(bytes, 0, 8)?;
         if magic == THIN_MAGIC {
-            return Err(Error::Malformed("an archive holds its members"));
+            return Err(Error::Malformed(
+                "a thin archive has its members in other files",
+            ));
         }
         if magic != MAGIC {
             return Err(Error::BadMagic(u64::from(Endian::Big.u32_at(magic, 0))));
@@ -88,9 +94,11 @@ impl<'a> Archive<'a> {
 
     /// Returns how short names are written.
     ///
-    /// # Proved
+    /// <details><summary>Proved</summary>
     ///
     /// - `result ≡ archive_kind (archive_of self).names`
+    ///
+    /// </details>
     pub fn kind(&self) -> ArchiveKind {
         match self.names {
             Some(_) => ArchiveKind::Gnu,
@@ -100,9 +108,11 @@ impl<'a> Archive<'a> {
 
     /// Returns an iterator over the members in order, after the index and the list of names. It ends after the first fault.
     ///
-    /// # Proved
+    /// <details><summary>Proved</summary>
     ///
     /// - `let a = archive_of self in AreMembers a.bytes a.names a.begin (members_left result)`
+    ///
+    /// </details>
     pub fn members(&self) -> Members<'a> {
         Members::new(self.bytes, self.names, self.begin)
     }
@@ -110,12 +120,14 @@ impl<'a> Archive<'a> {
     /// Reads the member whose header is at `place`. The other members do not matter.
     /// Fails as `Malformed` if the place is below 8, or else with the header's fault.
     ///
-    /// # Proved
+    /// <details><summary>Proved</summary>
     ///
     /// - `Reads member_view result (archive_member_at (archive_of self) place)`
+    ///
+    /// </details>
     pub fn member_at(&self, place: usize) -> Result<Member<'a>> {
         if place < 8 {
-            return Err(Error::Malformed("a member stands behind the magic"));
+            return Err(Error::Malformed("a member begins in the magic"));
         }
         let header = Header::read(self.bytes, place)?;
         Ok(Member::of(self.bytes, self.names, &header))
@@ -124,10 +136,12 @@ impl<'a> Archive<'a> {
     /// Returns an iterator over the symbols of the index, if there is one. Fails with a fault of the table itself; a
     /// fault of a name is reported at its symbol. Whether a symbol's member exists is not tested: `member_at` does that.
     ///
-    /// # Proved
+    /// <details><summary>Proved</summary>
     ///
     /// - *table*: `Reads (λ symbols. option_map table_left symbols) result (archive_table (archive_of self))`
     /// - *items*: if `Ok(symbols)`: `IfSome symbols (λ it. AreIndexSymbols (table_left it) 0 (archive_symbols_left it))`
+    ///
+    /// </details>
     pub fn symbols(&self) -> Result<Option<ArchiveSymbols<'a>>> {
         match &self.index {
             Some(index) => Ok(Some(ArchiveSymbols::new(self.kind(), index)?)),
@@ -138,11 +152,13 @@ impl<'a> Archive<'a> {
     /// Finds the member that defines `name`: the member of the first symbol of that name in the index, if there is one.
     /// An error before that symbol is returned; later symbols are not read. Also fails with the error of `member_at`.
     ///
-    /// # Proved
+    /// <details><summary>Proved</summary>
     ///
     /// - *found*: for each `t : IndexTable`, `items : List (Result IndexSymbol Fault)`, if `archive_table (archive_of self) ≡ Ok (Some t)`, if `AreIndexSymbols t 0 items`, `Reads (option_map member_view) result (found_by_name (archive_of self) name items)`
     /// - *without*: if `archive_table (archive_of self) ≡ Ok None`, `Reads (option_map member_view) result (Ok None)`
     /// - *refused*: for each `f : Fault`, if `archive_table (archive_of self) ≡ Err f`, `Reads (option_map member_view) result (Err f)`
+    ///
+    /// </details>
     pub fn find_symbol(&self, name: &str) -> Result<Option<Member<'a>>> {
         match self.symbols() {
             Ok(Some(symbols)) => self.find_among(symbols, name),

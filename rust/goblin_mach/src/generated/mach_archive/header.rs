@@ -33,7 +33,7 @@ impl<'a> Header<'a> {
     fn of_fields(bytes: &'a [u8], place: usize, fields: &'a [u8; SIZE]) -> Result<Header<'a>> {
         if &fields[58..60] != END {
             return Err(Error::Malformed(
-                "a member's header ends with its two bytes",
+                "a member's header does not end with its two bytes",
             ));
         }
         let size = size_of(fields)?;
@@ -111,7 +111,7 @@ fn test_room(bytes: &[u8], place: usize, size: usize) -> Result<()> {
 fn size_of(fields: &[u8; SIZE]) -> Result<usize> {
     match number_in(&fields[48..58], 10) {
         Some(size) => Ok(size as usize),
-        None => Err(Error::Malformed("a member's size is a number")),
+        None => Err(Error::Malformed("a member's size is not a number")),
     }
 }
 
@@ -122,6 +122,8 @@ fn long_len(fields: &[u8; SIZE], size: usize) -> Result<Option<usize>> {
     }
     match number_of(word(&fields[3..16]), 10) {
         Some(len) if len as usize <= size => Ok(Some(len as usize)),
-        _ => Err(Error::Malformed("a long name is among its member's bytes")),
+        _ => Err(Error::Malformed(
+            "the length of a long name is no number, or is past its member's size",
+        )),
     }
 }

@@ -38,9 +38,11 @@ impl<'a> Member<'a> {
     /// Returns its name. Fails as `Malformed` if a header in GNU's form refers
     /// to a long name that is not there. The member's bytes can still be read.
     ///
-    /// # Proved
+    /// <details><summary>Proved</summary>
     ///
     /// - `Reads (λ name. name) result (member_name_bytes (member_view self))`
+    ///
+    /// </details>
     pub fn name_bytes(&self) -> Result<&'a [u8]> {
         let fields = self.fields;
         let field = &fields[..16];
@@ -53,25 +55,29 @@ impl<'a> Member<'a> {
 
     /// Returns its name as a text. Fails like `name_bytes`, or as `BadInput` of the name's length if the name is not UTF-8.
     ///
-    /// # Proved
+    /// <details><summary>Proved</summary>
     ///
     /// - `Reads (λ name. name) result (member_name (member_view self))`
+    ///
+    /// </details>
     pub fn name(&self) -> Result<&'a str> {
         let name = self.name_bytes()?;
-        match str::from_utf8(name) {
+        match core::str::from_utf8(name) {
             Ok(text) => Ok(text),
             Err(_) => Err(Error::Scroll(ScrollError::BadInput {
                 size: name.len(),
-                msg: "a member's name is UTF-8",
+                msg: "a member's name is not UTF-8",
             })),
         }
     }
 
     /// Returns when the file was changed, in seconds since 1970, if the field is a number.
     ///
-    /// # Proved
+    /// <details><summary>Proved</summary>
     ///
     /// - `result ≡ field_number 10 (date_field (member_view self).fields)`
+    ///
+    /// </details>
     pub fn date(&self) -> Option<u64> {
         let fields = self.fields;
         number_in(&fields[16..28], 10)
@@ -79,9 +85,11 @@ impl<'a> Member<'a> {
 
     /// Returns the user id of the file's owner, if the field is a number.
     ///
-    /// # Proved
+    /// <details><summary>Proved</summary>
     ///
     /// - `result ≡ field_number 10 (uid_field (member_view self).fields)`
+    ///
+    /// </details>
     pub fn uid(&self) -> Option<u64> {
         let fields = self.fields;
         number_in(&fields[28..34], 10)
@@ -89,9 +97,11 @@ impl<'a> Member<'a> {
 
     /// Returns the id of the file's group, if the field is a number.
     ///
-    /// # Proved
+    /// <details><summary>Proved</summary>
     ///
     /// - `result ≡ field_number 10 (gid_field (member_view self).fields)`
+    ///
+    /// </details>
     pub fn gid(&self) -> Option<u64> {
         let fields = self.fields;
         number_in(&fields[34..40], 10)
@@ -99,9 +109,11 @@ impl<'a> Member<'a> {
 
     /// Returns the file's type and permissions, if the field is an octal number.
     ///
-    /// # Proved
+    /// <details><summary>Proved</summary>
     ///
     /// - `result ≡ field_number 8 (mode_field (member_view self).fields)`
+    ///
+    /// </details>
     pub fn mode(&self) -> Option<u64> {
         let fields = self.fields;
         number_in(&fields[40..48], 8)
@@ -129,7 +141,7 @@ fn gnu_name<'a>(names: &'a [u8], field: &'a [u8]) -> Result<&'a [u8]> {
         return Ok(trimmed(up_to(field, b'/'), b' '));
     }
     let Some(place) = number_of(digits_of(word), 10) else {
-        return Err(Error::Malformed("a long name has a place"));
+        return Err(Error::Malformed("the place of a long name is not a number"));
     };
     before_slash(line_at(names, place as usize)?)
 }
@@ -151,13 +163,15 @@ fn line_at(names: &[u8], place: usize) -> Result<&[u8]> {
             return Ok(line);
         }
     }
-    Err(Error::Malformed("a long name ends with its line"))
+    Err(Error::Malformed(
+        "a long name has no whole line in the list of names",
+    ))
 }
 
 // Returns a line without the slash that must end it.
 fn before_slash(line: &[u8]) -> Result<&[u8]> {
     match line.strip_suffix(b"/") {
         Some(name) => Ok(name),
-        None => Err(Error::Malformed("a long name ends with a slash")),
+        None => Err(Error::Malformed("a long name does not end with a slash")),
     }
 }

@@ -48,6 +48,8 @@ impl<'a> Iterator for Members<'a> {
     }
 }
 
+impl<'a> core::iter::FusedIterator for Members<'a> {}
+
 impl fmt::Debug for Members<'_> {
     /// Prints the place of the next header, with the number of bytes instead of the bytes.
     fn fmt(&self, f: &mut fmt::Formatter<'_>) -> fmt::Result {

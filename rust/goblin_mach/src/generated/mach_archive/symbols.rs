@@ -9,7 +9,8 @@ use crate::generated::mach_base::{ByteCount, Error, Result};
 use core::fmt;
 
 /// A symbol of an index, and the member that defines it.
-#[derive(Clone, Copy, Debug)]
+#[derive(Clone, Copy, Debug, Eq, Hash, PartialEq)]
+#[cfg_attr(not(feature = "internals"), non_exhaustive)]
 pub struct ArchiveSymbol<'a> {
     /// The symbol's name.
     pub name: &'a [u8],
@@ -35,7 +36,7 @@ fn ended_text(names: &[u8], place: usize) -> Result<&[u8]> {
             return Ok(text);
         }
     }
-    Err(Error::Malformed("a symbol's name ends with a zero"))
+    Err(Error::Malformed("a symbol's name does not end with a zero"))
 }
 
 // Reads the first symbol of a table.
@@ -110,6 +111,8 @@ impl<'a> Iterator for ArchiveSymbols<'a> {
         }
     }
 }
+
+impl<'a> core::iter::FusedIterator for ArchiveSymbols<'a> {}
 
 impl fmt::Debug for ArchiveSymbols<'_> {
     /// Prints how many symbols are left, with the number of bytes instead of the names.

@@ -2,14 +2,24 @@
 //! The table of an index (`ranlib.h`; GNU's `/` and `/SYM64/`).
 #![forbid(unsafe_code)]
 
+use crate::shim::ReadsNumbers;
+
 use crate::generated::mach_archive::archive::ArchiveKind;
 use crate::generated::mach_base::{Endian, Error, Result, ScrollError, bytes_at, read_u32};
 
 /// The width of an index's numbers.
-#[derive(Clone, Copy)]
+#[derive(Clone, Copy, Eq, Hash, PartialEq)]
+#[cfg_attr(not(feature = "internals"), non_exhaustive)]
 pub enum Width {
     Four,
     Eight,
+}
+
+impl core::fmt::Debug for Width {
+    /// Prints the name of the type.
+    fn fmt(&self, f: &mut core::fmt::Formatter<'_>) -> core::fmt::Result {
+        f.debug_struct("Width").finish_non_exhaustive()
+    }
 }
 
 impl Width {
@@ -29,6 +39,13 @@ pub struct Index<'a> {
     pub(crate) table: &'a [u8],
 }
 
+impl<'a> core::fmt::Debug for Index<'a> {
+    /// Prints the name of the type.
+    fn fmt(&self, f: &mut core::fmt::Formatter<'_>) -> core::fmt::Result {
+        f.debug_struct("Index").finish_non_exhaustive()
+    }
+}
+
 /// A table, or the remaining part of it.
 #[derive(Clone, Copy)]
 pub struct Table<'a> {
@@ -41,6 +58,13 @@ pub struct Table<'a> {
     pub(crate) records: &'a [u8],
     /// The bytes of the names. In GNU's form they begin with the first symbol's name.
     pub(crate) names: &'a [u8],
+}
+
+impl<'a> core::fmt::Debug for Table<'a> {
+    /// Prints the name of the type.
+    fn fmt(&self, f: &mut core::fmt::Formatter<'_>) -> core::fmt::Result {
+        f.debug_struct("Table").finish_non_exhaustive()
+    }
 }
 
 // Reads the number at a place of bytes that hold it.
@@ -139,7 +163,7 @@ impl<'a> Table<'a> {
         let size = width.bytes();
         let records = first_number(table, width, le)? as usize;
         if records % (2 * size) != 0 {
-            return Err(Error::Malformed("an index has whole records"));
+            return Err(Error::Malformed("the index ends in a record"));
         }
         let count = records / (2 * size);
         if table.len() < 2 * size || records > table.len() - 2 * size {

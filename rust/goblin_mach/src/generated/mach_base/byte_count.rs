@@ -6,6 +6,7 @@ use core::fmt;
 
 /// Bytes of which `Debug` prints only the number.
 #[derive(Clone, Copy)]
+#[cfg_attr(not(feature = "internals"), non_exhaustive)]
 pub struct ByteCount<'a>(pub &'a [u8]);
 
 impl fmt::Debug for ByteCount<'_> {

@@ -2,10 +2,17 @@
 //! The byte order and the width of an image.
 #![forbid(unsafe_code)]
 
+use crate::shim::ReadsNumbers;
+
 use crate::shim::byteorder::{BigEndian, ByteOrder, LittleEndian};
+
+#[cfg(feature = "scroll")]
+pub use scroll::Endian;
 
 /// A byte order.
 #[derive(Clone, Copy, Debug, PartialEq)]
+#[cfg(not(feature = "scroll"))]
+#[derive(Eq)]
 pub enum Endian {
     /// The lowest byte first.
     Little,
@@ -19,6 +26,7 @@ pub const LE: Endian = Endian::Little;
 /// Big-endian.
 pub const BE: Endian = Endian::Big;
 
+#[cfg(not(feature = "scroll"))]
 impl From<bool> for Endian {
     /// Returns little-endian for `true`.
     fn from(little: bool) -> Endian {
@@ -26,16 +34,21 @@ impl From<bool> for Endian {
     }
 }
 
+#[cfg(not(feature = "scroll"))]
 impl Endian {
     /// Whether the lowest byte comes first.
     ///
-    /// # Proved
+    /// <details><summary>Proved</summary>
     ///
     /// - the result is `true` exactly if `self ≡ Little`
+    ///
+    /// </details>
     pub fn is_little(&self) -> bool {
         matches!(self, Endian::Little)
     }
+}
 
+impl crate::shim::ReadsNumbers for Endian {
     fn u16(self, bytes: &[u8]) -> u16 {
         match self {
             Endian::Little => LittleEndian::read_u16(bytes),
@@ -58,52 +71,28 @@ impl Endian {
     }
 
     /// Returns the byte at `place`.
-    ///
-    /// # Proved
-    ///
-    /// Callers make sure of: `place + 1 ≤ length bytes`.
-    ///
-    /// - `result ≡ number self 1 (drop place bytes)`
-    pub fn u8_at(self, bytes: &[u8], place: usize) -> u8 {
+    fn u8_at(self, bytes: &[u8], place: usize) -> u8 {
         bytes[place]
     }
 
     /// Reads the two-byte number at `place`.
-    ///
-    /// # Proved
-    ///
-    /// Callers make sure of: `place + 2 ≤ length bytes`.
-    ///
-    /// - `result ≡ number self 2 (drop place bytes)`
-    pub fn u16_at(self, bytes: &[u8], place: usize) -> u16 {
+    fn u16_at(self, bytes: &[u8], place: usize) -> u16 {
         self.u16(&bytes[place..])
     }
 
     /// Reads the four-byte number at `place`.
-    ///
-    /// # Proved
-    ///
-    /// Callers make sure of: `place + 4 ≤ length bytes`.
-    ///
-    /// - `result ≡ number self 4 (drop place bytes)`
-    pub fn u32_at(self, bytes: &[u8], place: usize) -> u32 {
+    fn u32_at(self, bytes: &[u8], place: usize) -> u32 {
         self.u32(&bytes[place..])
     }
 
     /// Reads the eight-byte number at `place`.
-    ///
-    /// # Proved
-    ///
-    /// Callers make sure of: `place + 8 ≤ length bytes`.
-    ///
-    /// - `result ≡ number self 8 (drop place bytes)`
-    pub fn u64_at(self, bytes: &[u8], place: usize) -> u64 {
+    fn u64_at(self, bytes: &[u8], place: usize) -> u64 {
         self.u64(&bytes[place..])
     }
 }
 
 /// The width of an image: `Little` for 32 bits, `Big` for 64.
-#[derive(Clone, Copy, Debug, PartialEq)]
+#[derive(Clone, Copy, Debug, PartialEq, Eq, Hash)]
 pub enum Container {
     /// 32 bits.
     Little,
@@ -114,16 +103,18 @@ pub enum Container {
 impl Container {
     /// Whether the image has 64 bits.
     ///
-    /// # Proved
+    /// <details><summary>Proved</summary>
     ///
     /// - the result is `true` exactly if `self ≡ width.Big`
+    ///
+    /// </details>
     pub fn is_big(&self) -> bool {
         matches!(self, Container::Big)
     }
 }
 
 /// The width and the byte order of an image.
-#[derive(Clone, Copy, Debug, PartialEq)]
+#[derive(Clone, Copy, Debug, PartialEq, Eq)]
 pub struct Ctx {
     /// The width.
     pub container: Container,
@@ -134,27 +125,33 @@ pub struct Ctx {
 impl Ctx {
     /// Builds the context of a width and a byte order.
     ///
-    /// # Proved
+    /// <details><summary>Proved</summary>
     ///
     /// - `result ≡ record { container = container; le = le }`
+    ///
+    /// </details>
     pub fn new(container: Container, le: Endian) -> Self {
         Ctx { container, le }
     }
 
     /// Whether the image has 64 bits.
     ///
-    /// # Proved
+    /// <details><summary>Proved</summary>
     ///
     /// - the result is `true` exactly if `self.container ≡ width.Big`
+    ///
+    /// </details>
     pub fn is_big(self) -> bool {
         self.container.is_big()
     }
 
     /// Returns the size of a pointer in bytes: 4 or 8.
     ///
-    /// # Proved
+    /// <details><summary>Proved</summary>
     ///
     /// - `result ≡ pointer_size self.container`
+    ///
+    /// </details>
     pub fn size(self) -> usize {
         match self.container {
             Container::Little => 4,

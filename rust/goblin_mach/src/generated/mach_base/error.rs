@@ -6,7 +6,7 @@ use crate::shim::AllocError;
 use core::fmt;
 
 /// A read or a write that failed at an offset.
-#[derive(Debug)]
+#[derive(Clone, Eq, Hash, PartialEq)]
 pub enum ScrollError {
     /// The offset is at or past the end of the bytes.
     BadOffset(usize),
@@ -27,7 +27,7 @@ pub enum ScrollError {
 }
 
 /// Why a file, or a part of one, was refused.
-#[derive(Debug)]
+#[derive(Clone, Eq, Hash, PartialEq)]
 pub enum Error {
     /// The bytes break a rule of the format.
     Malformed(&'static str),
@@ -64,9 +64,11 @@ pub struct Description<'a> {
 
 /// Describes an error in one line, with its offset and numbers. Print it by `{}`.
 ///
-/// # Proved
+/// <details><summary>Proved</summary>
 ///
 /// - `described result ≡ error`
+///
+/// </details>
 pub fn describe(error: &Error) -> Description<'_> {
     Description { error }
 }

@@ -3,7 +3,7 @@
 #![forbid(unsafe_code)]
 
 /// What the magic number of an image says.
-#[derive(Clone, Copy, Debug)]
+#[derive(Clone, Copy, Debug, Eq, Hash, PartialEq)]
 pub struct HintData {
     /// Whether the lowest byte comes first.
     pub is_lsb: bool,
@@ -12,7 +12,7 @@ pub struct HintData {
 }
 
 /// The kind of a file, by its first bytes.
-#[derive(Clone, Copy, Debug)]
+#[derive(Clone, Copy, Debug, Eq, Hash, PartialEq)]
 pub enum Hint {
     /// A Mach-O image.
     Mach(HintData),
@@ -26,9 +26,11 @@ pub enum Hint {
 
 /// Returns the first 16 bytes, which suffice to recognize the kind of a file. `None` if there are fewer.
 ///
-/// # Proved
+/// <details><summary>Proved</summary>
 ///
 /// - `option_map (λ front. front) result ≡ (if nat_le 16 (length bytes) then Some (take 16 bytes) else None)`
+///
+/// </details>
 pub fn take_hint_bytes(bytes: &[u8]) -> Option<&[u8; 16]> {
     bytes.get(..16)?.try_into().ok()
 }

@@ -19,12 +19,21 @@ pub struct KeptText<'a> {
     text: &'a str,
 }
 
+impl<'a> core::fmt::Debug for KeptText<'a> {
+    /// Prints the name of the type.
+    fn fmt(&self, f: &mut core::fmt::Formatter<'_>) -> core::fmt::Result {
+        f.debug_struct("KeptText").finish_non_exhaustive()
+    }
+}
+
 impl<'a> KeptText<'a> {
     /// Builds a reader of these bytes. It keeps no text yet.
     ///
-    /// # Proved
+    /// <details><summary>Proved</summary>
     ///
     /// - `kept_bytes result ≡ bytes`
+    ///
+    /// </details>
     pub fn new(bytes: &'a [u8]) -> KeptText<'a> {
         KeptText {
             bytes,
@@ -54,10 +63,12 @@ impl<'a> KeptText<'a> {
 
     /// Reads the text at `place`. It runs to the first zero byte, or to the end, and is UTF-8.
     ///
-    /// # Proved
+    /// <details><summary>Proved</summary>
     ///
     /// - *text*: `Reads (λ text. text) result (text_at (kept_bytes self.old) place)`
     /// - *bytes*: `kept_bytes self.new ≡ kept_bytes self.old`
+    ///
+    /// </details>
     #[inline(always)]
     pub fn read(&mut self, place: usize) -> Result<&'a str> {
         if let Some(text) = self.within(place) {

@@ -6,7 +6,7 @@ use crate::generated::mach_base::error::{Error, Result, ScrollError};
 use crate::generated::mach_base::numbers::{rest_at, try_rest_at};
 
 /// An unsigned number and the length of its spelling.
-#[derive(Clone, Copy, Debug, PartialEq)]
+#[derive(Clone, Copy, Debug, PartialEq, Eq, Hash)]
 pub struct Uleb128 {
     value: u64,
     size: usize,
@@ -15,10 +15,12 @@ pub struct Uleb128 {
 impl Uleb128 {
     /// Reads the number at the offset and moves the offset past its one to ten bytes. On an error the offset is unchanged.
     ///
-    /// # Proved
+    /// <details><summary>Proved</summary>
     ///
     /// - *value*: `Reads (λ n. (n, offset.new)) result (uleb_at bytes offset.old)`
     /// - *refused*: if `Err`: `offset.new ≡ offset.old`
+    ///
+    /// </details>
     pub fn read(bytes: &[u8], offset: &mut usize) -> Result<u64> {
         let (value, after) = uleb(bytes, *offset)?;
         *offset = after;
@@ -27,9 +29,11 @@ impl Uleb128 {
 
     /// Reads the number at the offset.
     ///
-    /// # Proved
+    /// <details><summary>Proved</summary>
     ///
     /// - `Reads (λ u. (uleb_number u, offset + uleb_size u)) result (uleb_at bytes offset)`
+    ///
+    /// </details>
     pub fn parse(bytes: &[u8], offset: usize) -> Result<Self> {
         let (value, after) = uleb(bytes, offset)?;
         Ok(Uleb128 {
@@ -40,9 +44,11 @@ impl Uleb128 {
 
     /// Returns how many bytes spell the number.
     ///
-    /// # Proved
+    /// <details><summary>Proved</summary>
     ///
     /// - `result ≡ uleb_size self`
+    ///
+    /// </details>
     pub fn size(&self) -> usize {
         self.size
     }
@@ -55,7 +61,7 @@ impl From<Uleb128> for u64 {
 }
 
 /// A signed number and the length of its spelling.
-#[derive(Clone, Copy, Debug, PartialEq)]
+#[derive(Clone, Copy, Debug, PartialEq, Eq, Hash)]
 pub struct Sleb128 {
     value: i64,
     size: usize,
@@ -64,10 +70,12 @@ pub struct Sleb128 {
 impl Sleb128 {
     /// Reads the signed number at the offset and moves the offset past its one to ten bytes. On an error the offset is unchanged.
     ///
-    /// # Proved
+    /// <details><summary>Proved</summary>
     ///
     /// - *value*: `Reads (λ z. (z, offset.new)) result (sleb_at bytes offset.old)`
     /// - *refused*: if `Err`: `offset.new ≡ offset.old`
+    ///
+    /// </details>
     pub fn read(bytes: &[u8], offset: &mut usize) -> Result<i64> {
         let (value, after) = sleb(bytes, *offset)?;
         *offset = after;
@@ -76,9 +84,11 @@ impl Sleb128 {
 
     /// Reads the signed number at the offset.
     ///
-    /// # Proved
+    /// <details><summary>Proved</summary>
     ///
     /// - `Reads (λ u. (sleb_number u, offset + sleb_size u)) result (sleb_at bytes offset)`
+    ///
+    /// </details>
     pub fn parse(bytes: &[u8], offset: usize) -> Result<Self> {
         let (value, after) = sleb(bytes, offset)?;
         Ok(Sleb128 {
@@ -89,9 +99,11 @@ impl Sleb128 {
 
     /// Returns how many bytes spell the number.
     ///
-    /// # Proved
+    /// <details><summary>Proved</summary>
     ///
     /// - `result ≡ sleb_size self`
+    ///
+    /// </details>
     pub fn size(&self) -> usize {
         self.size
     }
@@ -213,18 +225,20 @@ fn sleb_front(bytes: &[u8]) -> Option<(i64, usize)> {
 
 /// Reads the ULEB128 number at `place`, and returns it with the place after its one to ten bytes.
 ///
-/// # Proved
+/// <details><summary>Proved</summary>
 ///
 /// - *value*: `Reads (λ found. found) result (uleb_at bytes place)`
 /// - *after*: if `Ok(found)`: `place ≤ found.1`
 /// - *within*: if `Ok(found)`: `found.1 ≤ length bytes`
+///
+/// </details>
 pub fn uleb(bytes: &[u8], place: usize) -> Result<(u64, usize)> {
     let rest = try_rest_at(bytes, place)?;
     match uleb_front(rest) {
         Some((value, len)) => Ok((value, place + len)),
         None => Err(Error::Scroll(ScrollError::BadInput {
             size: rest.len(),
-            msg: "a ULEB128 number has at most ten bytes",
+            msg: "a ULEB128 number has no end, or does not fit in 64 bits",
         })),
     }
 }
@@ -241,11 +255,13 @@ fn long_uleb(bytes: &[u8], place: usize) -> (u64, usize) {
 
 /// Like `uleb`, but returns `None` if there is no number. A number of at most four bytes is read without a call.
 ///
-/// # Proved
+/// <details><summary>Proved</summary>
 ///
 /// - *value*: if `None`: `IsErr (uleb_at bytes place)`; if `Some(found)`: `uleb_at bytes place ≡ Ok found`
 /// - *after*: if `Some(found)`: `place < found.1`
 /// - *within*: if `Some(found)`: `found.1 ≤ length bytes`
+///
+/// </details>
 #[inline(always)]
 pub fn quick_uleb(bytes: &[u8], place: usize) -> Option<(u64, usize)> {
     if place >= bytes.len() {
@@ -263,18 +279,20 @@ pub fn quick_uleb(bytes: &[u8], place: usize) -> Option<(u64, usize)> {
 
 /// Reads the SLEB128 number at `place`, and returns it with the place after its one to ten bytes.
 ///
-/// # Proved
+/// <details><summary>Proved</summary>
 ///
 /// - *value*: `Reads (λ found. found) result (sleb_at bytes place)`
 /// - *after*: if `Ok(found)`: `place ≤ found.1`
 /// - *within*: if `Ok(found)`: `found.1 ≤ length bytes`
+///
+/// </details>
 pub fn sleb(bytes: &[u8], place: usize) -> Result<(i64, usize)> {
     let rest = try_rest_at(bytes, place)?;
     match sleb_front(rest) {
         Some((value, len)) => Ok((value, place + len)),
         None => Err(Error::Scroll(ScrollError::BadInput {
             size: rest.len(),
-            msg: "an SLEB128 number has at most ten bytes",
+            msg: "an SLEB128 number has no end, or does not fit in 64 bits",
         })),
     }
 }

@@ -4,9 +4,11 @@
 
 /// Returns the low 32 bits of a number.
 ///
-/// # Proved
+/// <details><summary>Proved</summary>
 ///
 /// - `result ≡ x % 2 ^ 32`
+///
+/// </details>
 pub fn low_bits(x: u64) -> u32 {
     (x % (1 << 32)) as u32
 }

@@ -2,25 +2,31 @@
 //! Bounded reads, and numbers at an offset.
 #![forbid(unsafe_code)]
 
+use crate::shim::ReadsNumbers;
+
 use crate::generated::mach_base::context::Endian;
 use crate::generated::mach_base::error::{Error, Result, ScrollError};
 
 /// Returns the bytes from `offset` on.
 ///
-/// # Proved
+/// <details><summary>Proved</summary>
 ///
 /// Callers make sure of: `offset ≤ length bytes`.
 ///
 /// - `result ≡ drop offset bytes`
+///
+/// </details>
 pub fn rest_at(bytes: &[u8], offset: usize) -> &[u8] {
     &bytes[offset..]
 }
 
 /// Returns the bytes from `offset` on. Fails if the offset is at or past the end.
 ///
-/// # Proved
+/// <details><summary>Proved</summary>
 ///
 /// - `Reads (λ rest. rest) result (rest_from bytes offset)`
+///
+/// </details>
 pub fn try_rest_at(bytes: &[u8], offset: usize) -> Result<&[u8]> {
     if offset >= bytes.len() {
         return Err(Error::Scroll(ScrollError::BadOffset(offset)));
@@ -30,9 +36,11 @@ pub fn try_rest_at(bytes: &[u8], offset: usize) -> Result<&[u8]> {
 
 /// Returns the `n` bytes at `offset`.
 ///
-/// # Proved
+/// <details><summary>Proved</summary>
 ///
 /// - `Reads (λ found. found) result (slice_at n bytes offset)`
+///
+/// </details>
 pub fn bytes_at(bytes: &[u8], offset: usize, n: usize) -> Result<&[u8]> {
     let rest = try_rest_at(bytes, offset)?;
     if rest.len() < n {
@@ -46,20 +54,24 @@ pub fn bytes_at(bytes: &[u8], offset: usize, n: usize) -> Result<&[u8]> {
 
 /// Reads the four-byte number at `offset`.
 ///
-/// # Proved
+/// <details><summary>Proved</summary>
 ///
 /// - `Reads (λ n. n) result (number_at le 4 bytes offset)`
+///
+/// </details>
 pub fn read_u32(bytes: &[u8], offset: usize, le: Endian) -> Result<u32> {
     Ok(le.u32_at(bytes_at(bytes, offset, 4)?, 0))
 }
 
 /// Copies the `N` bytes at `place`.
 ///
-/// # Proved
+/// <details><summary>Proved</summary>
 ///
 /// Callers make sure of: `place + N ≤ length bytes`.
 ///
 /// - `result ≡ take N (drop place bytes)`
+///
+/// </details>
 pub fn array_at<const N: usize>(bytes: &[u8], place: usize) -> [u8; N] {
     let mut array = [0; N];
     array.copy_from_slice(&bytes[place..place + N]);

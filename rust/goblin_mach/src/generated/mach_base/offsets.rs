@@ -8,9 +8,11 @@ use crate::generated::mach_base::traits::{TryFromCtx, TryIntoCtx};
 
 /// Reads the value at an offset.
 ///
-/// # Proved
+/// <details><summary>Proved</summary>
 ///
 /// - `ReadsBy T.fault T.view result (value_of (front_at (T.front ctx) bytes offset))`
+///
+/// </details>
 pub fn pread_with<'a, T: TryFromCtx<'a, C>, C>(
     bytes: &'a [u8],
     offset: usize,
@@ -24,10 +26,12 @@ pub fn pread_with<'a, T: TryFromCtx<'a, C>, C>(
 /// Reads the value at the offset and moves the offset past it. On an error the
 /// offset is unchanged. Fails as `Malformed` if the new offset would exceed 64 bits.
 ///
-/// # Proved
+/// <details><summary>Proved</summary>
 ///
 /// - *value*: `ReadsBy T.fault (λ value. (T.view value, offset.new)) result (value_and_next offset.old (front_at (T.front ctx) bytes offset.old))`
 /// - *refused*: if `Err`: `offset.new ≡ offset.old`
+///
+/// </details>
 pub fn gread_with<'a, T: TryFromCtx<'a, C>, C>(
     bytes: &'a [u8],
     offset: &mut usize,
@@ -36,7 +40,7 @@ pub fn gread_with<'a, T: TryFromCtx<'a, C>, C>(
     let rest = try_rest_at(bytes, *offset)?;
     let (value, width) = T::try_from_ctx(rest, ctx)?;
     let Some(next) = offset.checked_add(width) else {
-        return Err(Error::Malformed("an offset is a number of 64 bits").into());
+        return Err(Error::Malformed("an offset does not fit in 64 bits").into());
     };
     *offset = next;
     Ok(value)
@@ -44,12 +48,14 @@ pub fn gread_with<'a, T: TryFromCtx<'a, C>, C>(
 
 /// Writes a value at an offset and returns its number of bytes. On an error the bytes are unchanged.
 ///
-/// # Proved
+/// <details><summary>Proved</summary>
 ///
 /// - *answer*: `Reads (λ n. n) result (room_at (T.width ctx value) bytes.old offset)`
 /// - *written*: if `Ok`: `IsWritten bytes.old bytes.new offset (T.spelled ctx value)`
 /// - *sized*: if `Ok`: `length (T.spelled ctx value) ≡ T.width ctx value`
 /// - *refused*: if `Err`: `bytes.new ≡ bytes.old`
+///
+/// </details>
 pub fn pwrite_with<T: TryIntoCtx<C>, C>(
     bytes: &mut [u8],
     value: T,

@@ -2,20 +2,32 @@
 //! Records: fields one after another, in one byte order.
 #![forbid(unsafe_code)]
 
+use crate::shim::ReadsNumbers;
+
 use crate::generated::mach_base::context::Endian;
 use crate::generated::mach_base::error::{Error, Result, ScrollError};
 use crate::shim::byteorder::{BigEndian, ByteOrder, LittleEndian};
 
 /// The bytes of a record, at most 80.
+#[derive(Clone)]
 pub struct RecordBytes {
     buffer: [u8; 80],
     len: usize,
 }
 
+impl core::fmt::Debug for RecordBytes {
+    /// Prints the name of the type.
+    fn fmt(&self, f: &mut core::fmt::Formatter<'_>) -> core::fmt::Result {
+        f.debug_struct("RecordBytes").finish_non_exhaustive()
+    }
+}
+
 impl RecordBytes {
-    /// # Proved
+    /// <details><summary>Proved</summary>
     ///
     /// - `result ≡ []`
+    ///
+    /// </details>
     pub fn new() -> Self {
         RecordBytes {
             buffer: [0; 80],
@@ -29,79 +41,59 @@ impl RecordBytes {
         self.len = end;
     }
 
+    crate::shim::inner! {
     /// Appends one byte.
-    ///
-    /// # Proved
-    ///
-    /// Callers make sure of: `length self + 1 ≤ 80`.
-    ///
-    /// - `result ≡ self ++ number_bytes le 1 x`
-    pub fn u8(mut self, le: Endian, x: u8) -> Self {
-        self.push(&[x]);
-        self
+        fn u8(mut self, le: Endian, x: u8) -> Self {
+            self.push(&[x]);
+            self
+        }
     }
 
+    crate::shim::inner! {
     /// Appends a two-byte number.
-    ///
-    /// # Proved
-    ///
-    /// Callers make sure of: `length self + 2 ≤ 80`.
-    ///
-    /// - `result ≡ self ++ number_bytes le 2 x`
-    pub fn u16(mut self, le: Endian, x: u16) -> Self {
-        let mut field = [0; 2];
-        match le {
-            Endian::Little => LittleEndian::write_u16(&mut field, x),
-            Endian::Big => BigEndian::write_u16(&mut field, x),
+        fn u16(mut self, le: Endian, x: u16) -> Self {
+            let mut field = [0; 2];
+            match le {
+                Endian::Little => LittleEndian::write_u16(&mut field, x),
+                Endian::Big => BigEndian::write_u16(&mut field, x),
+            }
+            self.push(&field);
+            self
         }
-        self.push(&field);
-        self
     }
 
+    crate::shim::inner! {
     /// Appends a four-byte number.
-    ///
-    /// # Proved
-    ///
-    /// Callers make sure of: `length self + 4 ≤ 80`.
-    ///
-    /// - `result ≡ self ++ number_bytes le 4 x`
-    pub fn u32(mut self, le: Endian, x: u32) -> Self {
-        let mut field = [0; 4];
-        match le {
-            Endian::Little => LittleEndian::write_u32(&mut field, x),
-            Endian::Big => BigEndian::write_u32(&mut field, x),
+        fn u32(mut self, le: Endian, x: u32) -> Self {
+            let mut field = [0; 4];
+            match le {
+                Endian::Little => LittleEndian::write_u32(&mut field, x),
+                Endian::Big => BigEndian::write_u32(&mut field, x),
+            }
+            self.push(&field);
+            self
         }
-        self.push(&field);
-        self
     }
 
+    crate::shim::inner! {
     /// Appends an eight-byte number.
-    ///
-    /// # Proved
-    ///
-    /// Callers make sure of: `length self + 8 ≤ 80`.
-    ///
-    /// - `result ≡ self ++ number_bytes le 8 x`
-    pub fn u64(mut self, le: Endian, x: u64) -> Self {
-        let mut field = [0; 8];
-        match le {
-            Endian::Little => LittleEndian::write_u64(&mut field, x),
-            Endian::Big => BigEndian::write_u64(&mut field, x),
+        fn u64(mut self, le: Endian, x: u64) -> Self {
+            let mut field = [0; 8];
+            match le {
+                Endian::Little => LittleEndian::write_u64(&mut field, x),
+                Endian::Big => BigEndian::write_u64(&mut field, x),
+            }
+            self.push(&field);
+            self
         }
-        self.push(&field);
-        self
     }
 
+    crate::shim::inner! {
     /// Appends `bytes`.
-    ///
-    /// # Proved
-    ///
-    /// Callers make sure of: `length self + length bytes ≤ 80`.
-    ///
-    /// - `result ≡ self ++ bytes`
-    pub fn bytes(mut self, bytes: &[u8]) -> Self {
-        self.push(bytes);
-        self
+        fn bytes(mut self, bytes: &[u8]) -> Self {
+            self.push(bytes);
+            self
+        }
     }
 
     fn as_slice(&self) -> &[u8] {
@@ -111,11 +103,13 @@ impl RecordBytes {
 
 /// Counts the records of `size` bytes that begin within the bytes, one after another from `start` on. No byte of any later record exists.
 ///
-/// # Proved
+/// <details><summary>Proved</summary>
 ///
 /// Callers make sure of: `0 < size`.
 ///
 /// - `result ≡ records_in_bounds (length bytes) start size`
+///
+/// </details>
 #[inline(always)]
 pub fn records_in_bounds(bytes: &[u8], start: usize, size: usize) -> usize {
     bytes.len().saturating_sub(start).div_ceil(size)
@@ -127,23 +121,26 @@ pub trait Record: Copy {
     const SIZE: usize;
 
     /// Loads the record with which the bytes begin.
-    ///
-    /// # Proved
-    ///
-    /// Callers make sure of: `SIZE ≤ length bytes`.
-    ///
-    /// - `values result ≡ values_in le fields 0 bytes`
-    fn load(bytes: &[u8], le: Endian) -> Self;
+    #[doc(hidden)]
+    fn load(bytes: &[u8], le: Endian, _: crate::shim::Inner) -> Self;
 
     /// Returns the bytes of the record.
     ///
-    /// # Proved
+    /// <details><summary>Proved</summary>
     ///
     /// - *spelled*: `result ≡ spelled_after le [] fields (values self)`
     /// - *fits*: `AllFit fields (values self)`
+    ///
+    /// </details>
     fn store(self, le: Endian) -> RecordBytes;
 
     /// Reads the record at `offset`.
+    ///
+    /// <details><summary>Proved</summary>
+    ///
+    /// - `Reads values result (record_at le fields bytes offset)`
+    ///
+    /// </details>
     #[inline(always)]
     fn read(bytes: &[u8], offset: usize, le: Endian) -> Result<Self> {
         if offset >= bytes.len() {
@@ -156,10 +153,20 @@ pub trait Record: Copy {
                 len: rest.len(),
             }));
         }
-        Ok(Self::load(rest, le))
+        Ok(Self::load(rest, le, crate::shim::Inner(())))
     }
 
     /// Writes the record at `offset` and returns its size. On an error the bytes are unchanged.
+    ///
+    /// <details><summary>Proved</summary>
+    ///
+    /// - *written*: if `Ok(n)`: `(n ≡ SIZE) × IsWritten bytes.old bytes.new offset (spelling le fields (values self))`
+    /// - *room*: the result is `Ok` exactly if `offset + SIZE ≤ length bytes.old`
+    /// - *refused*: if `Err(e)`: `(bytes.new ≡ bytes.old) × (record_at le fields bytes.old offset ≡ Err (fault_of e))`
+    /// - *read back*: if `Ok`: `record_at le fields bytes.new offset ≡ Ok (values self)`
+    /// - *sized*: if `Ok`: `length (spelling le fields (values self)) ≡ SIZE`
+    ///
+    /// </details>
     fn write(&self, bytes: &mut [u8], offset: usize, le: Endian) -> Result<usize> {
         if offset >= bytes.len() {
             return Err(Error::Scroll(ScrollError::BadOffset(offset)));
@@ -180,12 +187,14 @@ pub trait Record: Copy {
 
 /// Writes a record and reads it back: it is the same. On an error the bytes are unchanged.
 ///
-/// # Proved
+/// <details><summary>Proved</summary>
 ///
 /// - *again*: if `Ok(again)`: `again ≡ held`
 /// - *room*: the result is `Ok` exactly if `offset + R.SIZE ≤ length bytes.old`
 /// - *written*: if `Ok`: `IsWritten bytes.old bytes.new offset (spelling le R.fields (R.values held))`
 /// - *refused*: if `Err(e)`: `(bytes.new ≡ bytes.old) × (record_at le R.fields bytes.old offset ≡ Err (fault_of e))`
+///
+/// </details>
 pub fn written_and_read<R: Record>(
     held: R,
     bytes: &mut [u8],

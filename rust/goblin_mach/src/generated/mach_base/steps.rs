@@ -13,12 +13,21 @@ pub struct Steps {
     tally: Tally,
 }
 
+impl core::fmt::Debug for Steps {
+    /// Prints the name of the type.
+    fn fmt(&self, f: &mut core::fmt::Formatter<'_>) -> core::fmt::Result {
+        f.debug_struct("Steps").finish_non_exhaustive()
+    }
+}
+
 impl Steps {
     /// Starts a count at 0.
     ///
-    /// # Proved
+    /// <details><summary>Proved</summary>
     ///
     /// - `result ≡ 0`
+    ///
+    /// </details>
     pub fn new() -> Self {
         Steps {
             tally: Tally::new(),
@@ -27,9 +36,11 @@ impl Steps {
 
     /// Counts one more read. Only a function that does a counted read calls it, once.
     ///
-    /// # Proved
+    /// <details><summary>Proved</summary>
     ///
     /// - `self.new ≡ self.old + 1`
+    ///
+    /// </details>
     pub fn tick(&mut self) {
         self.tally.tick();
     }

@@ -9,12 +9,21 @@ pub struct Tally {
     marker: PhantomData<()>,
 }
 
+impl core::fmt::Debug for Tally {
+    /// Prints the name of the type.
+    fn fmt(&self, f: &mut core::fmt::Formatter<'_>) -> core::fmt::Result {
+        f.debug_struct("Tally").finish_non_exhaustive()
+    }
+}
+
 impl Tally {
     /// Starts at 0.
     ///
-    /// # Proved
+    /// <details><summary>Proved</summary>
     ///
     /// - `result.count ≡ 0`
+    ///
+    /// </details>
     pub fn new() -> Self {
         Tally {
             marker: PhantomData,
@@ -23,8 +32,10 @@ impl Tally {
 
     /// Adds one.
     ///
-    /// # Proved
+    /// <details><summary>Proved</summary>
     ///
     /// - `self.new.count ≡ self.old.count + 1`
+    ///
+    /// </details>
     pub fn tick(&mut self) {}
 }

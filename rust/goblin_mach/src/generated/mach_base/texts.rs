@@ -31,7 +31,7 @@ fn ascii_text(bytes: &[u8]) -> &str {
 #[cold]
 #[inline(never)]
 fn utf8_at_front(bytes: &[u8]) -> Option<&str> {
-    match str::from_utf8(run_at_front(bytes)) {
+    match core::str::from_utf8(run_at_front(bytes)) {
         Ok(text) => Some(text),
         Err(_) => None,
     }
@@ -79,10 +79,12 @@ fn text_at_front(bytes: &[u8]) -> Option<&str> {
 
 /// Like `read_text`, but returns `None` if there is no text.
 ///
-/// # Proved
+/// <details><summary>Proved</summary>
 ///
 /// - *text*: if `None`: `IsErr (text_at bytes place)`; if `Some(text)`: `text_at bytes place ≡ Ok text`
 /// - *within*: if `Some(text)`: `place + length text ≤ length bytes`
+///
+/// </details>
 #[inline(always)]
 pub fn quick_text(bytes: &[u8], place: usize) -> Option<&str> {
     if place >= bytes.len() {
@@ -93,10 +95,12 @@ pub fn quick_text(bytes: &[u8], place: usize) -> Option<&str> {
 
 /// Reads the text at `offset`. It runs to the first zero byte, or to the end, and is UTF-8.
 ///
-/// # Proved
+/// <details><summary>Proved</summary>
 ///
 /// - *text*: `Reads (λ text. text) result (text_at bytes offset)`
 /// - *within*: if `Ok(text)`: `offset + length text ≤ length bytes`
+///
+/// </details>
 #[inline(always)]
 pub fn read_text(bytes: &[u8], offset: usize) -> Result<&str> {
     let rest = try_rest_at(bytes, offset)?;
@@ -104,7 +108,7 @@ pub fn read_text(bytes: &[u8], offset: usize) -> Result<&str> {
         Some(text) => Ok(text),
         None => Err(Error::Scroll(ScrollError::BadInput {
             size: rest.len(),
-            msg: "a text is UTF-8",
+            msg: "a text is not UTF-8",
         })),
     }
 }

@@ -13,9 +13,11 @@ pub trait TryFromCtx<'a, C>: Sized {
 
     /// Reads the value at the start of the bytes, and returns it with its width in bytes.
     ///
-    /// # Proved
+    /// <details><summary>Proved</summary>
     ///
     /// - `ReadsBy fault (λ found. (view found.0, found.1)) result (front ctx bytes)`
+    ///
+    /// </details>
     fn try_from_ctx(bytes: &'a [u8], ctx: C) -> core::result::Result<(Self, usize), Self::Error>;
 }
 
@@ -23,18 +25,28 @@ pub trait TryFromCtx<'a, C>: Sized {
 pub trait TryIntoCtx<C>: Sized {
     /// Writes the value at the start of the bytes and returns its number of bytes. On an error the bytes are unchanged.
     ///
-    /// # Proved
+    /// <details><summary>Proved</summary>
     ///
     /// - *answer*: `Reads (λ n. n) result (room_at (width ctx self) bytes.old 0)`
     /// - *written*: if `Ok`: `IsWritten bytes.old bytes.new 0 (spelled ctx self)`
     /// - *sized*: if `Ok`: `length (spelled ctx self) ≡ width ctx self`
     /// - *refused*: if `Err`: `bytes.new ≡ bytes.old`
+    ///
+    /// </details>
     fn try_into_ctx(self, bytes: &mut [u8], ctx: C) -> Result<usize>;
 }
 
 /// A value that is written into bytes that are known to hold it. `try_into_ctx` tests that.
 pub trait IntoCtx<C>: TryIntoCtx<C> {
     /// Writes the value at the start of the bytes.
+    ///
+    /// <details><summary>Proved</summary>
+    ///
+    /// Under this condition: `Self.width ctx self ≤ length bytes.old`. Else nothing is written.
+    ///
+    /// - `IsWritten bytes.old bytes.new 0 (Self.spelled ctx self)`
+    ///
+    /// </details>
     fn into_ctx(self, bytes: &mut [u8], ctx: C) {
         let _ = self.try_into_ctx(bytes, ctx);
     }
@@ -44,9 +56,11 @@ pub trait IntoCtx<C>: TryIntoCtx<C> {
 pub trait SizeWith<C> {
     /// Returns the width of a value in bytes.
     ///
-    /// # Proved
+    /// <details><summary>Proved</summary>
     ///
     /// - `result ≡ size ctx`
+    ///
+    /// </details>
     fn size_with(ctx: &C) -> usize;
 }
 

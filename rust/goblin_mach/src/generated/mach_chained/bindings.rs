@@ -20,7 +20,7 @@ fn place_in_file(segments: &[Segment<'_>], number: u32, offset: u64) -> Result<u
     let segment = nth_segment(segments, number)?;
     match segment.fileoff.checked_add(offset) {
         Some(place) => Ok(place),
-        None => Err(Error::Malformed("a bind's place has at most 64 bits")),
+        None => Err(Error::Malformed("a bind's place does not fit in 64 bits")),
     }
 }
 
@@ -29,7 +29,7 @@ fn place_in_file(segments: &[Segment<'_>], number: u32, offset: u64) -> Result<u
 fn whole_addend(addend: i64, inline: i32) -> Result<i64> {
     match addend.checked_add(i64::from(inline)) {
         Some(sum) => Ok(sum),
-        None => Err(Error::Malformed("a bind's addend has at most 64 bits")),
+        None => Err(Error::Malformed("a bind's addend does not fit in 64 bits")),
     }
 }
 
@@ -43,14 +43,24 @@ pub struct ChainedBindIterator<'a, 'b> {
     pub(crate) ended: bool,
 }
 
+impl<'a, 'b> core::fmt::Debug for ChainedBindIterator<'a, 'b> {
+    /// Prints the name of the type.
+    fn fmt(&self, f: &mut core::fmt::Formatter<'_>) -> core::fmt::Result {
+        f.debug_struct("ChainedBindIterator")
+            .finish_non_exhaustive()
+    }
+}
+
 impl<'a> ChainedFixups<'a> {
     /// Returns an iterator over the bindings, one for each bind of the chains, in order. It ends at
     /// the first fault, after that error. `libs` are the image's libraries, by ordinal, `segments`
     /// its segments, and `base` is the address of its first byte in memory. It allocates no memory.
     ///
-    /// # Proved
+    /// <details><summary>Proved</summary>
     ///
     /// - `AreBindingItems (fixup_input_in self segments base) (texts libs) (chained_bindings_left result)`
+    ///
+    /// </details>
     pub fn bindings<'b>(
         &self,
         libs: &'b [&'a str],
@@ -81,11 +91,13 @@ impl<'a> ChainedFixups<'a> {
     /// Returns the bindings of all binds of the chains, in order. `libs` are the image's libraries, by ordinal, `segments` its segments,
     /// and `base` is the address of its first byte in memory. Each error except `Error::Memory` is a fault among the fixups or the binds.
     ///
-    /// # Proved
+    /// <details><summary>Proved</summary>
     ///
     /// - *listed*: if `Ok(v)`: `ListsBindings (fixup_input_in self segments base) (texts libs) (bindings_view v.items)`
     /// - *only*: for each `list : List (declared.Binding)`, if `ListsBindings (fixup_input_in self segments base) (texts libs) list`, the result is `Ok`, unless memory is refused
     /// - *refused*: if `Err(e)`: `ErrorMeets (BindingFault (fixup_input_in self segments base) (texts libs)) e`
+    ///
+    /// </details>
     pub fn binds(
         &self,
         libs: &[&'a str],
@@ -98,7 +110,7 @@ impl<'a> ChainedFixups<'a> {
     /// Does the same, and adds the number of pointers that are read to a count. It is the
     /// number of fixups, and at most one more on an error. The count never decreases.
     ///
-    /// # Proved
+    /// <details><summary>Proved</summary>
     ///
     /// - *listed*: if `Ok(v)`: `ListsBindings (fixup_input_in self segments base) (texts libs) (bindings_view v.items)`
     /// - *only*: for each `list : List (declared.Binding)`, if `ListsBindings (fixup_input_in self segments base) (texts libs) list`, the result is `Ok`, unless memory is refused
@@ -106,6 +118,8 @@ impl<'a> ChainedFixups<'a> {
     /// - *reads*: if `Ok(_)`: there is `ps : List PlacedFixup` with: `AreFixups (fixup_input_in self segments base) ps None × (steps.new ≡ steps.old + length ps)`
     /// - *bounded*: if `Err(_)`: there is `ps : List PlacedFixup` with: there is `stop : Option Fault` with: `AreFixups (fixup_input_in self segments base) ps stop × (steps.new ≤ steps.old + length ps + 1)`
     /// - *kept*: `steps.old ≤ steps.new`
+    ///
+    /// </details>
     pub fn binds_counted(
         &self,
         libs: &[&'a str],
@@ -177,9 +191,11 @@ impl<'a> ChainedFixups<'a> {
     /// Returns the binding of a fixup of the chains, if it is a bind. Fails with the reason if a bind has no binding. `libs`
     /// are the image's libraries, by ordinal, `segments` its segments, and `base` is the address of its first byte in memory.
     ///
-    /// # Proved
+    /// <details><summary>Proved</summary>
     ///
     /// - if `None`: `binding_in (fixup_input_in self segments base) (texts libs) (fixup_view fixup) ≡ None`; if `Some(answer)`: `binding_in (fixup_input_in self segments base) (texts libs) (fixup_view fixup) ≡ Some (binding_read answer)`
+    ///
+    /// </details>
     #[inline(always)]
     pub fn binding(
         &self,
@@ -245,6 +261,8 @@ impl<'a, 'b> Iterator for ChainedBindIterator<'a, 'b> {
         self.step(&mut Steps::new())
     }
 }
+
+impl<'a, 'b> core::iter::FusedIterator for ChainedBindIterator<'a, 'b> {}
 
 impl<'a, 'b> Default for ChainedBindIterator<'a, 'b> {
     /// Returns an iterator without bindings.

@@ -4,11 +4,13 @@
 
 /// Returns the number in `count` bits of `n`, the lowest of which is bit `first`.
 ///
-/// # Proved
+/// <details><summary>Proved</summary>
 ///
 /// Callers make sure of: `first + count ≤ 64`; `0 < count`; `count < 64`.
 ///
 /// - `result ≡ bits_from first count n`
+///
+/// </details>
 #[inline(always)]
 pub fn bits(n: u64, first: u32, count: u32) -> u64 {
     (n >> first) % (1 << count)

@@ -11,6 +11,8 @@ use crate::generated::mach_parts::segment::Segment;
 /// chained fixups. Whatever the numbers are, going on from them returns fixups, an error, or nothing.
 #[derive(Clone, Copy, Debug)]
 #[repr(C)]
+#[derive(Eq, Hash, PartialEq)]
+#[cfg_attr(not(feature = "internals"), non_exhaustive)]
 pub struct FixupCursor {
     /// The number of the segment to open next.
     pub segment: u32,
@@ -94,10 +96,12 @@ impl<'a, 'b> Source<'a, 'b> {
 impl<'a> ChainedFixups<'a> {
     /// Returns an iterator over the fixups that follow a cursor of such an iterator.
     ///
-    /// # Proved
+    /// <details><summary>Proved</summary>
     ///
     /// - *items*: `fixups_left result ≡ fixups_after (fixup_input_in self segments base) cursor`
     /// - *over*: `IsOverFixups (fixup_input_in self segments base) result`
+    ///
+    /// </details>
     pub fn fixups_from<'b>(
         &self,
         segments: &'b [Segment<'a>],
@@ -126,9 +130,11 @@ impl<'a> ChainedFixups<'a> {
 impl FixupIterator<'_, '_> {
     /// Returns a cursor for the remaining fixups.
     ///
-    /// # Proved
+    /// <details><summary>Proved</summary>
     ///
     /// - for each `x : FixupInput`, if `IsOverFixups x self`, `fixups_after x result ≡ fixups_left self`
+    ///
+    /// </details>
     pub fn cursor(&self) -> FixupCursor {
         let (next, at, has_more, index) = numbers_of(self.next);
         FixupCursor {

@@ -9,6 +9,7 @@ use crate::generated::mach_parts::segment::Segment;
 
 /// An iterator over the fixups: by segments, by pages, and along each chain.
 /// It ends at the first fault, after that error. It allocates no memory.
+#[derive(Clone)]
 pub struct FixupIterator<'a, 'b> {
     pub(crate) source: Source<'a, 'b>,
     // The segment to open next.
@@ -23,14 +24,23 @@ pub struct FixupIterator<'a, 'b> {
     pub(crate) ended: bool,
 }
 
+impl<'a, 'b> core::fmt::Debug for FixupIterator<'a, 'b> {
+    /// Prints the name of the type.
+    fn fmt(&self, f: &mut core::fmt::Formatter<'_>) -> core::fmt::Result {
+        f.debug_struct("FixupIterator").finish_non_exhaustive()
+    }
+}
+
 impl<'a> ChainedFixups<'a> {
     /// Returns an iterator over the fixups: by segments, by pages, and along each chain. It ends at the first fault, after that
     /// error. `segments` are the image's segments, and `base` is the address of its first byte in memory. It allocates no memory.
     ///
-    /// # Proved
+    /// <details><summary>Proved</summary>
     ///
     /// - *items*: `AreFixupItems (fixup_input_in self segments base) (fixups_left result)`
     /// - *over*: `IsOverFixups (fixup_input_in self segments base) result`
+    ///
+    /// </details>
     pub fn fixups<'b>(&self, segments: &'b [Segment<'a>], base: u64) -> FixupIterator<'a, 'b> {
         self.start(segments, base)
     }
@@ -200,7 +210,7 @@ impl<'a> FixupIterator<'a, '_> {
     /// Returns the next fixup, or the fault that ends them, and adds the number of pointers that are read
     /// to a count. It is one for a fixup, at most one for the fault, and none if there is nothing more.
     ///
-    /// # Proved
+    /// <details><summary>Proved</summary>
     ///
     /// - *items*: `YieldsFirstBy fixup_read fixups_left self.old result self.new`
     /// - *end*: if `None`: `HasEndedFixups self.new`
@@ -210,6 +220,8 @@ impl<'a> FixupIterator<'a, '_> {
     /// - *reads*: if `Some(item)`: `OnOk item (steps.new ≡ steps.old + 1)`
     /// - *bounded*: `steps.new ≤ steps.old + 1`
     /// - *kept*: `steps.old ≤ steps.new`
+    ///
+    /// </details>
     #[inline(always)]
     pub fn next_counted(&mut self, steps: &mut Steps) -> Option<Result<Fixup>> {
         self.step(steps)
@@ -233,6 +245,8 @@ impl<'a, 'b> Iterator for FixupIterator<'a, 'b> {
         self.step(&mut Steps::new())
     }
 }
+
+impl<'a, 'b> core::iter::FusedIterator for FixupIterator<'a, 'b> {}
 
 impl<'a, 'b> Default for FixupIterator<'a, 'b> {
     /// Returns an iterator without fixups.

@@ -12,7 +12,8 @@ pub const DYLD_CHAINED_IMPORT_ADDEND: u32 = 2;
 pub const DYLD_CHAINED_IMPORT_ADDEND64: u32 = 3;
 
 /// The layout of the imports' records.
-#[derive(Clone, Copy, Debug, PartialEq)]
+#[derive(Clone, Copy, Debug, PartialEq, Eq, Hash)]
+#[cfg_attr(not(feature = "internals"), non_exhaustive)]
 pub enum ImportFormat {
     /// `DYLD_CHAINED_IMPORT`
     Plain,
@@ -25,9 +26,11 @@ pub enum ImportFormat {
 impl ImportFormat {
     /// Returns the format with this number.
     ///
-    /// # Proved
+    /// <details><summary>Proved</summary>
     ///
     /// - `result ≡ import_format_of number`
+    ///
+    /// </details>
     pub fn of(number: u32) -> Option<ImportFormat> {
         match number {
             DYLD_CHAINED_IMPORT => Some(ImportFormat::Plain),
@@ -39,9 +42,11 @@ impl ImportFormat {
 
     /// Returns the size of an import's record in bytes.
     ///
-    /// # Proved
+    /// <details><summary>Proved</summary>
     ///
     /// - `result ≡ import_size self`
+    ///
+    /// </details>
     pub fn size(self) -> usize {
         match self {
             ImportFormat::Plain => 4,
@@ -52,7 +57,8 @@ impl ImportFormat {
 }
 
 /// The layout of the pointers in a segment's chains (the constants `DYLD_CHAINED_PTR_`).
-#[derive(Clone, Copy, Debug, PartialEq)]
+#[derive(Clone, Copy, Debug, PartialEq, Eq, Hash)]
+#[cfg_attr(not(feature = "internals"), non_exhaustive)]
 pub enum PointerFormat {
     /// `DYLD_CHAINED_PTR_ARM64E`, 1: targets are addresses.
     Arm64e,
@@ -75,9 +81,11 @@ pub enum PointerFormat {
 impl PointerFormat {
     /// Returns the format with this number, if it is supported.
     ///
-    /// # Proved
+    /// <details><summary>Proved</summary>
     ///
     /// - `result ≡ pointer_format_of number`
+    ///
+    /// </details>
     pub fn of(number: u16) -> Option<PointerFormat> {
         match number {
             1 => Some(PointerFormat::Arm64e),

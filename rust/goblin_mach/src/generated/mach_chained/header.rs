@@ -2,61 +2,10 @@
 //! The header of the chained fixups.
 #![forbid(unsafe_code)]
 
-use crate::generated::mach_base::{
-    ByteCount, Endian, Error, Record, RecordBytes, Result, bytes_at, read_u32,
-};
+use crate::generated::mach_base::{ByteCount, Endian, Error, Record, Result, bytes_at, read_u32};
 use crate::generated::mach_chained::format::ImportFormat;
-use crate::generated::mach_records::LinkeditDataCommand;
+use crate::generated::mach_records::{ChainedFixupsHeader, LinkeditDataCommand};
 use core::fmt;
-
-/// The header of the data of `LC_DYLD_CHAINED_FIXUPS` (struct dyld_chained_fixups_header). Places are offsets from the start of the data.
-#[derive(Clone, Copy, Debug, Default)]
-pub struct ChainedFixupsHeader {
-    /// 0.
-    pub fixups_version: u32,
-    /// The place of the starts (struct dyld_chained_starts_in_image).
-    pub starts_offset: u32,
-    /// The place of the imports.
-    pub imports_offset: u32,
-    /// The place of the imports' names.
-    pub symbols_offset: u32,
-    /// How many imports there are.
-    pub imports_count: u32,
-    /// The format of the imports, one of the `DYLD_CHAINED_IMPORT` constants.
-    pub imports_format: u32,
-    /// 0: the names are not compressed.
-    pub symbols_format: u32,
-}
-
-/// The size of a `ChainedFixupsHeader` in bytes.
-pub const SIZEOF_CHAINED_FIXUPS_HEADER: usize = 28;
-
-impl Record for ChainedFixupsHeader {
-    const SIZE: usize = SIZEOF_CHAINED_FIXUPS_HEADER;
-
-    fn load(bytes: &[u8], le: Endian) -> Self {
-        ChainedFixupsHeader {
-            fixups_version: le.u32_at(bytes, 0),
-            starts_offset: le.u32_at(bytes, 4),
-            imports_offset: le.u32_at(bytes, 8),
-            symbols_offset: le.u32_at(bytes, 12),
-            imports_count: le.u32_at(bytes, 16),
-            imports_format: le.u32_at(bytes, 20),
-            symbols_format: le.u32_at(bytes, 24),
-        }
-    }
-
-    fn store(self, le: Endian) -> RecordBytes {
-        RecordBytes::new()
-            .u32(le, self.fixups_version)
-            .u32(le, self.starts_offset)
-            .u32(le, self.imports_offset)
-            .u32(le, self.symbols_offset)
-            .u32(le, self.imports_count)
-            .u32(le, self.imports_format)
-            .u32(le, self.symbols_format)
-    }
-}
 
 /// The chained fixups of an image: the data of their command, and its header.
 #[derive(Clone, Copy)]
@@ -84,20 +33,22 @@ impl<'a> ChainedFixups<'a> {
     /// Opens the chained fixups that a command places. Fails as `Malformed` if the
     /// version, the format of the imports or the format of the names is not supported.
     ///
-    /// # Proved
+    /// <details><summary>Proved</summary>
     ///
     /// - `Reads fixups_view result (fixups_at le bytes command.dataoff command.datasize)`
+    ///
+    /// </details>
     pub fn parse(bytes: &'a [u8], command: &LinkeditDataCommand, le: Endian) -> Result<Self> {
         let payload = bytes_at(bytes, command.dataoff as usize, command.datasize as usize)?;
         let header = ChainedFixupsHeader::read(payload, 0, le)?;
         if header.fixups_version != 0 {
-            return Err(Error::Malformed("chained fixups are of version 0"));
+            return Err(Error::Malformed("chained fixups are not of version 0"));
         }
         if header.symbols_format != 0 {
-            return Err(Error::Malformed("names of imports are not compressed"));
+            return Err(Error::Malformed("the names of imports are compressed"));
         }
         let Some(format) = ImportFormat::of(header.imports_format) else {
-            return Err(Error::Malformed("imports are of one of three formats"));
+            return Err(Error::Malformed("imports are of an unknown format"));
         };
         let segment_count = read_u32(payload, header.starts_offset as usize, le)?;
         Ok(ChainedFixups {
@@ -122,9 +73,11 @@ impl<'a> ChainedFixups<'a> {
 
     /// Returns their header.
     ///
-    /// # Proved
+    /// <details><summary>Proved</summary>
     ///
     /// - `result ≡ self.header`
+    ///
+    /// </details>
     pub fn header(&self) -> ChainedFixupsHeader {
         self.header
     }

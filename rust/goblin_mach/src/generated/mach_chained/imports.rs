@@ -2,6 +2,8 @@
 //! The imports that the binds of chains refer to by their number.
 #![forbid(unsafe_code)]
 
+use crate::shim::ToSigned;
+
 use crate::generated::mach_base::{Error, KeptText, Record, Result, read_text, try_rest_at};
 use crate::generated::mach_chained::bits::bits;
 use crate::generated::mach_chained::format::ImportFormat;
@@ -11,7 +13,8 @@ use crate::generated::mach_chained::records::{
 };
 
 /// An import of the table.
-#[derive(Clone, Copy, Debug)]
+#[derive(Clone, Copy, Debug, Eq, Hash, PartialEq)]
+#[cfg_attr(not(feature = "internals"), non_exhaustive)]
 pub struct ChainedImport<'a> {
     /// The symbol's name.
     pub name: &'a str,
@@ -24,7 +27,8 @@ pub struct ChainedImport<'a> {
 }
 
 // The record of an import.
-#[derive(Clone, Copy)]
+#[derive(Clone, Copy, Eq, Hash, PartialEq)]
+#[cfg_attr(not(feature = "internals"), non_exhaustive)]
 pub struct ImportRow {
     pub library: i32,
     pub is_weak: bool,
@@ -32,21 +36,38 @@ pub struct ImportRow {
     pub addend: i64,
 }
 
+impl core::fmt::Debug for ImportRow {
+    /// Prints the name of the type.
+    fn fmt(&self, f: &mut core::fmt::Formatter<'_>) -> core::fmt::Result {
+        f.debug_struct("ImportRow").finish_non_exhaustive()
+    }
+}
+
 // The shortest name that is long, in bytes. To search a shorter one again is cheap.
 const LONG: usize = 4096;
 
 // Reads the names of imports. After the first long name it uses a reader that keeps the last text.
 #[derive(Clone, Copy)]
+#[cfg_attr(not(feature = "internals"), non_exhaustive)]
 pub struct Names<'a> {
     pub texts: KeptText<'a>,
     pub has_long: bool,
 }
 
+impl<'a> core::fmt::Debug for Names<'a> {
+    /// Prints the name of the type.
+    fn fmt(&self, f: &mut core::fmt::Formatter<'_>) -> core::fmt::Result {
+        f.debug_struct("Names").finish_non_exhaustive()
+    }
+}
+
 impl<'a> Names<'a> {
     // Builds a reader of some data. No name was read yet.
-    /// # Proved
+    /// <details><summary>Proved</summary>
     ///
     /// - `kept_bytes result.texts ≡ payload`
+    ///
+    /// </details>
     #[inline(always)]
     pub fn of(payload: &'a [u8]) -> Names<'a> {
         Names {
@@ -115,23 +136,22 @@ impl<'a> ChainedFixups<'a> {
             }
             ImportFormat::Addend => {
                 let found = ImportAddendRecord::read(self.payload, place, self.le)?;
-                Ok(short_row(
-                    found.fields,
-                    i64::from(found.addend.cast_signed()),
-                ))
+                Ok(short_row(found.fields, i64::from(found.addend.to_signed())))
             }
             ImportFormat::Addend64 => {
                 let found = ImportAddend64Record::read(self.payload, place, self.le)?;
-                Ok(long_row(found.fields, found.addend.cast_signed()))
+                Ok(long_row(found.fields, found.addend.to_signed()))
             }
         }
     }
 
     /// Reads the import with this number. Fails as `Malformed` if the table has no such import.
     ///
-    /// # Proved
+    /// <details><summary>Proved</summary>
     ///
     /// - `Reads import_view result (import_at (fixups_view self) index)`
+    ///
+    /// </details>
     #[inline(always)]
     pub fn import(&self, index: u32) -> Result<ChainedImport<'a>> {
         self.import_kept(index, &mut Names::of(self.payload))
@@ -145,7 +165,7 @@ impl<'a> ChainedFixups<'a> {
         names: &mut Names<'a>,
     ) -> Result<ChainedImport<'a>> {
         if index >= self.header.imports_count {
-            return Err(Error::Malformed("an import is one of the table"));
+            return Err(Error::Malformed("an import is past the table"));
         }
         let place = self.header.imports_offset as usize + index as usize * self.format.size();
         let row = self.import_row(place)?;
@@ -174,15 +194,17 @@ impl<'a> ChainedFixups<'a> {
     /// Returns the place of an import's name in the data, from which `import` reads it. Fails as `Malformed`
     /// if the table has no such import, and as `BadOffset` if the name would begin past the data.
     ///
-    /// # Proved
+    /// <details><summary>Proved</summary>
     ///
     /// - *value*: `Reads (λ place. place) result (name_place_at (fixups_view self) index)`
     /// - *within*: if `Ok(place)`: `((fixups_view self).header.symbols_offset ≤ place) × (place < length (fixups_view self).payload)`
     /// - *place*: if `Ok(place)`: for each `i : imports.FixupImport`, if `import_at (fixups_view self) index ≡ Ok i`, `text_at (fixups_view self).payload place ≡ Ok i.name`
     /// - *refused*: if `Err(e)`: `import_at (fixups_view self) index ≡ Err (fault_of e)`
+    ///
+    /// </details>
     pub fn import_name_place(&self, index: u32) -> Result<usize> {
         if index >= self.header.imports_count {
-            return Err(Error::Malformed("an import is one of the table"));
+            return Err(Error::Malformed("an import is past the table"));
         }
         let place = self.header.imports_offset as usize + index as usize * self.format.size();
         let row = self.import_row(place)?;
@@ -193,9 +215,11 @@ impl<'a> ChainedFixups<'a> {
 
     /// Returns an iterator over the imports in order. It has exactly the claimed number of items, including unreadable ones.
     ///
-    /// # Proved
+    /// <details><summary>Proved</summary>
     ///
     /// - `chained_imports_left result ≡ imports_of (fixups_view self)`
+    ///
+    /// </details>
     pub fn imports(&self) -> ChainedImportIterator<'a> {
         ChainedImportIterator {
             fixups: *self,
@@ -209,6 +233,14 @@ impl<'a> ChainedFixups<'a> {
 pub struct ChainedImportIterator<'a> {
     fixups: ChainedFixups<'a>,
     index: u32,
+}
+
+impl<'a> core::fmt::Debug for ChainedImportIterator<'a> {
+    /// Prints the name of the type.
+    fn fmt(&self, f: &mut core::fmt::Formatter<'_>) -> core::fmt::Result {
+        f.debug_struct("ChainedImportIterator")
+            .finish_non_exhaustive()
+    }
 }
 
 impl<'a> Iterator for ChainedImportIterator<'a> {
@@ -229,6 +261,8 @@ impl<'a> Iterator for ChainedImportIterator<'a> {
         (left, Some(left))
     }
 }
+
+impl<'a> core::iter::FusedIterator for ChainedImportIterator<'a> {}
 
 impl<'a> ExactSizeIterator for ChainedImportIterator<'a> {
     /// Returns the number of items left.

@@ -18,13 +18,12 @@ pub use crate::generated::mach_chained::bindings::ChainedBindIterator;
 pub use crate::generated::mach_chained::cursor::FixupCursor;
 pub use crate::generated::mach_chained::fixups::FixupIterator;
 pub use crate::generated::mach_chained::format::{ImportFormat, PointerFormat};
-pub use crate::generated::mach_chained::header::{
-    ChainedFixups, ChainedFixupsHeader, SIZEOF_CHAINED_FIXUPS_HEADER,
-};
+pub use crate::generated::mach_chained::header::ChainedFixups;
 pub use crate::generated::mach_chained::imports::{ChainedImport, ChainedImportIterator};
 pub use crate::generated::mach_chained::pointer::{ChainPointer, FixupKind, read_pointer};
 pub use crate::generated::mach_chained::source::Fixup;
-pub use crate::generated::mach_chained::starts::{
-    ChainedStartsInSegment, SIZEOF_CHAINED_STARTS_IN_SEGMENT,
-};
 pub use crate::generated::mach_parts::binding::PointerAuth;
+pub use crate::generated::mach_records::{
+    ChainedFixupsHeader, ChainedStartsInSegment, SIZEOF_CHAINED_FIXUPS_HEADER,
+    SIZEOF_CHAINED_STARTS_IN_SEGMENT,
+};

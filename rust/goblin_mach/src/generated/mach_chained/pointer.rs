@@ -7,7 +7,8 @@ use crate::generated::mach_chained::format::PointerFormat;
 use crate::generated::mach_parts::binding::PointerAuth;
 
 /// What a fixup represents.
-#[derive(Clone, Copy, Debug, PartialEq)]
+#[derive(Clone, Copy, Debug, PartialEq, Eq, Hash)]
+#[cfg_attr(not(feature = "internals"), non_exhaustive)]
 pub enum FixupKind {
     /// The pointer is this address and moves with the image.
     Rebase {
@@ -29,7 +30,8 @@ pub enum FixupKind {
 }
 
 /// A pointer of a chain.
-#[derive(Clone, Copy)]
+#[derive(Clone, Copy, Eq, Hash, PartialEq)]
+#[cfg_attr(not(feature = "internals"), non_exhaustive)]
 pub struct ChainPointer {
     /// What it represents.
     pub kind: FixupKind,
@@ -39,11 +41,20 @@ pub struct ChainPointer {
     pub skip: u32,
 }
 
+impl core::fmt::Debug for ChainPointer {
+    /// Prints the name of the type.
+    fn fmt(&self, f: &mut core::fmt::Formatter<'_>) -> core::fmt::Result {
+        f.debug_struct("ChainPointer").finish_non_exhaustive()
+    }
+}
+
 /// Returns the size of a pointer in bytes.
 ///
-/// # Proved
+/// <details><summary>Proved</summary>
 ///
 /// - `result ≡ pointer_width format`
+///
+/// </details>
 #[inline(always)]
 pub fn pointer_len(format: PointerFormat) -> usize {
     match format {
@@ -180,9 +191,11 @@ const WIDE_BY_8: Arm64eLayout = Arm64eLayout {
 /// Decodes the number `raw` as a pointer in a format. `base` is the image's base. `greatest`
 /// is the segment's greatest pointer: in the 32-bit format targets above it are plain numbers.
 ///
-/// # Proved
+/// <details><summary>Proved</summary>
 ///
 /// - `pointer_view result ≡ pointer_of format base greatest raw`
+///
+/// </details>
 #[inline(always)]
 pub fn read_pointer(format: PointerFormat, base: u64, greatest: u32, raw: u64) -> ChainPointer {
     match format {

@@ -2,18 +2,28 @@
 //! The records of imports in the three formats.
 #![forbid(unsafe_code)]
 
+use crate::shim::ReadsNumbers;
+
 use crate::generated::mach_base::{Endian, Record, RecordBytes};
 
 /// struct dyld_chained_import: from the lowest bit 8 bits `lib_ordinal`, 1 bit `weak_import` and 23 bits `name_offset`.
-#[derive(Clone, Copy)]
+#[derive(Clone, Copy, Eq, Hash, PartialEq)]
+#[cfg_attr(not(feature = "internals"), non_exhaustive)]
 pub struct ImportRecord {
     pub fields: u32,
+}
+
+impl core::fmt::Debug for ImportRecord {
+    /// Prints the name of the type.
+    fn fmt(&self, f: &mut core::fmt::Formatter<'_>) -> core::fmt::Result {
+        f.debug_struct("ImportRecord").finish_non_exhaustive()
+    }
 }
 
 impl Record for ImportRecord {
     const SIZE: usize = 4;
 
-    fn load(bytes: &[u8], le: Endian) -> Self {
+    fn load(bytes: &[u8], le: Endian, _: crate::shim::Inner) -> Self {
         ImportRecord {
             fields: le.u32_at(bytes, 0),
         }
@@ -25,16 +35,24 @@ impl Record for ImportRecord {
 }
 
 /// struct dyld_chained_import_addend: the same, followed by an addend in two's complement.
-#[derive(Clone, Copy)]
+#[derive(Clone, Copy, Eq, Hash, PartialEq)]
+#[cfg_attr(not(feature = "internals"), non_exhaustive)]
 pub struct ImportAddendRecord {
     pub fields: u32,
     pub addend: u32,
 }
 
+impl core::fmt::Debug for ImportAddendRecord {
+    /// Prints the name of the type.
+    fn fmt(&self, f: &mut core::fmt::Formatter<'_>) -> core::fmt::Result {
+        f.debug_struct("ImportAddendRecord").finish_non_exhaustive()
+    }
+}
+
 impl Record for ImportAddendRecord {
     const SIZE: usize = 8;
 
-    fn load(bytes: &[u8], le: Endian) -> Self {
+    fn load(bytes: &[u8], le: Endian, _: crate::shim::Inner) -> Self {
         ImportAddendRecord {
             fields: le.u32_at(bytes, 0),
             addend: le.u32_at(bytes, 4),
@@ -48,16 +66,25 @@ impl Record for ImportAddendRecord {
 
 /// struct dyld_chained_import_addend64: from the lowest bit 16 bits `lib_ordinal`, 1 bit
 /// `weak_import`, 15 unused bits and 32 bits `name_offset`; followed by an addend in two's complement.
-#[derive(Clone, Copy)]
+#[derive(Clone, Copy, Eq, Hash, PartialEq)]
+#[cfg_attr(not(feature = "internals"), non_exhaustive)]
 pub struct ImportAddend64Record {
     pub fields: u64,
     pub addend: u64,
 }
 
+impl core::fmt::Debug for ImportAddend64Record {
+    /// Prints the name of the type.
+    fn fmt(&self, f: &mut core::fmt::Formatter<'_>) -> core::fmt::Result {
+        f.debug_struct("ImportAddend64Record")
+            .finish_non_exhaustive()
+    }
+}
+
 impl Record for ImportAddend64Record {
     const SIZE: usize = 16;
 
-    fn load(bytes: &[u8], le: Endian) -> Self {
+    fn load(bytes: &[u8], le: Endian, _: crate::shim::Inner) -> Self {
         ImportAddend64Record {
             fields: le.u64_at(bytes, 0),
             addend: le.u64_at(bytes, 8),

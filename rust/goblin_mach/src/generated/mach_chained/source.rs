@@ -2,13 +2,16 @@
 //! The sources of fixups: segments with their chains, the starts of pages, and pointers.
 #![forbid(unsafe_code)]
 
+use crate::shim::ReadsNumbers;
+
 use crate::generated::mach_base::{Endian, Error, Result, Steps, bytes_at};
 use crate::generated::mach_chained::format::PointerFormat;
 use crate::generated::mach_chained::header::ChainedFixups;
 use crate::generated::mach_chained::pointer::{FixupKind, pointer_len, read_pointer};
-use crate::generated::mach_chained::starts::{Chains, SIZEOF_CHAINED_STARTS_IN_SEGMENT};
+use crate::generated::mach_chained::starts::Chains;
 use crate::generated::mach_parts::binding::PointerAuth;
 use crate::generated::mach_parts::segment::Segment;
+use crate::generated::mach_records::SIZEOF_CHAINED_STARTS_IN_SEGMENT;
 
 /// The start of a page that has no chain.
 pub const DYLD_CHAINED_PTR_START_NONE: u16 = 0xffff;
@@ -20,7 +23,8 @@ pub const DYLD_CHAINED_PTR_START_MULTI: u16 = 0x8000;
 pub const DYLD_CHAINED_PTR_START_LAST: u16 = 0x8000;
 
 /// A pointer that dyld fixes up.
-#[derive(Clone, Copy, Debug)]
+#[derive(Clone, Copy, Eq, Hash, PartialEq)]
+#[cfg_attr(not(feature = "internals"), non_exhaustive)]
 pub struct Fixup {
     /// The number of the segment.
     pub segment: u32,
@@ -34,16 +38,33 @@ pub struct Fixup {
     pub auth: Option<PointerAuth>,
 }
 
+crate::shim::shown!(Fixup {
+    segment: Hex,
+    offset: Hex,
+    address: Hex,
+    kind: Plain,
+    auth: Plain
+});
+
 // What fixups are read from.
 #[derive(Clone, Copy)]
+#[cfg_attr(not(feature = "internals"), non_exhaustive)]
 pub struct Source<'a, 'b> {
     pub fixups: ChainedFixups<'a>,
     pub segments: &'b [Segment<'a>],
     pub base: u64,
 }
 
+impl<'a, 'b> core::fmt::Debug for Source<'a, 'b> {
+    /// Prints the name of the type.
+    fn fmt(&self, f: &mut core::fmt::Formatter<'_>) -> core::fmt::Result {
+        f.debug_struct("Source").finish_non_exhaustive()
+    }
+}
+
 // A segment that has chains.
-#[derive(Clone, Copy)]
+#[derive(Clone, Copy, Eq, Hash, PartialEq)]
+#[cfg_attr(not(feature = "internals"), non_exhaustive)]
 pub struct Span<'a> {
     pub number: u32,
     pub vmaddr: u64,
@@ -52,31 +73,58 @@ pub struct Span<'a> {
     pub chains: Chains,
 }
 
+impl<'a> core::fmt::Debug for Span<'a> {
+    /// Prints the name of the type.
+    fn fmt(&self, f: &mut core::fmt::Formatter<'_>) -> core::fmt::Result {
+        f.debug_struct("Span").finish_non_exhaustive()
+    }
+}
+
 // A place in a page. If its chain is not the last of the page, `more` is the number of the next chain's start.
-#[derive(Clone, Copy)]
+#[derive(Clone, Copy, Eq, Hash, PartialEq)]
+#[cfg_attr(not(feature = "internals"), non_exhaustive)]
 pub struct PagePlace {
     pub at: usize,
     pub more: Option<u32>,
 }
 
+impl core::fmt::Debug for PagePlace {
+    /// Prints the name of the type.
+    fn fmt(&self, f: &mut core::fmt::Formatter<'_>) -> core::fmt::Result {
+        f.debug_struct("PagePlace").finish_non_exhaustive()
+    }
+}
+
 // The place of the next fixup of a page: none, a known place, or one of several starts, which must not lie before `least`.
-#[derive(Clone, Copy)]
+#[derive(Clone, Copy, Eq, Hash, PartialEq)]
+#[cfg_attr(not(feature = "internals"), non_exhaustive)]
 pub enum NextPlace {
     Nothing,
     Fixup(PagePlace),
     Start { index: u32, least: usize },
 }
 
+impl core::fmt::Debug for NextPlace {
+    /// Prints the name of the type.
+    fn fmt(&self, f: &mut core::fmt::Formatter<'_>) -> core::fmt::Result {
+        f.debug_struct("NextPlace").finish_non_exhaustive()
+    }
+}
+
 /// Returns the segment with this number.
 ///
-/// # Proved
+/// <details><summary>Proved</summary>
 ///
 /// - `Reads (λ s. segment_view s) result (found_or_malformed (slice_get (map segment_view segments) number))`
+///
+/// </details>
 #[inline(always)]
 pub fn nth_segment<'b, 'a>(segments: &'b [Segment<'a>], number: u32) -> Result<&'b Segment<'a>> {
     match segments.get(number as usize) {
         Some(segment) => Ok(segment),
-        None => Err(Error::Malformed("a chain's segment is one of the list")),
+        None => Err(Error::Malformed(
+            "a chain's segment is past the list of segments",
+        )),
     }
 }
 
@@ -108,7 +156,9 @@ fn read_u16(bytes: &[u8], place: usize, le: Endian) -> Result<u16> {
 fn start_place(index: u32, least: usize, start: u16) -> Result<PagePlace> {
     let at = usize::from(start % DYLD_CHAINED_PTR_START_LAST);
     if at < least {
-        return Err(Error::Malformed("a start lies behind the chain before it"));
+        return Err(Error::Malformed(
+            "a chain starts before the end of an earlier one",
+        ));
     }
     let more = if start < DYLD_CHAINED_PTR_START_LAST {
         Some(index + 1)
@@ -120,11 +170,13 @@ fn start_place(index: u32, least: usize, start: u16) -> Result<PagePlace> {
 
 impl<'a> Span<'a> {
     // Returns a placeholder for the segment before the first. It has no pages and ends at 0.
-    /// # Proved
+    /// <details><summary>Proved</summary>
     ///
     /// - *ends*: `ends_of (span_view result) ≡ no_ends`
     /// - *pages*: `result.chains.page_count ≡ 0`
     /// - *whole*: `span_view result ≡ nothing_opened`
+    ///
+    /// </details>
     pub fn before_all() -> Self {
         Span {
             number: 0,
@@ -144,26 +196,23 @@ impl<'a> Span<'a> {
         }
     }
 
+    crate::shim::inner! {
     // Returns the place of the next fixup: `skip` bytes further, or at the next start if the chain ends.
-    /// # Proved
-    ///
-    /// Callers make sure of: `place.at < 2 ^ 16`.
-    ///
-    /// - for each `x : FixupInput`, `next_spot x (span_view self) result ≡ next_in_page x (span_view self) (spot_view place) skip`
-    #[inline(always)]
-    pub fn next_place(&self, place: PagePlace, skip: u32) -> NextPlace {
-        if skip != 0 {
-            return NextPlace::Fixup(PagePlace {
-                at: place.at + skip as usize,
-                more: place.more,
-            });
-        }
-        match place.more {
-            None => NextPlace::Nothing,
-            Some(index) => NextPlace::Start {
-                index,
-                least: place.at + pointer_len(self.chains.format),
-            },
+        #[inline(always)]
+        fn next_place(&self, place: PagePlace, skip: u32) -> NextPlace {
+            if skip != 0 {
+                return NextPlace::Fixup(PagePlace {
+                    at: place.at + skip as usize,
+                    more: place.more,
+                });
+            }
+            match place.more {
+                None => NextPlace::Nothing,
+                Some(index) => NextPlace::Start {
+                    index,
+                    least: place.at + pointer_len(self.chains.format),
+                },
+            }
         }
     }
 }
@@ -173,7 +222,9 @@ impl<'a, 'b> Source<'a, 'b> {
     fn in_memory(&self, chains: &Chains, segment: &'b Segment<'a>) -> Result<&'b Segment<'a>> {
         let address = u128::from(self.base) + u128::from(chains.segment_offset);
         if address != u128::from(segment.vmaddr) {
-            return Err(Error::Malformed("chains know where their segment is"));
+            return Err(Error::Malformed(
+                "chains give another address for their segment",
+            ));
         }
         Ok(segment)
     }
@@ -187,22 +238,24 @@ impl<'a, 'b> Source<'a, 'b> {
     ) -> Result<&'b Segment<'a>> {
         if chains.place < before.chains.upto {
             return Err(Error::Malformed(
-                "starts lie before the end of earlier ones",
+                "starts of a segment begin before the end of earlier ones",
             ));
         }
         let end = u128::from(before.fileoff) + before.bytes.len() as u128;
         if u128::from(segment.fileoff) < end {
             return Err(Error::Malformed(
-                "a segment with chains lies behind the one before it",
+                "a segment with chains begins before the end of an earlier one",
             ));
         }
         Ok(segment)
     }
 
     // Opens a segment with its chains, if it has any. It must lie after the one before.
-    /// # Proved
+    /// <details><summary>Proved</summary>
     ///
     /// - `Reads span_option_view result (span_at (fixup_input_of self) (ends_of (span_view before)) number)`
+    ///
+    /// </details>
     pub fn span(&self, before: &Span<'a>, number: u32) -> Result<Option<Span<'a>>> {
         let Some((starts, place)) = self.fixups.starts(number)? else {
             return Ok(None);
@@ -215,7 +268,7 @@ impl<'a, 'b> Source<'a, 'b> {
             number,
             vmaddr: next.vmaddr,
             fileoff: next.fileoff,
-            bytes: next.bytes,
+            bytes: next.data,
             chains,
         }))
     }
@@ -228,21 +281,27 @@ impl<'a, 'b> Source<'a, 'b> {
     }
 
     // Reads one of several starts, which must not lie before `least`.
-    /// # Proved
+    /// <details><summary>Proved</summary>
     ///
     /// - `Reads (λ p. Some (spot_view p)) result (start_among (fixup_input_of self) (span_view span) index least)`
+    ///
+    /// </details>
     pub fn start_among(&self, span: &Span<'a>, index: u32, least: usize) -> Result<PagePlace> {
         if index >= span.chains.room {
-            return Err(Error::Malformed("starts have room for those of a page"));
+            return Err(Error::Malformed(
+                "the starts of a page are past those of its segment",
+            ));
         }
         let start = self.start(span, index)?;
         start_place(index, least, start)
     }
 
     // Returns the first place of a page, if it has one.
-    /// # Proved
+    /// <details><summary>Proved</summary>
     ///
     /// - `Reads spot_option_view result (first_in_page (fixup_input_of self) (span_view span) page)`
+    ///
+    /// </details>
     pub fn first_in_page(&self, span: &Span<'a>, page: u16) -> Result<Option<PagePlace>> {
         let start = self.start(span, u32::from(page))?;
         if start == DYLD_CHAINED_PTR_START_NONE {
@@ -261,13 +320,15 @@ impl<'a, 'b> Source<'a, 'b> {
 
     // Reads the fixup at a place of a page, and the distance to the next one, or
     // 0 for the last. Returns `None` if it is faulty. Its pointer is read once.
-    /// # Proved
+    /// <details><summary>Proved</summary>
     ///
     /// - *value*: if `None`: `fixup_at (fixup_input_of self) (span_view span) page at ≡ Err malformed`; if `Some(found)`: `fixup_at (fixup_input_of self) (span_view span) page at ≡ Ok (fixup_pair_view found)`
     /// - *within*: if `Some(_)`: `at < 2 ^ 16`
     /// - *reads*: if `Some(_)`: `steps.new ≡ steps.old + 1`
     /// - *bounded*: `steps.new ≤ steps.old + 1`
     /// - *kept*: `steps.old ≤ steps.new`
+    ///
+    /// </details>
     #[inline(always)]
     pub fn fixup(
         &self,
@@ -293,10 +354,10 @@ impl<'a, 'b> Source<'a, 'b> {
             return None;
         };
         let pointer = read_pointer(span.chains.format, self.base, span.chains.greatest, raw);
-        if let FixupKind::Bind { import, .. } = pointer.kind
-            && import >= self.fixups.header.imports_count
-        {
-            return None;
+        if let FixupKind::Bind { import, .. } = pointer.kind {
+            if import >= self.fixups.header.imports_count {
+                return None;
+            }
         }
         let fixup = Fixup {
             segment: span.number,
@@ -312,15 +373,15 @@ impl<'a, 'b> Source<'a, 'b> {
     pub fn reason(&self, span: &Span<'a>, page: u16, at: usize) -> &'static str {
         let size = usize::from(span.chains.page_size);
         if size <= at {
-            return "a chain stays in its page";
+            return "a chain leaves its page";
         }
         let offset = usize::from(page) * size + at;
         if span.bytes.len() < offset + pointer_len(span.chains.format) {
-            return "a fixup lies in its segment's data";
+            return "a fixup is past its segment's data";
         }
         match span.vmaddr.checked_add(offset as u64) {
-            None => "a fixup's address has at most 64 bits",
-            Some(_) => "a bind's import is one of the table",
+            None => "a fixup's address does not fit in 64 bits",
+            Some(_) => "a bind's import is past the table",
         }
     }
 }

@@ -2,57 +2,14 @@
 //! The starts of the segments' chains.
 #![forbid(unsafe_code)]
 
-use crate::generated::mach_base::{Endian, Error, Record, RecordBytes, Result, read_u32};
+use crate::generated::mach_base::{Error, Record, Result, read_u32};
 use crate::generated::mach_chained::format::PointerFormat;
 use crate::generated::mach_chained::header::ChainedFixups;
-
-/// The starts of a segment's chains (struct dyld_chained_starts_in_segment). The starts of its pages follow, two bytes each.
-#[derive(Clone, Copy, Debug, Default)]
-pub struct ChainedStartsInSegment {
-    /// The size in bytes, including the starts of the pages.
-    pub size: u32,
-    /// The size of a page in bytes: 0x1000 or 0x4000.
-    pub page_size: u16,
-    /// The format of the pointers, one of the `DYLD_CHAINED_PTR_` numbers.
-    pub pointer_format: u16,
-    /// The offset of the segment in memory from the image's base.
-    pub segment_offset: u64,
-    /// For 32-bit pointers: greater ones are plain numbers.
-    pub max_valid_pointer: u32,
-    /// How many pages have a start.
-    pub page_count: u16,
-}
-
-/// The size of a `ChainedStartsInSegment` in bytes.
-pub const SIZEOF_CHAINED_STARTS_IN_SEGMENT: usize = 22;
-
-impl Record for ChainedStartsInSegment {
-    const SIZE: usize = SIZEOF_CHAINED_STARTS_IN_SEGMENT;
-
-    fn load(bytes: &[u8], le: Endian) -> Self {
-        ChainedStartsInSegment {
-            size: le.u32_at(bytes, 0),
-            page_size: le.u16_at(bytes, 4),
-            pointer_format: le.u16_at(bytes, 6),
-            segment_offset: le.u64_at(bytes, 8),
-            max_valid_pointer: le.u32_at(bytes, 16),
-            page_count: le.u16_at(bytes, 20),
-        }
-    }
-
-    fn store(self, le: Endian) -> RecordBytes {
-        RecordBytes::new()
-            .u32(le, self.size)
-            .u16(le, self.page_size)
-            .u16(le, self.pointer_format)
-            .u64(le, self.segment_offset)
-            .u32(le, self.max_valid_pointer)
-            .u16(le, self.page_count)
-    }
-}
+use crate::generated::mach_records::ChainedStartsInSegment;
 
 /// How to walk the chains of a segment.
-#[derive(Clone, Copy)]
+#[derive(Clone, Copy, Eq, Hash, PartialEq)]
+#[cfg_attr(not(feature = "internals"), non_exhaustive)]
 pub struct Chains {
     pub page_size: u16,
     pub format: PointerFormat,
@@ -67,21 +24,34 @@ pub struct Chains {
     pub room: u32,
 }
 
+impl core::fmt::Debug for Chains {
+    /// Prints the name of the type.
+    fn fmt(&self, f: &mut core::fmt::Formatter<'_>) -> core::fmt::Result {
+        f.debug_struct("Chains").finish_non_exhaustive()
+    }
+}
+
 impl Chains {
     /// Builds this from the starts at a place. Fails if any field has an unsupported value.
     ///
-    /// # Proved
+    /// <details><summary>Proved</summary>
     ///
     /// - `Reads chains_view result (chains_of starts place)`
+    ///
+    /// </details>
     pub fn of(starts: &ChainedStartsInSegment, place: usize) -> Result<Chains> {
         let Some(format) = PointerFormat::of(starts.pointer_format) else {
-            return Err(Error::Malformed("pointers are of a format that is read"));
+            return Err(Error::Malformed(
+                "pointers are of a format that is not read",
+            ));
         };
         if starts.page_size != 0x1000 && starts.page_size != 0x4000 {
-            return Err(Error::Malformed("a page has 0x1000 or 0x4000 bytes"));
+            return Err(Error::Malformed(
+                "a page has neither 0x1000 nor 0x4000 bytes",
+            ));
         }
         if u64::from(starts.size) < 22 + 2 * u64::from(starts.page_count) {
-            return Err(Error::Malformed("starts have room for each page's"));
+            return Err(Error::Malformed("starts are too short for their pages"));
         }
         Ok(Chains {
             page_size: starts.page_size,
@@ -100,9 +70,11 @@ impl ChainedFixups<'_> {
     /// Reads the starts of a segment's chains, if it has any, and returns them with their place
     /// in the data. Whether `segment` is below the claimed number of segments is not tested.
     ///
-    /// # Proved
+    /// <details><summary>Proved</summary>
     ///
     /// - `Reads starts_option_view result (starts_at (fixups_view self) segment)`
+    ///
+    /// </details>
     pub fn starts(&self, segment: u32) -> Result<Option<(ChainedStartsInSegment, usize)>> {
         let first = self.header.starts_offset as usize;
         let info = read_u32(self.payload, first + 4 + segment as usize * 4, self.le)?;

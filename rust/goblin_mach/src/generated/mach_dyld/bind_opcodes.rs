@@ -79,9 +79,11 @@ pub const BIND_OPCODE_THREADED: u8 = 0xd0;
 
 /// Returns the name of an opcode given without its immediate, or `UNKNOWN OPCODE`.
 ///
-/// # Proved
+/// <details><summary>Proved</summary>
 ///
 /// - `result ≡ opcode_name opcode`
+///
+/// </details>
 pub fn opcode_to_str(opcode: Opcode) -> &'static str {
     match opcode {
         BIND_OPCODE_DONE => "BIND_OPCODE_DONE",

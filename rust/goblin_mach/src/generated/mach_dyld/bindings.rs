@@ -18,8 +18,17 @@ use crate::generated::mach_parts::segment::Segment;
 
 /// An iterator over bindings: those of the non-lazy stream, then those of the lazy stream. The first fault is its last item.
 /// It allocates nothing.
+#[derive(Clone)]
 pub struct OpcodeBindingIterator<'a, 'b> {
     pub(crate) stream: Stream<'a, 'b, BindingSettings>,
+}
+
+impl<'a, 'b> core::fmt::Debug for OpcodeBindingIterator<'a, 'b> {
+    /// Prints the name of the type.
+    fn fmt(&self, f: &mut core::fmt::Formatter<'_>) -> core::fmt::Result {
+        f.debug_struct("OpcodeBindingIterator")
+            .finish_non_exhaustive()
+    }
 }
 
 impl<'a> BindInterpreter<'a> {
@@ -27,12 +36,14 @@ impl<'a> BindInterpreter<'a> {
     /// The first fault is the last item. `libs` are the image's libraries, by ordinal, and `segments` its segments. It
     /// allocates nothing.
     ///
-    /// # Proved
+    /// <details><summary>Proved</summary>
     ///
     /// - *items*: there is `ps : List Placed` with: there is `qs : List Placed` with: `AreBindings (input_in self (pointer_size ctx.container) (texts libs) (map segment_view segments)) self.non_lazy self.lazy ps qs (opcode_bindings_left result)`
     /// - *over*: `IsOverBindings (input_in self (pointer_size ctx.container) (texts libs) (map segment_view segments)) self.lazy result`
     /// - *sites*: `AreBindingSites (input_in self (pointer_size ctx.container) (texts libs) (map segment_view segments)) self.non_lazy self.lazy (binding_sites_left result)`
     /// - *reads*: `BindingsHave (input_in self (pointer_size ctx.container) (texts libs) (map segment_view segments)) self.non_lazy self.lazy (binding_reads_left result)`
+    ///
+    /// </details>
     pub fn bindings<'b>(
         &self,
         libs: &'b [&'a str],
@@ -47,9 +58,11 @@ impl<'a> BindInterpreter<'a> {
 
 /// Returns the place in the file and the address of an offset in a segment, if a pointer there lies in the segment.
 ///
-/// # Proved
+/// <details><summary>Proved</summary>
 ///
 /// - if `None`: `spot_of pointer (map segment_view segments) number offset ≡ Err malformed`; if `Some(s)`: `spot_of pointer (map segment_view segments) number offset ≡ Ok s`
+///
+/// </details>
 #[inline(always)]
 pub fn spot(pointer: u8, segments: &[Segment<'_>], number: u8, offset: u64) -> Option<(u64, u64)> {
     let segment = segments.get(usize::from(number))?;
@@ -83,9 +96,11 @@ fn highest(is_lazy: bool) -> Opcode {
 
 /// Whether `len` bytes from the offset on lie in a segment of that size.
 ///
-/// # Proved
+/// <details><summary>Proved</summary>
 ///
 /// - `result ≡ nat_le (offset + len) size`
+///
+/// </details>
 #[inline(always)]
 pub fn holds_all(size: u64, offset: u64, len: u8) -> bool {
     let len = u64::from(len);
@@ -99,7 +114,8 @@ fn special_ordinal(imm: u8) -> i64 {
 }
 
 /// The settings of dyld's binds beyond those in `Settings`.
-#[derive(Clone, Copy)]
+#[derive(Clone, Copy, Eq, Hash, PartialEq)]
+#[cfg_attr(not(feature = "internals"), non_exhaustive)]
 pub struct BindingSettings {
     /// The special ordinal, if one was set after the library.
     pub special: Option<i64>,
@@ -109,6 +125,13 @@ pub struct BindingSettings {
     pub has_ordinal: bool,
     pub has_name: bool,
     pub has_segment: bool,
+}
+
+impl core::fmt::Debug for BindingSettings {
+    /// Prints the name of the type.
+    fn fmt(&self, f: &mut core::fmt::Formatter<'_>) -> core::fmt::Result {
+        f.debug_struct("BindingSettings").finish_non_exhaustive()
+    }
 }
 
 impl BindingSettings {
@@ -186,7 +209,7 @@ impl<'a> BindRules<'a> for BindingSettings {
         }
         let (opcode, top) = (byte & BIND_OPCODE_MASK, highest(state.settings.is_lazy));
         if opcode > top {
-            return Error::Malformed("an opcode of a stream is known");
+            return Error::Malformed("an opcode is unknown");
         }
         instruction_error(bytes, pointer, state.place, byte)
     }
@@ -194,14 +217,16 @@ impl<'a> BindRules<'a> for BindingSettings {
     // Returns why a bind has no binding.
     fn refusal(self, source: &Source<'a, '_>, settings: &Settings<'a>) -> Error {
         if !self.has_ordinal {
-            return Error::Malformed("a bind has an ordinal");
+            return Error::Malformed("a bind has no ordinal");
         }
         if !self.is_complete(settings.library) {
-            return Error::Malformed("a bind has a name, a segment and a type");
+            return Error::Malformed("a bind lacks its name, its segment or its type");
         }
         match self.provider(source.libs, settings.library) {
-            None => Error::Malformed("a bind's ordinal is one of a provider"),
-            Some(_) => Error::Malformed("a bind lies inside its segment, at places of 64 bits"),
+            None => Error::Malformed("a bind's ordinal names no provider"),
+            Some(_) => Error::Malformed(
+                "a bind is outside its segment, or its place does not fit in 64 bits",
+            ),
         }
     }
 
@@ -233,7 +258,7 @@ impl<'a> OpcodeBindingIterator<'a, '_> {
     /// Returns the next binding. Adds the number of opcodes read to `steps`: in all, at most one more than the opcodes that
     /// are left, and that one only at a fault.
     ///
-    /// # Proved
+    /// <details><summary>Proved</summary>
     ///
     /// - *items*: `YieldsFirstBy binding_read opcode_bindings_left self.old result self.new`
     /// - *end*: if `None`: `HasEndedOpcodeBindings self.new`
@@ -243,6 +268,8 @@ impl<'a> OpcodeBindingIterator<'a, '_> {
     /// - *bounded*: if `Some(item)`: `OnErr item (steps.new ≤ steps.old + binding_reads_left self.old + 1)`
     /// - *kept*: `steps.old ≤ steps.new`
     /// - *over*: for each `x : Input`, `lazy : Range`, if `IsOverBindings x lazy self.old`, `IsOverBindings x lazy self.new`
+    ///
+    /// </details>
     #[inline(always)]
     pub fn next_counted(&mut self, steps: &mut Steps) -> Option<Result<Binding<'a>>> {
         self.stream.next_counted(steps)
@@ -257,6 +284,8 @@ impl<'a> Iterator for OpcodeBindingIterator<'a, '_> {
         self.next_counted(&mut Steps::new())
     }
 }
+
+impl<'a> core::iter::FusedIterator for OpcodeBindingIterator<'a, '_> {}
 
 impl Default for OpcodeBindingIterator<'_, '_> {
     /// Returns an iterator without bindings.

@@ -26,7 +26,7 @@ pub const EXPORT_SYMBOL_FLAGS_REEXPORT: u64 = 0x08;
 pub const EXPORT_SYMBOL_FLAGS_STUB_AND_RESOLVER: u64 = 0x10;
 
 /// The kind of an exported symbol.
-#[derive(Clone, Copy, Debug)]
+#[derive(Clone, Copy, Debug, Eq, Hash, PartialEq)]
 pub enum SymbolKind {
     /// Kind 0: an ordinary symbol.
     Regular,
@@ -41,9 +41,11 @@ pub enum SymbolKind {
 impl SymbolKind {
     /// Returns the kind in the low two bits of an export's flags.
     ///
-    /// # Proved
+    /// <details><summary>Proved</summary>
     ///
     /// - `result ≡ symbol_kind flags`
+    ///
+    /// </details>
     pub fn new(flags: u64) -> SymbolKind {
         match flags & EXPORT_SYMBOL_FLAGS_KIND_MASK {
             EXPORT_SYMBOL_FLAGS_KIND_REGULAR => SymbolKind::Regular,
@@ -55,9 +57,11 @@ impl SymbolKind {
 
     /// Returns the name of the kind.
     ///
-    /// # Proved
+    /// <details><summary>Proved</summary>
     ///
     /// - `result ≡ kind_name self`
+    ///
+    /// </details>
     pub fn to_str(&self) -> &'static str {
         match self {
             SymbolKind::Regular => "Regular",
@@ -69,11 +73,12 @@ impl SymbolKind {
 }
 
 /// The meaning of an export.
-#[derive(Debug)]
+#[derive(Debug, Clone, Eq, Hash, PartialEq)]
 pub enum ExportInfo<'a> {
-    /// An address in the image, as an offset from the image's start.
+    /// An address in the image, as an offset from the image's base address, which `MachO::base` returns. Of an absolute symbol
+    /// it is the address itself.
     Regular {
-        /// The offset of the address.
+        /// That offset, or the address of an absolute symbol. `ExportInfo::address` returns the address of both.
         address: u64,
         /// Its flags.
         flags: u64,
@@ -87,7 +92,7 @@ pub enum ExportInfo<'a> {
         /// Its flags.
         flags: u64,
     },
-    /// A stub, and a resolver that returns the address to use. Both are offsets from the image's start.
+    /// A stub, and a resolver that returns the address to use. Both are offsets from the image's base address.
     Stub {
         /// The offset of the stub.
         stub_offset: Uleb128,
@@ -103,9 +108,11 @@ impl<'a> ExportInfo<'a> {
     /// are the image's libraries, by ordinal. An ordinal past their end is `Error::Malformed`; it is looked up after the
     /// name of the re-export is read.
     ///
-    /// # Proved
+    /// <details><summary>Proved</summary>
     ///
     /// - `Reads info_of result (info_at bytes (texts libs) flags offset)`
+    ///
+    /// </details>
     pub fn parse(
         bytes: &'a [u8],
         libs: &[&'a str],
@@ -123,11 +130,71 @@ impl<'a> ExportInfo<'a> {
     }
 }
 
+impl ExportInfo<'_> {
+    /// Returns the number that the trie has for the export: its offset from the base of the image, or the address of an
+    /// absolute symbol. Of a stub it is the stub's. A re-export has none.
+    ///
+    /// <details><summary>Proved</summary>
+    ///
+    /// - `result ≡ export_offset (info_of self)`
+    ///
+    /// </details>
+    pub fn offset(&self) -> Option<u64> {
+        match self {
+            ExportInfo::Regular { address, .. } => Some(*address),
+            ExportInfo::Reexport { .. } => None,
+            ExportInfo::Stub { stub_offset, .. } => Some(u64::from(*stub_offset)),
+        }
+    }
+
+    /// Returns the address of the export, before sliding, in an image with this base (`MachO::base`): base plus offset, and of
+    /// an absolute symbol its number. The sum wraps at 2^64, as dyld's does. A re-export has none.
+    ///
+    /// <details><summary>Proved</summary>
+    ///
+    /// - `result ≡ export_address base (info_of self)`
+    ///
+    /// </details>
+    pub fn address(&self, base: u64) -> Option<u64> {
+        match self {
+            ExportInfo::Regular { address, flags } => Some(regular_address(base, *address, *flags)),
+            ExportInfo::Reexport { .. } => None,
+            ExportInfo::Stub { stub_offset, .. } => {
+                Some(base.wrapping_add(u64::from(*stub_offset)))
+            }
+        }
+    }
+
+    /// Returns the address of a stub's resolver, before sliding, in an image with this base. Other exports have none.
+    ///
+    /// <details><summary>Proved</summary>
+    ///
+    /// - `result ≡ resolver_address base (info_of self)`
+    ///
+    /// </details>
+    pub fn resolver_address(&self, base: u64) -> Option<u64> {
+        match self {
+            ExportInfo::Stub {
+                resolver_offset, ..
+            } => Some(base.wrapping_add(u64::from(*resolver_offset))),
+            ExportInfo::Regular { .. } | ExportInfo::Reexport { .. } => None,
+        }
+    }
+}
+
+// Returns the address of a regular export with this number and these flags, in an image with this base.
+fn regular_address(base: u64, number: u64, flags: u64) -> u64 {
+    match SymbolKind::new(flags) {
+        SymbolKind::Absolute => number,
+        _ => base.wrapping_add(number),
+    }
+}
+
 // Returns the library with an ordinal.
 fn library<'a>(libs: &[&'a str], ordinal: u64) -> Result<&'a str> {
     match libs.get(ordinal as usize) {
         Some(lib) => Ok(*lib),
-        None => Err(Error::Malformed("an ordinal is one of a library")),
+        None => Err(Error::Malformed("an ordinal names no library")),
     }
 }
 

@@ -10,20 +10,30 @@ use crate::generated::mach_dyld::trie::walk::Walker;
 /// bit for each byte of the trie, a stack of the open nodes, and one name. When it meets the first list of branches that all
 /// lead nowhere, it also takes four bytes for each byte of the trie, and from then on skips the lists that it knows. No
 /// known linker writes such a list.
+#[derive(Clone)]
 pub struct ExportWalk<'a, 'b> {
     pub(crate) walker: Walker<'a, 'b>,
+}
+
+impl<'a, 'b> core::fmt::Debug for ExportWalk<'a, 'b> {
+    /// Prints the name of the type.
+    fn fmt(&self, f: &mut core::fmt::Formatter<'_>) -> core::fmt::Result {
+        f.debug_struct("ExportWalk").finish_non_exhaustive()
+    }
 }
 
 impl<'a, 'b> ExportWalk<'a, 'b> {
     /// Returns the next export: its name, lent until the next call, and its meaning. If the trie has no list of exports, an
     /// error ends the walk. After the end it returns None.
     ///
-    /// # Proved
+    /// <details><summary>Proved</summary>
     ///
     /// - *says*: for each `t : TrieRange`, `libs : List (List ℕ)`, `found : List Entry`, if `HasGiven t libs found self.old`, `SaysOfTrie t libs found result`
     /// - *cut*: for each `t : TrieRange`, `libs : List (List ℕ)`, `found : List Entry`, if `HasGiven t libs found self.old`, `SaysWhereItEnds t libs found result`
     /// - *started*: for each `t : TrieRange`, `libs : List (List ℕ)`, `found : List Entry`, if `HasGiven t libs found self.old`, `ListBegins (trie_there t libs) t.from [] found`
     /// - *over*: if `GivesNoMore self.old`, `IsNone result`
+    ///
+    /// </details>
     #[inline(always)]
     pub fn next(&mut self) -> Option<Result<(&str, ExportInfo<'a>)>> {
         self.next_counted(&mut Steps::new())
@@ -31,12 +41,14 @@ impl<'a, 'b> ExportWalk<'a, 'b> {
 
     /// Like `next`, and adds the number of nodes visited to `steps`: over all calls at most one for each byte of the trie.
     ///
-    /// # Proved
+    /// <details><summary>Proved</summary>
     ///
     /// - *says*: for each `t : TrieRange`, `libs : List (List ℕ)`, `found : List Entry`, if `HasGiven t libs found self.old`, `SaysOfTrie t libs found result`
     /// - *cut*: for each `t : TrieRange`, `libs : List (List ℕ)`, `found : List Entry`, if `HasGiven t libs found self.old`, `SaysWhereItEnds t libs found result`
     /// - *started*: for each `t : TrieRange`, `libs : List (List ℕ)`, `found : List Entry`, if `HasGiven t libs found self.old`, `ListBegins (trie_there t libs) t.from [] found`
     /// - *over*: if `GivesNoMore self.old`, `IsNone result`
+    ///
+    /// </details>
     #[inline(always)]
     pub fn next_counted(&mut self, steps: &mut Steps) -> Option<Result<(&str, ExportInfo<'a>)>> {
         match self.walker.step(steps) {

@@ -20,7 +20,7 @@ use crate::generated::mach_records::{DyldInfoCommand, LinkeditDataCommand};
 use core::fmt;
 
 /// An export: a name that the image offers to others.
-#[derive(Debug)]
+#[derive(Clone, Eq, Hash, PartialEq)]
 pub struct Export<'a> {
     /// The name, joined from the labels on its path.
     pub name: String,
@@ -28,19 +28,24 @@ pub struct Export<'a> {
     pub info: ExportInfo<'a>,
     /// Always 0: a trie holds no sizes.
     pub size: usize,
-    /// The offset of a regular export from the image's start, else 0.
+    /// Of a regular export its offset from the image's base address, or the address of an absolute symbol; else 0.
+    /// `MachO::export_address` returns the address, of stubs too.
     pub offset: u64,
 }
+
+crate::shim::shown!(Export<'_> { name: Plain, info: Plain, size: Hex, offset: Hex });
 
 impl<'a> Export<'a> {
     /// Builds an export with a name.
     ///
-    /// # Proved
+    /// <details><summary>Proved</summary>
     ///
     /// - *name*: `result.name ≡ name`
     /// - *info*: `result.info ≡ info.entry`
     /// - *size*: `result.size ≡ 0`
     /// - *offset*: `result.offset ≡ offset_of (info_of info.entry)`
+    ///
+    /// </details>
     #[inline(always)]
     pub fn new(name: String, info: ExportInfo<'a>) -> Self {
         let offset = match info {
@@ -57,6 +62,7 @@ impl<'a> Export<'a> {
 }
 
 /// An export trie in a range of the bytes. Its root is at the range's start.
+#[derive(Clone)]
 pub struct ExportTrie<'a> {
     pub(crate) bytes: &'a [u8],
     pub(crate) from: usize,
@@ -77,27 +83,33 @@ impl fmt::Debug for ExportTrie<'_> {
 impl<'a> ExportTrie<'a> {
     /// Returns the trie that an `LC_DYLD_INFO` or `LC_DYLD_INFO_ONLY` command names.
     ///
-    /// # Proved
+    /// <details><summary>Proved</summary>
     ///
     /// - `result ≡ range_in bytes command.export_off command.export_size`
+    ///
+    /// </details>
     pub fn new(bytes: &'a [u8], command: &DyldInfoCommand) -> Self {
         ExportTrie::in_range(bytes, command.export_off, command.export_size)
     }
 
     /// Returns the trie that an `LC_DYLD_EXPORTS_TRIE` command names.
     ///
-    /// # Proved
+    /// <details><summary>Proved</summary>
     ///
     /// - `result ≡ range_in bytes command.dataoff command.datasize`
+    ///
+    /// </details>
     pub fn new_from_linkedit_data_command(bytes: &'a [u8], command: &LinkeditDataCommand) -> Self {
         ExportTrie::in_range(bytes, command.dataoff, command.datasize)
     }
 
     /// Returns the trie of no bytes, which has no exports.
     ///
-    /// # Proved
+    /// <details><summary>Proved</summary>
     ///
     /// - `result ≡ empty_range`
+    ///
+    /// </details>
     pub fn empty() -> Self {
         ExportTrie {
             bytes: &[],
@@ -108,9 +120,11 @@ impl<'a> ExportTrie<'a> {
 
     /// Returns the trie in a range of the bytes, or an empty trie if the range doesn't lie in the bytes.
     ///
-    /// # Proved
+    /// <details><summary>Proved</summary>
     ///
     /// - `result ≡ range_upto bytes from upto`
+    ///
+    /// </details>
     pub fn at(bytes: &'a [u8], from: usize, upto: usize) -> Self {
         if from <= upto && upto <= bytes.len() {
             ExportTrie { bytes, from, upto }
@@ -125,18 +139,22 @@ impl<'a> ExportTrie<'a> {
 
     /// Returns the place where the trie begins.
     ///
-    /// # Proved
+    /// <details><summary>Proved</summary>
     ///
     /// - `result ≡ self.from`
+    ///
+    /// </details>
     pub fn from(&self) -> usize {
         self.from
     }
 
     /// Returns the place after the trie's last byte.
     ///
-    /// # Proved
+    /// <details><summary>Proved</summary>
     ///
     /// - `result ≡ self.upto`
+    ///
+    /// </details>
     pub fn upto(&self) -> usize {
         self.upto
     }
@@ -159,11 +177,13 @@ impl<'a> ExportTrie<'a> {
     /// Starts a walk over the exports, in the order of `exports`. Its `next` lends each name. It takes a mark for each byte
     /// of the trie, and no allocation for an export.
     ///
-    /// # Proved
+    /// <details><summary>Proved</summary>
     ///
     /// - *given*: if `Ok(w)`: `HasGiven self (texts libs) [] w`
     /// - *left*: if `Ok(w)`: `nodes_left w ≤ self.upto - self.from`
     /// - *memory*: the result is `Ok`, unless memory is refused
+    ///
+    /// </details>
     pub fn walk<'b>(&self, libs: &'b [&'a str]) -> Result<ExportWalk<'a, 'b>> {
         let source = Source {
             bytes: self.bytes,
@@ -178,12 +198,14 @@ impl<'a> ExportTrie<'a> {
     /// Returns the exports, depth first: each node's own export before those of its children. `libs` are the image's
     /// libraries, by ordinal. Each error except `Error::Memory` is a fault in the trie.
     ///
-    /// # Proved
+    /// <details><summary>Proved</summary>
     ///
     /// - *listed*: if `Ok(v)`: `ListsExports self (texts libs) (entries v.items)`
     /// - *only*: for each `list : List Entry`, if `ListsExports self (texts libs) list`, the result is `Ok`, unless memory is refused
     /// - *refused*: if `Err(e)`: `ErrorMeets (ExportsFault self (texts libs)) e`
     /// - *few exports*: if `Ok(v)`: `length v.items ≤ self.upto - self.from`
+    ///
+    /// </details>
     pub fn exports(&self, libs: &[&'a str]) -> Result<Vec<Export<'a>>> {
         self.exports_counted(libs, &mut Steps::new())
     }
@@ -191,7 +213,7 @@ impl<'a> ExportTrie<'a> {
     /// Like `exports`, and adds the number of nodes visited to `steps`. If the result is Ok, that is the number of paths to
     /// nodes. It is never more than the number of different nodes to which paths lead.
     ///
-    /// # Proved
+    /// <details><summary>Proved</summary>
     ///
     /// - *listed*: if `Ok(v)`: `ListsExports self (texts libs) (entries v.items)`
     /// - *only*: for each `list : List Entry`, if `ListsExports self (texts libs) list`, the result is `Ok`, unless memory is refused
@@ -199,6 +221,8 @@ impl<'a> ExportTrie<'a> {
     /// - *few exports*: if `Ok(v)`: `length v.items ≤ self.upto - self.from`
     /// - *visits*: `Visits (trie_there self (texts libs)) self.from steps.old steps.new result`
     /// - *few visits*: `steps.new ≤ steps.old + (self.upto - self.from)`
+    ///
+    /// </details>
     pub fn exports_counted(&self, libs: &[&'a str], steps: &mut Steps) -> Result<Vec<Export<'a>>> {
         let source = Source {
             bytes: self.bytes,

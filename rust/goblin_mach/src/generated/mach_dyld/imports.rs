@@ -23,8 +23,8 @@ use crate::generated::mach_parts::segment::Segment;
 use crate::generated::mach_records::DyldInfoCommand;
 use core::fmt;
 
-/// An import: a symbol that the image takes from a library.
-#[derive(Debug)]
+/// An import of a bind opcode: a symbol that the image takes from a library.
+#[derive(Clone, Eq, Hash, PartialEq)]
 pub struct Import<'a> {
     /// The symbol's name.
     pub name: &'a str,
@@ -46,7 +46,10 @@ pub struct Import<'a> {
     pub is_weak: bool,
 }
 
+crate::shim::shown!(Import<'_> { name: Plain, dylib: Plain, offset: Hex, size: Hex, address: Hex, addend: Plain, start_of_sequence_offset: Hex, is_lazy: Plain, is_weak: Plain });
+
 /// Bytes with the ranges of their two bind streams.
+#[derive(Clone)]
 pub struct BindInterpreter<'a> {
     pub(crate) bytes: &'a [u8],
     pub(crate) from: usize,
@@ -70,9 +73,11 @@ impl fmt::Debug for BindInterpreter<'_> {
 
 /// Returns the number of bytes in a pointer.
 ///
-/// # Proved
+/// <details><summary>Proved</summary>
 ///
 /// - `result ≡ pointer_size ctx.container`
+///
+/// </details>
 pub fn pointer_len(ctx: Ctx) -> u8 {
     match ctx.container {
         Container::Little => 4,
@@ -83,6 +88,8 @@ pub fn pointer_len(ctx: Ctx) -> u8 {
 /// The places of the two bind streams in the bytes.
 #[derive(Clone, Copy, Debug)]
 #[repr(C)]
+#[derive(Eq, Hash, PartialEq)]
+#[cfg_attr(not(feature = "internals"), non_exhaustive)]
 pub struct BindPlaces {
     /// The start of the non-lazy stream; its end is the place after its last byte.
     pub from: usize,
@@ -97,9 +104,11 @@ pub struct BindPlaces {
 impl<'a> BindInterpreter<'a> {
     /// Returns the streams at these places, which are not tested.
     ///
-    /// # Proved
+    /// <details><summary>Proved</summary>
     ///
     /// - `result ≡ ranges_at bytes places`
+    ///
+    /// </details>
     pub fn at(bytes: &'a [u8], places: BindPlaces) -> Self {
         BindInterpreter {
             bytes,
@@ -112,9 +121,11 @@ impl<'a> BindInterpreter<'a> {
 
     /// Returns the places of the streams.
     ///
-    /// # Proved
+    /// <details><summary>Proved</summary>
     ///
     /// - `self ≡ ranges_at self.bytes result`
+    ///
+    /// </details>
     pub fn places(&self) -> BindPlaces {
         BindPlaces {
             from: self.from,
@@ -126,9 +137,11 @@ impl<'a> BindInterpreter<'a> {
 
     /// Returns the streams that an `LC_DYLD_INFO` or `LC_DYLD_INFO_ONLY` command names.
     ///
-    /// # Proved
+    /// <details><summary>Proved</summary>
     ///
     /// - `result ≡ bind_ranges bytes command.bind_off command.bind_size command.lazy_bind_off command.lazy_bind_size`
+    ///
+    /// </details>
     pub fn new(bytes: &'a [u8], command: &DyldInfoCommand) -> Self {
         let from = command.bind_off as usize;
         let lazy_from = command.lazy_bind_off as usize;
@@ -144,12 +157,14 @@ impl<'a> BindInterpreter<'a> {
     /// Returns the imports one at a time: those of the non-lazy stream, then those of the lazy stream. The first fault is
     /// the last item. `libs` are the image's libraries, by ordinal, and `segments` its segments. It allocates nothing.
     ///
-    /// # Proved
+    /// <details><summary>Proved</summary>
     ///
     /// - *items*: there is `ps : List Placed` with: there is `qs : List Placed` with: `AreBindItems (input_in self (pointer_size ctx.container) (texts libs) (map segment_view segments)) self.non_lazy self.lazy ps qs (imports_left result)`
     /// - *over*: `IsOverImports (input_in self (pointer_size ctx.container) (texts libs) (map segment_view segments)) self.lazy result`
     /// - *sites*: `AreImportSites (input_in self (pointer_size ctx.container) (texts libs) (map segment_view segments)) self.non_lazy self.lazy (import_sites_left result)`
     /// - *reads*: `BeginningsHave (input_in self (pointer_size ctx.container) (texts libs) (map segment_view segments)) self.non_lazy self.lazy (reads_left result)`
+    ///
+    /// </details>
     pub fn iter<'b>(
         &self,
         libs: &'b [&'a str],
@@ -202,14 +217,17 @@ impl<'a> BindInterpreter<'a> {
         }
     }
 
-    /// Returns the imports of all binds: those of the non-lazy stream, then those of the lazy stream. `libs` are the image's
-    /// libraries, by ordinal, and `segments` its segments. Each error except `Error::Memory` is a fault in the binds.
+    /// Returns an import for each bind of opcodes only; chains of fixups bind too, and `MachO::bindings` has what dyld binds.
+    /// Those of the non-lazy stream come first, then those of the lazy stream. `libs` are the image's libraries, by ordinal, and
+    /// `segments` its segments. Each error except `Error::Memory` is a fault in the binds.
     ///
-    /// # Proved
+    /// <details><summary>Proved</summary>
     ///
     /// - *listed*: if `Ok(v)`: `ListsImports self (pointer_size ctx.container) (texts libs) (map segment_view segments) (bind_imports_view v.items)`
     /// - *only*: for each `list : List (defined.Import)`, if `ListsImports self (pointer_size ctx.container) (texts libs) (map segment_view segments) list`, the result is `Ok`, unless memory is refused
     /// - *refused*: if `Err(e)`: `ErrorMeets (BindFault self (pointer_size ctx.container) (texts libs) (map segment_view segments)) e`
+    ///
+    /// </details>
     pub fn imports(
         &self,
         libs: &[&'a str],
@@ -222,7 +240,7 @@ impl<'a> BindInterpreter<'a> {
     /// Like `imports`, and adds the number of instructions read in both streams to `steps`: at most one more than can be
     /// read, and that one only if the result is an error.
     ///
-    /// # Proved
+    /// <details><summary>Proved</summary>
     ///
     /// - *listed*: if `Ok(v)`: `ListsImports self (pointer_size ctx.container) (texts libs) (map segment_view segments) (bind_imports_view v.items)`
     /// - *only*: for each `list : List (defined.Import)`, if `ListsImports self (pointer_size ctx.container) (texts libs) (map segment_view segments) list`, the result is `Ok`, unless memory is refused
@@ -230,6 +248,8 @@ impl<'a> BindInterpreter<'a> {
     /// - *reads*: if `Ok(_)`: there is `n : ℕ` with: `StreamsHave (input_in self (pointer_size ctx.container) (texts libs) (map segment_view segments)) self.non_lazy self.lazy n × (steps.new ≡ steps.old + n)`
     /// - *bounded*: if `Err(_)`: there is `n : ℕ` with: `BeginningsHave (input_in self (pointer_size ctx.container) (texts libs) (map segment_view segments)) self.non_lazy self.lazy n × (steps.new ≤ steps.old + n + 1)`
     /// - *kept*: `steps.old ≤ steps.new`
+    ///
+    /// </details>
     pub fn imports_counted(
         &self,
         libs: &[&'a str],

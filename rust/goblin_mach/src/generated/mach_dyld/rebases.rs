@@ -22,7 +22,7 @@ use crate::generated::mach_records::DyldInfoCommand;
 use core::fmt;
 
 /// The kind of value that is corrected.
-#[derive(Clone, Copy, Debug, PartialEq)]
+#[derive(Clone, Copy, Debug, PartialEq, Eq, Hash)]
 pub enum RebaseKind {
     /// A pointer.
     Pointer,
@@ -33,7 +33,8 @@ pub enum RebaseKind {
 }
 
 /// A place in memory whose value dyld corrects by the distance that the image was moved.
-#[derive(Clone, Copy, Debug)]
+#[derive(Clone, Copy, Eq, Hash, PartialEq)]
+#[cfg_attr(not(feature = "internals"), non_exhaustive)]
 pub struct Rebase {
     /// The number of the segment.
     pub segment: u32,
@@ -49,7 +50,17 @@ pub struct Rebase {
     pub auth: Option<PointerAuth>,
 }
 
+crate::shim::shown!(Rebase {
+    segment: Hex,
+    offset: Hex,
+    address: Hex,
+    target: Hex,
+    kind: Plain,
+    auth: Plain
+});
+
 /// Bytes with the range of their stream of rebases.
+#[derive(Clone)]
 pub struct RebaseStream<'a> {
     cut: Cut<'a>,
 }
@@ -68,9 +79,11 @@ impl fmt::Debug for RebaseStream<'_> {
 impl<'a> RebaseStream<'a> {
     /// Returns the stream that an `LC_DYLD_INFO` or `LC_DYLD_INFO_ONLY` command names. Nothing is tested.
     ///
-    /// # Proved
+    /// <details><summary>Proved</summary>
     ///
     /// - `result ≡ cut_stream bytes command.rebase_off command.rebase_size`
+    ///
+    /// </details>
     pub fn new(bytes: &'a [u8], command: &DyldInfoCommand) -> Self {
         RebaseStream {
             cut: Cut::new(bytes, command.rebase_off, command.rebase_size),
@@ -79,9 +92,11 @@ impl<'a> RebaseStream<'a> {
 
     /// Returns the rebases one at a time. The first fault is the last item. `segments` are the image's. It allocates nothing.
     ///
-    /// # Proved
+    /// <details><summary>Proved</summary>
     ///
     /// - there is `ps : List Placed` with: `AreOpcodeRebases (cut_input self (pointer_size ctx.container) (map segment_view segments)) ctx.le (cut_range self) ps (opcode_rebases_left result) × (rebase_reads_left result ≡ length ps)`
+    ///
+    /// </details>
     pub fn iter<'b>(&self, segments: &'b [Segment<'a>], ctx: Ctx) -> OpcodeRebaseIterator<'a, 'b> {
         OpcodeRebaseIterator {
             run: Run::none(),
@@ -96,7 +111,8 @@ impl<'a> RebaseStream<'a> {
 }
 
 /// The settings of rebases beyond those in `Settings`.
-#[derive(Clone, Copy)]
+#[derive(Clone, Copy, Eq, PartialEq)]
+#[cfg_attr(not(feature = "internals"), non_exhaustive)]
 pub struct Rebasing {
     /// The byte order of the image's numbers.
     pub le: Endian,
@@ -104,6 +120,13 @@ pub struct Rebasing {
     pub kind: u8,
     /// Whether a segment was set.
     pub has_segment: bool,
+}
+
+impl core::fmt::Debug for Rebasing {
+    /// Prints the name of the type.
+    fn fmt(&self, f: &mut core::fmt::Formatter<'_>) -> core::fmt::Result {
+        f.debug_struct("Rebasing").finish_non_exhaustive()
+    }
 }
 
 impl Rebasing {
@@ -218,7 +241,7 @@ fn test_opcode(bytes: &[u8], pointer: u8, opcode: Opcode, imm: u8, place: usize)
         | REBASE_OPCODE_SET_TYPE_IMM
         | REBASE_OPCODE_ADD_ADDR_IMM_SCALED
         | REBASE_OPCODE_DO_REBASE_IMM_TIMES => {}
-        _ => return Err(Error::Malformed("an opcode of a stream is known")),
+        _ => return Err(Error::Malformed("an opcode is unknown")),
     }
     Ok(())
 }
@@ -268,9 +291,9 @@ impl<'a> BindRules<'a> for Rebasing {
     // Returns why there is no rebase.
     fn refusal(self, _source: &Source<'a, '_>, _settings: &Settings<'a>) -> Error {
         if !self.has_segment || RebaseKind::of(self.kind).is_none() {
-            return Error::Malformed("a rebase has a segment and a type");
+            return Error::Malformed("a rebase lacks its segment or its type");
         }
-        Error::Malformed("a rebase lies inside its segment, at an address of 64 bits")
+        Error::Malformed("a rebase is outside its segment, or its address does not fit in 64 bits")
     }
 
     #[inline(always)]
@@ -289,7 +312,7 @@ impl<'a> BindRules<'a> for Rebasing {
             segment: u32::from(settings.segment),
             offset: settings.offset,
             address,
-            target: memory_number(self.le, width, segment.bytes, settings.offset),
+            target: memory_number(self.le, width, segment.data, settings.offset),
             kind,
             auth: None,
         })
@@ -297,17 +320,26 @@ impl<'a> BindRules<'a> for Rebasing {
 }
 
 /// An iterator over the rebases of a stream. The first fault is its last item. It allocates nothing.
+#[derive(Clone)]
 pub struct OpcodeRebaseIterator<'a, 'b> {
     /// The rebases that were checked and are not yet returned.
     pub(crate) run: Run<'a>,
     pub(crate) stream: Stream<'a, 'b, Rebasing>,
 }
 
+impl<'a, 'b> core::fmt::Debug for OpcodeRebaseIterator<'a, 'b> {
+    /// Prints the name of the type.
+    fn fmt(&self, f: &mut core::fmt::Formatter<'_>) -> core::fmt::Result {
+        f.debug_struct("OpcodeRebaseIterator")
+            .finish_non_exhaustive()
+    }
+}
+
 impl OpcodeRebaseIterator<'_, '_> {
     /// Returns the next rebase. Adds the number of opcodes read to `steps`: in all, at most one more than the opcodes that
     /// are left, and that one only at a fault.
     ///
-    /// # Proved
+    /// <details><summary>Proved</summary>
     ///
     /// - *items*: `YieldsFirstBy rebase_read opcode_rebases_left self.old result self.new`
     /// - *end*: if `None`: `HasEndedRebases self.new`
@@ -316,6 +348,8 @@ impl OpcodeRebaseIterator<'_, '_> {
     /// - *reads*: if `Some(item)`: `OnOk item (steps.new + rebase_reads_left self.new ≡ steps.old + rebase_reads_left self.old)`
     /// - *bounded*: if `Some(item)`: `OnErr item (steps.new ≤ steps.old + rebase_reads_left self.old + 1)`
     /// - *kept*: `steps.old ≤ steps.new`
+    ///
+    /// </details>
     #[inline(always)]
     pub fn next_counted(&mut self, steps: &mut Steps) -> Option<Result<Rebase>> {
         if self.run.left == 0 {
@@ -360,6 +394,8 @@ impl Iterator for OpcodeRebaseIterator<'_, '_> {
         self.next_counted(&mut Steps::new())
     }
 }
+
+impl core::iter::FusedIterator for OpcodeRebaseIterator<'_, '_> {}
 
 impl Default for OpcodeRebaseIterator<'_, '_> {
     /// Returns an iterator without rebases.

@@ -12,11 +12,13 @@ use crate::generated::mach_dyld::imports::stream::{BindRules, Stream};
 pub trait JudgesAll<'a>: BindRules<'a> {
     /// Whether each of `count` binds makes an item. The first has these settings, and each next one is a stride further.
     ///
-    /// # Proved
+    /// <details><summary>Proved</summary>
     ///
     /// Callers make sure of: `0 < count`.
     ///
     /// - `has_fault (made_by Self.rules (input_of source) (bind_of settings) self stride count) ≡ not result`
+    ///
+    /// </details>
     fn all_make(
         self,
         source: &Source<'a, '_>,
@@ -34,30 +36,26 @@ impl<'a, 'b, M: JudgesAll<'a>> Stream<'a, 'b, M> {
             .all_make(&self.source, &self.state.settings, stride, count)
     }
 
+    crate::shim::inner! {
     /// Skips `count` of the binds left of the last instruction.
-    ///
-    /// # Proved
-    ///
-    /// Callers make sure of: `self.old.state.ended ≡ false`; `0 < count`; `count ≤ self.old.state.count`.
-    ///
-    /// - *on*: `self.new.state.ended ≡ false`
-    /// - *items*: if `has_fault (first_made M.rules self.old count) ≡ false`, `items_left M.rules self.old ≡ first_made M.rules self.old count ++ items_left M.rules self.new`
-    /// - *reads*: `opcodes_left M.rules self.new ≡ opcodes_left M.rules self.old`
-    #[inline(always)]
-    pub fn pass(&mut self, count: u64) {
-        let by = self.state.stride.wrapping_mul(count);
-        self.state.settings.advance(by);
-        self.state.count -= count;
+        #[inline(always)]
+        fn pass(&mut self, count: u64) {
+            let by = self.state.stride.wrapping_mul(count);
+            self.state.settings.advance(by);
+            self.state.count -= count;
+        }
     }
 
     /// Whether a fault occurs among the items that are left. Adds the number of instructions read to `steps`: at most one
     /// more than can be read. It allocates nothing, and its time for an instruction is that of `all_make`.
     ///
-    /// # Proved
+    /// <details><summary>Proved</summary>
     ///
     /// - *fault*: `result ≡ has_fault (items_left M.rules self.entry)`
     /// - *bounded*: `steps.new ≤ steps.old + opcodes_left M.rules self.entry + 1`
     /// - *kept*: `steps.old ≤ steps.new`
+    ///
+    /// </details>
     pub fn has_fault_counted(self, steps: &mut Steps) -> bool {
         let mut stream = self;
         while !stream.state.ended {

@@ -8,19 +8,29 @@ use crate::generated::mach_dyld::machine::Source;
 use crate::generated::mach_parts::segment::Segment;
 
 /// Bytes that are cut after the range of a stream.
-#[derive(Clone, Copy)]
+#[derive(Clone, Copy, Eq, Hash, PartialEq)]
+#[cfg_attr(not(feature = "internals"), non_exhaustive)]
 pub struct Cut<'a> {
     pub bytes: &'a [u8],
     pub from: usize,
     pub upto: usize,
 }
 
+impl<'a> core::fmt::Debug for Cut<'a> {
+    /// Prints the name of the type.
+    fn fmt(&self, f: &mut core::fmt::Formatter<'_>) -> core::fmt::Result {
+        f.debug_struct("Cut").finish_non_exhaustive()
+    }
+}
+
 impl<'a> Cut<'a> {
     /// Cuts the bytes after the range that a command states.
     ///
-    /// # Proved
+    /// <details><summary>Proved</summary>
     ///
     /// - `cut_view result ≡ cut_stream bytes off size`
+    ///
+    /// </details>
     pub fn new(bytes: &'a [u8], off: u32, size: u32) -> Self {
         let from = off as usize;
         let upto = from + size as usize;
@@ -33,9 +43,11 @@ impl<'a> Cut<'a> {
 
     /// Returns what the stream is read from: these bytes and these segments.
     ///
-    /// # Proved
+    /// <details><summary>Proved</summary>
     ///
     /// - `input_of result ≡ cut_input (cut_view self) (pointer_size ctx.container) (map segment_view segments)`
+    ///
+    /// </details>
     pub fn source<'b>(&self, segments: &'b [Segment<'a>], ctx: Ctx) -> Source<'a, 'b> {
         Source {
             bytes: self.bytes,

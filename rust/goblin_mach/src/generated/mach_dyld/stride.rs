@@ -3,12 +3,20 @@
 #![forbid(unsafe_code)]
 
 /// A number of places on a ring, counted from 0: the first, and each next one a step further.
-#[derive(Clone, Copy)]
+#[derive(Clone, Copy, Eq, Hash, PartialEq)]
+#[cfg_attr(not(feature = "internals"), non_exhaustive)]
 pub struct Turns {
     pub count: u128,
     pub first: u128,
     pub step: u128,
     pub size: u128,
+}
+
+impl core::fmt::Debug for Turns {
+    /// Prints the name of the type.
+    fn fmt(&self, f: &mut core::fmt::Formatter<'_>) -> core::fmt::Result {
+        f.debug_struct("Turns").finish_non_exhaustive()
+    }
 }
 
 impl Turns {
@@ -40,35 +48,33 @@ impl Turns {
         }
     }
 
+    crate::shim::inner! {
     /// Whether one of the places is below a limit. Each turn of the loop at least halves the ring.
-    ///
-    /// # Proved
-    ///
-    /// Callers make sure of: `IsRing self`.
-    ///
-    /// - the result is `true` exactly if `AnyBelow limit self`
-    pub fn any_below(self, limit: u128) -> bool {
-        let mut turns = self;
-        while turns.count > 0 {
-            let short = turns.shorter();
-            if short.first < limit {
-                return true;
+        fn any_below(self, limit: u128) -> bool {
+            let mut turns = self;
+            while turns.count > 0 {
+                let short = turns.shorter();
+                if short.first < limit {
+                    return true;
+                }
+                if short.step <= limit {
+                    return short.last() >= short.size;
+                }
+                turns = short.after_starts();
             }
-            if short.step <= limit {
-                return short.last() >= short.size;
-            }
-            turns = short.after_starts();
+            false
         }
-        false
     }
 }
 
 /// Whether none of `count` offsets is above a highest one: the first of them, and each next one a stride further, modulo 2^64.
 ///
-/// # Proved
+/// <details><summary>Proved</summary>
 ///
 /// - *yes*: if `result ≡ true`, for each `j : ℕ`, if `j < count`, `offset_at offset stride j ≤ highest`
 /// - *no*: if `result ≡ false`, there is `j : ℕ` with: `(j < count) × (highest < offset_at offset stride j)`
+///
+/// </details>
 pub fn none_above(highest: u64, offset: u64, stride: u64, count: u64) -> bool {
     // Move the offsets above the highest to the start of the ring.
     let above = u64::MAX - highest;

@@ -19,7 +19,7 @@ use crate::generated::mach_records::DyldInfoCommand;
 use core::fmt;
 
 /// A row of the stream of weak binds.
-#[derive(Clone, Copy, Debug)]
+#[derive(Clone, Copy, Debug, Eq, Hash, PartialEq)]
 pub enum WeakBind<'a> {
     /// The image itself defines this name, and not weakly: other images take its definition.
     Strong {
@@ -31,6 +31,7 @@ pub enum WeakBind<'a> {
 }
 
 /// Bytes with the range of their stream of weak binds.
+#[derive(Clone)]
 pub struct WeakBindStream<'a> {
     cut: Cut<'a>,
 }
@@ -49,9 +50,11 @@ impl fmt::Debug for WeakBindStream<'_> {
 impl<'a> WeakBindStream<'a> {
     /// Returns the stream that an `LC_DYLD_INFO` or `LC_DYLD_INFO_ONLY` command names. Nothing is tested.
     ///
-    /// # Proved
+    /// <details><summary>Proved</summary>
     ///
     /// - `result ≡ cut_stream bytes command.weak_bind_off command.weak_bind_size`
+    ///
+    /// </details>
     pub fn new(bytes: &'a [u8], command: &DyldInfoCommand) -> Self {
         WeakBindStream {
             cut: Cut::new(bytes, command.weak_bind_off, command.weak_bind_size),
@@ -60,9 +63,11 @@ impl<'a> WeakBindStream<'a> {
 
     /// Returns the rows one at a time. The first fault is the last item. `segments` are the image's. It allocates nothing.
     ///
-    /// # Proved
+    /// <details><summary>Proved</summary>
     ///
     /// - there is `ps : List Placed` with: `AreWeakBinds (cut_input self (pointer_size ctx.container) (map segment_view segments)) (cut_range self) ps (weak_binds_left result) × (weak_reads_left result ≡ length ps)`
+    ///
+    /// </details>
     pub fn iter<'b>(&self, segments: &'b [Segment<'a>], ctx: Ctx) -> WeakBindIterator<'a, 'b> {
         WeakBindIterator {
             stream: Stream::alone(
@@ -76,7 +81,8 @@ impl<'a> WeakBindStream<'a> {
 }
 
 /// The settings of weak binds beyond those in `Settings`.
-#[derive(Clone, Copy)]
+#[derive(Clone, Copy, Eq, Hash, PartialEq)]
+#[cfg_attr(not(feature = "internals"), non_exhaustive)]
 pub struct WeakBindSettings {
     /// The type.
     pub kind: u8,
@@ -85,6 +91,13 @@ pub struct WeakBindSettings {
     pub has_segment: bool,
     /// Whether the opcode names a symbol that the image itself defines.
     pub is_own: bool,
+}
+
+impl core::fmt::Debug for WeakBindSettings {
+    /// Prints the name of the type.
+    fn fmt(&self, f: &mut core::fmt::Formatter<'_>) -> core::fmt::Result {
+        f.debug_struct("WeakBindSettings").finish_non_exhaustive()
+    }
 }
 
 impl WeakBindSettings {
@@ -123,7 +136,7 @@ fn execute_name<'a>(state: &mut State<'a>, bytes: &'a [u8], flags: u8, place: us
 fn name_error(bytes: &[u8], flags: u8, place: usize) -> Error {
     match read_text(bytes, place) {
         Err(e) => e,
-        Ok(_) => Error::Malformed("a name ends inside its stream"),
+        Ok(_) => Error::Malformed("a name runs past its stream"),
     }
 }
 
@@ -192,10 +205,10 @@ impl<'a> BindRules<'a> for WeakBindSettings {
         }
         let (opcode, imm) = (byte & BIND_OPCODE_MASK, byte & BIND_IMMEDIATE_MASK);
         if opcode < LOWEST_WEAK {
-            return Error::Malformed("a weak bind names no provider");
+            return Error::Malformed("a weak bind names a provider");
         }
         if opcode > HIGHEST_WEAK {
-            return Error::Malformed("an opcode of a stream is known");
+            return Error::Malformed("an opcode is unknown");
         }
         if opcode == BIND_OPCODE_SET_SYMBOL_TRAILING_FLAGS_IMM {
             return name_error(bytes, imm, state.place + 1);
@@ -206,9 +219,9 @@ impl<'a> BindRules<'a> for WeakBindSettings {
     // Returns why a bind has no row.
     fn refusal(self, _source: &Source<'a, '_>, _settings: &Settings<'a>) -> Error {
         if !self.is_complete() {
-            return Error::Malformed("a bind has a name, a segment and a type");
+            return Error::Malformed("a bind lacks its name, its segment or its type");
         }
-        Error::Malformed("a bind lies inside its segment, at places of 64 bits")
+        Error::Malformed("a bind is outside its segment, or its place does not fit in 64 bits")
     }
 
     #[inline(always)]
@@ -245,15 +258,23 @@ const LOWEST_WEAK: Opcode = BIND_OPCODE_SET_SYMBOL_TRAILING_FLAGS_IMM;
 const HIGHEST_WEAK: Opcode = BIND_OPCODE_DO_BIND_ULEB_TIMES_SKIPPING_ULEB;
 
 /// An iterator over the rows of a stream of weak binds. The first fault is its last item. It allocates nothing.
+#[derive(Clone)]
 pub struct WeakBindIterator<'a, 'b> {
     pub(crate) stream: Stream<'a, 'b, WeakBindSettings>,
+}
+
+impl<'a, 'b> core::fmt::Debug for WeakBindIterator<'a, 'b> {
+    /// Prints the name of the type.
+    fn fmt(&self, f: &mut core::fmt::Formatter<'_>) -> core::fmt::Result {
+        f.debug_struct("WeakBindIterator").finish_non_exhaustive()
+    }
 }
 
 impl<'a> WeakBindIterator<'a, '_> {
     /// Returns the next row. Adds the number of opcodes read to `steps`: in all, at most one more than the opcodes that are
     /// left, and that one only at a fault.
     ///
-    /// # Proved
+    /// <details><summary>Proved</summary>
     ///
     /// - *items*: `YieldsFirstBy weak_bind_read weak_binds_left self.old result self.new`
     /// - *end*: if `None`: `HasEndedWeakBinds self.new`
@@ -262,6 +283,8 @@ impl<'a> WeakBindIterator<'a, '_> {
     /// - *reads*: if `Some(item)`: `OnOk item (steps.new + weak_reads_left self.new ≡ steps.old + weak_reads_left self.old)`
     /// - *bounded*: if `Some(item)`: `OnErr item (steps.new ≤ steps.old + weak_reads_left self.old + 1)`
     /// - *kept*: `steps.old ≤ steps.new`
+    ///
+    /// </details>
     #[inline(always)]
     pub fn next_counted(&mut self, steps: &mut Steps) -> Option<Result<WeakBind<'a>>> {
         self.stream.next_counted(steps)
@@ -276,6 +299,8 @@ impl<'a> Iterator for WeakBindIterator<'a, '_> {
         self.stream.next_item()
     }
 }
+
+impl<'a> core::iter::FusedIterator for WeakBindIterator<'a, '_> {}
 
 impl Default for WeakBindIterator<'_, '_> {
     /// Returns an iterator without weak binds.

@@ -89,10 +89,12 @@ fn replaced_in<'a, 'b>(
 /// The form stays; the entries have the order of a file that is created.
 /// Refusals come in this order: the fat file (file 0), the other file (file 1), no entry for its cpu, the entries together.
 ///
-/// # Proved
+/// <details><summary>Proved</summary>
 ///
 /// - *replaced*: if `Ok(file)`: `IsReplaced bytes new file.items`
 /// - *refused*: if `Err(e)`: `RefusesReplace bytes new e`
+///
+/// </details>
 pub fn replace<'b>(bytes: &[u8], new: &[u8]) -> Result<Vec<u8>, MakeRefusal> {
     let form = fat_form(bytes)?;
     let mut entries = replaced_in(form, bytes, new)?;
@@ -116,10 +118,12 @@ fn others_in<'a, 'b>(
 
 /// Builds a fat file from another one, without the entry at an index. The form and the order of the other entries stay.
 ///
-/// # Proved
+/// <details><summary>Proved</summary>
 ///
 /// - *removed*: if `Ok(file)`: `IsWithout bytes index file.items`
 /// - *refused*: if `Err(e)`: `RefusesRemove bytes index e`
+///
+/// </details>
 pub fn remove<'b>(bytes: &[u8], index: usize) -> Result<Vec<u8>, MakeRefusal> {
     let form = fat_form(bytes)?;
     let others = match others_in(form, bytes, index) {

@@ -2,6 +2,8 @@
 //! The cpu of a file, from its headers.
 #![forbid(unsafe_code)]
 
+use crate::shim::ReadsNumbers;
+
 #[cfg(feature = "archive")]
 use crate::generated::mach_archive::{Archive, Member, Members};
 use crate::generated::mach_base::{Ctx, Error, Result, bytes_at};
@@ -35,7 +37,7 @@ impl Cpu {
     fn of_member(bytes: &[u8]) -> Result<Cpu> {
         match parse_magic_and_ctx(bytes, 0) {
             Ok((_, Some(ctx))) => Cpu::of_image(bytes, ctx),
-            _ => Err(Error::Malformed("a member is an image")),
+            _ => Err(Error::Malformed("a member is not an image")),
         }
     }
 
@@ -57,7 +59,7 @@ impl Cpu {
                 None => return Ok(self),
                 Some(item) => {
                     if !Cpu::of_item(item)?.is(self) {
-                        return Err(Error::Malformed("all members are for one cpu"));
+                        return Err(Error::Malformed("members are for different cpus"));
                     }
                 }
             }
@@ -67,7 +69,7 @@ impl Cpu {
     // Returns the cpu of all members. There must be at least one.
     fn of_members(mut members: Members<'_>) -> Result<Cpu> {
         match members.next() {
-            None => Err(Error::Malformed("an archive has a member")),
+            None => Err(Error::Malformed("the archive has no member")),
             Some(item) => Cpu::of_item(item)?.if_of_all(members),
         }
     }

@@ -44,10 +44,12 @@ pub(crate) fn write_in_order<'b>(form: Form, entries: &mut [FatEntry<'_>]) -> Re
 /// Builds a fat file from files, given in this order. A fat file contributes its entries in order; any other file becomes one
 /// entry. The first file that is refused refuses it; then the entries together.
 ///
-/// # Proved
+/// <details><summary>Proved</summary>
 ///
 /// - *created*: if `Ok(file)`: `IsCreated (form_of form) (texts_now files) file.items`
 /// - *refused*: if `Err(e)`: `RefusesCreate (form_of form) (texts_now files) e`
+///
+/// </details>
 pub fn create<'b>(form: Form, files: &[&[u8]]) -> core::result::Result<Vec<u8>, MakeRefusal> {
     let mut entries = entries_of_files(files)?;
     let file = write_in_order(form, entries.as_mut_slice())?;

@@ -40,9 +40,11 @@ fn is_larger(entries: &[FatEntry<'_>], most: usize) -> bool {
 /// Returns the entries of a fat file of this form, in order, each with the alignment of its record. If an entry isn't in the
 /// file, the first such entry refuses them all. Else they are refused if they have more bytes than the file.
 ///
-/// # Proved
+/// <details><summary>Proved</summary>
 ///
 /// - `AnswersAs (λ entries. entry_views entries.items) result (fat_entries_in (form_of form) bytes)`
+///
+/// </details>
 pub fn fat_entries<'a, 'b>(form: Form, bytes: &'a [u8]) -> Result<Vec<FatEntry<'a>>, EntryRefusal> {
     let records = form.records(bytes)?;
     let entries = entries_of(bytes, records.as_slice())?;
@@ -54,9 +56,11 @@ pub fn fat_entries<'a, 'b>(form: Form, bytes: &'a [u8]) -> Result<Vec<FatEntry<'
 
 /// Returns the entries that a file contributes to one that is created: all those of a fat file, or the one that it becomes.
 ///
-/// # Proved
+/// <details><summary>Proved</summary>
 ///
 /// - `AnswersAs (λ entries. entry_views entries.items) result (file_entries bytes)`
+///
+/// </details>
 pub fn file_entries<'a, 'b>(bytes: &'a [u8]) -> Result<Vec<FatEntry<'a>>, EntryRefusal> {
     match Form::of(bytes) {
         Some(form) => fat_entries(form, bytes),

@@ -8,7 +8,7 @@ use crate::generated::mach_parts::magic::parse_magic_and_ctx;
 use core::fmt;
 
 /// An entry for a fat file to be written: an image or an archive for one cpu.
-#[derive(Clone, Copy)]
+#[derive(Clone, Copy, Eq, Hash, PartialEq)]
 pub struct FatEntry<'a> {
     /// The cpu, one of the `CPU_TYPE_` constants.
     pub cputype: u32,
@@ -24,9 +24,11 @@ impl<'a> FatEntry<'a> {
     /// Returns the entry that a file becomes. An image has the cpu of its header, of which only 28 bytes are read. An archive has
     /// the cpu of all its members, which must be images. Any other file is `BadMagic` with its first four bytes.
     ///
-    /// # Proved
+    /// <details><summary>Proved</summary>
     ///
     /// - `Reads fat_entry_view result (created_entry bytes)`
+    ///
+    /// </details>
     pub fn of(bytes: &'a [u8]) -> Result<FatEntry<'a>> {
         let (magic, ctx) = parse_magic_and_ctx(bytes, 0)?;
         if let Some(ctx) = ctx {

@@ -7,7 +7,8 @@ use crate::generated::mach_parts::FatArch64;
 use crate::generated::mach_parts::fat::FatArch;
 
 /// The values of a record in a fat file's table, from numbers of 32 or 64 bits.
-#[derive(Clone, Copy, Debug)]
+#[derive(Clone, Copy, Debug, Eq, Hash, PartialEq)]
+#[cfg_attr(not(feature = "internals"), non_exhaustive)]
 pub struct EntryRecord {
     /// The cpu, one of the `CPU_TYPE_` constants.
     pub cputype: u32,
@@ -46,9 +47,11 @@ impl EntryRecord {
 
     /// Returns the entry's bytes if they lie in the file.
     ///
-    /// # Proved
+    /// <details><summary>Proved</summary>
     ///
     /// - `option_map (λ slice. slice) result ≡ slice_of bytes self`
+    ///
+    /// </details>
     pub fn slice<'a>(&self, bytes: &'a [u8]) -> Option<&'a [u8]> {
         let end = self.offset.checked_add(self.size)?;
         bytes.get(self.offset as usize..end as usize)

@@ -17,11 +17,13 @@ pub(crate) trait FatRecord: Record {
 
     /// Returns the record of an entry at the given place.
     ///
-    /// # Proved
+    /// <details><summary>Proved</summary>
     ///
     /// Callers make sure of: `place ≤ form.most`; `length entry.bytes ≤ form.most`.
     ///
     /// - `Self.values result ≡ form.values (fat_entry_view entry) place`
+    ///
+    /// </details>
     fn of(entry: &FatEntry<'_>, place: usize) -> Self;
 }
 

@@ -17,7 +17,7 @@ use crate::generated::mach_parts::magic::{parse_magic_and_ctx, peek};
 use crate::generated::mach_parts::{FAT_MAGIC_64, FatArch64, SIZEOF_FAT_ARCH_64};
 
 /// How many bits the offsets and lengths in a fat file's table have.
-#[derive(Clone, Copy, Debug, PartialEq)]
+#[derive(Clone, Copy, Debug, PartialEq, Eq, Hash)]
 pub enum Form {
     /// 32 bits.
     Bits32,
@@ -28,9 +28,11 @@ pub enum Form {
 impl Form {
     /// Returns the form of a fat file, by its magic; none if the bytes are no fat file.
     ///
-    /// # Proved
+    /// <details><summary>Proved</summary>
     ///
     /// - `option_map form_of result ≡ form_in bytes`
+    ///
+    /// </details>
     pub fn of(bytes: &[u8]) -> Option<Form> {
         match peek(bytes, 0) {
             Ok(FAT_MAGIC) => Some(Form::Bits32),
@@ -41,9 +43,11 @@ impl Form {
 
     /// Returns the form of a fat file. Other bytes are refused as one image, or as `BadMagic` with their first four bytes.
     ///
-    /// # Proved
+    /// <details><summary>Proved</summary>
     ///
     /// - `AnswersAs form_of result (fat_form_in bytes)`
+    ///
+    /// </details>
     pub fn of_fat(bytes: &[u8]) -> core::result::Result<Form, EntryRefusal> {
         if let Some(form) = Form::of(bytes) {
             return Ok(form);
@@ -74,9 +78,11 @@ impl Form {
     /// Returns the records of a fat file of this form, in order. A count of more records than the bytes could hold is
     /// `BufferTooShort`. Else the error is that of the first record that isn't there.
     ///
-    /// # Proved
+    /// <details><summary>Proved</summary>
     ///
     /// - `Gives (λ records. records.items) result (fat_table_in (form_of self) bytes)`
+    ///
+    /// </details>
     pub fn records(self, bytes: &[u8]) -> Result<Vec<EntryRecord>> {
         let header = FatHeader::parse(bytes)?;
         let count = header.nfat_arch as usize;
@@ -92,9 +98,11 @@ impl Form {
 
     /// Writes a fat file of this form with the given entries, in their order.
     ///
-    /// # Proved
+    /// <details><summary>Proved</summary>
     ///
     /// - if `Ok(file)`: `fat_file_of (form_of self) (entry_views entries) ≡ Ok file.items`; if `Err(e)`: `RefusesFat e (fat_file_of (form_of self) (entry_views entries))`
+    ///
+    /// </details>
     pub fn write(self, entries: &[FatEntry<'_>]) -> Result<Vec<u8>> {
         match self {
             Form::Bits32 => write_fat(entries),

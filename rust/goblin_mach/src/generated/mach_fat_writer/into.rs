@@ -96,20 +96,24 @@ fn write_by<R: FatRecord>(entries: &[FatEntry<'_>], out: &mut [u8]) -> Result<us
 /// Writes a fat file of entries at the start of `out` if it fits, and returns how many bytes it has. If it doesn't fit, nothing
 /// is written. It is refused as by `write_fat`. It allocates memory only to compare the cpus.
 ///
-/// # Proved
+/// <details><summary>Proved</summary>
 ///
 /// - *written*: if `Ok(len)`: `IsWrittenInto len (fat_file_of fat_form_32 (entry_views entries)) out.old out.new`; if `Err(e)`: `RefusesFat e (fat_file_of fat_form_32 (entry_views entries))`
 /// - *kept*: if `Err`: `out.new ≡ out.old`
+///
+/// </details>
 pub fn write_fat_into(entries: &[FatEntry<'_>], out: &mut [u8]) -> Result<usize> {
     write_by::<FatArch>(entries, out)
 }
 
 /// Writes a fat file of 64 bits at the start of `out`, as `write_fat_into` does for 32 bits.
 ///
-/// # Proved
+/// <details><summary>Proved</summary>
 ///
 /// - *written*: if `Ok(len)`: `IsWrittenInto len (fat_file_of fat_form_64 (entry_views entries)) out.old out.new`; if `Err(e)`: `RefusesFat e (fat_file_of fat_form_64 (entry_views entries))`
 /// - *kept*: if `Err`: `out.new ≡ out.old`
+///
+/// </details>
 pub fn write_fat64_into(entries: &[FatEntry<'_>], out: &mut [u8]) -> Result<usize> {
     write_by::<FatArch64>(entries, out)
 }

@@ -51,13 +51,15 @@ fn sort_by_rank(
 /// are sorted by alignment; those of one cputype and alignment stay together, by cpusubtype, at the place of the first of them.
 /// Entries that are equal in all this keep their order.
 ///
-/// # Proved
+/// <details><summary>Proved</summary>
 ///
 /// - *permutation*: `IsPermutation entries.old entries.new`
 /// - *sorted*: if `Ok`: `IsSortedByKey (λ e. fat_rank (entry_views entries.old) (fat_entry_view e)) fat_rank_cmp entries.new`
 /// - *stable*: `IsStableByKey (λ e. fat_rank (entry_views entries.old) (fat_entry_view e)) fat_rank_cmp entries.old entries.new`
 /// - *refused*: if `Err`: `entries.new ≡ entries.old`
 /// - *only*: the result is `Ok`, unless memory is refused
+///
+/// </details>
 pub fn fat_order(entries: &mut [FatEntry<'_>]) -> Result<()> {
     let firsts = firsts_of(entries)?;
     sort_by_rank(&firsts, entries)?;

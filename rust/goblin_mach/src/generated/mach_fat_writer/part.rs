@@ -12,6 +12,7 @@ use crate::generated::mach_fat_writer::into::{write_fat_into, write_fat64_into};
 /// An entry for a fat file to be written: a number of bytes of a buffer, from a place on.
 #[derive(Clone, Copy)]
 #[repr(C)]
+#[derive(Eq, Hash, PartialEq)]
 pub struct FatPart {
     /// The place of its first byte.
     pub offset: usize,
@@ -25,6 +26,13 @@ pub struct FatPart {
     pub align: u32,
     /// Zero for entries of 32 bits; written as it is in entries of 64 bits.
     pub reserved: u32,
+}
+
+impl core::fmt::Debug for FatPart {
+    /// Prints the name of the type.
+    fn fmt(&self, f: &mut core::fmt::Formatter<'_>) -> core::fmt::Result {
+        f.debug_struct("FatPart").finish_non_exhaustive()
+    }
 }
 
 // Returns the entry of a part, if it lies in the bytes.
@@ -70,10 +78,12 @@ fn write_entries(is_64: bool, entries: &[FatEntry<'_>], out: &mut [u8]) -> Resul
 /// has. If it doesn't fit, nothing is written. The first part that isn't in the bytes refuses it; else it is refused as by
 /// `write_fat`.
 ///
-/// # Proved
+/// <details><summary>Proved</summary>
 ///
 /// - *written*: if `Ok(len)`: `MakesFat bytes parts (form_by is_64) len out.old out.new`; if `Err(e)`: `ErrorMeets (IsPartsFault bytes parts (form_by is_64)) e`
 /// - *kept*: if `Err`: `out.new ≡ out.old`
+///
+/// </details>
 pub fn write_parts(bytes: &[u8], parts: &[FatPart], is_64: bool, out: &mut [u8]) -> Result<usize> {
     let entries = entries_of(bytes, parts)?;
     write_entries(is_64, entries.as_slice(), out)

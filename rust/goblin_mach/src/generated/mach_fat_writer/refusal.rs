@@ -8,7 +8,8 @@ use core::fmt;
 use core::fmt::{Display, Formatter};
 
 /// Why the entries of a file are refused, or a requested one isn't there.
-#[derive(Debug)]
+#[derive(Debug, Clone, Eq, Hash, PartialEq)]
+#[cfg_attr(not(feature = "internals"), non_exhaustive)]
 pub enum EntryRefusal {
     /// They can't be read, or memory ran out.
     Unread(Error),
@@ -50,7 +51,8 @@ impl Display for EntryRefusal {
 }
 
 /// A refused file.
-#[derive(Debug)]
+#[derive(Debug, Clone, Eq, Hash, PartialEq)]
+#[cfg_attr(not(feature = "internals"), non_exhaustive)]
 pub struct FileRefusal {
     /// Its index among the files.
     pub file: usize,
@@ -59,7 +61,8 @@ pub struct FileRefusal {
 }
 
 /// Why no fat file is built from some files.
-#[derive(Debug)]
+#[derive(Debug, Clone, Eq, Hash, PartialEq)]
+#[cfg_attr(not(feature = "internals"), non_exhaustive)]
 pub enum MakeRefusal {
     /// One of the files is refused.
     OfFile(FileRefusal),

@@ -10,9 +10,11 @@ use crate::generated::mach_fat_writer::refusal::EntryRefusal;
 
 /// Returns the records of a fat file of either form, in order.
 ///
-/// # Proved
+/// <details><summary>Proved</summary>
 ///
 /// - `AnswersAs (λ records. records.items) result (fat_records_in bytes)`
+///
+/// </details>
 pub fn fat_records(bytes: &[u8]) -> Result<Vec<EntryRecord>, EntryRefusal> {
     let form = Form::of_fat(bytes)?;
     let records = form.records(bytes)?;
@@ -47,9 +49,11 @@ fn first_for_cpu<'a>(
 
 /// Returns the bytes of the first entry of a cputype in a fat file of either form.
 ///
-/// # Proved
+/// <details><summary>Proved</summary>
 ///
 /// - `AnswersAs (λ slice. slice) result (thin_entry_in bytes cputype)`
+///
+/// </details>
 pub fn thin_entry<'a>(bytes: &'a [u8], cputype: u32) -> Result<&'a [u8], EntryRefusal> {
     let records = fat_records(bytes)?;
     first_for_cpu(bytes, cputype, records.as_slice())
@@ -57,9 +61,11 @@ pub fn thin_entry<'a>(bytes: &'a [u8], cputype: u32) -> Result<&'a [u8], EntryRe
 
 /// Returns the bytes of the entry at an index in a fat file of either form. The whole table is read.
 ///
-/// # Proved
+/// <details><summary>Proved</summary>
 ///
 /// - `AnswersAs (λ slice. slice) result (indexed_entry_in bytes index)`
+///
+/// </details>
 pub fn indexed_entry<'a>(bytes: &'a [u8], index: usize) -> Result<&'a [u8], EntryRefusal> {
     let records = fat_records(bytes)?;
     match records.as_slice().get(index) {

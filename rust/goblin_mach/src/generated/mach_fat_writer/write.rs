@@ -25,9 +25,11 @@ fn any_far_aligned(entries: &[FatEntry<'_>]) -> bool {
 /// for one cpu, whatever its capabilities, or if an offset or a length is 2^32 or more. The first of these that applies is the
 /// error.
 ///
-/// # Proved
+/// <details><summary>Proved</summary>
 ///
 /// - if `Ok(file)`: `fat_file_of fat_form_32 (entry_views entries) ≡ Ok file.items`; if `Err(e)`: `RefusesFat e (fat_file_of fat_form_32 (entry_views entries))`
+///
+/// </details>
 pub fn write_fat(entries: &[FatEntry<'_>]) -> Result<Vec<u8>> {
     write_by::<FatArch>(entries)
 }
@@ -35,9 +37,11 @@ pub fn write_fat(entries: &[FatEntry<'_>]) -> Result<Vec<u8>> {
 /// Builds a fat file of 64 bits of the given entries, in their order. It is refused as one of 32 bits, except that offsets and
 /// lengths may have 64 bits, and the count 32.
 ///
-/// # Proved
+/// <details><summary>Proved</summary>
 ///
 /// - if `Ok(file)`: `fat_file_of fat_form_64 (entry_views entries) ≡ Ok file.items`; if `Err(e)`: `RefusesFat e (fat_file_of fat_form_64 (entry_views entries))`
+///
+/// </details>
 pub fn write_fat64(entries: &[FatEntry<'_>]) -> Result<Vec<u8>> {
     write_by::<FatArch64>(entries)
 }
@@ -51,19 +55,15 @@ fn write_by<R: FatRecord>(entries: &[FatEntry<'_>]) -> Result<Vec<u8>> {
 /// Returns where the table and the file of some entries end, or why there is no such file.
 pub(crate) fn declared_ends<R: FatRecord>(entries: &[FatEntry<'_>]) -> Result<(usize, usize)> {
     if any_far_aligned(entries) {
-        return Err(Error::Malformed(
-            "an entry of a fat file is aligned to 2^15 at most",
-        ));
+        return Err(Error::Malformed("an entry is aligned to more than 2^15"));
     }
     if any_two_of_one_cpu(entries)? {
-        return Err(Error::Malformed(
-            "two entries of a fat file are for two cpus",
-        ));
+        return Err(Error::Malformed("two entries are for one cpu"));
     }
     match ends_of::<R>(entries) {
         Some(ends) => Ok(ends),
         None => Err(Error::Malformed(
-            "a record holds its entry's place and length",
+            "an entry's place or length does not fit in its record",
         )),
     }
 }

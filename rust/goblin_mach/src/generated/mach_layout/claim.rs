@@ -5,7 +5,7 @@
 use crate::generated::mach_layout::fault::Owner;
 
 /// A range of the file, or of memory, and its owner.
-#[derive(Clone, Copy, Debug, PartialEq)]
+#[derive(Clone, Copy, Debug, PartialEq, Eq, Hash)]
 pub struct Claim {
     /// Its owner.
     pub owner: Owner,
@@ -18,9 +18,11 @@ pub struct Claim {
 impl Claim {
     /// Returns the place where it ends.
     ///
-    /// # Proved
+    /// <details><summary>Proved</summary>
     ///
     /// - `result ≡ defined.end_of self`
+    ///
+    /// </details>
     pub fn end(&self) -> u128 {
         u128::from(self.start) + u128::from(self.len)
     }

@@ -10,7 +10,7 @@ use crate::generated::mach_layout::placed_sections::{
     PlacedSection, PlacedSegment, segment_of, take_section,
 };
 use crate::generated::mach_layout::rules::{Items, owner_at};
-use crate::generated::mach_load::{CommandVariant, LoadCommand};
+use crate::generated::mach_load::{CommandVariant, LoadCommand, NewerCommand};
 use crate::generated::mach_parts::symbols::{SIZEOF_NLIST_32, SIZEOF_NLIST_64};
 use crate::generated::mach_records::constants::{
     S_GB_ZEROFILL, S_THREAD_LOCAL_ZEROFILL, S_ZEROFILL, SECTION_TYPE,
@@ -117,8 +117,24 @@ fn linkedit_claim(
     only(range(part, place, c.dataoff, c.datasize), field)
 }
 
+// Returns claim number `field` of a command that goblin's table lacks.
+fn newer_claim(layout: &Layout<'_, '_>, command: &LoadCommand, field: usize) -> Option<Claim> {
+    let place = command.offset;
+    match NewerCommand::of(layout.bytes, layout.ctx.le, command)? {
+        NewerCommand::AtomInfo(c) => linkedit_claim(Part::AtomInfo, place, &c, field),
+        NewerCommand::FunctionVariants(c) => {
+            linkedit_claim(Part::FunctionVariants, place, &c, field)
+        }
+        NewerCommand::FunctionVariantFixups(c) => {
+            linkedit_claim(Part::FunctionVariantFixups, place, &c, field)
+        }
+        NewerCommand::TargetTriple(_) => None,
+    }
+}
+
 // Returns claim number `field` of the tables of a command.
-fn table_claim(width: Container, command: &LoadCommand, field: usize) -> Option<Claim> {
+fn table_claim(layout: &Layout<'_, '_>, command: &LoadCommand, field: usize) -> Option<Claim> {
+    let width = layout.ctx.container;
     let place = command.offset;
     match &command.command {
         CommandVariant::Symtab(c) => symtab_claims(width, place, c).get(field).copied(),
@@ -154,15 +170,18 @@ fn table_claim(width: Container, command: &LoadCommand, field: usize) -> Option<
             field,
         ),
         CommandVariant::Symseg(c) => only(range(Part::GdbSymbols, place, c.offset, c.size), field),
+        CommandVariant::Unimplemented(_) => newer_claim(layout, command, field),
         _ => None,
     }
 }
 
 /// Whether a section has bytes in the file.
 ///
-/// # Proved
+/// <details><summary>Proved</summary>
 ///
 /// - `result ≡ defined.has_bytes (laid_of layout) placed`
+///
+/// </details>
 pub fn has_bytes(layout: &Layout<'_, '_>, placed: &PlacedSection) -> bool {
     placed.section.size != 0
         && !is_of_zeros(placed.section.flags)
@@ -262,7 +281,7 @@ impl<'b> Open<'b> {
             self.first = Some(relocations_claim(&placed));
             return Some(bytes_claim(layout, &placed));
         }
-        let claim = table_claim(layout.ctx.container, self.command?, self.field)?;
+        let claim = table_claim(layout, self.command?, self.field)?;
         self.field += 1;
         Some(claim)
     }
@@ -275,6 +294,13 @@ pub struct ClaimIterator<'a, 'b> {
     layout: Layout<'a, 'b>,
     commands: Iter<'b, LoadCommand>,
     open: Open<'b>,
+}
+
+impl<'a, 'b> core::fmt::Debug for ClaimIterator<'a, 'b> {
+    /// Prints the name of the type.
+    fn fmt(&self, f: &mut core::fmt::Formatter<'_>) -> core::fmt::Result {
+        f.debug_struct("ClaimIterator").finish_non_exhaustive()
+    }
 }
 
 impl<'a, 'b> ClaimIterator<'a, 'b> {
@@ -302,6 +328,8 @@ impl<'a, 'b> Iterator for ClaimIterator<'a, 'b> {
         }
     }
 }
+
+impl<'a, 'b> core::iter::FusedIterator for ClaimIterator<'a, 'b> {}
 
 impl<'a, 'b> Items for ClaimIterator<'a, 'b> {
     type Item = Claim;

@@ -2,6 +2,7 @@
 //! Rules of the header and of load commands.
 #![forbid(unsafe_code)]
 
+use crate::shim::ReadsNumbers;
 use alloc::vec::Vec;
 
 mod firsts;
@@ -29,9 +30,11 @@ const MH_CORE: u32 = 4;
 
 /// Returns the command as the owner of a fault.
 ///
-/// # Proved
+/// <details><summary>Proved</summary>
 ///
 /// - `result ≡ defined.command_owner (command_of command)`
+///
+/// </details>
 pub fn command_owner(command: &LoadCommand) -> Owner {
     owner_at(Part::Command, command.offset, 0)
 }
@@ -43,9 +46,11 @@ fn size_of(command: &LoadCommand) -> u64 {
 
 /// Returns the number of a command.
 ///
-/// # Proved
+/// <details><summary>Proved</summary>
 ///
 /// - `result ≡ cmd_of (command_of command)`
+///
+/// </details>
 pub fn number_of(command: &LoadCommand) -> u64 {
     u64::from(command.command.cmd())
 }
@@ -69,9 +74,11 @@ fn unit_of(layout: &Layout<'_, '_>, command: &LoadCommand) -> u64 {
 
 /// Returns `len` bytes at a place, or as many as there are.
 ///
-/// # Proved
+/// <details><summary>Proved</summary>
 ///
 /// - `result ≡ take len (drop place bytes)`
+///
+/// </details>
 pub fn bytes_from(bytes: &[u8], place: usize, len: usize) -> &[u8] {
     let Some(rest) = bytes.get(place..) else {
         return &[];
@@ -204,8 +211,8 @@ impl Judges<LoadCommand> for Layout<'_, '_> {
                 let number = number_of(command);
                 measured(!is_dynamic(command), number, u64::from(LC_SYMTAB))
             }
-            Rule::TextMisplaced => place_view_of(self.bytes, command),
-            Rule::TextEmpty => text_outcome(self.bytes, command),
+            Rule::TextMisplaced => place_view_of(self, command),
+            Rule::TextEmpty => text_outcome(self, command),
             Rule::IdUnexpected => {
                 let kind = u64::from(self.header.filetype);
                 measured(!is_id(command) || is_library_file(self), kind, 0)
@@ -217,10 +224,12 @@ impl Judges<LoadCommand> for Layout<'_, '_> {
 
 /// Adds the faults that some of these rules find in the commands.
 ///
-/// # Proved
+/// <details><summary>Proved</summary>
 ///
 /// - *reported*: if `Ok`: `faults.new.items ≡ faults.old.items ++ defined.commands_reported (laid_of layout) rules`
 /// - *only*: the result is `Ok`, unless memory is refused
+///
+/// </details>
 pub fn report_commands(
     faults: &mut Vec<LayoutFault>,
     layout: &Layout<'_, '_>,
@@ -240,10 +249,12 @@ fn report_dynamic_symbols(faults: &mut Vec<LayoutFault>, layout: &Layout<'_, '_>
 
 /// Adds the faults of the header and of the commands.
 ///
-/// # Proved
+/// <details><summary>Proved</summary>
 ///
 /// - *reported*: if `Ok`: `faults.new.items ≡ faults.old.items ++ defined.command_faults (laid_of layout)`
 /// - *only*: the result is `Ok`, unless memory is refused
+///
+/// </details>
 pub fn command_faults(faults: &mut Vec<LayoutFault>, layout: &Layout<'_, '_>) -> Result<()> {
     let rules = [
         Rule::CommandSize,
@@ -261,10 +272,12 @@ pub fn command_faults(faults: &mut Vec<LayoutFault>, layout: &Layout<'_, '_>) ->
 
 /// Adds the faults of texts and names.
 ///
-/// # Proved
+/// <details><summary>Proved</summary>
 ///
 /// - *reported*: if `Ok`: `faults.new.items ≡ faults.old.items ++ defined.text_faults (laid_of layout)`
 /// - *only*: the result is `Ok`, unless memory is refused
+///
+/// </details>
 pub fn text_faults(faults: &mut Vec<LayoutFault>, layout: &Layout<'_, '_>) -> Result<()> {
     report_commands(faults, layout, &[Rule::TextMisplaced, Rule::TextEmpty])?;
     report_header(faults, layout, &[Rule::IdMissing])?;

@@ -17,7 +17,8 @@ use crate::generated::mach_parts::magic::parse_magic_and_ctx;
 use crate::generated::mach_parts::{ArchRecord, place_of, read_arch};
 
 /// An entry of a fat file by its record, with its number, from 0, and the place of the record.
-#[derive(Clone, Copy)]
+#[derive(Clone, Copy, Eq, Hash, PartialEq)]
+#[cfg_attr(not(feature = "internals"), non_exhaustive)]
 pub struct PlacedSlice {
     pub number: u32,
     pub place: usize,
@@ -28,13 +29,28 @@ pub struct PlacedSlice {
     pub align: u32,
 }
 
+impl core::fmt::Debug for PlacedSlice {
+    /// Prints the name of the type.
+    fn fmt(&self, f: &mut core::fmt::Formatter<'_>) -> core::fmt::Result {
+        f.debug_struct("PlacedSlice").finish_non_exhaustive()
+    }
+}
+
 /// The range of a slice that a check uses.
-#[derive(Clone, Copy)]
+#[derive(Clone, Copy, Eq, Hash, PartialEq)]
+#[cfg_attr(not(feature = "internals"), non_exhaustive)]
 pub enum RangeOf {
     /// Its cpu and subtype, as a number.
     Cpu,
     /// Its bytes.
     Bytes,
+}
+
+impl core::fmt::Debug for RangeOf {
+    /// Prints the name of the type.
+    fn fmt(&self, f: &mut core::fmt::Formatter<'_>) -> core::fmt::Result {
+        f.debug_struct("RangeOf").finish_non_exhaustive()
+    }
 }
 
 // Returns the number of slices that the header states.
@@ -204,10 +220,12 @@ fn report_records<R: ArchRecord>(faults: &mut Vec<LayoutFault>, bytes: &[u8]) ->
 /// others. They are in the order of the rules; those of one rule are in the order of the slices, or, for two slices, in that
 /// of their cpus or places. The only error is out of memory.
 ///
-/// # Proved
+/// <details><summary>Proved</summary>
 ///
 /// - *listed*: if `Ok(v)`: `AreContainerFaults R.arch_form bytes v.items`
 /// - *only*: the result is `Ok`, unless memory is refused
+///
+/// </details>
 pub fn container_faults<R: ArchRecord>(bytes: &[u8]) -> Result<Vec<LayoutFault>> {
     let found = slices_of::<R>(bytes)?;
     let slices = found.as_slice();

@@ -19,11 +19,19 @@ use crate::generated::mach_load::{CommandVariant, LoadCommand};
 use crate::generated::mach_records::DataInCodeEntry;
 
 /// The place and size of the data-in-code table of a command, and the place of the command.
-#[derive(Clone, Copy)]
+#[derive(Clone, Copy, Eq, Hash, PartialEq)]
+#[cfg_attr(not(feature = "internals"), non_exhaustive)]
 pub struct PlacedData {
     pub place: usize,
     pub dataoff: u32,
     pub datasize: u32,
+}
+
+impl core::fmt::Debug for PlacedData {
+    /// Prints the name of the type.
+    fn fmt(&self, f: &mut core::fmt::Formatter<'_>) -> core::fmt::Result {
+        f.debug_struct("PlacedData").finish_non_exhaustive()
+    }
 }
 
 impl Wanted for PlacedData {
@@ -44,11 +52,19 @@ impl Wanted for PlacedData {
 }
 
 /// The range from the first to the last executable address.
-#[derive(Clone, Copy)]
+#[derive(Clone, Copy, Eq, Hash, PartialEq)]
+#[cfg_attr(not(feature = "internals"), non_exhaustive)]
 pub struct CodeSpan {
     pub start: u64,
     /// The address after the last one.
     pub end: u128,
+}
+
+impl core::fmt::Debug for CodeSpan {
+    /// Prints the name of the type.
+    fn fmt(&self, f: &mut core::fmt::Formatter<'_>) -> core::fmt::Result {
+        f.debug_struct("CodeSpan").finish_non_exhaustive()
+    }
 }
 
 // Returns the span of a segment and of those before it.
@@ -81,12 +97,20 @@ fn code_span(layout: &Layout<'_, '_>) -> Option<CodeSpan> {
 }
 
 /// What the checks of data-in-code entries use.
-#[derive(Clone, Copy)]
+#[derive(Clone, Copy, Eq, PartialEq)]
+#[cfg_attr(not(feature = "internals"), non_exhaustive)]
 pub struct DataJudge<'a> {
     pub table: FixupData<'a>,
     /// The address from which offsets are counted.
     pub base: u64,
     pub span: Option<CodeSpan>,
+}
+
+impl<'a> core::fmt::Debug for DataJudge<'a> {
+    /// Prints the name of the type.
+    fn fmt(&self, f: &mut core::fmt::Formatter<'_>) -> core::fmt::Result {
+        f.debug_struct("DataJudge").finish_non_exhaustive()
+    }
 }
 
 // Returns entry k of a table.
@@ -209,10 +233,12 @@ fn report_data(
 
 /// Adds the faults of the data-in-code table.
 ///
-/// # Proved
+/// <details><summary>Proved</summary>
 ///
 /// - *reported*: if `Ok`: `faults.new.items ≡ faults.old.items ++ defined.data_faults (laid_of layout)`
 /// - *only*: the result is `Ok`, unless memory is refused
+///
+/// </details>
 pub fn data_faults(faults: &mut Vec<LayoutFault>, layout: &Layout<'_, '_>) -> Result<()> {
     let Some(placed) = last_wanted::<PlacedData>(layout.commands) else {
         return Ok(());

@@ -17,12 +17,20 @@ use crate::generated::mach_parts::header::MH_EXECUTE;
 const VM_PROT_EXECUTE: u32 = 4;
 
 /// The place at which an image begins to run.
-#[derive(Clone, Copy)]
+#[derive(Clone, Copy, Eq, Hash, PartialEq)]
+#[cfg_attr(not(feature = "internals"), non_exhaustive)]
 pub enum EntryPlace {
     /// A place in the file.
     InFile(u64),
     /// An address.
     InMemory(u64),
+}
+
+impl core::fmt::Debug for EntryPlace {
+    /// Prints the name of the type.
+    fn fmt(&self, f: &mut core::fmt::Formatter<'_>) -> core::fmt::Result {
+        f.debug_struct("EntryPlace").finish_non_exhaustive()
+    }
 }
 
 // Whether a command states where the image begins.
@@ -57,9 +65,11 @@ fn entry_place(cputype: u32, command: &CommandVariant) -> Option<EntryPlace> {
 
 /// Whether a segment is executable by its initial protection.
 ///
-/// # Proved
+/// <details><summary>Proved</summary>
 ///
 /// - `result ≡ defined.is_code segment`
+///
+/// </details>
 pub fn is_code(segment: &PlacedSegment) -> bool {
     segment.command.initprot & VM_PROT_EXECUTE != 0
 }
@@ -121,10 +131,12 @@ fn report_entry(faults: &mut Vec<LayoutFault>, layout: &Layout<'_, '_>) -> Resul
 
 /// Adds the faults of the entry.
 ///
-/// # Proved
+/// <details><summary>Proved</summary>
 ///
 /// - *reported*: if `Ok`: `faults.new.items ≡ faults.old.items ++ defined.entry_faults (laid_of layout)`
 /// - *only*: the result is `Ok`, unless memory is refused
+///
+/// </details>
 pub fn entry_faults(faults: &mut Vec<LayoutFault>, layout: &Layout<'_, '_>) -> Result<()> {
     if layout.header.filetype != MH_EXECUTE {
         return Ok(());

@@ -4,7 +4,8 @@
 
 /// What is wrong. Each rule says what `found` and `limit` of its faults are. An end that doesn't fit into 64 bits is given
 /// as the last number that does.
-#[derive(Clone, Copy, Debug, PartialEq)]
+#[derive(Clone, Copy, Debug, PartialEq, Eq, Hash)]
+#[cfg_attr(not(feature = "internals"), non_exhaustive)]
 pub enum Rule {
     // ---- the kind of file
     /// No rules are defined for the file type. `found`: the file type; `limit`: 0.
@@ -165,7 +166,8 @@ pub enum Rule {
 }
 
 /// A part of an image or of a fat file.
-#[derive(Clone, Copy, Debug, PartialEq)]
+#[derive(Clone, Copy, Debug, PartialEq, Eq, Hash)]
+#[cfg_attr(not(feature = "internals"), non_exhaustive)]
 pub enum Part {
     /// The header with the commands.
     Header,
@@ -237,10 +239,16 @@ pub enum Part {
     Entry,
     /// A slice of a fat file.
     Slice,
+    /// What the linker knows of each atom (`LC_ATOM_INFO`).
+    AtomInfo,
+    /// The variants of functions (`LC_FUNCTION_VARIANTS`).
+    FunctionVariants,
+    /// The pointers to such functions (`LC_FUNCTION_VARIANT_FIXUPS`).
+    FunctionVariantFixups,
 }
 
 /// The owner of a range or a fault.
-#[derive(Clone, Copy, Debug, PartialEq)]
+#[derive(Clone, Copy, Debug, PartialEq, Eq, Hash)]
 pub struct Owner {
     /// Which part of the file or of an image it is.
     pub part: Part,
@@ -251,7 +259,8 @@ pub struct Owner {
 }
 
 /// A fault of layout.
-#[derive(Clone, Copy, Debug, PartialEq)]
+#[derive(Clone, Copy, Debug, PartialEq, Eq, Hash)]
+#[cfg_attr(not(feature = "internals"), non_exhaustive)]
 pub struct LayoutFault {
     /// The rule.
     pub rule: Rule,

@@ -19,10 +19,12 @@ use crate::generated::mach_layout::symbols::symbol_faults;
 
 /// Adds the faults of the commands, of ranges outside the file, and of the segments.
 ///
-/// # Proved
+/// <details><summary>Proved</summary>
 ///
 /// - *reported*: if `Ok`: `AddsSegments (laid_of layout) faults.old.items faults.new.items`
 /// - *only*: the result is `Ok`, unless memory is refused
+///
+/// </details>
 pub fn add_segments(faults: &mut Vec<LayoutFault>, layout: &Layout<'_, '_>) -> Result<()> {
     command_faults(faults, layout)?;
     report_claims(faults, layout, &[Rule::OutOfFile])?;
@@ -35,10 +37,12 @@ pub fn add_segments(faults: &mut Vec<LayoutFault>, layout: &Layout<'_, '_>) -> R
 
 /// Adds the faults of the sections, of the claims, and of `__LINKEDIT` and encrypted ranges.
 ///
-/// # Proved
+/// <details><summary>Proved</summary>
 ///
 /// - *reported*: if `Ok`: `AddsSections (laid_of layout) faults.old.items faults.new.items`
 /// - *only*: the result is `Ok`, unless memory is refused
+///
+/// </details>
 pub fn add_sections(faults: &mut Vec<LayoutFault>, layout: &Layout<'_, '_>) -> Result<()> {
     section_faults(faults, layout)?;
     sections_shared(faults, layout)?;
@@ -50,10 +54,12 @@ pub fn add_sections(faults: &mut Vec<LayoutFault>, layout: &Layout<'_, '_>) -> R
 
 /// Adds the faults of the symbols, of the entry and of texts.
 ///
-/// # Proved
+/// <details><summary>Proved</summary>
 ///
 /// - *reported*: `let laid = laid_of layout in OnOk result (faults.new.items ≡ faults.old.items ++ symbols.symbol_faults laid ++ entry.entry_faults laid ++ texts.text_faults laid)`
 /// - *only*: the result is `Ok`, unless memory is refused
+///
+/// </details>
 pub fn add_symbols(faults: &mut Vec<LayoutFault>, layout: &Layout<'_, '_>) -> Result<()> {
     symbol_faults(faults, layout)?;
     entry_faults(faults, layout)?;

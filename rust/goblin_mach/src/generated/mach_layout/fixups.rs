@@ -8,7 +8,6 @@ mod imports;
 pub mod starts;
 
 use crate::generated::mach_base::{Endian, Record, Result, read_u32};
-use crate::generated::mach_chained::ChainedFixupsHeader;
 use crate::generated::mach_layout::fault::{LayoutFault, Owner, Part, Rule};
 use crate::generated::mach_layout::fixups::imports::import_faults;
 use crate::generated::mach_layout::fixups::starts::starts_faults;
@@ -16,13 +15,22 @@ use crate::generated::mach_layout::last_command::{Wanted, last_wanted};
 use crate::generated::mach_layout::layout::{Layout, ends_past};
 use crate::generated::mach_layout::rules::{RuleOutcome, measured, owner_at, report};
 use crate::generated::mach_load::{CommandVariant, LoadCommand};
+use crate::generated::mach_records::ChainedFixupsHeader;
 
 /// The place and size of the chained fixups of a command, and the place of the command.
-#[derive(Clone, Copy)]
+#[derive(Clone, Copy, Eq, Hash, PartialEq)]
+#[cfg_attr(not(feature = "internals"), non_exhaustive)]
 pub struct PlacedFixups {
     pub place: usize,
     pub dataoff: u32,
     pub datasize: u32,
+}
+
+impl core::fmt::Debug for PlacedFixups {
+    /// Prints the name of the type.
+    fn fmt(&self, f: &mut core::fmt::Formatter<'_>) -> core::fmt::Result {
+        f.debug_struct("PlacedFixups").finish_non_exhaustive()
+    }
 }
 
 impl Wanted for PlacedFixups {
@@ -43,35 +51,55 @@ impl Wanted for PlacedFixups {
 }
 
 /// What the checks of chained fixups use: the place of their command, their data, and the byte order.
-#[derive(Clone, Copy)]
+#[derive(Clone, Copy, Eq, PartialEq)]
+#[cfg_attr(not(feature = "internals"), non_exhaustive)]
 pub struct FixupData<'a> {
     pub place: usize,
     pub payload: &'a [u8],
     pub le: Endian,
 }
 
+impl<'a> core::fmt::Debug for FixupData<'a> {
+    /// Prints the name of the type.
+    fn fmt(&self, f: &mut core::fmt::Formatter<'_>) -> core::fmt::Result {
+        f.debug_struct("FixupData").finish_non_exhaustive()
+    }
+}
+
 /// A header that can be read, and the number of starts after it.
-#[derive(Clone, Copy)]
+#[derive(Clone, Copy, Eq, Hash, PartialEq)]
+#[cfg_attr(not(feature = "internals"), non_exhaustive)]
 pub struct Front {
     pub header: ChainedFixupsHeader,
     pub count: u32,
 }
 
+impl core::fmt::Debug for Front {
+    /// Prints the name of the type.
+    fn fmt(&self, f: &mut core::fmt::Formatter<'_>) -> core::fmt::Result {
+        f.debug_struct("Front").finish_non_exhaustive()
+    }
+}
+
 impl FixupData<'_> {
     /// Returns the owner of a fault of the header, or of the starts of segment k.
     ///
-    /// # Proved
+    /// <details><summary>Proved</summary>
     ///
     /// - `result ≡ defined.data_owner (data_view self) k`
+    ///
+    /// </details>
     pub fn owner(&self, k: u32) -> Owner {
         owner_at(Part::ChainedFixups, self.place, u64::from(k))
     }
 
     /// Returns the number of bytes.
     ///
-    /// # Proved
+    /// <details><summary>Proved</summary>
     ///
     /// - `result ≡ length self.payload`
+    ///
+    /// </details>
     pub fn size(&self) -> u64 {
         self.payload.len() as u64
     }
@@ -79,9 +107,11 @@ impl FixupData<'_> {
 
 /// Returns the data that a command places, if they lie in the file.
 ///
-/// # Proved
+/// <details><summary>Proved</summary>
 ///
 /// - `option_map data_view result ≡ defined.data_of (laid_of layout) placed`
+///
+/// </details>
 pub fn data_of<'a>(layout: &Layout<'a, '_>, placed: &PlacedFixups) -> Option<FixupData<'a>> {
     let (start, size) = (placed.dataoff, placed.datasize);
     if ends_past(layout.size(), u64::from(start), u64::from(size)) {
@@ -102,9 +132,11 @@ fn fixup_data<'a>(layout: &Layout<'a, '_>) -> Option<FixupData<'a>> {
 
 /// Returns the number of bytes in an import's record.
 ///
-/// # Proved
+/// <details><summary>Proved</summary>
 ///
 /// - `result ≡ defined.import_bytes format`
+///
+/// </details>
 pub fn import_bytes(format: u32) -> u64 {
     match format {
         1 => 4,
@@ -171,10 +203,12 @@ fn front_of(chained: &FixupData<'_>) -> core::result::Result<Front, RuleOutcome>
 
 /// Adds the faults of chained fixups.
 ///
-/// # Proved
+/// <details><summary>Proved</summary>
 ///
 /// - *reported*: if `Ok`: `faults.new.items ≡ faults.old.items ++ defined.fixup_faults (laid_of layout)`
 /// - *only*: the result is `Ok`, unless memory is refused
+///
+/// </details>
 pub fn fixup_faults(faults: &mut Vec<LayoutFault>, layout: &Layout<'_, '_>) -> Result<()> {
     let Some(chained) = fixup_data(layout) else {
         return Ok(());

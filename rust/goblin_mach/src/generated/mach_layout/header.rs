@@ -16,9 +16,11 @@ use crate::generated::mach_parts::header::Header;
 
 /// Returns the header as the owner of a fault.
 ///
-/// # Proved
+/// <details><summary>Proved</summary>
 ///
 /// - `result ≡ defined.header_owner`
+///
+/// </details>
 pub fn header_owner() -> Owner {
     owner_at(Part::Header, 0, 0)
 }
@@ -50,10 +52,12 @@ impl Judges<Header> for Layout<'_, '_> {
 
 /// Adds the faults that some of these rules find.
 ///
-/// # Proved
+/// <details><summary>Proved</summary>
 ///
 /// - *reported*: if `Ok`: `faults.new.items ≡ faults.old.items ++ defined.header_reported (laid_of layout) rules`
 /// - *only*: the result is `Ok`, unless memory is refused
+///
+/// </details>
 pub fn report_header(
     faults: &mut Vec<LayoutFault>,
     layout: &Layout<'_, '_>,

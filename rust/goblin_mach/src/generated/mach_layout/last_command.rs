@@ -8,17 +8,21 @@ use crate::generated::mach_load::LoadCommand;
 pub trait Wanted: Copy {
     /// Returns what a command says, if it is of the kind.
     ///
-    /// # Proved
+    /// <details><summary>Proved</summary>
     ///
     /// - `result ≡ wanted (command_of command)`
+    ///
+    /// </details>
     fn of(command: &LoadCommand) -> Option<Self>;
 }
 
 /// Returns what the last command of a kind says.
 ///
-/// # Proved
+/// <details><summary>Proved</summary>
 ///
 /// - `result ≡ last_or None (filter_map W.wanted (map command_of commands))`
+///
+/// </details>
 pub fn last_wanted<W: Wanted>(commands: &[LoadCommand]) -> Option<W> {
     let mut last = None;
     for command in commands {

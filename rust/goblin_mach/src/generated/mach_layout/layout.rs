@@ -14,6 +14,7 @@ use crate::generated::mach_records::cputype::{CPU_TYPE_ARM64, CPU_TYPE_ARM64_32}
 
 /// What the rules read of an image: the bytes and the context in which it was opened, its header and its commands.
 #[derive(Clone, Copy)]
+#[cfg_attr(not(feature = "internals"), non_exhaustive)]
 pub struct Layout<'a, 'b> {
     /// The bytes.
     pub bytes: &'a [u8],
@@ -25,21 +26,32 @@ pub struct Layout<'a, 'b> {
     pub commands: &'b [LoadCommand],
 }
 
+impl<'a, 'b> core::fmt::Debug for Layout<'a, 'b> {
+    /// Prints the name of the type.
+    fn fmt(&self, f: &mut core::fmt::Formatter<'_>) -> core::fmt::Result {
+        f.debug_struct("Layout").finish_non_exhaustive()
+    }
+}
+
 impl<'a, 'b> Layout<'a, 'b> {
     /// Returns the number of bytes in the file.
     ///
-    /// # Proved
+    /// <details><summary>Proved</summary>
     ///
     /// - `result ≡ defined.file_size (laid_of self)`
+    ///
+    /// </details>
     pub fn size(&self) -> u64 {
         self.bytes.len() as u64
     }
 
     /// Returns the number of bytes in the header.
     ///
-    /// # Proved
+    /// <details><summary>Proved</summary>
     ///
     /// - `result ≡ defined.header_len (laid_of self)`
+    ///
+    /// </details>
     pub fn header_len(&self) -> u64 {
         match self.ctx.container {
             Container::Little => SIZEOF_HEADER_32 as u64,
@@ -49,18 +61,22 @@ impl<'a, 'b> Layout<'a, 'b> {
 
     /// Returns the place where the commands end, by the header.
     ///
-    /// # Proved
+    /// <details><summary>Proved</summary>
     ///
     /// - `result ≡ defined.declared_end (laid_of self)`
+    ///
+    /// </details>
     pub fn declared_end(&self) -> u64 {
         self.header_len() + u64::from(self.header.sizeofcmds)
     }
 
     /// Returns the place where the last command ends, or the header if there is none; at most the last number of 64 bits.
     ///
-    /// # Proved
+    /// <details><summary>Proved</summary>
     ///
     /// - `result ≡ min (defined.commands_end (laid_of self)) (2 ^ 64 - 1)`
+    ///
+    /// </details>
     pub fn chain_end(&self) -> u64 {
         match self.commands.last() {
             Some(command) => {
@@ -72,18 +88,22 @@ impl<'a, 'b> Layout<'a, 'b> {
 
     /// Returns the place where the header and the commands end: at most where the header states.
     ///
-    /// # Proved
+    /// <details><summary>Proved</summary>
     ///
     /// - `result ≡ defined.used_end (laid_of self)`
+    ///
+    /// </details>
     pub fn used_end(&self) -> u64 {
         self.chain_end().min(self.declared_end())
     }
 
     /// Whether dyld or the kernel maps files of this kind.
     ///
-    /// # Proved
+    /// <details><summary>Proved</summary>
     ///
     /// - `result ≡ defined.is_final (laid_of self)`
+    ///
+    /// </details>
     pub fn is_final(&self) -> bool {
         let kind = self.header.filetype;
         kind == MH_EXECUTE || kind == MH_DYLIB || kind == MH_DYLINKER || kind == MH_BUNDLE
@@ -91,45 +111,55 @@ impl<'a, 'b> Layout<'a, 'b> {
 
     /// Whether the file is an object file.
     ///
-    /// # Proved
+    /// <details><summary>Proved</summary>
     ///
     /// - `result ≡ defined.is_object (laid_of self)`
+    ///
+    /// </details>
     pub fn is_object(&self) -> bool {
         self.header.filetype == MH_OBJECT
     }
 
     /// Whether the file is a stub library (`MH_DYLIB_STUB`).
     ///
-    /// # Proved
+    /// <details><summary>Proved</summary>
     ///
     /// - `result ≡ defined.is_stub (laid_of self)`
+    ///
+    /// </details>
     pub fn is_stub(&self) -> bool {
         self.header.filetype == MH_DYLIB_STUB
     }
 
     /// Whether the file is a companion file with debugging symbols (`MH_DSYM`).
     ///
-    /// # Proved
+    /// <details><summary>Proved</summary>
     ///
     /// - `result ≡ defined.is_dsym (laid_of self)`
+    ///
+    /// </details>
     pub fn is_dsym(&self) -> bool {
         self.header.filetype == MH_DSYM
     }
 
     /// Whether rules are defined for files of this kind.
     ///
-    /// # Proved
+    /// <details><summary>Proved</summary>
     ///
     /// - `result ≡ defined.is_judged (laid_of self)`
+    ///
+    /// </details>
     pub fn is_judged(&self) -> bool {
         self.is_final() || self.is_object() || self.is_stub() || self.is_dsym()
     }
 
     /// Returns the number of bytes in a page.
     ///
-    /// # Proved
+    /// <details><summary>Proved</summary>
     ///
     /// - `result ≡ defined.page_of (laid_of self)`
+    ///
+    /// </details>
     pub fn page(&self) -> u64 {
         let cpu = self.header.cputype;
         if cpu == CPU_TYPE_ARM64 || cpu == CPU_TYPE_ARM64_32 {
@@ -141,27 +171,33 @@ impl<'a, 'b> Layout<'a, 'b> {
 
     /// Returns the segments, in the order of their commands.
     ///
-    /// # Proved
+    /// <details><summary>Proved</summary>
     ///
     /// - `placed_segments_left result ≡ defined.segments_of (laid_of self)`
+    ///
+    /// </details>
     pub fn segments(&self) -> SegmentIterator<'b> {
         SegmentIterator::new(self.commands)
     }
 
     /// Returns the sections whose record lies in their segment's command and in the bytes, in order.
     ///
-    /// # Proved
+    /// <details><summary>Proved</summary>
     ///
     /// - `placed_sections_left result ≡ defined.placed_sections_of (laid_of self)`
+    ///
+    /// </details>
     pub fn sections(&self) -> SectionIterator<'a, 'b> {
         SectionIterator::new(self.bytes, self.ctx, self.commands)
     }
 
     /// Returns the ranges of the file that the parts claim.
     ///
-    /// # Proved
+    /// <details><summary>Proved</summary>
     ///
     /// - `claims_left result ≡ claims_of (laid_of self)`
+    ///
+    /// </details>
     pub fn claims(&self) -> ClaimIterator<'a, 'b> {
         ClaimIterator::new(self)
     }
@@ -169,9 +205,11 @@ impl<'a, 'b> Layout<'a, 'b> {
 
 /// Whether `len` bytes from a start on end past a limit.
 ///
-/// # Proved
+/// <details><summary>Proved</summary>
 ///
 /// - `result ≡ defined.ends_past limit start len`
+///
+/// </details>
 pub fn ends_past(limit: u64, start: u64, len: u64) -> bool {
     match start.checked_add(len) {
         Some(end) => end > limit,
@@ -181,9 +219,11 @@ pub fn ends_past(limit: u64, start: u64, len: u64) -> bool {
 
 /// Returns the place where `len` bytes from a start on end; at most the last number of 64 bits.
 ///
-/// # Proved
+/// <details><summary>Proved</summary>
 ///
 /// - `result ≡ place_after start len`
+///
+/// </details>
 pub fn range_end(start: u64, len: u64) -> u64 {
     start.saturating_add(len)
 }

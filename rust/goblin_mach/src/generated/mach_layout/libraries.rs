@@ -6,16 +6,17 @@ use crate::generated::mach_base::Record;
 use crate::generated::mach_layout::commands::bytes_from;
 use crate::generated::mach_layout::layout::Layout;
 use crate::generated::mach_layout::rules::{RuleOutcome, measured, sound};
-use crate::generated::mach_load::{CommandVariant, LoadCommand};
+use crate::generated::mach_load::{CommandVariant, LoadCommand, NewerCommand};
 use crate::generated::mach_parts::header::{MH_DYLIB, MH_DYLIB_STUB};
 use crate::generated::mach_records::{
     DylibCommand, DylinkerCommand, FilesetEntryCommand, FvmfileCommand, FvmlibCommand, LcStr,
     PreboundDylibCommand, RpathCommand, SubClientCommand, SubFrameworkCommand, SubLibraryCommand,
-    SubUmbrellaCommand,
+    SubUmbrellaCommand, TargetTripleCommand,
 };
 
 /// The text of a command.
-#[derive(Clone, Copy)]
+#[derive(Clone, Copy, Eq, Hash, PartialEq)]
+#[cfg_attr(not(feature = "internals"), non_exhaustive)]
 pub struct CommandText {
     /// The place where it begins, counted from its command.
     pub offset: usize,
@@ -23,6 +24,13 @@ pub struct CommandText {
     pub struct_size: usize,
     /// Whether it is read up to a zero byte.
     pub is_read: bool,
+}
+
+impl core::fmt::Debug for CommandText {
+    /// Prints the name of the type.
+    fn fmt(&self, f: &mut core::fmt::Formatter<'_>) -> core::fmt::Result {
+        f.debug_struct("CommandText").finish_non_exhaustive()
+    }
 }
 
 // Returns the text at an offset, after a struct of `struct_size` bytes.
@@ -34,9 +42,17 @@ fn text_after(offset: LcStr, struct_size: usize) -> Option<CommandText> {
     })
 }
 
+// Returns the text of a command that goblin's table lacks, if it has one.
+fn newer_text(layout: &Layout<'_, '_>, command: &LoadCommand) -> Option<CommandText> {
+    match NewerCommand::of(layout.bytes, layout.ctx.le, command)? {
+        NewerCommand::TargetTriple(c) => text_after(c.triple, TargetTripleCommand::SIZE),
+        _ => None,
+    }
+}
+
 // Returns the text of a command, if it has one.
-fn text_of(command: &CommandVariant) -> Option<CommandText> {
-    match command {
+fn text_of(layout: &Layout<'_, '_>, command: &LoadCommand) -> Option<CommandText> {
+    match &command.command {
         CommandVariant::LoadFvmlib(c) | CommandVariant::IdFvmlib(c) => {
             text_after(c.fvmlib.name, FvmlibCommand::SIZE)
         }
@@ -61,6 +77,7 @@ fn text_of(command: &CommandVariant) -> Option<CommandText> {
             struct_size: PreboundDylibCommand::SIZE,
             is_read: false,
         }),
+        CommandVariant::Unimplemented(_) => newer_text(layout, command),
         _ => None,
     }
 }
@@ -91,14 +108,16 @@ fn is_empty_text(bytes: &[u8], command: &LoadCommand, text: CommandText) -> bool
 
 /// Checks the place of a command's text.
 ///
-/// # Proved
+/// <details><summary>Proved</summary>
 ///
-/// - `let c = command_of command in result ≡ sees_there (defined.text_of c.kind c.values) (λ t. defined.place_sees bytes c t)`
-pub fn place_view_of(bytes: &[u8], command: &LoadCommand) -> RuleOutcome {
-    match text_of(&command.command) {
+/// - `let c = command_of command in result ≡ sees_there (defined.command_text (laid_of layout) c) (λ t. defined.place_sees layout.bytes c t)`
+///
+/// </details>
+pub fn place_view_of(layout: &Layout<'_, '_>, command: &LoadCommand) -> RuleOutcome {
+    match text_of(layout, command) {
         None => sound(),
         Some(text) => {
-            let holds = lies_inside(bytes, command, text);
+            let holds = lies_inside(layout.bytes, command, text);
             measured(holds, text.offset as u64, command.command.cmdsize() as u64)
         }
     }
@@ -106,14 +125,16 @@ pub fn place_view_of(bytes: &[u8], command: &LoadCommand) -> RuleOutcome {
 
 /// Checks that a command's text isn't empty.
 ///
-/// # Proved
+/// <details><summary>Proved</summary>
 ///
-/// - `let c = command_of command in result ≡ sees_there (defined.text_of c.kind c.values) (λ t. defined.text_sees bytes c t)`
-pub fn text_outcome(bytes: &[u8], command: &LoadCommand) -> RuleOutcome {
-    match text_of(&command.command) {
+/// - `let c = command_of command in result ≡ sees_there (defined.command_text (laid_of layout) c) (λ t. defined.text_sees layout.bytes c t)`
+///
+/// </details>
+pub fn text_outcome(layout: &Layout<'_, '_>, command: &LoadCommand) -> RuleOutcome {
+    match text_of(layout, command) {
         None => sound(),
         Some(text) => {
-            let holds = !is_empty_text(bytes, command, text);
+            let holds = !is_empty_text(layout.bytes, command, text);
             measured(holds, text.offset as u64, command.command.cmdsize() as u64)
         }
     }
@@ -121,9 +142,11 @@ pub fn text_outcome(bytes: &[u8], command: &LoadCommand) -> RuleOutcome {
 
 /// Whether the file is a library or a stub library.
 ///
-/// # Proved
+/// <details><summary>Proved</summary>
 ///
 /// - `result ≡ defined.is_library_file (laid_of layout)`
+///
+/// </details>
 pub fn is_library_file(layout: &Layout<'_, '_>) -> bool {
     let kind = layout.header.filetype;
     kind == MH_DYLIB || kind == MH_DYLIB_STUB
@@ -131,18 +154,22 @@ pub fn is_library_file(layout: &Layout<'_, '_>) -> bool {
 
 /// Whether a command states the library's own name.
 ///
-/// # Proved
+/// <details><summary>Proved</summary>
 ///
 /// - `result ≡ defined.says_id (command_of command)`
+///
+/// </details>
 pub fn is_id(command: &LoadCommand) -> bool {
     matches!(&command.command, CommandVariant::IdDylib(_))
 }
 
 /// Whether one of the commands does.
 ///
-/// # Proved
+/// <details><summary>Proved</summary>
 ///
 /// - `result ≡ list_any defined.says_id (map command_of commands)`
+///
+/// </details>
 pub fn has_id(commands: &[LoadCommand]) -> bool {
     for command in commands {
         if is_id(command) {

@@ -9,9 +9,17 @@ use crate::generated::mach_layout::symbols::fault_at;
 use crate::generated::mach_load::{CommandVariant, LoadCommand};
 
 /// The place of an `LC_DYLD_INFO` or `LC_DYLD_INFO_ONLY` command.
-#[derive(Clone, Copy)]
+#[derive(Clone, Copy, Eq, Hash, PartialEq)]
+#[cfg_attr(not(feature = "internals"), non_exhaustive)]
 pub struct PlacedDyldInfo {
     pub place: usize,
+}
+
+impl core::fmt::Debug for PlacedDyldInfo {
+    /// Prints the name of the type.
+    fn fmt(&self, f: &mut core::fmt::Formatter<'_>) -> core::fmt::Result {
+        f.debug_struct("PlacedDyldInfo").finish_non_exhaustive()
+    }
 }
 
 impl Wanted for PlacedDyldInfo {
@@ -27,9 +35,17 @@ impl Wanted for PlacedDyldInfo {
 }
 
 /// The place of an `LC_FUNCTION_STARTS` command.
-#[derive(Clone, Copy)]
+#[derive(Clone, Copy, Eq, Hash, PartialEq)]
+#[cfg_attr(not(feature = "internals"), non_exhaustive)]
 pub struct PlacedStarts {
     pub place: usize,
+}
+
+impl core::fmt::Debug for PlacedStarts {
+    /// Prints the name of the type.
+    fn fmt(&self, f: &mut core::fmt::Formatter<'_>) -> core::fmt::Result {
+        f.debug_struct("PlacedStarts").finish_non_exhaustive()
+    }
 }
 
 impl Wanted for PlacedStarts {
@@ -60,18 +76,22 @@ fn starts_command(layout: &Layout<'_, '_>) -> usize {
 
 /// Returns the fault of a rule for opcodes that have a fault, with the last command that names any as its owner.
 ///
-/// # Proved
+/// <details><summary>Proved</summary>
 ///
 /// - `result ≡ defined.opcodes_fault rule part (laid_of layout)`
+///
+/// </details>
 pub fn opcodes_fault(layout: &Layout<'_, '_>, rule: Rule, part: Part) -> LayoutFault {
     fault_at(rule, part, opcodes_command(layout), 0, 0, 0)
 }
 
 /// Returns the fault for function starts that have a fault, with the last command that places any as its owner.
 ///
-/// # Proved
+/// <details><summary>Proved</summary>
 ///
 /// - `result ≡ defined.function_starts_fault (laid_of layout)`
+///
+/// </details>
 pub fn function_starts_fault(layout: &Layout<'_, '_>) -> LayoutFault {
     let place = starts_command(layout);
     fault_at(Rule::FunctionStarts, Part::FunctionStarts, place, 0, 0, 0)

@@ -9,9 +9,11 @@ use core::fmt::{Display, Formatter};
 impl Rule {
     /// Returns the words for it.
     ///
-    /// # Proved
+    /// <details><summary>Proved</summary>
     ///
     /// - `result ≡ defined.rule_words self`
+    ///
+    /// </details>
     pub fn words(self) -> &'static str {
         match self {
             Rule::FileKind => "file kind",
@@ -90,9 +92,11 @@ impl Display for Rule {
 impl Part {
     /// Returns the words for it.
     ///
-    /// # Proved
+    /// <details><summary>Proved</summary>
     ///
     /// - `result ≡ defined.part_words self`
+    ///
+    /// </details>
     pub fn words(self) -> &'static str {
         match self {
             Part::Header => "header",
@@ -130,6 +134,9 @@ impl Part {
             Part::Binds => "binds",
             Part::Entry => "entry",
             Part::Slice => "slice",
+            Part::AtomInfo => "atom info",
+            Part::FunctionVariants => "function variants",
+            Part::FunctionVariantFixups => "function variant fixups",
         }
     }
 }

@@ -10,7 +10,8 @@ use crate::generated::mach_records::{Section64, SegmentCommand32, SegmentCommand
 use core::slice::Iter;
 
 /// A segment's command in its 64-bit form, and its place.
-#[derive(Clone, Copy)]
+#[derive(Clone, Copy, Eq, Hash, PartialEq)]
+#[cfg_attr(not(feature = "internals"), non_exhaustive)]
 pub struct PlacedSegment {
     /// The place of the command in the bytes.
     pub place: usize,
@@ -18,8 +19,16 @@ pub struct PlacedSegment {
     pub command: SegmentCommand64,
 }
 
+impl core::fmt::Debug for PlacedSegment {
+    /// Prints the name of the type.
+    fn fmt(&self, f: &mut core::fmt::Formatter<'_>) -> core::fmt::Result {
+        f.debug_struct("PlacedSegment").finish_non_exhaustive()
+    }
+}
+
 /// A section in its 64-bit form, with its segment and its number there, from 1.
-#[derive(Clone, Copy)]
+#[derive(Clone, Copy, Eq, Hash, PartialEq)]
+#[cfg_attr(not(feature = "internals"), non_exhaustive)]
 pub struct PlacedSection {
     /// Its segment.
     pub segment: PlacedSegment,
@@ -27,6 +36,13 @@ pub struct PlacedSection {
     pub number: u64,
     /// The section.
     pub section: Section64,
+}
+
+impl core::fmt::Debug for PlacedSection {
+    /// Prints the name of the type.
+    fn fmt(&self, f: &mut core::fmt::Formatter<'_>) -> core::fmt::Result {
+        f.debug_struct("PlacedSection").finish_non_exhaustive()
+    }
 }
 
 // Converts the command of a 32-bit image to the 64-bit form.
@@ -49,9 +65,11 @@ fn widen(c: &SegmentCommand32) -> SegmentCommand64 {
 impl PlacedSection {
     /// Whether the section has addresses: it has a size, and something of its segment is mapped.
     ///
-    /// # Proved
+    /// <details><summary>Proved</summary>
     ///
     /// - `result ≡ defined.has_addresses self`
+    ///
+    /// </details>
     pub fn has_addresses(&self) -> bool {
         self.segment.command.vmsize != 0 && self.section.size != 0
     }
@@ -59,9 +77,11 @@ impl PlacedSection {
 
 /// Returns the segment of a command, if it is a segment command.
 ///
-/// # Proved
+/// <details><summary>Proved</summary>
 ///
 /// - `result ≡ defined.placed_segment_of (command_of command)`
+///
+/// </details>
 pub fn segment_of(command: &LoadCommand) -> Option<PlacedSegment> {
     let place = command.offset;
     match &command.command {
@@ -78,6 +98,13 @@ pub fn segment_of(command: &LoadCommand) -> Option<PlacedSegment> {
 #[derive(Clone)]
 pub struct SegmentIterator<'b> {
     commands: Iter<'b, LoadCommand>,
+}
+
+impl<'b> core::fmt::Debug for SegmentIterator<'b> {
+    /// Prints the name of the type.
+    fn fmt(&self, f: &mut core::fmt::Formatter<'_>) -> core::fmt::Result {
+        f.debug_struct("SegmentIterator").finish_non_exhaustive()
+    }
 }
 
 impl<'b> SegmentIterator<'b> {
@@ -104,6 +131,8 @@ impl<'b> Iterator for SegmentIterator<'b> {
         }
     }
 }
+
+impl<'b> core::iter::FusedIterator for SegmentIterator<'b> {}
 
 impl<'b> Items for SegmentIterator<'b> {
     type Item = PlacedSegment;
@@ -144,6 +173,13 @@ pub struct SectionIterator<'a, 'b> {
     // The segment whose sections are returned now; the next field is the number of those already returned.
     segment: Option<PlacedSegment>,
     taken: u32,
+}
+
+impl<'a, 'b> core::fmt::Debug for SectionIterator<'a, 'b> {
+    /// Prints the name of the type.
+    fn fmt(&self, f: &mut core::fmt::Formatter<'_>) -> core::fmt::Result {
+        f.debug_struct("SectionIterator").finish_non_exhaustive()
+    }
 }
 
 impl<'a, 'b> SectionIterator<'a, 'b> {
@@ -193,6 +229,8 @@ impl<'a, 'b> Iterator for SectionIterator<'a, 'b> {
         }
     }
 }
+
+impl<'a, 'b> core::iter::FusedIterator for SectionIterator<'a, 'b> {}
 
 impl<'a, 'b> Items for SectionIterator<'a, 'b> {
     type Item = PlacedSection;

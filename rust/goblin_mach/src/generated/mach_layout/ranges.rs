@@ -98,10 +98,12 @@ fn lone_claims(layout: &Layout<'_, '_>) -> Result<Vec<Claim>> {
 
 /// Adds the faults of segments that share an address.
 ///
-/// # Proved
+/// <details><summary>Proved</summary>
 ///
 /// - *reported*: if `Ok`: there is `reported : List declared.LayoutFault` with: `AreShared rules_named.SegmentsShareMemory (defined.memory_ranges (laid_of layout)) reported × (faults.new.items ≡ faults.old.items ++ reported)`
 /// - *only*: the result is `Ok`, unless memory is refused
+///
+/// </details>
 pub fn memory_shared(faults: &mut Vec<LayoutFault>, layout: &Layout<'_, '_>) -> Result<()> {
     let mut ranges = memory_ranges(layout)?;
     report_ranges(faults, Rule::SegmentsShareMemory, &mut ranges)
@@ -109,10 +111,12 @@ pub fn memory_shared(faults: &mut Vec<LayoutFault>, layout: &Layout<'_, '_>) -> 
 
 /// Adds the faults of segments that share a byte of the file.
 ///
-/// # Proved
+/// <details><summary>Proved</summary>
 ///
 /// - *reported*: if `Ok`: there is `reported : List declared.LayoutFault` with: `AreShared rules_named.SegmentsShareFile (defined.file_ranges (laid_of layout)) reported × (faults.new.items ≡ faults.old.items ++ reported)`
 /// - *only*: the result is `Ok`, unless memory is refused
+///
+/// </details>
 pub fn files_shared(faults: &mut Vec<LayoutFault>, layout: &Layout<'_, '_>) -> Result<()> {
     let mut ranges = file_ranges(layout)?;
     report_ranges(faults, Rule::SegmentsShareFile, &mut ranges)
@@ -120,10 +124,12 @@ pub fn files_shared(faults: &mut Vec<LayoutFault>, layout: &Layout<'_, '_>) -> R
 
 /// Adds the faults of sections that share an address.
 ///
-/// # Proved
+/// <details><summary>Proved</summary>
 ///
 /// - *reported*: if `Ok`: there is `reported : List declared.LayoutFault` with: `AreShared rules_named.SectionsShareMemory (defined.section_ranges (laid_of layout)) reported × (faults.new.items ≡ faults.old.items ++ reported)`
 /// - *only*: the result is `Ok`, unless memory is refused
+///
+/// </details>
 pub fn sections_shared(faults: &mut Vec<LayoutFault>, layout: &Layout<'_, '_>) -> Result<()> {
     let mut ranges = section_ranges(layout)?;
     report_ranges(faults, Rule::SectionsShareMemory, &mut ranges)
@@ -131,10 +137,12 @@ pub fn sections_shared(faults: &mut Vec<LayoutFault>, layout: &Layout<'_, '_>) -
 
 /// Adds the faults of claims that share a byte.
 ///
-/// # Proved
+/// <details><summary>Proved</summary>
 ///
 /// - *reported*: if `Ok`: there is `reported : List declared.LayoutFault` with: `AreShared rules_named.ClaimsShare (defined.lone_claims (laid_of layout)) reported × (faults.new.items ≡ faults.old.items ++ reported)`
 /// - *only*: the result is `Ok`, unless memory is refused
+///
+/// </details>
 pub fn claims_shared(faults: &mut Vec<LayoutFault>, layout: &Layout<'_, '_>) -> Result<()> {
     let mut ranges = lone_claims(layout)?;
     report_ranges(faults, Rule::ClaimsShare, &mut ranges)
@@ -233,10 +241,12 @@ impl Judges<Claim> for Claimed<'_, '_, '_> {
 
 /// Adds the faults that some rules find in the claims.
 ///
-/// # Proved
+/// <details><summary>Proved</summary>
 ///
 /// - *reported*: if `Ok`: `faults.new.items ≡ faults.old.items ++ defined.claims_reported (laid_of layout) rules`
 /// - *only*: the result is `Ok`, unless memory is refused
+///
+/// </details>
 pub fn report_claims(
     faults: &mut Vec<LayoutFault>,
     layout: &Layout<'_, '_>,

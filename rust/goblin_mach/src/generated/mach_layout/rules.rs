@@ -9,7 +9,8 @@ use crate::generated::mach_layout::fault::{LayoutFault, Owner, Part, Rule};
 use crate::shim::AllocError;
 
 /// What a rule sees in an item.
-#[derive(Clone, Copy)]
+#[derive(Clone, Copy, Eq, Hash, PartialEq)]
+#[cfg_attr(not(feature = "internals"), non_exhaustive)]
 pub struct RuleOutcome {
     /// Whether the rule holds.
     pub holds: bool,
@@ -21,11 +22,20 @@ pub struct RuleOutcome {
     pub limit: u64,
 }
 
+impl core::fmt::Debug for RuleOutcome {
+    /// Prints the name of the type.
+    fn fmt(&self, f: &mut core::fmt::Formatter<'_>) -> core::fmt::Result {
+        f.debug_struct("RuleOutcome").finish_non_exhaustive()
+    }
+}
+
 /// Returns what a rule sees that compares two numbers.
 ///
-/// # Proved
+/// <details><summary>Proved</summary>
 ///
 /// - `result ≡ defined.measured holds found limit`
+///
+/// </details>
 pub fn measured(holds: bool, found: u64, limit: u64) -> RuleOutcome {
     RuleOutcome {
         holds,
@@ -37,9 +47,11 @@ pub fn measured(holds: bool, found: u64, limit: u64) -> RuleOutcome {
 
 /// Returns what a rule sees that has nothing to check.
 ///
-/// # Proved
+/// <details><summary>Proved</summary>
 ///
 /// - `result ≡ defined.sound`
+///
+/// </details>
 pub fn sound() -> RuleOutcome {
     measured(true, 0, 0)
 }
@@ -47,9 +59,11 @@ pub fn sound() -> RuleOutcome {
 impl RuleOutcome {
     /// Adds the other owner with which the item conflicts.
     ///
-    /// # Proved
+    /// <details><summary>Proved</summary>
     ///
     /// - `result ≡ defined.against other self`
+    ///
+    /// </details>
     pub fn against(self, other: Owner) -> RuleOutcome {
         RuleOutcome {
             other: Some(other),
@@ -59,9 +73,11 @@ impl RuleOutcome {
 
     /// Returns this if it doesn't hold, else the next.
     ///
-    /// # Proved
+    /// <details><summary>Proved</summary>
     ///
     /// - `result ≡ defined.then_outcome self next`
+    ///
+    /// </details>
     pub fn then(self, next: RuleOutcome) -> RuleOutcome {
         if self.holds { next } else { self }
     }
@@ -69,9 +85,11 @@ impl RuleOutcome {
 
 /// Returns a part of the command at a place, with its number there.
 ///
-/// # Proved
+/// <details><summary>Proved</summary>
 ///
 /// - `result ≡ defined.owner_at part command index`
+///
+/// </details>
 pub fn owner_at(part: Part, command: usize, index: u64) -> Owner {
     Owner {
         part,
@@ -84,24 +102,30 @@ pub fn owner_at(part: Part, command: usize, index: u64) -> Owner {
 pub trait Judges<T> {
     /// Returns the owner of a fault of a rule.
     ///
-    /// # Proved
+    /// <details><summary>Proved</summary>
     ///
     /// - `result ≡ owner self rule item`
+    ///
+    /// </details>
     fn owner(&self, rule: Rule, item: &T) -> Owner;
 
     /// Returns what a rule sees in an item.
     ///
-    /// # Proved
+    /// <details><summary>Proved</summary>
     ///
     /// - `result ≡ sees self rule item`
+    ///
+    /// </details>
     fn see(&self, rule: Rule, item: &T) -> RuleOutcome;
 }
 
 /// Adds a fault, if there is one.
 ///
-/// # Proved
+/// <details><summary>Proved</summary>
 ///
 /// - *reported*: if `Ok`: `faults.new.items ≡ faults.old.items ++ option_to_list reported`
+///
+/// </details>
 pub fn add(faults: &mut Vec<LayoutFault>, reported: Option<LayoutFault>) -> Result<(), AllocError> {
     if let Some(fault) = reported {
         faults.try_push(fault)?;
@@ -111,9 +135,11 @@ pub fn add(faults: &mut Vec<LayoutFault>, reported: Option<LayoutFault>) -> Resu
 
 /// Returns the fault that a rule reports for what it sees, if it doesn't hold.
 ///
-/// # Proved
+/// <details><summary>Proved</summary>
 ///
 /// - `result ≡ defined.reported rule owner outcome`
+///
+/// </details>
 pub fn reported(rule: Rule, owner: Owner, outcome: RuleOutcome) -> Option<LayoutFault> {
     if outcome.holds {
         return None;
@@ -129,9 +155,11 @@ pub fn reported(rule: Rule, owner: Owner, outcome: RuleOutcome) -> Option<Layout
 
 /// Adds the fault that a rule reports for what it sees.
 ///
-/// # Proved
+/// <details><summary>Proved</summary>
 ///
 /// - *reported*: if `Ok`: `faults.new.items ≡ faults.old.items ++ option_to_list (defined.reported rule owner outcome)`
+///
+/// </details>
 pub fn report(
     faults: &mut Vec<LayoutFault>,
     rule: Rule,
@@ -143,9 +171,11 @@ pub fn report(
 
 /// Adds the faults that the rules report for each of the items, rule by rule.
 ///
-/// # Proved
+/// <details><summary>Proved</summary>
 ///
 /// - *reported*: if `Ok`: `faults.new.items ≡ faults.old.items ++ defined.reported_over rules (J.owner judge) (J.sees judge) items`
+///
+/// </details>
 pub fn report_each<T, J: Judges<T>>(
     faults: &mut Vec<LayoutFault>,
     judge: &J,
@@ -172,24 +202,30 @@ pub trait Items {
 
     /// Returns the same items, from here on.
     ///
-    /// # Proved
+    /// <details><summary>Proved</summary>
     ///
     /// - `left result ≡ left self`
+    ///
+    /// </details>
     fn again(&self) -> Self;
 
     /// Returns the next item, if there is one.
     ///
-    /// # Proved
+    /// <details><summary>Proved</summary>
     ///
     /// - `YieldsFirst left self.old result self.new`
+    ///
+    /// </details>
     fn take_next(&mut self) -> Option<Self::Item>;
 }
 
 /// Adds the faults that the rules report for each of those items, rule by rule.
 ///
-/// # Proved
+/// <details><summary>Proved</summary>
 ///
 /// - *reported*: if `Ok`: `faults.new.items ≡ faults.old.items ++ defined.reported_over rules (J.owner judge) (J.sees judge) (I.left items)`
+///
+/// </details>
 pub fn report_over<I: Items, J: Judges<I::Item>>(
     faults: &mut Vec<LayoutFault>,
     judge: &J,
@@ -211,7 +247,8 @@ pub fn report_over<I: Items, J: Judges<I::Item>>(
 }
 
 /// The numbers from one number up to another, without the latter.
-#[derive(Clone, Copy)]
+#[derive(Clone, Copy, Eq, Hash, PartialEq)]
+#[cfg_attr(not(feature = "internals"), non_exhaustive)]
 pub struct Numbers {
     /// The first number.
     pub from: u32,
@@ -219,12 +256,21 @@ pub struct Numbers {
     pub upto: u32,
 }
 
+impl core::fmt::Debug for Numbers {
+    /// Prints the name of the type.
+    fn fmt(&self, f: &mut core::fmt::Formatter<'_>) -> core::fmt::Result {
+        f.debug_struct("Numbers").finish_non_exhaustive()
+    }
+}
+
 impl Numbers {
     /// Returns `count` numbers, from 0.
     ///
-    /// # Proved
+    /// <details><summary>Proved</summary>
     ///
     /// - `defined.numbers_left result ≡ range_with_len 0 count`
+    ///
+    /// </details>
     pub fn of(count: u32) -> Numbers {
         Numbers {
             from: 0,

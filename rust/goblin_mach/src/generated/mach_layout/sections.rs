@@ -19,9 +19,11 @@ const MAX_ALIGN: u32 = 15;
 
 /// Returns the section as the owner of a fault.
 ///
-/// # Proved
+/// <details><summary>Proved</summary>
 ///
 /// - `result ≡ defined.section_owner section`
+///
+/// </details>
 pub fn section_owner(section: &PlacedSection) -> Owner {
     owner_at(Part::Section, section.segment.place, section.number)
 }
@@ -119,10 +121,12 @@ impl Judges<PlacedSection> for Layout<'_, '_> {
 
 /// Adds the faults of the sections.
 ///
-/// # Proved
+/// <details><summary>Proved</summary>
 ///
 /// - *reported*: if `Ok`: `faults.new.items ≡ faults.old.items ++ defined.section_faults (laid_of layout)`
 /// - *only*: the result is `Ok`, unless memory is refused
+///
+/// </details>
 pub fn section_faults(faults: &mut Vec<LayoutFault>, layout: &Layout<'_, '_>) -> Result<()> {
     let rules = [
         Rule::SectionOutOfMemory,

@@ -23,18 +23,22 @@ const VM_PROT_ALL: u32 = 7;
 
 /// Returns the segment as the owner of a fault.
 ///
-/// # Proved
+/// <details><summary>Proved</summary>
 ///
 /// - `result ≡ defined.segment_owner segment`
+///
+/// </details>
 pub fn segment_owner(segment: &PlacedSegment) -> Owner {
     owner_at(Part::Segment, segment.place, 0)
 }
 
 /// Whether `len` bytes or addresses from `start` on hold `inner_len` others from `inner` on.
 ///
-/// # Proved
+/// <details><summary>Proved</summary>
 ///
 /// - `result ≡ defined.range_holds start len inner inner_len`
+///
+/// </details>
 pub fn range_holds(start: u64, len: u64, inner: u64, inner_len: u64) -> bool {
     let end = u128::from(start) + u128::from(len);
     let inner_end = u128::from(inner) + u128::from(inner_len);
@@ -107,20 +111,30 @@ fn holds_header(layout: &Layout<'_, '_>, segment: &PlacedSegment) -> bool {
 
 /// Whether some segment holds the header and the commands.
 ///
-/// # Proved
+/// <details><summary>Proved</summary>
 ///
 /// - `result ≡ defined.has_segment_of_header (laid_of layout)`
+///
+/// </details>
 pub fn has_segment_of_header(layout: &Layout<'_, '_>) -> bool {
     layout.segments().any(|s| holds_header(layout, &s))
 }
 
 /// A range of the file that a command states to be encrypted.
-#[derive(Clone, Copy)]
+#[derive(Clone, Copy, Eq, Hash, PartialEq)]
+#[cfg_attr(not(feature = "internals"), non_exhaustive)]
 pub struct EncryptedRange {
     /// The place of the command.
     pub place: usize,
     pub start: u32,
     pub len: u32,
+}
+
+impl core::fmt::Debug for EncryptedRange {
+    /// Prints the name of the type.
+    fn fmt(&self, f: &mut core::fmt::Formatter<'_>) -> core::fmt::Result {
+        f.debug_struct("EncryptedRange").finish_non_exhaustive()
+    }
 }
 
 // Returns the range that a command states to be encrypted.
@@ -174,10 +188,12 @@ fn encrypted_outcome(layout: &Layout<'_, '_>, range: &EncryptedRange) -> RuleOut
 
 /// Adds the fault of the encrypted range.
 ///
-/// # Proved
+/// <details><summary>Proved</summary>
 ///
 /// - *reported*: if `Ok`: `faults.new.items ≡ faults.old.items ++ defined.encrypted_faults (laid_of layout)`
 /// - *only*: the result is `Ok`, unless memory is refused
+///
+/// </details>
 pub fn encrypted_faults(faults: &mut Vec<LayoutFault>, layout: &Layout<'_, '_>) -> Result<()> {
     let Some(range) = first_encrypted(layout) else {
         return Ok(());
@@ -190,9 +206,11 @@ pub fn encrypted_faults(faults: &mut Vec<LayoutFault>, layout: &Layout<'_, '_>) 
 
 /// Returns the bytes up to the first 0.
 ///
-/// # Proved
+/// <details><summary>Proved</summary>
 ///
 /// - `result ≡ before_first is_zero name`
+///
+/// </details>
 pub fn before_zero(name: &[u8]) -> &[u8] {
     let len = name.iter().position(|b| *b == 0).unwrap_or(name.len());
     &name[..len]
@@ -251,10 +269,12 @@ fn name_faults(faults: &mut Vec<LayoutFault>, layout: &Layout<'_, '_>) -> Result
 
 /// Adds the faults of each segment, of their names and of their protections.
 ///
-/// # Proved
+/// <details><summary>Proved</summary>
 ///
 /// - *reported*: if `Ok`: `faults.new.items ≡ faults.old.items ++ defined.segment_faults (laid_of layout)`
 /// - *only*: the result is `Ok`, unless memory is refused
+///
+/// </details>
 pub fn segment_faults(faults: &mut Vec<LayoutFault>, layout: &Layout<'_, '_>) -> Result<()> {
     let rules = [
         Rule::SegmentBeyondAddresses,

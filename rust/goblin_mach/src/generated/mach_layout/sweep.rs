@@ -45,10 +45,12 @@ fn report_shared(faults: &mut Vec<LayoutFault>, rule: Rule, sorted: &[Claim]) ->
 
 /// Adds the faults of some ranges, each compared with those before it in the order of their starts. It sorts them.
 ///
-/// # Proved
+/// <details><summary>Proved</summary>
 ///
 /// - *reported*: if `Ok`: there is `reported : List declared.LayoutFault` with: `AreShared rule ranges.old.items reported × (faults.new.items ≡ faults.old.items ++ reported)`
 /// - *only*: the result is `Ok`, unless memory is refused
+///
+/// </details>
 pub fn report_ranges(
     faults: &mut Vec<LayoutFault>,
     rule: Rule,

@@ -28,10 +28,18 @@ use crate::generated::mach_parts::symbols::{
 use crate::generated::mach_records::{DysymtabCommand, SymtabCommand};
 
 /// An `LC_SYMTAB` command, and its place.
-#[derive(Clone, Copy)]
+#[derive(Clone, Copy, Eq, Hash, PartialEq)]
+#[cfg_attr(not(feature = "internals"), non_exhaustive)]
 pub struct PlacedSymtab {
     pub place: usize,
     pub command: SymtabCommand,
+}
+
+impl core::fmt::Debug for PlacedSymtab {
+    /// Prints the name of the type.
+    fn fmt(&self, f: &mut core::fmt::Formatter<'_>) -> core::fmt::Result {
+        f.debug_struct("PlacedSymtab").finish_non_exhaustive()
+    }
 }
 
 impl Wanted for PlacedSymtab {
@@ -45,10 +53,18 @@ impl Wanted for PlacedSymtab {
 }
 
 /// An `LC_DYSYMTAB` command, and its place.
-#[derive(Clone, Copy)]
+#[derive(Clone, Copy, Eq, Hash, PartialEq)]
+#[cfg_attr(not(feature = "internals"), non_exhaustive)]
 pub struct PlacedDysymtab {
     pub place: usize,
     pub command: DysymtabCommand,
+}
+
+impl core::fmt::Debug for PlacedDysymtab {
+    /// Prints the name of the type.
+    fn fmt(&self, f: &mut core::fmt::Formatter<'_>) -> core::fmt::Result {
+        f.debug_struct("PlacedDysymtab").finish_non_exhaustive()
+    }
 }
 
 impl Wanted for PlacedDysymtab {
@@ -62,18 +78,28 @@ impl Wanted for PlacedDysymtab {
 }
 
 /// A range of symbols: its number among the three, its first symbol and its length.
-#[derive(Clone, Copy)]
+#[derive(Clone, Copy, Eq, Hash, PartialEq)]
+#[cfg_attr(not(feature = "internals"), non_exhaustive)]
 pub struct SymbolRange {
     pub number: u64,
     pub first: u32,
     pub count: u32,
 }
 
+impl core::fmt::Debug for SymbolRange {
+    /// Prints the name of the type.
+    fn fmt(&self, f: &mut core::fmt::Formatter<'_>) -> core::fmt::Result {
+        f.debug_struct("SymbolRange").finish_non_exhaustive()
+    }
+}
+
 /// Returns a fault without another owner.
 ///
-/// # Proved
+/// <details><summary>Proved</summary>
 ///
 /// - `result ≡ defined.fault_at rule part command index found limit`
+///
+/// </details>
 pub fn fault_at(
     rule: Rule,
     part: Part,
@@ -101,9 +127,11 @@ fn read_symbol(bytes: &[u8], place: usize, ctx: Ctx) -> Result<Nlist> {
 
 /// Returns symbol k of a table, if its record lies in the bytes.
 ///
-/// # Proved
+/// <details><summary>Proved</summary>
 ///
 /// - `result ≡ defined.symbol_in ctx bytes table k`
+///
+/// </details>
 pub fn symbol_in(bytes: &[u8], ctx: Ctx, table: &PlacedSymtab, k: u32) -> Option<Nlist> {
     let place = table.command.symoff as usize + k as usize * Nlist::size_with(&ctx);
     read_symbol(bytes, place, ctx).ok()
@@ -111,9 +139,11 @@ pub fn symbol_in(bytes: &[u8], ctx: Ctx, table: &PlacedSymtab, k: u32) -> Option
 
 /// Returns the number of symbols of a table that lie in the bytes.
 ///
-/// # Proved
+/// <details><summary>Proved</summary>
 ///
 /// - `result ≡ defined.symbols_there (laid_of layout) table`
+///
+/// </details>
 pub fn symbols_there(layout: &Layout<'_, '_>, table: &PlacedSymtab) -> u32 {
     let size = Nlist::size_with(&layout.ctx);
     whole_records(
@@ -126,9 +156,11 @@ pub fn symbols_there(layout: &Layout<'_, '_>, table: &PlacedSymtab) -> u32 {
 
 /// Whether a symbol is a debugging entry.
 ///
-/// # Proved
+/// <details><summary>Proved</summary>
 ///
 /// - `result ≡ entries.is_stab symbol`
+///
+/// </details>
 pub fn is_stab(symbol: &Nlist) -> bool {
     symbol.n_type & N_STAB != 0
 }
@@ -177,7 +209,8 @@ fn is_imported(symbol: &Nlist) -> bool {
 const DYNAMIC_LOOKUP_ORDINAL: u64 = 0xfe;
 
 /// What the checks of a table's symbols use.
-#[derive(Clone, Copy)]
+#[derive(Clone, Copy, Eq, Hash, PartialEq)]
+#[cfg_attr(not(feature = "internals"), non_exhaustive)]
 pub struct SymbolBounds {
     /// The number of sections.
     pub sections: u64,
@@ -185,6 +218,13 @@ pub struct SymbolBounds {
     pub names_end: u64,
     /// The number of libraries.
     pub libraries: u64,
+}
+
+impl core::fmt::Debug for SymbolBounds {
+    /// Prints the name of the type.
+    fn fmt(&self, f: &mut core::fmt::Formatter<'_>) -> core::fmt::Result {
+        f.debug_struct("SymbolBounds").finish_non_exhaustive()
+    }
 }
 
 // Checks a symbol's name.
@@ -222,12 +262,20 @@ fn symbol_view_of(
 }
 
 /// The checks of a table's symbols, by their numbers.
-#[derive(Clone, Copy)]
+#[derive(Clone, Copy, Eq, PartialEq)]
+#[cfg_attr(not(feature = "internals"), non_exhaustive)]
 pub struct SymbolsJudged<'a> {
     pub bytes: &'a [u8],
     pub ctx: Ctx,
     pub table: PlacedSymtab,
     pub bounds: SymbolBounds,
+}
+
+impl<'a> core::fmt::Debug for SymbolsJudged<'a> {
+    /// Prints the name of the type.
+    fn fmt(&self, f: &mut core::fmt::Formatter<'_>) -> core::fmt::Result {
+        f.debug_struct("SymbolsJudged").finish_non_exhaustive()
+    }
 }
 
 impl Judges<u32> for SymbolsJudged<'_> {
@@ -308,10 +356,12 @@ fn table_faults(
 
 /// Adds the faults of symbols and of indirect symbols.
 ///
-/// # Proved
+/// <details><summary>Proved</summary>
 ///
 /// - *reported*: if `Ok`: `faults.new.items ≡ faults.old.items ++ defined.symbol_faults (laid_of layout)`
 /// - *only*: the result is `Ok`, unless memory is refused
+///
+/// </details>
 pub fn symbol_faults(faults: &mut Vec<LayoutFault>, layout: &Layout<'_, '_>) -> Result<()> {
     let table = last_wanted::<PlacedSymtab>(layout.commands);
     let dynamic = last_wanted::<PlacedDysymtab>(layout.commands);

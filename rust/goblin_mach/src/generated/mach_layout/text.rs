@@ -32,7 +32,15 @@ impl Display for Owner {
 
 /// The evidence for a fault, in words: its two numbers, and the other owner, if there is one.
 #[derive(Clone, Copy)]
+#[cfg_attr(not(feature = "internals"), non_exhaustive)]
 pub struct Evidence(pub LayoutFault);
+
+impl core::fmt::Debug for Evidence {
+    /// Prints the name of the type.
+    fn fmt(&self, f: &mut core::fmt::Formatter<'_>) -> core::fmt::Result {
+        f.debug_struct("Evidence").finish_non_exhaustive()
+    }
+}
 
 impl Display for Evidence {
     fn fmt(&self, f: &mut Formatter<'_>) -> fmt::Result {

@@ -43,7 +43,7 @@ impl Tools {
     fn read(self, bytes: &[u8], le: Endian) -> Result<BuildToolVersion> {
         let following = BuildVersionCommand::SIZE + self.index as usize * BuildToolVersion::SIZE;
         if following + BuildToolVersion::SIZE > self.size {
-            return Err(Error::Malformed("a build tool lies inside its command"));
+            return Err(Error::Malformed("a build tool runs past its command"));
         }
         BuildToolVersion::read(bytes, self.place.saturating_add(following), le)
     }
@@ -66,9 +66,11 @@ pub struct BuildToolIterator<'a, 'b> {
 impl<'a, 'b> BuildToolIterator<'a, 'b> {
     /// Builds an iterator over the tools of these commands of the image `bytes`. Commands other than `LC_BUILD_VERSION` have none.
     ///
-    /// # Proved
+    /// <details><summary>Proved</summary>
     ///
     /// - `build_tools_left result ≡ build_tools_in le bytes (map command_of commands)`
+    ///
+    /// </details>
     pub fn new(bytes: &'a [u8], commands: &'b [LoadCommand], le: Endian) -> Self {
         BuildToolIterator {
             bytes,
@@ -111,6 +113,8 @@ impl<'a, 'b> Iterator for BuildToolIterator<'a, 'b> {
         }
     }
 }
+
+impl<'a, 'b> core::iter::FusedIterator for BuildToolIterator<'a, 'b> {}
 
 impl<'a, 'b> Default for BuildToolIterator<'a, 'b> {
     /// Returns an iterator without tools.

@@ -26,9 +26,11 @@ fn entry_at(bytes: &[u8], place: usize, le: Endian) -> Result<DataInCodeEntry> {
 impl<'a> DataInCodeIterator<'a> {
     /// Builds an iterator over the entries of the table that `command` places (`LC_DATA_IN_CODE`).
     ///
-    /// # Proved
+    /// <details><summary>Proved</summary>
     ///
     /// - `data_in_code_left result ≡ data_in_code_in le bytes command.dataoff command.datasize`
+    ///
+    /// </details>
     pub fn new(bytes: &'a [u8], command: &LinkeditDataCommand, le: Endian) -> Self {
         DataInCodeIterator {
             bytes,
@@ -41,9 +43,11 @@ impl<'a> DataInCodeIterator<'a> {
 
     /// Returns the same iterator restricted to the entries that begin within the bytes. No byte of any later entry can be read.
     ///
-    /// # Proved
+    /// <details><summary>Proved</summary>
     ///
     /// - `data_in_code_left result ≡ items_in_bounds (data_in_code_left self)`
+    ///
+    /// </details>
     pub fn in_bounds(&self) -> Self {
         let in_bounds = records_in_bounds(self.bytes, self.start as usize, DataInCodeEntry::SIZE);
         DataInCodeIterator {
@@ -72,6 +76,8 @@ impl<'a> Iterator for DataInCodeIterator<'a> {
         (left, Some(left))
     }
 }
+
+impl<'a> core::iter::FusedIterator for DataInCodeIterator<'a> {}
 
 impl<'a> ExactSizeIterator for DataInCodeIterator<'a> {
     /// Returns the number of items left.

@@ -19,9 +19,11 @@ pub struct FunctionStarts<'a> {
 impl<'a> FunctionStarts<'a> {
     /// Selects the range that `command` places (`LC_FUNCTION_STARTS`). Nothing is tested.
     ///
-    /// # Proved
+    /// <details><summary>Proved</summary>
     ///
     /// - `start_range_of result ≡ start_range_at bytes command.dataoff command.datasize`
+    ///
+    /// </details>
     pub fn new(bytes: &'a [u8], command: &LinkeditDataCommand) -> Self {
         let start = command.dataoff as usize;
         let end = start + command.datasize as usize;
@@ -34,9 +36,11 @@ impl<'a> FunctionStarts<'a> {
 
     /// Returns an iterator over the addresses of the functions, for an image whose first byte has the address `base`.
     ///
-    /// # Proved
+    /// <details><summary>Proved</summary>
     ///
     /// - `AreFunctionStarts (start_range_of self) base (starts_left result)`
+    ///
+    /// </details>
     pub fn iter(&self, base: u64) -> FunctionStartIterator<'a> {
         FunctionStartIterator {
             bytes: self.bytes,
@@ -60,7 +64,8 @@ impl fmt::Debug for FunctionStarts<'_> {
 
 /// An iterator over the addresses of functions, before sliding. It ends at the first faulty number,
 /// after its error. Its fields determine it: one with the same fields returns the same items.
-#[derive(Clone, Copy)]
+#[derive(Clone, Copy, Eq, Hash, PartialEq)]
+#[cfg_attr(not(feature = "internals"), non_exhaustive)]
 pub struct FunctionStartIterator<'a> {
     /// The bytes that hold the numbers.
     pub bytes: &'a [u8],
@@ -96,7 +101,9 @@ fn start_at(bytes: &[u8], place: usize, address: u64) -> Result<Option<(u64, usi
         return Ok(None);
     }
     let Some(start) = address.checked_add(number) else {
-        return Err(Error::Malformed("a function's address has 64 bits"));
+        return Err(Error::Malformed(
+            "a function's address does not fit in 64 bits",
+        ));
     };
     Ok(Some((start, next)))
 }
@@ -126,6 +133,8 @@ impl<'a> Iterator for FunctionStartIterator<'a> {
         }
     }
 }
+
+impl<'a> core::iter::FusedIterator for FunctionStartIterator<'a> {}
 
 impl<'a> Default for FunctionStartIterator<'a> {
     /// Returns an iterator without functions.

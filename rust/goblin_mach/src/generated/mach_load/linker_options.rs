@@ -37,7 +37,7 @@ fn option_at(bytes: &[u8], place: usize) -> Result<&str> {
             return Ok(text);
         }
     }
-    Err(Error::Malformed("a linker option ends inside its command"))
+    Err(Error::Malformed("a linker option runs past its command"))
 }
 
 impl<'a> Texts<'a> {
@@ -68,9 +68,11 @@ pub struct LinkerOptionIterator<'a, 'b> {
 impl<'a, 'b> LinkerOptionIterator<'a, 'b> {
     /// Builds an iterator over the options of these commands of the image `bytes`. Commands other than `LC_LINKER_OPTION` have none.
     ///
-    /// # Proved
+    /// <details><summary>Proved</summary>
     ///
     /// - `options_left result ≡ linker_options_in bytes (map command_of commands)`
+    ///
+    /// </details>
     pub fn new(bytes: &'a [u8], commands: &'b [LoadCommand]) -> Self {
         LinkerOptionIterator {
             bytes,
@@ -117,6 +119,8 @@ impl<'a, 'b> Iterator for LinkerOptionIterator<'a, 'b> {
         }
     }
 }
+
+impl<'a, 'b> core::iter::FusedIterator for LinkerOptionIterator<'a, 'b> {}
 
 impl<'a, 'b> Default for LinkerOptionIterator<'a, 'b> {
     /// Returns an iterator without options.

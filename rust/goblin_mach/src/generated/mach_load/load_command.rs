@@ -7,7 +7,7 @@ use crate::generated::mach_load::variant::{CommandVariant, record};
 use crate::generated::mach_records::{LC_THREAD, LC_UNIXTHREAD, LoadCommandHeader};
 
 /// A load command and its place.
-#[derive(Clone, Copy, Debug)]
+#[derive(Clone, Copy, Debug, Eq, Hash, PartialEq)]
 pub struct LoadCommand {
     /// The offset of its first byte, counted from byte 0.
     pub offset: usize,
@@ -18,12 +18,14 @@ pub struct LoadCommand {
 impl LoadCommand {
     /// Reads the load command at `offset` and moves the offset by its `cmdsize`. On an error the offset is unchanged.
     ///
-    /// # Proved
+    /// <details><summary>Proved</summary>
     ///
     /// - *found*: `Reads command_of result (command_at le bytes offset.old)`
     /// - *offset*: if `Ok(c)`: `c.offset ≡ offset.old`
     /// - *moved*: if `Ok(c)`: `offset.new ≡ offset.old + cmdsize_of (command_of c)`
     /// - *stays*: if `Err(_)`: `offset.new ≡ offset.old`
+    ///
+    /// </details>
     pub fn parse(bytes: &[u8], offset: &mut usize, le: Endian) -> Result<LoadCommand> {
         let start = *offset;
         let header = LoadCommandHeader::read(bytes, start, le)?;
@@ -41,13 +43,15 @@ impl LoadCommand {
 
     /// Does the same as `parse` for a command that can be read and is no thread. Otherwise returns `None` and leaves the offset unchanged.
     ///
-    /// # Proved
+    /// <details><summary>Proved</summary>
     ///
     /// - *found*: if `Some(c)`: `command_at le bytes offset.old ≡ Ok (command_of c)`
     /// - *moved*: if `Some(c)`: `offset.new ≡ offset.old + cmdsize_of (command_of c)`
     /// - *no thread*: if `Some(c)`: `¬ IsThread (command_of c)`
     /// - *none*: if `None`: `IsThreadOrRefused (command_at le bytes offset.old)`
     /// - *stays*: if `None`: `offset.new ≡ offset.old`
+    ///
+    /// </details>
     #[inline(always)]
     pub fn quick(bytes: &[u8], offset: &mut usize, le: Endian) -> Option<LoadCommand> {
         let place = *offset;

@@ -7,6 +7,7 @@
 
 // Load commands, and the record of each.
 mod load_command;
+mod newer;
 mod thread;
 mod variant;
 
@@ -23,6 +24,7 @@ pub use crate::generated::mach_load::data_in_code::DataInCodeIterator;
 pub use crate::generated::mach_load::function_starts::{FunctionStartIterator, FunctionStarts};
 pub use crate::generated::mach_load::linker_options::LinkerOptionIterator;
 pub use crate::generated::mach_load::load_command::LoadCommand;
+pub use crate::generated::mach_load::newer::NewerCommand;
 pub use crate::generated::mach_load::notes::{Note, NoteIterator};
 pub use crate::generated::mach_load::thread::ThreadCommand;
 pub use crate::generated::mach_load::variant::CommandVariant;

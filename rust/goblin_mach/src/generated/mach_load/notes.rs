@@ -9,7 +9,8 @@ use core::fmt;
 use core::slice::Iter;
 
 /// Data that a tool has added to the file (struct note_command).
-#[derive(Clone, Copy, Debug)]
+#[derive(Clone, Copy, Debug, Eq, Hash, PartialEq)]
+#[cfg_attr(not(feature = "internals"), non_exhaustive)]
 pub struct Note<'a> {
     /// The tool's name.
     pub owner: &'a str,
@@ -56,9 +57,11 @@ pub struct NoteIterator<'a, 'b> {
 impl<'a, 'b> NoteIterator<'a, 'b> {
     /// Builds an iterator over the notes of these commands of the image `bytes`. Commands other than `LC_NOTE` have none.
     ///
-    /// # Proved
+    /// <details><summary>Proved</summary>
     ///
     /// - `notes_left result ≡ notes_of_commands bytes (map command_of commands)`
+    ///
+    /// </details>
     pub fn new(bytes: &'a [u8], commands: &'b [LoadCommand]) -> Self {
         NoteIterator {
             bytes,
@@ -83,6 +86,8 @@ impl<'a, 'b> Iterator for NoteIterator<'a, 'b> {
         }
     }
 }
+
+impl<'a, 'b> core::iter::FusedIterator for NoteIterator<'a, 'b> {}
 
 impl<'a, 'b> Default for NoteIterator<'a, 'b> {
     /// Returns an iterator without notes.

@@ -4,9 +4,11 @@
 
 /// Returns the bytes before `end`, or all of them if there are not that many.
 ///
-/// # Proved
+/// <details><summary>Proved</summary>
 ///
 /// - `result ≡ take end bytes`
+///
+/// </details>
 #[inline(always)]
 pub fn front(bytes: &[u8], end: usize) -> &[u8] {
     &bytes[..end.min(bytes.len())]

@@ -2,6 +2,8 @@
 //! The state of a thread.
 #![forbid(unsafe_code)]
 
+use crate::shim::ReadsNumbers;
+
 use crate::generated::mach_base::{Endian, Error, Record, RecordBytes, Result, TryFromCtx};
 use crate::generated::mach_records::cputype::{
     CPU_TYPE_ARM, CPU_TYPE_ARM64, CPU_TYPE_ARM64_32, CPU_TYPE_POWERPC, CPU_TYPE_X86,
@@ -9,7 +11,7 @@ use crate::generated::mach_records::cputype::{
 };
 
 /// The state of a thread: at most 70 words, and zeros after the first `count` (struct thread_command).
-#[derive(Clone, Copy, Debug)]
+#[derive(Clone, Copy, Debug, Eq, Hash, PartialEq)]
 pub struct ThreadCommand {
     /// Its number: one of the `LC_` constants.
     pub cmd: u32,
@@ -35,7 +37,7 @@ struct ThreadHead {
 impl Record for ThreadHead {
     const SIZE: usize = 16;
 
-    fn load(bytes: &[u8], le: Endian) -> Self {
+    fn load(bytes: &[u8], le: Endian, _: crate::shim::Inner) -> Self {
         ThreadHead {
             cmd: le.u32_at(bytes, 0),
             cmdsize: le.u32_at(bytes, 4),
@@ -69,7 +71,7 @@ impl ThreadCommand {
         let head = ThreadHead::read(bytes, offset, le)?;
         let count = head.count as usize;
         if count > 70 {
-            return Err(Error::Malformed("a thread has at most 70 words"));
+            return Err(Error::Malformed("a thread has more than 70 words"));
         }
         if bytes.len() - offset - 16 < 4 * count {
             return Err(Error::Malformed("the words of a thread pass the end"));
@@ -85,9 +87,11 @@ impl ThreadCommand {
 
     /// Returns the address at which the thread continues, for the given CPU type. `flavor` and `count` are not tested.
     ///
-    /// # Proved
+    /// <details><summary>Proved</summary>
     ///
     /// - `Reads (λ pointer. pointer) result (pointer_in self.thread_state cputype)`
+    ///
+    /// </details>
     pub fn instruction_pointer(&self, cputype: u32) -> Result<u64> {
         let words = &self.thread_state;
         match cputype {

@@ -28,7 +28,7 @@ use crate::generated::mach_records::{
 };
 
 /// The record of a load command, by its number.
-#[derive(Clone, Copy)]
+#[derive(Clone, Copy, Eq, Hash, PartialEq)]
 pub enum CommandVariant {
     /// A segment of a 32-bit image.
     Segment32(SegmentCommand32),
@@ -202,19 +202,23 @@ impl CommandVariant {
 
     /// Returns the command's number, one of the `LC_` constants.
     ///
-    /// # Proved
+    /// <details><summary>Proved</summary>
     ///
     /// - `result ≡ number_among (variant_values self) 0`
+    ///
+    /// </details>
     pub fn cmd(&self) -> u32 {
         self.header().0
     }
 
     /// Returns the distance in bytes from this command to the next one.
     ///
-    /// # Proved
+    /// <details><summary>Proved</summary>
     ///
     /// - *value*: `result ≡ number_among (variant_values self) 1`
     /// - *fits*: `result < 2 ^ 32`
+    ///
+    /// </details>
     pub fn cmdsize(&self) -> usize {
         self.header().1 as usize
     }
@@ -394,5 +398,5 @@ pub(crate) fn record<R: Record>(rest: &[u8], le: Endian, lacking: &mut usize) ->
 // Reads the record at the start of bytes that hold it.
 #[inline(always)]
 fn held<R: Record>(rest: &[u8], le: Endian) -> R {
-    R::load(rest, le)
+    R::load(rest, le, crate::shim::Inner(()))
 }

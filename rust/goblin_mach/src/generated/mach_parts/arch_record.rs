@@ -11,44 +11,56 @@ use crate::generated::mach_records::cputype::CpuType;
 pub trait ArchRecord: Record {
     /// Returns the CPU type of the entry.
     ///
-    /// # Proved
+    /// <details><summary>Proved</summary>
     ///
     /// - `result ≡ arch_form.cputype self`
+    ///
+    /// </details>
     fn entry_cpu(&self) -> CpuType;
 
     /// Returns the CPU subtype, with capabilities in the top 8 bits.
     ///
-    /// # Proved
+    /// <details><summary>Proved</summary>
     ///
     /// - `result ≡ arch_form.cpusubtype self`
+    ///
+    /// </details>
     fn entry_cpu_kind(&self) -> u32;
 
     /// Returns the entry's file offset.
     ///
-    /// # Proved
+    /// <details><summary>Proved</summary>
     ///
     /// - `result ≡ arch_form.offset self`
+    ///
+    /// </details>
     fn entry_offset(&self) -> u64;
 
     /// Returns the entry's size in bytes.
     ///
-    /// # Proved
+    /// <details><summary>Proved</summary>
     ///
     /// - `result ≡ arch_form.size self`
+    ///
+    /// </details>
     fn entry_size(&self) -> u64;
 
     /// Returns the alignment of the offset, as an exponent of 2.
     ///
-    /// # Proved
+    /// <details><summary>Proved</summary>
     ///
     /// - `result ≡ arch_form.align self`
+    ///
+    /// </details>
     fn entry_align(&self) -> u32;
 
     /// Returns the entry's bytes if they lie in the file, or else none.
     ///
-    /// # Proved
+    /// <details><summary>Proved</summary>
     ///
     /// - `result ≡ part_of bytes (arch_form.offset self) (arch_form.size self)`
+    ///
+    /// </details>
     fn entry_slice<'a>(&self, bytes: &'a [u8]) -> &'a [u8];
 }
 
@@ -106,9 +118,11 @@ impl ArchRecord for FatArch64 {
 
 /// Returns the offset of an entry's record, after the records of the entries before it. It is at most 2^64 - 1.
 ///
-/// # Proved
+/// <details><summary>Proved</summary>
 ///
 /// - `result ≡ arch_place_in R.arch_form index`
+///
+/// </details>
 pub fn place_of<R: ArchRecord>(index: usize) -> usize {
     let before = index.saturating_mul(R::SIZE);
     before.saturating_add(SIZEOF_FAT_HEADER)
@@ -116,18 +130,22 @@ pub fn place_of<R: ArchRecord>(index: usize) -> usize {
 
 /// Reads the record of an entry of a fat file. The table is big-endian.
 ///
-/// # Proved
+/// <details><summary>Proved</summary>
 ///
 /// - `Reads (λ arch. arch) result (arch_in R.arch_form bytes index)`
+///
+/// </details>
 pub fn read_arch<R: ArchRecord>(bytes: &[u8], index: usize) -> Result<R> {
     R::read(bytes, place_of::<R>(index), Endian::Big)
 }
 
 /// Whether the bytes could hold so many records.
 ///
-/// # Proved
+/// <details><summary>Proved</summary>
 ///
 /// - `result ≡ nat_le narches (length bytes / R.arch_form.stride)`
+///
+/// </details>
 pub fn has_room_for<R: ArchRecord>(bytes: &[u8], narches: usize) -> bool {
     narches <= bytes.len() / R::SIZE
 }

@@ -5,7 +5,8 @@
 use crate::generated::mach_base::{Error, Result};
 
 /// Where dyld looks up a symbol that an image imports.
-#[derive(Clone, Copy, Debug)]
+#[derive(Clone, Copy, Debug, Eq, Hash, PartialEq)]
+#[cfg_attr(not(feature = "internals"), non_exhaustive)]
 pub enum Provider<'a> {
     /// A library of the image's list of libraries.
     Library {
@@ -25,7 +26,8 @@ pub enum Provider<'a> {
 }
 
 /// A pointer in memory that takes a symbol's address from a provider.
-#[derive(Clone, Copy, Debug)]
+#[derive(Clone, Copy, Eq, Hash, PartialEq)]
+#[cfg_attr(not(feature = "internals"), non_exhaustive)]
 pub struct Binding<'a> {
     /// The symbol's name.
     pub name: &'a str,
@@ -43,8 +45,10 @@ pub struct Binding<'a> {
     pub is_lazy: bool,
 }
 
+crate::shim::shown!(Binding<'_> { name: Plain, provider: Plain, offset: Hex, address: Hex, addend: Plain, is_weak: Plain, is_lazy: Plain });
+
 /// How a pointer is signed on arm64e.
-#[derive(Clone, Copy, Debug, PartialEq)]
+#[derive(Clone, Copy, Debug, PartialEq, Eq, Hash)]
 pub struct PointerAuth {
     /// The key: 0 IA, 1 IB, 2 DA, 3 DB.
     pub key: u8,
@@ -58,21 +62,25 @@ impl<'a> Provider<'a> {
     /// Returns the provider of an ordinal. 0 is the image itself, a positive number a library, -1 the
     /// main executable, -2 any image, -3 the weak lookup. `libs` are the image's libraries, by ordinal.
     ///
-    /// # Proved
+    /// <details><summary>Proved</summary>
     ///
     /// - `Reads provider_view result (provider_of (texts libs) ordinal)`
+    ///
+    /// </details>
     pub fn of_ordinal(libs: &[&'a str], ordinal: i64) -> Result<Self> {
         match Self::by_ordinal(libs, ordinal) {
             Some(provider) => Ok(provider),
-            None => Err(Error::Malformed("an ordinal is one of a provider")),
+            None => Err(Error::Malformed("an ordinal names no provider")),
         }
     }
 
     /// Does the same, but returns `None` instead of an error.
     ///
-    /// # Proved
+    /// <details><summary>Proved</summary>
     ///
     /// - if `None`: `provider_of (texts libs) ordinal ≡ Err malformed`; if `Some(p)`: `provider_of (texts libs) ordinal ≡ Ok (provider_view p)`
+    ///
+    /// </details>
     #[inline(always)]
     pub fn by_ordinal(libs: &[&'a str], ordinal: i64) -> Option<Self> {
         match ordinal {
@@ -86,9 +94,11 @@ impl<'a> Provider<'a> {
 
     /// Returns the provider of an unsigned ordinal: 0 is the image itself, any other number a library.
     ///
-    /// # Proved
+    /// <details><summary>Proved</summary>
     ///
     /// - if `None`: `provider_of (texts libs) (pos ordinal) ≡ Err malformed`; if `Some(p)`: `provider_of (texts libs) (pos ordinal) ≡ Ok (provider_view p)`
+    ///
+    /// </details>
     #[inline(always)]
     pub fn by_number(libs: &[&'a str], ordinal: u64) -> Option<Self> {
         if ordinal == 0 {

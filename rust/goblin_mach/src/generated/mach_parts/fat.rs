@@ -2,6 +2,8 @@
 //! The table at the start of a fat file, which is big-endian (`mach-o/fat.h`).
 #![forbid(unsafe_code)]
 
+use crate::shim::ReadsNumbers;
+
 use crate::generated::mach_base::{Endian, Record, RecordBytes, Result};
 use crate::generated::mach_parts::cpu::{caps_of, kind_of};
 use crate::generated::mach_records::cputype::{CPU_ARCH_ABI64, CpuSubType, CpuType};
@@ -19,7 +21,7 @@ pub const SIZEOF_FAT_HEADER: usize = 8;
 pub const SIZEOF_FAT_ARCH: usize = 20;
 
 /// The header of a fat file (struct fat_header).
-#[derive(Clone, Copy, Debug, Default)]
+#[derive(Clone, Copy, Default, Eq, Hash, PartialEq)]
 pub struct FatHeader {
     /// The magic number.
     pub magic: u32,
@@ -27,10 +29,15 @@ pub struct FatHeader {
     pub nfat_arch: u32,
 }
 
+crate::shim::shown!(FatHeader {
+    magic: Hex,
+    nfat_arch: Hex
+});
+
 impl Record for FatHeader {
     const SIZE: usize = SIZEOF_FAT_HEADER;
 
-    fn load(bytes: &[u8], le: Endian) -> Self {
+    fn load(bytes: &[u8], le: Endian, _: crate::shim::Inner) -> Self {
         FatHeader {
             magic: le.u32_at(bytes, 0),
             nfat_arch: le.u32_at(bytes, 4),
@@ -47,25 +54,29 @@ impl Record for FatHeader {
 impl FatHeader {
     /// Reads the header from its bytes.
     ///
-    /// # Proved
+    /// <details><summary>Proved</summary>
     ///
     /// - `fat_header_values result ≡ values_in Big fat_header_fields 0 bytes`
+    ///
+    /// </details>
     pub fn from_bytes(bytes: [u8; SIZEOF_FAT_HEADER]) -> FatHeader {
-        FatHeader::load(&bytes, Endian::Big)
+        FatHeader::load(&bytes, Endian::Big, crate::shim::Inner(()))
     }
 
     /// Reads the header at the start of the bytes. Its magic is not tested.
     ///
-    /// # Proved
+    /// <details><summary>Proved</summary>
     ///
     /// - `Reads fat_header_values result (record_at Big fat_header_fields bytes 0)`
+    ///
+    /// </details>
     pub fn parse(bytes: &[u8]) -> Result<FatHeader> {
         FatHeader::read(bytes, 0, Endian::Big)
     }
 }
 
 /// One entry of a fat file: an image or an archive for one CPU (struct fat_arch).
-#[derive(Clone, Copy, Debug, Default)]
+#[derive(Clone, Copy, Default, Eq, Hash, PartialEq)]
 pub struct FatArch {
     /// The CPU type, one of the `CPU_TYPE_` constants.
     pub cputype: u32,
@@ -79,10 +90,18 @@ pub struct FatArch {
     pub align: u32,
 }
 
+crate::shim::shown!(FatArch {
+    cputype: Hex,
+    cpusubtype: Hex,
+    offset: Hex,
+    size: Hex,
+    align: Hex
+});
+
 impl Record for FatArch {
     const SIZE: usize = SIZEOF_FAT_ARCH;
 
-    fn load(bytes: &[u8], le: Endian) -> Self {
+    fn load(bytes: &[u8], le: Endian, _: crate::shim::Inner) -> Self {
         FatArch {
             cputype: le.u32_at(bytes, 0),
             cpusubtype: le.u32_at(bytes, 4),
@@ -105,9 +124,11 @@ impl Record for FatArch {
 impl FatArch {
     /// Returns the entry's bytes if they lie in the file, or else none.
     ///
-    /// # Proved
+    /// <details><summary>Proved</summary>
     ///
     /// - `result ≡ part_of bytes self.offset self.size`
+    ///
+    /// </details>
     pub fn slice<'a>(&self, bytes: &'a [u8]) -> &'a [u8] {
         let start = self.offset as usize;
         bytes.get(start..start + self.size as usize).unwrap_or(&[])
@@ -115,45 +136,55 @@ impl FatArch {
 
     /// Returns the CPU type.
     ///
-    /// # Proved
+    /// <details><summary>Proved</summary>
     ///
     /// - `result ≡ self.cputype`
+    ///
+    /// </details>
     pub fn cputype(&self) -> CpuType {
         self.cputype
     }
 
     /// Returns the CPU subtype without its capabilities.
     ///
-    /// # Proved
+    /// <details><summary>Proved</summary>
     ///
     /// - `result ≡ kind_of_cpu self.cpusubtype`
+    ///
+    /// </details>
     pub fn cpusubtype(&self) -> CpuSubType {
         kind_of(self.cpusubtype)
     }
 
     /// Returns the CPU's capabilities, below 256.
     ///
-    /// # Proved
+    /// <details><summary>Proved</summary>
     ///
     /// - `result ≡ caps_of_cpu self.cpusubtype`
+    ///
+    /// </details>
     pub fn cpu_caps(&self) -> u32 {
         caps_of(self.cpusubtype)
     }
 
     /// Whether the CPU's addresses have 64 bits.
     ///
-    /// # Proved
+    /// <details><summary>Proved</summary>
     ///
     /// - the result is `true` exactly if `HasAbi64 self.cputype`
+    ///
+    /// </details>
     pub fn is_64(&self) -> bool {
         self.cputype & CPU_ARCH_ABI64 != 0
     }
 
     /// Reads the entry at an offset of the table.
     ///
-    /// # Proved
+    /// <details><summary>Proved</summary>
     ///
     /// - `Reads fat_arch_values result (record_at Big fat_arch_fields bytes offset)`
+    ///
+    /// </details>
     pub fn parse(bytes: &[u8], offset: usize) -> Result<Self> {
         FatArch::read(bytes, offset, Endian::Big)
     }

@@ -2,6 +2,8 @@
 //! The record of an entry in a 64-bit fat file, which is big-endian (`mach-o/fat.h`).
 #![forbid(unsafe_code)]
 
+use crate::shim::ReadsNumbers;
+
 use crate::generated::mach_base::{Endian, Record, RecordBytes, Result};
 use crate::generated::mach_records::cputype::{
     CPU_ARCH_ABI64, CPU_SUBTYPE_MASK, CpuSubType, CpuType,
@@ -14,7 +16,7 @@ pub const FAT_MAGIC_64: u32 = 0xcafe_babf;
 pub const SIZEOF_FAT_ARCH_64: usize = 32;
 
 /// One entry of a 64-bit fat file: an image or an archive for one CPU (struct fat_arch_64).
-#[derive(Clone, Copy, Debug, Default)]
+#[derive(Clone, Copy, Default, Eq, Hash, PartialEq)]
 pub struct FatArch64 {
     /// The CPU type, one of the `CPU_TYPE_` constants.
     pub cputype: u32,
@@ -30,10 +32,19 @@ pub struct FatArch64 {
     pub reserved: u32,
 }
 
+crate::shim::shown!(FatArch64 {
+    cputype: Hex,
+    cpusubtype: Hex,
+    offset: Hex,
+    size: Hex,
+    align: Hex,
+    reserved: Hex
+});
+
 impl Record for FatArch64 {
     const SIZE: usize = SIZEOF_FAT_ARCH_64;
 
-    fn load(bytes: &[u8], le: Endian) -> Self {
+    fn load(bytes: &[u8], le: Endian, _: crate::shim::Inner) -> Self {
         FatArch64 {
             cputype: le.u32_at(bytes, 0),
             cpusubtype: le.u32_at(bytes, 4),
@@ -58,9 +69,11 @@ impl Record for FatArch64 {
 impl FatArch64 {
     /// Returns the entry's bytes if they lie in the file, or else none.
     ///
-    /// # Proved
+    /// <details><summary>Proved</summary>
     ///
     /// - `result ≡ part_of bytes self.offset self.size`
+    ///
+    /// </details>
     pub fn slice<'a>(&self, bytes: &'a [u8]) -> &'a [u8] {
         match self.offset.checked_add(self.size) {
             Some(end) => bytes.get(self.offset as usize..end as usize).unwrap_or(&[]),
@@ -70,45 +83,55 @@ impl FatArch64 {
 
     /// Returns the CPU type.
     ///
-    /// # Proved
+    /// <details><summary>Proved</summary>
     ///
     /// - `result ≡ self.cputype`
+    ///
+    /// </details>
     pub fn cputype(&self) -> CpuType {
         self.cputype
     }
 
     /// Returns the CPU subtype without its capabilities.
     ///
-    /// # Proved
+    /// <details><summary>Proved</summary>
     ///
     /// - `result ≡ kind_of_cpu self.cpusubtype`
+    ///
+    /// </details>
     pub fn cpusubtype(&self) -> CpuSubType {
         self.cpusubtype & !CPU_SUBTYPE_MASK
     }
 
     /// Returns the CPU's capabilities, below 256.
     ///
-    /// # Proved
+    /// <details><summary>Proved</summary>
     ///
     /// - `result ≡ caps_of_cpu self.cpusubtype`
+    ///
+    /// </details>
     pub fn cpu_caps(&self) -> u32 {
         (self.cpusubtype & CPU_SUBTYPE_MASK) >> 24
     }
 
     /// Whether the CPU's addresses have 64 bits.
     ///
-    /// # Proved
+    /// <details><summary>Proved</summary>
     ///
     /// - the result is `true` exactly if `HasAbi64 self.cputype`
+    ///
+    /// </details>
     pub fn is_64(&self) -> bool {
         self.cputype & CPU_ARCH_ABI64 != 0
     }
 
     /// Reads the entry at an offset of the table.
     ///
-    /// # Proved
+    /// <details><summary>Proved</summary>
     ///
     /// - `Reads fat_arch_64_values result (record_at Big fat_arch_64_fields bytes offset)`
+    ///
+    /// </details>
     pub fn parse(bytes: &[u8], offset: usize) -> Result<Self> {
         FatArch64::read(bytes, offset, Endian::Big)
     }

@@ -2,6 +2,8 @@
 //! The header of an image (`mach-o/loader.h`).
 #![forbid(unsafe_code)]
 
+use crate::shim::ReadsNumbers;
+
 mod forms;
 mod names;
 
@@ -38,7 +40,7 @@ pub const SIZEOF_HEADER_32: usize = 28;
 pub const SIZEOF_HEADER_64: usize = 32;
 
 /// The header of a 32-bit image, as in the file (struct mach_header).
-#[derive(Clone, Copy, Debug, Default)]
+#[derive(Clone, Copy, Default, Eq, Hash, PartialEq)]
 pub struct Header32 {
     /// The magic number.
     pub magic: u32,
@@ -56,10 +58,20 @@ pub struct Header32 {
     pub flags: u32,
 }
 
+crate::shim::shown!(Header32 {
+    magic: Hex,
+    cputype: Hex,
+    cpusubtype: Hex,
+    filetype: Hex,
+    ncmds: Hex,
+    sizeofcmds: Hex,
+    flags: Hex
+});
+
 impl Record for Header32 {
     const SIZE: usize = SIZEOF_HEADER_32;
 
-    fn load(bytes: &[u8], le: Endian) -> Self {
+    fn load(bytes: &[u8], le: Endian, _: crate::shim::Inner) -> Self {
         Header32 {
             magic: le.u32_at(bytes, 0),
             cputype: le.u32_at(bytes, 4),
@@ -86,25 +98,29 @@ impl Record for Header32 {
 impl Header32 {
     /// Reads the header from its bytes, as little-endian.
     ///
-    /// # Proved
+    /// <details><summary>Proved</summary>
     ///
     /// - `header32_values result ≡ values_in Little header32_fields 0 bytes`
+    ///
+    /// </details>
     pub fn from_bytes(bytes: &[u8; SIZEOF_HEADER_32]) -> Self {
-        Header32::load(bytes, Endian::Little)
+        Header32::load(bytes, Endian::Little, crate::shim::Inner(()))
     }
 
     /// Returns its size in bytes: 28.
     ///
-    /// # Proved
+    /// <details><summary>Proved</summary>
     ///
     /// - `result ≡ 28`
+    ///
+    /// </details>
     pub fn size(&self) -> usize {
         SIZEOF_HEADER_32
     }
 }
 
 /// The header of a 64-bit image, as in the file (struct mach_header_64).
-#[derive(Clone, Copy, Debug, Default)]
+#[derive(Clone, Copy, Default, Eq, Hash, PartialEq)]
 pub struct Header64 {
     /// The magic number.
     pub magic: u32,
@@ -124,10 +140,21 @@ pub struct Header64 {
     pub reserved: u32,
 }
 
+crate::shim::shown!(Header64 {
+    magic: Hex,
+    cputype: Hex,
+    cpusubtype: Hex,
+    filetype: Hex,
+    ncmds: Hex,
+    sizeofcmds: Hex,
+    flags: Hex,
+    reserved: Hex
+});
+
 impl Record for Header64 {
     const SIZE: usize = SIZEOF_HEADER_64;
 
-    fn load(bytes: &[u8], le: Endian) -> Self {
+    fn load(bytes: &[u8], le: Endian, _: crate::shim::Inner) -> Self {
         Header64 {
             magic: le.u32_at(bytes, 0),
             cputype: le.u32_at(bytes, 4),
@@ -156,25 +183,29 @@ impl Record for Header64 {
 impl Header64 {
     /// Reads the header from its bytes, as little-endian.
     ///
-    /// # Proved
+    /// <details><summary>Proved</summary>
     ///
     /// - `header64_values result ≡ values_in Little header64_fields 0 bytes`
+    ///
+    /// </details>
     pub fn from_bytes(bytes: &[u8; SIZEOF_HEADER_64]) -> Self {
-        Header64::load(bytes, Endian::Little)
+        Header64::load(bytes, Endian::Little, crate::shim::Inner(()))
     }
 
     /// Returns its size in bytes: 32.
     ///
-    /// # Proved
+    /// <details><summary>Proved</summary>
     ///
     /// - `result ≡ 32`
+    ///
+    /// </details>
     pub fn size(&self) -> usize {
         SIZEOF_HEADER_64
     }
 }
 
 /// The header of an image of either width.
-#[derive(Clone, Copy, Debug, Default)]
+#[derive(Clone, Copy, Default, Eq, Hash, PartialEq)]
 pub struct Header {
     /// The magic number, in the byte order of the image.
     pub magic: u32,
@@ -194,12 +225,25 @@ pub struct Header {
     pub reserved: u32,
 }
 
+crate::shim::shown!(Header {
+    magic: Hex,
+    cputype: Hex,
+    cpusubtype: Hex,
+    filetype: Hex,
+    ncmds: Hex,
+    sizeofcmds: Hex,
+    flags: Hex,
+    reserved: Hex
+});
+
 impl Header {
     /// Builds a header of the context's width. It has the magic of that width, and 0 in every other field.
     ///
-    /// # Proved
+    /// <details><summary>Proved</summary>
     ///
     /// - `result ≡ new_header ctx.container`
+    ///
+    /// </details>
     pub fn new(ctx: Ctx) -> Self {
         let magic = match ctx.container {
             Container::Little => MH_MAGIC,
@@ -219,27 +263,33 @@ impl Header {
 
     /// Returns the CPU type.
     ///
-    /// # Proved
+    /// <details><summary>Proved</summary>
     ///
     /// - `result ≡ self.cputype`
+    ///
+    /// </details>
     pub fn cputype(&self) -> CpuType {
         self.cputype
     }
 
     /// Returns the CPU subtype without its capabilities.
     ///
-    /// # Proved
+    /// <details><summary>Proved</summary>
     ///
     /// - `result ≡ kind_of_cpu self.cpusubtype`
+    ///
+    /// </details>
     pub fn cpusubtype(&self) -> CpuSubType {
         kind_of(self.cpusubtype)
     }
 
     /// Returns the CPU's capabilities, below 256.
     ///
-    /// # Proved
+    /// <details><summary>Proved</summary>
     ///
     /// - `result ≡ caps_of_cpu self.cpusubtype`
+    ///
+    /// </details>
     pub fn cpu_caps(&self) -> u32 {
         caps_of(self.cpusubtype)
     }

@@ -2,6 +2,8 @@
 //! Indirect symbols (`mach-o/loader.h`, struct dysymtab_command).
 #![forbid(unsafe_code)]
 
+use crate::shim::ReadsNumbers;
+
 use crate::generated::mach_base::{
     ByteCount, Endian, Error, Result, read_u32, records_in_bounds, rest_at,
 };
@@ -14,7 +16,8 @@ const INDIRECT_SYMBOL_ABS: u32 = 0x4000_0000;
 const INDIRECT_SYMBOL_LOCAL_ABS: u32 = INDIRECT_SYMBOL_LOCAL | INDIRECT_SYMBOL_ABS;
 
 /// An entry of the indirect symbol table.
-#[derive(Clone, Copy, Debug)]
+#[derive(Clone, Copy, Debug, Eq, Hash, PartialEq)]
+#[cfg_attr(not(feature = "internals"), non_exhaustive)]
 pub enum IndirectSymbol {
     /// The number of a symbol.
     Symbol(u32),
@@ -29,9 +32,11 @@ pub enum IndirectSymbol {
 impl IndirectSymbol {
     /// Decodes the number of an entry.
     ///
-    /// # Proved
+    /// <details><summary>Proved</summary>
     ///
     /// - `result ≡ indirect_symbol number`
+    ///
+    /// </details>
     #[inline(always)]
     pub fn of(number: u32) -> IndirectSymbol {
         match number {
@@ -65,9 +70,11 @@ fn beyond(bytes: &[u8], place: usize, le: Endian) -> Error {
 impl<'a> IndirectSymbols<'a> {
     /// Builds the table of `count` entries from `start` on. Nothing is tested.
     ///
-    /// # Proved
+    /// <details><summary>Proved</summary>
     ///
     /// - `indirect_table_of result ≡ record { bytes = bytes; start = start; count = count; le = le }`
+    ///
+    /// </details>
     pub fn new(bytes: &'a [u8], start: u32, count: u32, le: Endian) -> IndirectSymbols<'a> {
         IndirectSymbols {
             bytes,
@@ -79,18 +86,22 @@ impl<'a> IndirectSymbols<'a> {
 
     /// Returns the claimed number of entries.
     ///
-    /// # Proved
+    /// <details><summary>Proved</summary>
     ///
     /// - `result ≡ (indirect_table_of self).count`
+    ///
+    /// </details>
     pub fn len(&self) -> u32 {
         self.count
     }
 
     /// Returns the same table restricted to the entries that begin within the bytes. No byte of any later entry can be read.
     ///
-    /// # Proved
+    /// <details><summary>Proved</summary>
     ///
     /// - `indirect_table_of result ≡ indirect_in_bounds (indirect_table_of self)`
+    ///
+    /// </details>
     pub fn in_bounds(&self) -> IndirectSymbols<'a> {
         let in_bounds = records_in_bounds(self.bytes, self.start as usize, 4);
         IndirectSymbols {
@@ -101,9 +112,11 @@ impl<'a> IndirectSymbols<'a> {
 
     /// Reads entry `number`. Whether it is below the claimed number of entries is not tested.
     ///
-    /// # Proved
+    /// <details><summary>Proved</summary>
     ///
     /// - `Reads (λ s. s) result (indirect_symbol_at (indirect_table_of self) number)`
+    ///
+    /// </details>
     #[inline(always)]
     pub fn get(&self, number: u32) -> Result<IndirectSymbol> {
         let place = self.start as usize + 4 * number as usize;
@@ -130,9 +143,11 @@ impl<'a> IndirectSymbols<'a> {
 
     /// Returns an iterator over the entries in order. It has exactly the claimed number of items, including unreadable ones.
     ///
-    /// # Proved
+    /// <details><summary>Proved</summary>
     ///
     /// - `indirect_left result ≡ indirect_symbols_of (indirect_table_of self)`
+    ///
+    /// </details>
     pub fn iter(&self) -> IndirectSymbolIterator<'a> {
         IndirectSymbolIterator {
             table: *self,
@@ -164,9 +179,11 @@ pub struct IndirectSymbolIterator<'a> {
 impl IndirectSymbolIterator<'_> {
     /// Returns the same iterator restricted to the entries that begin within the bytes. No byte of any later entry can be read.
     ///
-    /// # Proved
+    /// <details><summary>Proved</summary>
     ///
     /// - `indirect_left result ≡ items_in_bounds (indirect_left self)`
+    ///
+    /// </details>
     pub fn in_bounds(&self) -> Self {
         IndirectSymbolIterator {
             table: self.table.in_bounds(),
@@ -201,6 +218,8 @@ impl<'a> Iterator for IndirectSymbolIterator<'a> {
         (left, Some(left))
     }
 }
+
+impl<'a> core::iter::FusedIterator for IndirectSymbolIterator<'a> {}
 
 impl<'a> ExactSizeIterator for IndirectSymbolIterator<'a> {
     /// Returns the number of items left.

@@ -2,15 +2,19 @@
 //! Recognizes a file by its first four bytes.
 #![forbid(unsafe_code)]
 
+use crate::shim::ReadsNumbers;
+
 use crate::generated::mach_base::{Container, Ctx, Endian, Hint, HintData, Result, read_u32};
 use crate::generated::mach_parts::fat::FAT_MAGIC;
 use crate::generated::mach_parts::header::{MH_CIGAM, MH_CIGAM_64, MH_MAGIC, MH_MAGIC_64};
 
 /// Reads the four-byte number at `offset`, as big-endian.
 ///
-/// # Proved
+/// <details><summary>Proved</summary>
 ///
 /// - `Reads (λ magic. magic) result (number_at Big 4 bytes offset)`
+///
+/// </details>
 pub fn peek(bytes: &[u8], offset: usize) -> Result<u32> {
     read_u32(bytes, offset, Endian::Big)
 }
@@ -28,9 +32,11 @@ fn ctx_of_magic(magic: u32) -> Option<Ctx> {
 
 /// Reads the magic at `offset`, and returns it with the context of the image if it is the magic of an image.
 ///
-/// # Proved
+/// <details><summary>Proved</summary>
 ///
 /// - `Reads (λ found. found) result (magic_at bytes offset)`
+///
+/// </details>
 pub fn parse_magic_and_ctx(bytes: &[u8], offset: usize) -> Result<(u32, Option<Ctx>)> {
     let magic = peek(bytes, offset)?;
     Ok((magic, ctx_of_magic(magic)))
@@ -38,9 +44,11 @@ pub fn parse_magic_and_ctx(bytes: &[u8], offset: usize) -> Result<(u32, Option<C
 
 /// Recognizes the kind of a file by its first 16 bytes. It is always `Ok`.
 ///
-/// # Proved
+/// <details><summary>Proved</summary>
 ///
 /// - `result ≡ Ok (hint_in bytes)`
+///
+/// </details>
 pub fn peek_bytes(bytes: &[u8; 16]) -> Result<Hint> {
     if bytes.starts_with(b"!<arch>\n") {
         return Ok(Hint::Archive);

@@ -25,6 +25,7 @@ mod slot;
 mod slots;
 
 // Laws.
+#[doc(hidden)]
 pub mod laws;
 
 pub use crate::generated::mach_parts::arch_record::{

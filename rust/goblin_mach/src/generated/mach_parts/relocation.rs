@@ -2,7 +2,10 @@
 //! Relocations (`mach-o/reloc.h`).
 #![forbid(unsafe_code)]
 
+use crate::shim::{ReadsNumbers, ToSigned, ToUnsigned};
+
 mod forms;
+#[doc(hidden)]
 pub mod laws;
 mod types;
 
@@ -24,7 +27,7 @@ pub use crate::generated::mach_parts::relocation::types::{
 use crate::generated::mach_records::cputype::CpuType;
 
 /// A place in a section that is corrected when addresses are known (struct relocation_info).
-#[derive(Clone, Copy, Debug)]
+#[derive(Clone, Copy, Eq, Hash, PartialEq)]
 pub struct RelocationInfo {
     /// The offset from the section's start.
     pub r_address: i32,
@@ -32,22 +35,27 @@ pub struct RelocationInfo {
     pub r_info: u32,
 }
 
+crate::shim::shown!(RelocationInfo {
+    r_address: Plain,
+    r_info: Hex
+});
+
 /// The size of a relocation in bytes.
 pub const SIZEOF_RELOCATION_INFO: usize = 8;
 
 impl Record for RelocationInfo {
     const SIZE: usize = SIZEOF_RELOCATION_INFO;
 
-    fn load(bytes: &[u8], le: Endian) -> Self {
+    fn load(bytes: &[u8], le: Endian, _: crate::shim::Inner) -> Self {
         RelocationInfo {
-            r_address: le.u32_at(bytes, 0).cast_signed(),
+            r_address: le.u32_at(bytes, 0).to_signed(),
             r_info: le.u32_at(bytes, 4),
         }
     }
 
     fn store(self, le: Endian) -> RecordBytes {
         RecordBytes::new()
-            .u32(le, self.r_address.cast_unsigned())
+            .u32(le, self.r_address.to_unsigned())
             .u32(le, self.r_info)
     }
 }
@@ -55,72 +63,88 @@ impl Record for RelocationInfo {
 impl RelocationInfo {
     /// Returns the number of a symbol if `is_extern`, or else that of a section, counted from 1.
     ///
-    /// # Proved
+    /// <details><summary>Proved</summary>
     ///
     /// - `result ≡ bits_from 0 24 self.r_info`
+    ///
+    /// </details>
     pub fn r_symbolnum(self) -> usize {
         (self.r_info & 0x00ff_ffff) as usize
     }
 
     /// Returns 1 if the value is relative to the place, or else 0.
     ///
-    /// # Proved
+    /// <details><summary>Proved</summary>
     ///
     /// - `result ≡ bits_from 24 1 self.r_info`
+    ///
+    /// </details>
     pub fn r_pcrel(self) -> u8 {
         ((self.r_info >> 24) & 0x1) as u8
     }
 
     /// Returns the length of the corrected value: 2 to this power, in bytes.
     ///
-    /// # Proved
+    /// <details><summary>Proved</summary>
     ///
     /// - `result ≡ bits_from 25 2 self.r_info`
+    ///
+    /// </details>
     pub fn r_length(self) -> u8 {
         ((self.r_info >> 25) & 0x3) as u8
     }
 
     /// Returns 1 if `r_symbolnum` is the number of a symbol, or else 0.
     ///
-    /// # Proved
+    /// <details><summary>Proved</summary>
     ///
     /// - `result ≡ bits_from 27 1 self.r_info`
+    ///
+    /// </details>
     pub fn r_extern(self) -> u8 {
         ((self.r_info >> 27) & 0x1) as u8
     }
 
     /// Returns the type of the relocation. Its meaning depends on the CPU.
     ///
-    /// # Proved
+    /// <details><summary>Proved</summary>
     ///
     /// - `result ≡ bits_from 28 4 self.r_info`
+    ///
+    /// </details>
     pub fn r_type(self) -> RelocType {
         ((self.r_info >> 28) & 0xf) as u8
     }
 
     /// Whether `r_symbolnum` is the number of a symbol.
     ///
-    /// # Proved
+    /// <details><summary>Proved</summary>
     ///
     /// - the result is `true` exactly if `bits_from 27 1 self.r_info ≡ 1`
+    ///
+    /// </details>
     pub fn is_extern(self) -> bool {
         self.r_extern() == 1
     }
 
     /// Whether the value is relative to the place.
     ///
-    /// # Proved
+    /// <details><summary>Proved</summary>
     ///
     /// - the result is `true` exactly if `0 < bits_from 24 1 self.r_info`
+    ///
+    /// </details>
     pub fn is_pic(self) -> bool {
         self.r_pcrel() > 0
     }
 
     /// Returns the name of the relocation's type for a CPU, as `reloc_to_str` does.
     ///
-    /// # Proved
+    /// <details><summary>Proved</summary>
     ///
     /// - `result ≡ relocation_name (bits_from 28 4 self.r_info) cputype`
+    ///
+    /// </details>
     pub fn to_str(self, cputype: CpuType) -> &'static str {
         reloc_to_str(self.r_type(), cputype)
     }

@@ -7,6 +7,7 @@ use alloc::vec::Vec;
 
 mod conversions;
 mod debug;
+#[doc(hidden)]
 pub mod laws;
 mod list;
 mod numbered;
@@ -35,6 +36,7 @@ use crate::generated::mach_records::{
 pub type Segments<'a> = list::Segments<Segment<'a>>;
 
 /// A part of an image that is mapped into memory as a whole, with its bytes in the file (struct segment_command).
+#[derive(Clone)]
 pub struct Segment<'a> {
     /// The number of the command.
     pub cmd: u32,
@@ -59,7 +61,7 @@ pub struct Segment<'a> {
     /// The flags of the segment.
     pub flags: u32,
     /// The data: the bytes at `fileoff`, or the sections that were passed to `new`.
-    pub bytes: &'a [u8],
+    pub data: &'a [u8],
     // What the sections are read from: the file, the place of the command, and the context.
     file: &'a [u8],
     offset: usize,
@@ -78,11 +80,13 @@ impl<'a> Segment<'a> {
     /// Builds a segment to be written. Its command number follows from the context, its size includes `sections`, and its
     /// data is `sections`, which will be written after it. Everything else is 0, and it has no sections to iterate over.
     ///
-    /// # Proved
+    /// <details><summary>Proved</summary>
     ///
-    /// Callers make sure of: `command_size ctx.container + length sections < 2 ^ 32`.
+    /// Under this condition: `command_size ctx.container + length sections < 2 ^ 32`. Else `cmdsize` is the size modulo 2^32, as goblin has it.
     ///
     /// - `segment_view result ≡ new_segment ctx sections`
+    ///
+    /// </details>
     pub fn new(ctx: Ctx, sections: &'a [u8]) -> Self {
         let cmd = match ctx.container {
             Container::Little => LC_SEGMENT,
@@ -100,7 +104,7 @@ impl<'a> Segment<'a> {
             initprot: 0,
             nsects: 0,
             flags: 0,
-            bytes: sections,
+            data: sections,
             file: &[],
             offset: 0,
             ctx,
@@ -109,9 +113,11 @@ impl<'a> Segment<'a> {
 
     /// Builds the segment of a 32-bit image's command, which is at `offset` of the bytes. Fails if its data does not lie in the bytes.
     ///
-    /// # Proved
+    /// <details><summary>Proved</summary>
     ///
     /// - `Reads segment_view result (segment_at ctx bytes offset (widened segment))`
+    ///
+    /// </details>
     pub fn from_32(
         bytes: &'a [u8],
         segment: &SegmentCommand32,
@@ -123,9 +129,11 @@ impl<'a> Segment<'a> {
 
     /// Builds the segment of a 64-bit image's command, which is at `offset` of the bytes. Fails if its data does not lie in the bytes.
     ///
-    /// # Proved
+    /// <details><summary>Proved</summary>
     ///
     /// - `Reads segment_view result (segment_at ctx bytes offset segment)`
+    ///
+    /// </details>
     pub fn from_64(
         bytes: &'a [u8],
         segment: &SegmentCommand64,
@@ -138,9 +146,11 @@ impl<'a> Segment<'a> {
 
     /// Like `from_32`, but data that does not lie in the bytes is empty. It is always `Ok`.
     ///
-    /// # Proved
+    /// <details><summary>Proved</summary>
     ///
     /// - `Reads segment_view result (lossy_segment_at ctx bytes offset (widened segment))`
+    ///
+    /// </details>
     pub fn from_32_lossy(
         bytes: &'a [u8],
         segment: &SegmentCommand32,
@@ -152,9 +162,11 @@ impl<'a> Segment<'a> {
 
     /// Like `from_64`, but data that does not lie in the bytes is empty. It is always `Ok`.
     ///
-    /// # Proved
+    /// <details><summary>Proved</summary>
     ///
     /// - `Reads segment_view result (lossy_segment_at ctx bytes offset segment)`
+    ///
+    /// </details>
     pub fn from_64_lossy(
         bytes: &'a [u8],
         segment: &SegmentCommand64,
@@ -191,7 +203,7 @@ impl<'a> Segment<'a> {
             initprot: segment.initprot,
             nsects: segment.nsects,
             flags: segment.flags,
-            bytes,
+            data: bytes,
             file,
             offset,
             ctx,
@@ -200,36 +212,44 @@ impl<'a> Segment<'a> {
 
     /// Returns the segment's name: the text with which `segname` begins.
     ///
-    /// # Proved
+    /// <details><summary>Proved</summary>
     ///
     /// - `Reads (λ name. name) result (text_at self.segname 0)`
+    ///
+    /// </details>
     pub fn name(&self) -> Result<&str> {
         read_text(&self.segname, 0)
     }
 
     /// Whether an offset from the segment's start lies within the segment's memory.
     ///
-    /// # Proved
+    /// <details><summary>Proved</summary>
     ///
     /// - the result is `true` exactly if `seg_offset < self.vmsize`
+    ///
+    /// </details>
     pub fn holds(&self, seg_offset: u64) -> bool {
         seg_offset < self.vmsize
     }
 
     /// Returns how many of the segment's sections have their record in its command. It is `nsects` unless the command is too small.
     ///
-    /// # Proved
+    /// <details><summary>Proved</summary>
     ///
     /// - `result ≡ sections_held (segment_view self)`
+    ///
+    /// </details>
     pub fn sections_held(&self) -> u32 {
         own_sections(self.ctx.container, self.cmdsize, self.nsects)
     }
 
     /// Returns the segment's sections with their data. Fails if the record of any section does not lie in the bytes, or if memory runs out.
     ///
-    /// # Proved
+    /// <details><summary>Proved</summary>
     ///
     /// - `Gives (λ v. map section_and_bytes v.items) result (all_read (sections_of (segment_view self)))`
+    ///
+    /// </details>
     pub fn sections(&self) -> Result<Vec<(Section, SectionData<'a>)>> {
         let mut sections = Vec::new();
         for section in self {

@@ -6,7 +6,8 @@ use crate::generated::mach_parts::indirect::IndirectSymbol;
 use crate::generated::mach_parts::slots::kind::SlotKind;
 
 /// What a slot refers to.
-#[derive(Clone, Copy, Debug)]
+#[derive(Clone, Copy, Debug, Eq, Hash, PartialEq)]
+#[cfg_attr(not(feature = "internals"), non_exhaustive)]
 pub enum SlotSymbol<'a> {
     /// A symbol.
     Named {
@@ -24,7 +25,8 @@ pub enum SlotSymbol<'a> {
 }
 
 /// A stub or a pointer that refers to a symbol.
-#[derive(Clone, Copy, Debug)]
+#[derive(Clone, Copy, Eq, Hash, PartialEq)]
+#[cfg_attr(not(feature = "internals"), non_exhaustive)]
 pub struct SymbolSlot<'a> {
     /// The number of its segment, from 0.
     pub segment: usize,
@@ -42,10 +44,20 @@ pub struct SymbolSlot<'a> {
     pub symbol: SlotSymbol<'a>,
 }
 
+crate::shim::shown!(SymbolSlot<'_> { segment: Hex, section: Hex, address: Hex, len: Hex, kind: Plain, index: Hex, symbol: Plain });
+
 /// The entry of a slot: the slot's address, the entry's number, and the decoded entry.
-#[derive(Clone, Copy)]
+#[derive(Clone, Copy, Eq, Hash, PartialEq)]
+#[cfg_attr(not(feature = "internals"), non_exhaustive)]
 pub struct SlotEntry {
     pub address: u64,
     pub index: u32,
     pub says: IndirectSymbol,
+}
+
+impl core::fmt::Debug for SlotEntry {
+    /// Prints the name of the type.
+    fn fmt(&self, f: &mut core::fmt::Formatter<'_>) -> core::fmt::Result {
+        f.debug_struct("SlotEntry").finish_non_exhaustive()
+    }
 }

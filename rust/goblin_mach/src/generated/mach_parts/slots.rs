@@ -27,12 +27,21 @@ pub struct SlotIterator<'a, 'b> {
     next_slot: u64,
 }
 
+impl<'a, 'b> core::fmt::Debug for SlotIterator<'a, 'b> {
+    /// Prints the name of the type.
+    fn fmt(&self, f: &mut core::fmt::Formatter<'_>) -> core::fmt::Result {
+        f.debug_struct("SlotIterator").finish_non_exhaustive()
+    }
+}
+
 impl<'a, 'b> SlotIterator<'a, 'b> {
     /// Builds an iterator over the slots in the sections of some segments.
     ///
-    /// # Proved
+    /// <details><summary>Proved</summary>
     ///
     /// - `slots_left result ≡ slots_of (slot_tables_of source.entry) (map segment_view segments)`
+    ///
+    /// </details>
     pub fn new(source: SlotSource<'a, 'b>, segments: &'b [Segment<'a>]) -> Self {
         SlotIterator {
             source: source.held(),
@@ -164,3 +173,5 @@ impl<'a, 'b> Iterator for SlotIterator<'a, 'b> {
         self.next_item()
     }
 }
+
+impl<'a, 'b> core::iter::FusedIterator for SlotIterator<'a, 'b> {}

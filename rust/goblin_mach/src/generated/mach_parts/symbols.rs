@@ -3,6 +3,7 @@
 #![forbid(unsafe_code)]
 
 mod iterator;
+#[doc(hidden)]
 pub mod laws;
 mod names;
 mod nlist;
@@ -30,7 +31,7 @@ use crate::generated::mach_records::SymtabCommand;
 use core::fmt;
 
 /// How the symbols in some bytes are read.
-#[derive(Clone, Copy, Debug, Default)]
+#[derive(Clone, Copy, Debug, Default, Eq, PartialEq)]
 pub struct SymbolsCtx {
     /// The number of symbols.
     pub nsyms: usize,
@@ -81,6 +82,7 @@ impl<'a> Table<'a> {
 }
 
 /// The symbols of an image with their names, which are slices of its bytes.
+#[derive(Clone)]
 pub struct Symbols<'a> {
     table: Table<'a>,
 }
@@ -102,9 +104,11 @@ impl<'a> Symbols<'a> {
     /// Builds the table of `count` records from `start` on, with names from `strtab`
     /// on, for a 64-bit little-endian image. Nothing is tested; it is always `Ok`.
     ///
-    /// # Proved
+    /// <details><summary>Proved</summary>
     ///
     /// - `Reads table_of result (Ok (record { bytes = bytes; start = start; nsyms = count; strtab = strtab; ctx = record { container = Big; le = Little } }))`
+    ///
+    /// </details>
     pub fn new(bytes: &'a [u8], start: usize, count: usize, strtab: usize) -> Result<Symbols<'a>> {
         Ok(Symbols {
             table: Table {
@@ -120,12 +124,16 @@ impl<'a> Symbols<'a> {
     /// Builds the table that a `LC_SYMTAB` command describes. Fails as `Malformed` if the string table lies
     /// before the records, and as `BadOffset` if the records begin at or past the end, even if there are none.
     ///
-    /// # Proved
+    /// <details><summary>Proved</summary>
     ///
     /// - `Reads table_of result (table_at ctx bytes symtab)`
+    ///
+    /// </details>
     pub fn parse(bytes: &'a [u8], symtab: &SymtabCommand, ctx: Ctx) -> Result<Symbols<'a>> {
         if symtab.stroff < symtab.symoff {
-            return Err(Error::Malformed("the names of symbols stand behind them"));
+            return Err(Error::Malformed(
+                "the names of symbols begin before the symbols",
+            ));
         }
         let start = symtab.symoff as usize;
         if start >= bytes.len() {
@@ -144,10 +152,12 @@ impl<'a> Symbols<'a> {
 
     /// Returns an iterator over the symbols in order. It has exactly the claimed number of items, including unreadable ones.
     ///
-    /// # Proved
+    /// <details><summary>Proved</summary>
     ///
     /// - *items*: `symbols_left result ≡ symbols_of (table_of self)`
     /// - *bounded*: `length (symbols_left result) < 2 ^ 64`
+    ///
+    /// </details>
     pub fn iter(&self) -> SymbolIterator<'a> {
         SymbolIterator::new(self.table)
     }
@@ -155,9 +165,11 @@ impl<'a> Symbols<'a> {
     /// Builds the table of `count` records from `start` on, with names from
     /// `strtab` on, in the width and byte order of `ctx`. Nothing is tested.
     ///
-    /// # Proved
+    /// <details><summary>Proved</summary>
     ///
     /// - `table_of result ≡ record { bytes = bytes; start = start; nsyms = count; strtab = strtab; ctx = ctx }`
+    ///
+    /// </details>
     pub fn at(bytes: &'a [u8], start: usize, count: usize, strtab: usize, ctx: Ctx) -> Symbols<'a> {
         Symbols {
             table: Table {
@@ -172,54 +184,66 @@ impl<'a> Symbols<'a> {
 
     /// Returns the place of the first record.
     ///
-    /// # Proved
+    /// <details><summary>Proved</summary>
     ///
     /// - `result ≡ (table_of self).start`
+    ///
+    /// </details>
     pub fn start(&self) -> usize {
         self.table.start
     }
 
     /// Returns the claimed number of symbols.
     ///
-    /// # Proved
+    /// <details><summary>Proved</summary>
     ///
     /// - `result ≡ (table_of self).nsyms`
+    ///
+    /// </details>
     pub fn len(&self) -> usize {
         self.table.nsyms
     }
 
     /// Whether the claimed number of symbols is 0.
     ///
-    /// # Proved
+    /// <details><summary>Proved</summary>
     ///
     /// - the result is `true` exactly if `(table_of self).nsyms ≡ 0`
+    ///
+    /// </details>
     pub fn is_empty(&self) -> bool {
         self.table.nsyms == 0
     }
 
     /// Returns where the string table begins. The places of names count from there.
     ///
-    /// # Proved
+    /// <details><summary>Proved</summary>
     ///
     /// - `result ≡ (table_of self).strtab`
+    ///
+    /// </details>
     pub fn strtab(&self) -> usize {
         self.table.strtab
     }
 
     /// Returns the width of a record, and the byte order.
     ///
-    /// # Proved
+    /// <details><summary>Proved</summary>
     ///
     /// - `result ≡ (table_of self).ctx`
+    ///
+    /// </details>
     pub fn ctx(&self) -> Ctx {
         self.table.ctx
     }
 
     /// Returns the same table restricted to the symbols whose records begin within the bytes. No byte of any later symbol can be read.
     ///
-    /// # Proved
+    /// <details><summary>Proved</summary>
     ///
     /// - `table_of result ≡ table_in_bounds (table_of self)`
+    ///
+    /// </details>
     pub fn in_bounds(&self) -> Symbols<'a> {
         let size = Nlist::size_with(&self.table.ctx);
         let in_bounds = records_in_bounds(self.table.bytes, self.table.start, size);
@@ -233,9 +257,11 @@ impl<'a> Symbols<'a> {
 
     /// Returns the place of a symbol's name, at most 2^64 - 1.
     ///
-    /// # Proved
+    /// <details><summary>Proved</summary>
     ///
     /// - `result ≡ place_after (table_of self).strtab symbol.n_strx`
+    ///
+    /// </details>
     #[inline(always)]
     pub fn name_place(&self, symbol: &Nlist) -> usize {
         self.table.strtab.saturating_add(symbol.n_strx)
@@ -243,27 +269,56 @@ impl<'a> Symbols<'a> {
 
     /// Returns an iterator over the symbols from number `first` on.
     ///
-    /// # Proved
+    /// <details><summary>Proved</summary>
     ///
     /// - `symbols_left result ≡ drop first (symbols_of (table_of self))`
+    ///
+    /// </details>
     pub fn iter_from(&self, first: usize) -> SymbolIterator<'a> {
         SymbolIterator::from_number(self.table, first)
     }
 
     /// Returns the same symbols as a copyable value.
     ///
-    /// # Proved
+    /// <details><summary>Proved</summary>
     ///
     /// - `copied_table result ≡ table_of self`
+    ///
+    /// </details>
     pub fn copied(&self) -> CopiedSymbols<'a> {
         CopiedSymbols { copy: self.table }
     }
 
+    /// Returns the bytes in which records and names are read.
+    ///
+    /// <details><summary>Proved</summary>
+    ///
+    /// - `result ≡ (table_of self).bytes`
+    ///
+    /// </details>
+    pub fn bytes(&self) -> &'a [u8] {
+        self.table.bytes
+    }
+
+    /// Reads the record of a symbol, and not its name. Whether `index` is below the claimed number of symbols is not tested.
+    ///
+    /// <details><summary>Proved</summary>
+    ///
+    /// - `Reads (λ s. s) result (symbol_record_at (table_of self) index)`
+    ///
+    /// </details>
+    #[inline(always)]
+    pub fn record(&self, index: usize) -> Result<Nlist> {
+        Nlist::read(self.table.bytes, self.table.place(index), self.table.ctx)
+    }
+
     /// Reads a symbol with its name. Whether `index` is below the claimed number of symbols is not tested.
     ///
-    /// # Proved
+    /// <details><summary>Proved</summary>
     ///
     /// - `symbol_read result ≡ symbol_at (table_of self) index`
+    ///
+    /// </details>
     #[inline(always)]
     pub fn get(&self, index: usize) -> Result<(&'a str, Nlist)> {
         self.table.symbol(index)
@@ -276,12 +331,21 @@ pub struct CopiedSymbols<'a> {
     copy: Table<'a>,
 }
 
+impl<'a> core::fmt::Debug for CopiedSymbols<'a> {
+    /// Prints the name of the type.
+    fn fmt(&self, f: &mut core::fmt::Formatter<'_>) -> core::fmt::Result {
+        f.debug_struct("CopiedSymbols").finish_non_exhaustive()
+    }
+}
+
 impl<'a> CopiedSymbols<'a> {
     /// Returns the claimed number of symbols.
     ///
-    /// # Proved
+    /// <details><summary>Proved</summary>
     ///
     /// - `result ≡ (copied_table self).nsyms`
+    ///
+    /// </details>
     #[inline(always)]
     pub fn len(&self) -> usize {
         self.copy.nsyms
@@ -289,9 +353,11 @@ impl<'a> CopiedSymbols<'a> {
 
     /// Reads a symbol with its name. Whether `index` is below the claimed number of symbols is not tested.
     ///
-    /// # Proved
+    /// <details><summary>Proved</summary>
     ///
     /// - `symbol_read result ≡ symbol_at (copied_table self) index`
+    ///
+    /// </details>
     #[inline(always)]
     pub fn get(&self, index: usize) -> Result<(&'a str, Nlist)> {
         self.copy.symbol(index)
@@ -300,9 +366,11 @@ impl<'a> CopiedSymbols<'a> {
     /// Reads the name of a symbol by a fast path. For `None` the caller tries
     /// `get`. Whether `index` is below the claimed number of symbols is not tested.
     ///
-    /// # Proved
+    /// <details><summary>Proved</summary>
     ///
     /// - if `Some(name)`: `symbol_name_at (copied_table self) index ≡ Ok name`
+    ///
+    /// </details>
     #[inline(always)]
     pub fn quick_name(&self, index: usize) -> Option<&'a str> {
         self.copy.quick_name(index)

@@ -2,11 +2,13 @@
 //! Further facts about an image (`mach-o/loader.h`).
 #![forbid(unsafe_code)]
 
+use crate::shim::ReadsNumbers;
+
 use crate::generated::mach_base::{Endian, Record, RecordBytes, array_at};
 use crate::generated::mach_records::load_command_header::LcStr;
 
 /// The unique number of the image (struct uuid_command, `LC_UUID`).
-#[derive(Clone, Copy, Debug)]
+#[derive(Clone, Copy, Eq, Hash, PartialEq)]
 pub struct UuidCommand {
     /// Its number: one of the `LC_` constants.
     pub cmd: u32,
@@ -16,13 +18,19 @@ pub struct UuidCommand {
     pub uuid: [u8; 16],
 }
 
+crate::shim::shown!(UuidCommand {
+    cmd: Hex,
+    cmdsize: Hex,
+    uuid: HexBytes
+});
+
 /// The size of an `UuidCommand` in bytes.
 pub const SIZEOF_UUID_COMMAND: usize = 24;
 
 impl Record for UuidCommand {
     const SIZE: usize = SIZEOF_UUID_COMMAND;
 
-    fn load(bytes: &[u8], le: Endian) -> Self {
+    fn load(bytes: &[u8], le: Endian, _: crate::shim::Inner) -> Self {
         UuidCommand {
             cmd: le.u32_at(bytes, 0),
             cmdsize: le.u32_at(bytes, 4),
@@ -38,8 +46,48 @@ impl Record for UuidCommand {
     }
 }
 
+/// The target triple that the image was compiled for (struct target_triple_command, `LC_TARGET_TRIPLE`).
+#[derive(Clone, Copy, Eq, Hash, PartialEq)]
+#[cfg_attr(not(feature = "internals"), non_exhaustive)]
+pub struct TargetTripleCommand {
+    /// Its number: one of the `LC_` constants.
+    pub cmd: u32,
+    /// Its size in bytes.
+    pub cmdsize: u32,
+    /// The triple.
+    pub triple: LcStr,
+}
+
+crate::shim::shown!(TargetTripleCommand {
+    cmd: Hex,
+    cmdsize: Hex,
+    triple: Hex
+});
+
+/// The size of a `TargetTripleCommand` in bytes.
+pub const SIZEOF_TARGET_TRIPLE_COMMAND: usize = 12;
+
+impl Record for TargetTripleCommand {
+    const SIZE: usize = SIZEOF_TARGET_TRIPLE_COMMAND;
+
+    fn load(bytes: &[u8], le: Endian, _: crate::shim::Inner) -> Self {
+        TargetTripleCommand {
+            cmd: le.u32_at(bytes, 0),
+            cmdsize: le.u32_at(bytes, 4),
+            triple: le.u32_at(bytes, 8),
+        }
+    }
+
+    fn store(self, le: Endian) -> RecordBytes {
+        RecordBytes::new()
+            .u32(le, self.cmd)
+            .u32(le, self.cmdsize)
+            .u32(le, self.triple)
+    }
+}
+
 /// Where a program begins (struct entry_point_command, `LC_MAIN`).
-#[derive(Clone, Copy, Debug)]
+#[derive(Clone, Copy, Eq, Hash, PartialEq)]
 pub struct EntryPointCommand {
     /// Its number: one of the `LC_` constants.
     pub cmd: u32,
@@ -51,13 +99,20 @@ pub struct EntryPointCommand {
     pub stacksize: u64,
 }
 
+crate::shim::shown!(EntryPointCommand {
+    cmd: Hex,
+    cmdsize: Hex,
+    entryoff: Hex,
+    stacksize: Hex
+});
+
 /// The size of an `EntryPointCommand` in bytes.
 pub const SIZEOF_ENTRY_POINT_COMMAND: usize = 24;
 
 impl Record for EntryPointCommand {
     const SIZE: usize = SIZEOF_ENTRY_POINT_COMMAND;
 
-    fn load(bytes: &[u8], le: Endian) -> Self {
+    fn load(bytes: &[u8], le: Endian, _: crate::shim::Inner) -> Self {
         EntryPointCommand {
             cmd: le.u32_at(bytes, 0),
             cmdsize: le.u32_at(bytes, 4),
@@ -76,7 +131,7 @@ impl Record for EntryPointCommand {
 }
 
 /// An image within a file set (struct fileset_entry_command, `LC_FILESET_ENTRY`).
-#[derive(Clone, Copy, Debug)]
+#[derive(Clone, Copy, Eq, Hash, PartialEq)]
 pub struct FilesetEntryCommand {
     /// Its number: one of the `LC_` constants.
     pub cmd: u32,
@@ -92,10 +147,19 @@ pub struct FilesetEntryCommand {
     pub reserved: u32,
 }
 
+crate::shim::shown!(FilesetEntryCommand {
+    cmd: Hex,
+    cmdsize: Hex,
+    vmaddr: Hex,
+    fileoff: Hex,
+    entry_id: Hex,
+    reserved: Hex
+});
+
 impl Record for FilesetEntryCommand {
     const SIZE: usize = 32;
 
-    fn load(bytes: &[u8], le: Endian) -> Self {
+    fn load(bytes: &[u8], le: Endian, _: crate::shim::Inner) -> Self {
         FilesetEntryCommand {
             cmd: le.u32_at(bytes, 0),
             cmdsize: le.u32_at(bytes, 4),
@@ -118,7 +182,7 @@ impl Record for FilesetEntryCommand {
 }
 
 /// Bytes that a tool has added to the file (struct note_command, `LC_NOTE`).
-#[derive(Clone, Copy, Debug)]
+#[derive(Clone, Copy, Eq, Hash, PartialEq)]
 pub struct NoteCommand {
     /// Its number: one of the `LC_` constants.
     pub cmd: u32,
@@ -132,10 +196,18 @@ pub struct NoteCommand {
     pub size: u64,
 }
 
+crate::shim::shown!(NoteCommand {
+    cmd: Hex,
+    cmdsize: Hex,
+    data_owner: Text,
+    offset: Hex,
+    size: Hex
+});
+
 impl Record for NoteCommand {
     const SIZE: usize = 40;
 
-    fn load(bytes: &[u8], le: Endian) -> Self {
+    fn load(bytes: &[u8], le: Endian, _: crate::shim::Inner) -> Self {
         NoteCommand {
             cmd: le.u32_at(bytes, 0),
             cmdsize: le.u32_at(bytes, 4),
@@ -156,7 +228,7 @@ impl Record for NoteCommand {
 }
 
 /// The checksum of the image before prebinding (struct prebind_cksum_command, `LC_PREBIND_CKSUM`).
-#[derive(Clone, Copy, Debug)]
+#[derive(Clone, Copy, Eq, Hash, PartialEq)]
 pub struct PrebindCksumCommand {
     /// Its number: one of the `LC_` constants.
     pub cmd: u32,
@@ -166,10 +238,16 @@ pub struct PrebindCksumCommand {
     pub cksum: u32,
 }
 
+crate::shim::shown!(PrebindCksumCommand {
+    cmd: Hex,
+    cmdsize: Hex,
+    cksum: Hex
+});
+
 impl Record for PrebindCksumCommand {
     const SIZE: usize = 12;
 
-    fn load(bytes: &[u8], le: Endian) -> Self {
+    fn load(bytes: &[u8], le: Endian, _: crate::shim::Inner) -> Self {
         PrebindCksumCommand {
             cmd: le.u32_at(bytes, 0),
             cmdsize: le.u32_at(bytes, 4),
@@ -186,7 +264,7 @@ impl Record for PrebindCksumCommand {
 }
 
 /// Options of an object file for the linker (struct linker_option_command, `LC_LINKER_OPTION`).
-#[derive(Clone, Copy, Debug)]
+#[derive(Clone, Copy, Eq, Hash, PartialEq)]
 pub struct LinkerOptionCommand {
     /// Its number: one of the `LC_` constants.
     pub cmd: u32,
@@ -196,13 +274,19 @@ pub struct LinkerOptionCommand {
     pub count: u32,
 }
 
+crate::shim::shown!(LinkerOptionCommand {
+    cmd: Hex,
+    cmdsize: Hex,
+    count: Hex
+});
+
 /// The size of a `LinkerOptionCommand` in bytes.
 pub const SIZEOF_LINKER_OPTION_COMMAND: usize = 12;
 
 impl Record for LinkerOptionCommand {
     const SIZE: usize = SIZEOF_LINKER_OPTION_COMMAND;
 
-    fn load(bytes: &[u8], le: Endian) -> Self {
+    fn load(bytes: &[u8], le: Endian, _: crate::shim::Inner) -> Self {
         LinkerOptionCommand {
             cmd: le.u32_at(bytes, 0),
             cmdsize: le.u32_at(bytes, 4),
@@ -219,7 +303,7 @@ impl Record for LinkerOptionCommand {
 }
 
 /// Texts that follow this record; obsolete (struct ident_command, `LC_IDENT`).
-#[derive(Clone, Copy, Debug)]
+#[derive(Clone, Copy, Eq, Hash, PartialEq)]
 pub struct IdentCommand {
     /// Its number: one of the `LC_` constants.
     pub cmd: u32,
@@ -227,13 +311,18 @@ pub struct IdentCommand {
     pub cmdsize: u32,
 }
 
+crate::shim::shown!(IdentCommand {
+    cmd: Hex,
+    cmdsize: Hex
+});
+
 /// The size of an `IdentCommand` in bytes.
 pub const SIZEOF_IDENT_COMMAND: usize = 8;
 
 impl Record for IdentCommand {
     const SIZE: usize = SIZEOF_IDENT_COMMAND;
 
-    fn load(bytes: &[u8], le: Endian) -> Self {
+    fn load(bytes: &[u8], le: Endian, _: crate::shim::Inner) -> Self {
         IdentCommand {
             cmd: le.u32_at(bytes, 0),
             cmdsize: le.u32_at(bytes, 4),

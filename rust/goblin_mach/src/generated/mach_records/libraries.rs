@@ -2,11 +2,13 @@
 //! Libraries that an image is or uses, and where they are searched for (`mach-o/loader.h`).
 #![forbid(unsafe_code)]
 
+use crate::shim::ReadsNumbers;
+
 use crate::generated::mach_base::{Endian, Record, RecordBytes};
 use crate::generated::mach_records::load_command_header::LcStr;
 
 /// A dynamic library (struct dylib).
-#[derive(Clone, Copy, Debug)]
+#[derive(Clone, Copy, Eq, Hash, PartialEq)]
 pub struct Dylib {
     /// Its path.
     pub name: LcStr,
@@ -18,13 +20,20 @@ pub struct Dylib {
     pub compatibility_version: u32,
 }
 
+crate::shim::shown!(Dylib {
+    name: Hex,
+    timestamp: Hex,
+    current_version: Hex,
+    compatibility_version: Hex
+});
+
 /// The size of a `Dylib` in bytes.
 pub const SIZEOF_DYLIB: usize = 16;
 
 impl Record for Dylib {
     const SIZE: usize = SIZEOF_DYLIB;
 
-    fn load(bytes: &[u8], le: Endian) -> Self {
+    fn load(bytes: &[u8], le: Endian, _: crate::shim::Inner) -> Self {
         Dylib {
             name: le.u32_at(bytes, 0),
             timestamp: le.u32_at(bytes, 4),
@@ -43,7 +52,7 @@ impl Record for Dylib {
 }
 
 /// A dynamic library that the image uses or is (struct dylib_command, `LC_LOAD_DYLIB` and related commands, or `LC_ID_DYLIB`).
-#[derive(Clone, Copy, Debug)]
+#[derive(Clone, Copy, Eq, Hash, PartialEq)]
 pub struct DylibCommand {
     /// Its number: one of the `LC_` constants.
     pub cmd: u32,
@@ -53,13 +62,19 @@ pub struct DylibCommand {
     pub dylib: Dylib,
 }
 
+crate::shim::shown!(DylibCommand {
+    cmd: Hex,
+    cmdsize: Hex,
+    dylib: Plain
+});
+
 /// The size of a `DylibCommand` in bytes.
 pub const SIZEOF_DYLIB_COMMAND: usize = 24;
 
 impl Record for DylibCommand {
     const SIZE: usize = SIZEOF_DYLIB_COMMAND;
 
-    fn load(bytes: &[u8], le: Endian) -> Self {
+    fn load(bytes: &[u8], le: Endian, _: crate::shim::Inner) -> Self {
         DylibCommand {
             cmd: le.u32_at(bytes, 0),
             cmdsize: le.u32_at(bytes, 4),
@@ -84,7 +99,7 @@ impl Record for DylibCommand {
 }
 
 /// A library that the image was bound to when it was built (struct prebound_dylib_command, `LC_PREBOUND_DYLIB`).
-#[derive(Clone, Copy, Debug)]
+#[derive(Clone, Copy, Eq, Hash, PartialEq)]
 pub struct PreboundDylibCommand {
     /// Its number: one of the `LC_` constants.
     pub cmd: u32,
@@ -98,13 +113,21 @@ pub struct PreboundDylibCommand {
     pub linked_modules: LcStr,
 }
 
+crate::shim::shown!(PreboundDylibCommand {
+    cmd: Hex,
+    cmdsize: Hex,
+    name: Hex,
+    nmodules: Hex,
+    linked_modules: Hex
+});
+
 /// The size of a `PreboundDylibCommand` in bytes.
 pub const SIZEOF_PREBOUND_DYLIB_COMMAND: usize = 20;
 
 impl Record for PreboundDylibCommand {
     const SIZE: usize = SIZEOF_PREBOUND_DYLIB_COMMAND;
 
-    fn load(bytes: &[u8], le: Endian) -> Self {
+    fn load(bytes: &[u8], le: Endian, _: crate::shim::Inner) -> Self {
         PreboundDylibCommand {
             cmd: le.u32_at(bytes, 0),
             cmdsize: le.u32_at(bytes, 4),
@@ -126,7 +149,7 @@ impl Record for PreboundDylibCommand {
 
 /// The dynamic linker that the image requires or is, or a setting for it (struct
 /// dylinker_command, `LC_LOAD_DYLINKER`, `LC_ID_DYLINKER` or `LC_DYLD_ENVIRONMENT`).
-#[derive(Clone, Copy, Debug)]
+#[derive(Clone, Copy, Eq, Hash, PartialEq)]
 pub struct DylinkerCommand {
     /// Its number: one of the `LC_` constants.
     pub cmd: u32,
@@ -136,13 +159,19 @@ pub struct DylinkerCommand {
     pub name: LcStr,
 }
 
+crate::shim::shown!(DylinkerCommand {
+    cmd: Hex,
+    cmdsize: Hex,
+    name: Hex
+});
+
 /// The size of a `DylinkerCommand` in bytes.
 pub const SIZEOF_DYLINKER_COMMAND: usize = 12;
 
 impl Record for DylinkerCommand {
     const SIZE: usize = SIZEOF_DYLINKER_COMMAND;
 
-    fn load(bytes: &[u8], le: Endian) -> Self {
+    fn load(bytes: &[u8], le: Endian, _: crate::shim::Inner) -> Self {
         DylinkerCommand {
             cmd: le.u32_at(bytes, 0),
             cmdsize: le.u32_at(bytes, 4),
@@ -159,7 +188,7 @@ impl Record for DylinkerCommand {
 }
 
 /// A path to substitute for `@rpath` when libraries are searched for (struct rpath_command, `LC_RPATH`).
-#[derive(Clone, Copy, Debug)]
+#[derive(Clone, Copy, Eq, Hash, PartialEq)]
 pub struct RpathCommand {
     /// Its number: one of the `LC_` constants.
     pub cmd: u32,
@@ -169,13 +198,19 @@ pub struct RpathCommand {
     pub path: LcStr,
 }
 
+crate::shim::shown!(RpathCommand {
+    cmd: Hex,
+    cmdsize: Hex,
+    path: Hex
+});
+
 /// The size of a `RpathCommand` in bytes.
 pub const SIZEOF_RPATH_COMMAND: usize = 12;
 
 impl Record for RpathCommand {
     const SIZE: usize = SIZEOF_RPATH_COMMAND;
 
-    fn load(bytes: &[u8], le: Endian) -> Self {
+    fn load(bytes: &[u8], le: Endian, _: crate::shim::Inner) -> Self {
         RpathCommand {
             cmd: le.u32_at(bytes, 0),
             cmdsize: le.u32_at(bytes, 4),
@@ -192,7 +227,7 @@ impl Record for RpathCommand {
 }
 
 /// A library at a fixed address; obsolete (struct fvmlib).
-#[derive(Clone, Copy, Debug)]
+#[derive(Clone, Copy, Eq, Hash, PartialEq)]
 pub struct Fvmlib {
     /// Its path.
     pub name: LcStr,
@@ -202,13 +237,19 @@ pub struct Fvmlib {
     pub header_addr: u32,
 }
 
+crate::shim::shown!(Fvmlib {
+    name: Hex,
+    minor_version: Hex,
+    header_addr: Hex
+});
+
 /// The size of a `Fvmlib` in bytes.
 pub const SIZEOF_FVMLIB: usize = 12;
 
 impl Record for Fvmlib {
     const SIZE: usize = SIZEOF_FVMLIB;
 
-    fn load(bytes: &[u8], le: Endian) -> Self {
+    fn load(bytes: &[u8], le: Endian, _: crate::shim::Inner) -> Self {
         Fvmlib {
             name: le.u32_at(bytes, 0),
             minor_version: le.u32_at(bytes, 4),
@@ -225,7 +266,7 @@ impl Record for Fvmlib {
 }
 
 /// A library at a fixed address that the image uses or is (struct fvmlib_command, `LC_LOADFVMLIB` or `LC_IDFVMLIB`).
-#[derive(Clone, Copy, Debug)]
+#[derive(Clone, Copy, Eq, Hash, PartialEq)]
 pub struct FvmlibCommand {
     /// Its number: one of the `LC_` constants.
     pub cmd: u32,
@@ -235,13 +276,19 @@ pub struct FvmlibCommand {
     pub fvmlib: Fvmlib,
 }
 
+crate::shim::shown!(FvmlibCommand {
+    cmd: Hex,
+    cmdsize: Hex,
+    fvmlib: Plain
+});
+
 /// The size of a `FvmlibCommand` in bytes.
 pub const SIZEOF_FVMLIB_COMMAND: usize = 20;
 
 impl Record for FvmlibCommand {
     const SIZE: usize = SIZEOF_FVMLIB_COMMAND;
 
-    fn load(bytes: &[u8], le: Endian) -> Self {
+    fn load(bytes: &[u8], le: Endian, _: crate::shim::Inner) -> Self {
         FvmlibCommand {
             cmd: le.u32_at(bytes, 0),
             cmdsize: le.u32_at(bytes, 4),
@@ -264,7 +311,7 @@ impl Record for FvmlibCommand {
 }
 
 /// A file to load at a fixed address (struct fvmfile_command, `LC_FVMFILE`).
-#[derive(Clone, Copy, Debug)]
+#[derive(Clone, Copy, Eq, Hash, PartialEq)]
 pub struct FvmfileCommand {
     /// Its number: one of the `LC_` constants.
     pub cmd: u32,
@@ -276,13 +323,20 @@ pub struct FvmfileCommand {
     pub header_addr: u32,
 }
 
+crate::shim::shown!(FvmfileCommand {
+    cmd: Hex,
+    cmdsize: Hex,
+    name: Hex,
+    header_addr: Hex
+});
+
 /// The size of a `FvmfileCommand` in bytes.
 pub const SIZEOF_FVMFILE_COMMAND: usize = 16;
 
 impl Record for FvmfileCommand {
     const SIZE: usize = SIZEOF_FVMFILE_COMMAND;
 
-    fn load(bytes: &[u8], le: Endian) -> Self {
+    fn load(bytes: &[u8], le: Endian, _: crate::shim::Inner) -> Self {
         FvmfileCommand {
             cmd: le.u32_at(bytes, 0),
             cmdsize: le.u32_at(bytes, 4),

@@ -2,12 +2,14 @@
 //! The tables of the link-edit segment, and encrypted bytes (`mach-o/loader.h`).
 #![forbid(unsafe_code)]
 
+use crate::shim::ReadsNumbers;
+
 use crate::generated::mach_base::{Endian, Record, RecordBytes};
 use crate::generated::mach_records::numbers::u32s;
 
 /// The place of a table of the link-edit segment (struct linkedit_data_command,
 /// `LC_CODE_SIGNATURE`, `LC_FUNCTION_STARTS`, `LC_DYLD_EXPORTS_TRIE` and others).
-#[derive(Clone, Copy, Debug, Default)]
+#[derive(Clone, Copy, Default, Eq, Hash, PartialEq)]
 pub struct LinkeditDataCommand {
     /// Its number: one of the `LC_` constants.
     pub cmd: u32,
@@ -19,13 +21,20 @@ pub struct LinkeditDataCommand {
     pub datasize: u32,
 }
 
+crate::shim::shown!(LinkeditDataCommand {
+    cmd: Hex,
+    cmdsize: Hex,
+    dataoff: Hex,
+    datasize: Hex
+});
+
 /// The size of a `LinkeditDataCommand` in bytes.
 pub const SIZEOF_LINKEDIT_DATA_COMMAND: usize = 16;
 
 impl Record for LinkeditDataCommand {
     const SIZE: usize = SIZEOF_LINKEDIT_DATA_COMMAND;
 
-    fn load(bytes: &[u8], le: Endian) -> Self {
+    fn load(bytes: &[u8], le: Endian, _: crate::shim::Inner) -> Self {
         LinkeditDataCommand {
             cmd: le.u32_at(bytes, 0),
             cmdsize: le.u32_at(bytes, 4),
@@ -45,7 +54,7 @@ impl Record for LinkeditDataCommand {
 
 /// The places of the dynamic linker's streams: file offsets, and sizes in
 /// bytes (struct dyld_info_command, `LC_DYLD_INFO` or `LC_DYLD_INFO_ONLY`).
-#[derive(Clone, Copy, Debug, Default)]
+#[derive(Clone, Copy, Default, Eq, Hash, PartialEq)]
 pub struct DyldInfoCommand {
     /// Its number: one of the `LC_` constants.
     pub cmd: u32,
@@ -73,13 +82,28 @@ pub struct DyldInfoCommand {
     pub export_size: u32,
 }
 
+crate::shim::shown!(DyldInfoCommand {
+    cmd: Hex,
+    cmdsize: Hex,
+    rebase_off: Hex,
+    rebase_size: Hex,
+    bind_off: Hex,
+    bind_size: Hex,
+    weak_bind_off: Hex,
+    weak_bind_size: Hex,
+    lazy_bind_off: Hex,
+    lazy_bind_size: Hex,
+    export_off: Hex,
+    export_size: Hex
+});
+
 /// The size of a `DyldInfoCommand` in bytes.
 pub const SIZEOF_DYLIB_INFO_COMMAND: usize = 48;
 
 impl Record for DyldInfoCommand {
     const SIZE: usize = SIZEOF_DYLIB_INFO_COMMAND;
 
-    fn load(bytes: &[u8], le: Endian) -> Self {
+    fn load(bytes: &[u8], le: Endian, _: crate::shim::Inner) -> Self {
         DyldInfoCommand {
             cmd: le.u32_at(bytes, 0),
             cmdsize: le.u32_at(bytes, 4),
@@ -119,7 +143,7 @@ impl Record for DyldInfoCommand {
 }
 
 /// A run of data inside code (struct data_in_code_entry).
-#[derive(Clone, Copy, Debug)]
+#[derive(Clone, Copy, Eq, Hash, PartialEq)]
 pub struct DataInCodeEntry {
     /// Its offset from the header of the image.
     pub offset: u32,
@@ -129,10 +153,16 @@ pub struct DataInCodeEntry {
     pub kind: u16,
 }
 
+crate::shim::shown!(DataInCodeEntry {
+    offset: Hex,
+    length: Hex,
+    kind: Hex
+});
+
 impl Record for DataInCodeEntry {
     const SIZE: usize = 8;
 
-    fn load(bytes: &[u8], le: Endian) -> Self {
+    fn load(bytes: &[u8], le: Endian, _: crate::shim::Inner) -> Self {
         DataInCodeEntry {
             offset: le.u32_at(bytes, 0),
             length: le.u16_at(bytes, 4),
@@ -149,7 +179,7 @@ impl Record for DataInCodeEntry {
 }
 
 /// The encrypted bytes of a 32-bit image (struct encryption_info_command, `LC_ENCRYPTION_INFO`).
-#[derive(Clone, Copy, Debug)]
+#[derive(Clone, Copy, Eq, Hash, PartialEq)]
 pub struct EncryptionInfoCommand32 {
     /// Its number: one of the `LC_` constants.
     pub cmd: u32,
@@ -163,13 +193,21 @@ pub struct EncryptionInfoCommand32 {
     pub cryptid: u32,
 }
 
+crate::shim::shown!(EncryptionInfoCommand32 {
+    cmd: Hex,
+    cmdsize: Hex,
+    cryptoff: Hex,
+    cryptsize: Hex,
+    cryptid: Hex
+});
+
 /// The size of an `EncryptionInfoCommand32` in bytes.
 pub const SIZEOF_ENCRYPTION_INFO_COMMAND_32: usize = 20;
 
 impl Record for EncryptionInfoCommand32 {
     const SIZE: usize = SIZEOF_ENCRYPTION_INFO_COMMAND_32;
 
-    fn load(bytes: &[u8], le: Endian) -> Self {
+    fn load(bytes: &[u8], le: Endian, _: crate::shim::Inner) -> Self {
         EncryptionInfoCommand32 {
             cmd: le.u32_at(bytes, 0),
             cmdsize: le.u32_at(bytes, 4),
@@ -190,7 +228,7 @@ impl Record for EncryptionInfoCommand32 {
 }
 
 /// The encrypted bytes of a 64-bit image (struct encryption_info_command_64, `LC_ENCRYPTION_INFO_64`).
-#[derive(Clone, Copy, Debug)]
+#[derive(Clone, Copy, Eq, Hash, PartialEq)]
 pub struct EncryptionInfoCommand64 {
     /// Its number: one of the `LC_` constants.
     pub cmd: u32,
@@ -206,13 +244,22 @@ pub struct EncryptionInfoCommand64 {
     pub pad: u32,
 }
 
+crate::shim::shown!(EncryptionInfoCommand64 {
+    cmd: Hex,
+    cmdsize: Hex,
+    cryptoff: Hex,
+    cryptsize: Hex,
+    cryptid: Hex,
+    pad: Hex
+});
+
 /// The size of an `EncryptionInfoCommand64` in bytes.
 pub const SIZEOF_ENCRYPTION_INFO_COMMAND_64: usize = 24;
 
 impl Record for EncryptionInfoCommand64 {
     const SIZE: usize = SIZEOF_ENCRYPTION_INFO_COMMAND_64;
 
-    fn load(bytes: &[u8], le: Endian) -> Self {
+    fn load(bytes: &[u8], le: Endian, _: crate::shim::Inner) -> Self {
         EncryptionInfoCommand64 {
             cmd: le.u32_at(bytes, 0),
             cmdsize: le.u32_at(bytes, 4),

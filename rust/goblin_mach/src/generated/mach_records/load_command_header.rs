@@ -2,8 +2,10 @@
 //! The header with which every load command begins (`mach-o/loader.h`).
 #![forbid(unsafe_code)]
 
+use crate::shim::ReadsNumbers;
+
 use crate::generated::mach_base::{Endian, Record, RecordBytes};
-use crate::generated::mach_records::command_name::cmd_to_str;
+use crate::generated::mach_records::command_names::cmd_to_str;
 use core::fmt;
 
 /// The offset of a text of a command, in bytes from the start of the command.
@@ -15,7 +17,7 @@ pub const SIZEOF_LC_STR: usize = 4;
 const _: () = assert!(SIZEOF_LC_STR == size_of::<LcStr>());
 
 /// The number and the size of a load command (struct load_command). Every record whose name ends in `Command` begins with these two fields.
-#[derive(Clone, Copy, Debug)]
+#[derive(Clone, Copy, Eq, Hash, PartialEq)]
 pub struct LoadCommandHeader {
     /// The command's number, one of the `LC_` constants.
     pub cmd: u32,
@@ -23,13 +25,18 @@ pub struct LoadCommandHeader {
     pub cmdsize: u32,
 }
 
+crate::shim::shown!(LoadCommandHeader {
+    cmd: Hex,
+    cmdsize: Hex
+});
+
 /// The size of a `LoadCommandHeader` in bytes.
 pub const SIZEOF_LOAD_COMMAND: usize = 8;
 
 impl Record for LoadCommandHeader {
     const SIZE: usize = SIZEOF_LOAD_COMMAND;
 
-    fn load(bytes: &[u8], le: Endian) -> Self {
+    fn load(bytes: &[u8], le: Endian, _: crate::shim::Inner) -> Self {
         LoadCommandHeader {
             cmd: le.u32_at(bytes, 0),
             cmdsize: le.u32_at(bytes, 4),

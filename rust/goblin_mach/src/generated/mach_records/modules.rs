@@ -2,11 +2,13 @@
 //! Tables of a dynamic library that consists of modules (`mach-o/loader.h`).
 #![forbid(unsafe_code)]
 
+use crate::shim::ReadsNumbers;
+
 use crate::generated::mach_base::{Endian, Record, RecordBytes, array_at};
 use crate::generated::mach_records::numbers::u32s;
 
 /// An entry of the table of contents (struct dylib_table_of_contents).
-#[derive(Clone, Copy, Debug)]
+#[derive(Clone, Copy, Eq, Hash, PartialEq)]
 pub struct DylibTableOfContents {
     /// The index of an external symbol.
     pub symbol_index: u32,
@@ -14,10 +16,15 @@ pub struct DylibTableOfContents {
     pub module_index: u32,
 }
 
+crate::shim::shown!(DylibTableOfContents {
+    symbol_index: Hex,
+    module_index: Hex
+});
+
 impl Record for DylibTableOfContents {
     const SIZE: usize = 8;
 
-    fn load(bytes: &[u8], le: Endian) -> Self {
+    fn load(bytes: &[u8], le: Endian, _: crate::shim::Inner) -> Self {
         DylibTableOfContents {
             symbol_index: le.u32_at(bytes, 0),
             module_index: le.u32_at(bytes, 4),
@@ -32,7 +39,7 @@ impl Record for DylibTableOfContents {
 }
 
 /// A module of a 32-bit library (struct dylib_module).
-#[derive(Clone, Copy, Debug)]
+#[derive(Clone, Copy, Eq, Hash, PartialEq)]
 pub struct DylibModule {
     /// Its name: an offset into the string table.
     pub module_name: u32,
@@ -62,10 +69,26 @@ pub struct DylibModule {
     pub objc_module_info_size: u32,
 }
 
+crate::shim::shown!(DylibModule {
+    module_name: Hex,
+    iextdefsym: Hex,
+    nextdefsym: Hex,
+    irefsym: Hex,
+    nrefsym: Hex,
+    ilocalsym: Hex,
+    nlocalsym: Hex,
+    iextrel: Hex,
+    nextrel: Hex,
+    iinit_iterm: Hex,
+    ninit_nterm: Hex,
+    objc_module_info_addr: Hex,
+    objc_module_info_size: Hex
+});
+
 impl Record for DylibModule {
     const SIZE: usize = 52;
 
-    fn load(bytes: &[u8], le: Endian) -> Self {
+    fn load(bytes: &[u8], le: Endian, _: crate::shim::Inner) -> Self {
         DylibModule {
             module_name: le.u32_at(bytes, 0),
             iextdefsym: le.u32_at(bytes, 4),
@@ -107,7 +130,7 @@ impl Record for DylibModule {
 }
 
 /// A module of a 64-bit library (struct dylib_module_64).
-#[derive(Clone, Copy, Debug)]
+#[derive(Clone, Copy, Eq, Hash, PartialEq)]
 pub struct DylibModule64 {
     /// Its name: an offset into the string table.
     pub module_name: u32,
@@ -137,10 +160,26 @@ pub struct DylibModule64 {
     pub objc_module_info_addr: u64,
 }
 
+crate::shim::shown!(DylibModule64 {
+    module_name: Hex,
+    iextdefsym: Hex,
+    nextdefsym: Hex,
+    irefsym: Hex,
+    nrefsym: Hex,
+    ilocalsym: Hex,
+    nlocalsym: Hex,
+    iextrel: Hex,
+    nextrel: Hex,
+    iinit_iterm: Hex,
+    ninit_nterm: Hex,
+    objc_module_info_size: Hex,
+    objc_module_info_addr: Hex
+});
+
 impl Record for DylibModule64 {
     const SIZE: usize = 56;
 
-    fn load(bytes: &[u8], le: Endian) -> Self {
+    fn load(bytes: &[u8], le: Endian, _: crate::shim::Inner) -> Self {
         DylibModule64 {
             module_name: le.u32_at(bytes, 0),
             iextdefsym: le.u32_at(bytes, 4),
@@ -177,7 +216,7 @@ impl Record for DylibModule64 {
 }
 
 /// A symbol that a module refers to (struct dylib_reference). The 24-bit and 8-bit fields of the C struct take 24 and 8 bytes here.
-#[derive(Clone, Copy, Debug)]
+#[derive(Clone, Copy, Eq, Hash, PartialEq)]
 pub struct DylibReference {
     /// The index of the symbol.
     pub isym: [u8; 24],
@@ -185,10 +224,15 @@ pub struct DylibReference {
     pub flags: u64,
 }
 
+crate::shim::shown!(DylibReference {
+    isym: HexBytes,
+    flags: Hex
+});
+
 impl Record for DylibReference {
     const SIZE: usize = 32;
 
-    fn load(bytes: &[u8], le: Endian) -> Self {
+    fn load(bytes: &[u8], le: Endian, _: crate::shim::Inner) -> Self {
         DylibReference {
             isym: array_at(bytes, 0),
             flags: le.u64_at(bytes, 24),
@@ -201,7 +245,7 @@ impl Record for DylibReference {
 }
 
 /// The routine that a 32-bit library runs before all others (struct routines_command, `LC_ROUTINES`).
-#[derive(Clone, Copy, Debug)]
+#[derive(Clone, Copy, Eq, Hash, PartialEq)]
 pub struct RoutinesCommand32 {
     /// Its number: one of the `LC_` constants.
     pub cmd: u32,
@@ -225,10 +269,23 @@ pub struct RoutinesCommand32 {
     pub reserved6: u32,
 }
 
+crate::shim::shown!(RoutinesCommand32 {
+    cmd: Hex,
+    cmdsize: Hex,
+    init_address: Hex,
+    init_module: Hex,
+    reserved1: Hex,
+    reserved2: Hex,
+    reserved3: Hex,
+    reserved4: Hex,
+    reserved5: Hex,
+    reserved6: Hex
+});
+
 impl Record for RoutinesCommand32 {
     const SIZE: usize = 40;
 
-    fn load(bytes: &[u8], le: Endian) -> Self {
+    fn load(bytes: &[u8], le: Endian, _: crate::shim::Inner) -> Self {
         RoutinesCommand32 {
             cmd: le.u32_at(bytes, 0),
             cmdsize: le.u32_at(bytes, 4),
@@ -264,7 +321,7 @@ impl Record for RoutinesCommand32 {
 }
 
 /// The routine that a 64-bit library runs before all others (struct routines_command_64, `LC_ROUTINES_64`).
-#[derive(Clone, Copy, Debug)]
+#[derive(Clone, Copy, Eq, Hash, PartialEq)]
 pub struct RoutinesCommand64 {
     /// Its number: one of the `LC_` constants.
     pub cmd: u32,
@@ -288,10 +345,23 @@ pub struct RoutinesCommand64 {
     pub reserved6: u64,
 }
 
+crate::shim::shown!(RoutinesCommand64 {
+    cmd: Hex,
+    cmdsize: Hex,
+    init_address: Hex,
+    init_module: Hex,
+    reserved1: Hex,
+    reserved2: Hex,
+    reserved3: Hex,
+    reserved4: Hex,
+    reserved5: Hex,
+    reserved6: Hex
+});
+
 impl Record for RoutinesCommand64 {
     const SIZE: usize = 72;
 
-    fn load(bytes: &[u8], le: Endian) -> Self {
+    fn load(bytes: &[u8], le: Endian, _: crate::shim::Inner) -> Self {
         RoutinesCommand64 {
             cmd: le.u32_at(bytes, 0),
             cmdsize: le.u32_at(bytes, 4),

@@ -2,16 +2,20 @@
 //! Four-byte numbers, one after another.
 #![forbid(unsafe_code)]
 
+use crate::shim::ReadsNumbers;
+
 use crate::generated::mach_base::{Endian, RecordBytes};
 
 /// Appends the four-byte numbers `xs`.
 ///
-/// # Proved
+/// <details><summary>Proved</summary>
 ///
 /// Callers make sure of: `length front + 4 * length xs ≤ 80`.
 ///
 /// - *spelled*: `result ≡ spelled_after le front (map (λ _. num 4) xs) (map number_is xs)`
 /// - *fits*: `AllFit (map (λ _. num 4) xs) (map number_is xs)`
+///
+/// </details>
 pub fn u32s(front: RecordBytes, le: Endian, xs: &[u32]) -> RecordBytes {
     let mut bytes = front;
     for x in xs {

@@ -2,6 +2,8 @@
 //! Segments and their sections (`mach-o/loader.h`).
 #![forbid(unsafe_code)]
 
+use crate::shim::ReadsNumbers;
+
 use crate::generated::mach_base::{Endian, Record, RecordBytes, Result, array_at, read_text};
 
 // Reads the text with which the 16 bytes of a name begin.
@@ -10,7 +12,7 @@ fn name_in(bytes: &[u8; 16]) -> Result<&str> {
 }
 
 /// A part of a segment of a 32-bit image (struct section).
-#[derive(Clone, Copy, Debug)]
+#[derive(Clone, Copy, Eq, Hash, PartialEq)]
 pub struct Section32 {
     /// Its name, padded with zeros.
     pub sectname: [u8; 16],
@@ -36,13 +38,27 @@ pub struct Section32 {
     pub reserved2: u32,
 }
 
+crate::shim::shown!(Section32 {
+    sectname: Text,
+    segname: Text,
+    addr: Hex,
+    size: Hex,
+    offset: Hex,
+    align: Hex,
+    reloff: Hex,
+    nreloc: Hex,
+    flags: Hex,
+    reserved1: Hex,
+    reserved2: Hex
+});
+
 /// The size of a `Section32` in bytes.
 pub const SIZEOF_SECTION_32: usize = 68;
 
 impl Record for Section32 {
     const SIZE: usize = SIZEOF_SECTION_32;
 
-    fn load(bytes: &[u8], le: Endian) -> Self {
+    fn load(bytes: &[u8], le: Endian, _: crate::shim::Inner) -> Self {
         Section32 {
             sectname: array_at(bytes, 0),
             segname: array_at(bytes, 16),
@@ -75,7 +91,7 @@ impl Record for Section32 {
 }
 
 /// A part of a segment of a 64-bit image (struct section_64).
-#[derive(Clone, Copy, Debug)]
+#[derive(Clone, Copy, Eq, Hash, PartialEq)]
 pub struct Section64 {
     /// Its name, padded with zeros.
     pub sectname: [u8; 16],
@@ -103,13 +119,28 @@ pub struct Section64 {
     pub reserved3: u32,
 }
 
+crate::shim::shown!(Section64 {
+    sectname: Text,
+    segname: Text,
+    addr: Hex,
+    size: Hex,
+    offset: Hex,
+    align: Hex,
+    reloff: Hex,
+    nreloc: Hex,
+    flags: Hex,
+    reserved1: Hex,
+    reserved2: Hex,
+    reserved3: Hex
+});
+
 /// The size of a `Section64` in bytes.
 pub const SIZEOF_SECTION_64: usize = 80;
 
 impl Record for Section64 {
     const SIZE: usize = SIZEOF_SECTION_64;
 
-    fn load(bytes: &[u8], le: Endian) -> Self {
+    fn load(bytes: &[u8], le: Endian, _: crate::shim::Inner) -> Self {
         Section64 {
             sectname: array_at(bytes, 0),
             segname: array_at(bytes, 16),
@@ -144,7 +175,7 @@ impl Record for Section64 {
 }
 
 /// A part of the file that is mapped into the memory of a 32-bit image (struct segment_command, `LC_SEGMENT`).
-#[derive(Clone, Copy, Debug)]
+#[derive(Clone, Copy, Eq, Hash, PartialEq)]
 pub struct SegmentCommand32 {
     /// Its number: one of the `LC_` constants.
     pub cmd: u32,
@@ -170,13 +201,27 @@ pub struct SegmentCommand32 {
     pub flags: u32,
 }
 
+crate::shim::shown!(SegmentCommand32 {
+    cmd: Hex,
+    cmdsize: Hex,
+    segname: Text,
+    vmaddr: Hex,
+    vmsize: Hex,
+    fileoff: Hex,
+    filesize: Hex,
+    maxprot: Hex,
+    initprot: Hex,
+    nsects: Hex,
+    flags: Hex
+});
+
 /// The size of a `SegmentCommand32` in bytes.
 pub const SIZEOF_SEGMENT_COMMAND_32: usize = 56;
 
 impl Record for SegmentCommand32 {
     const SIZE: usize = SIZEOF_SEGMENT_COMMAND_32;
 
-    fn load(bytes: &[u8], le: Endian) -> Self {
+    fn load(bytes: &[u8], le: Endian, _: crate::shim::Inner) -> Self {
         SegmentCommand32 {
             cmd: le.u32_at(bytes, 0),
             cmdsize: le.u32_at(bytes, 4),
@@ -211,16 +256,18 @@ impl Record for SegmentCommand32 {
 impl SegmentCommand32 {
     /// Reads the segment's name: the text with which `segname` begins.
     ///
-    /// # Proved
+    /// <details><summary>Proved</summary>
     ///
     /// - `Reads (λ name. name) result (text_at self.segname 0)`
+    ///
+    /// </details>
     pub fn name(&self) -> Result<&str> {
         name_in(&self.segname)
     }
 }
 
 /// A part of the file that is mapped into the memory of a 64-bit image (struct segment_command_64, `LC_SEGMENT_64`).
-#[derive(Clone, Copy, Debug)]
+#[derive(Clone, Copy, Eq, Hash, PartialEq)]
 pub struct SegmentCommand64 {
     /// Its number: one of the `LC_` constants.
     pub cmd: u32,
@@ -246,13 +293,27 @@ pub struct SegmentCommand64 {
     pub flags: u32,
 }
 
+crate::shim::shown!(SegmentCommand64 {
+    cmd: Hex,
+    cmdsize: Hex,
+    segname: Text,
+    vmaddr: Hex,
+    vmsize: Hex,
+    fileoff: Hex,
+    filesize: Hex,
+    maxprot: Hex,
+    initprot: Hex,
+    nsects: Hex,
+    flags: Hex
+});
+
 /// The size of a `SegmentCommand64` in bytes.
 pub const SIZEOF_SEGMENT_COMMAND_64: usize = 72;
 
 impl Record for SegmentCommand64 {
     const SIZE: usize = SIZEOF_SEGMENT_COMMAND_64;
 
-    fn load(bytes: &[u8], le: Endian) -> Self {
+    fn load(bytes: &[u8], le: Endian, _: crate::shim::Inner) -> Self {
         SegmentCommand64 {
             cmd: le.u32_at(bytes, 0),
             cmdsize: le.u32_at(bytes, 4),
@@ -287,9 +348,11 @@ impl Record for SegmentCommand64 {
 impl SegmentCommand64 {
     /// Reads the segment's name: the text with which `segname` begins.
     ///
-    /// # Proved
+    /// <details><summary>Proved</summary>
     ///
     /// - `Reads (λ name. name) result (text_at self.segname 0)`
+    ///
+    /// </details>
     pub fn name(&self) -> Result<&str> {
         name_in(&self.segname)
     }

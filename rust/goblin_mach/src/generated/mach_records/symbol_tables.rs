@@ -2,12 +2,14 @@
 //! The symbol table, and the tables that order it (`mach-o/loader.h`).
 #![forbid(unsafe_code)]
 
+use crate::shim::ReadsNumbers;
+
 use crate::generated::mach_base::{Endian, Record, RecordBytes, array_at};
-use crate::generated::mach_records::command_name::{LC_DYSYMTAB, LC_SYMTAB};
+use crate::generated::mach_records::command_names::{LC_DYSYMTAB, LC_SYMTAB};
 use crate::generated::mach_records::numbers::u32s;
 
 /// The places of the symbols and of the string table (struct symtab_command, `LC_SYMTAB`).
-#[derive(Clone, Copy, Debug)]
+#[derive(Clone, Copy, Eq, Hash, PartialEq)]
 pub struct SymtabCommand {
     /// Its number: one of the `LC_` constants.
     pub cmd: u32,
@@ -23,13 +25,22 @@ pub struct SymtabCommand {
     pub strsize: u32,
 }
 
+crate::shim::shown!(SymtabCommand {
+    cmd: Hex,
+    cmdsize: Hex,
+    symoff: Hex,
+    nsyms: Hex,
+    stroff: Hex,
+    strsize: Hex
+});
+
 /// The size of a `SymtabCommand` in bytes.
 pub const SIZEOF_SYMTAB_COMMAND: usize = 24;
 
 impl Record for SymtabCommand {
     const SIZE: usize = SIZEOF_SYMTAB_COMMAND;
 
-    fn load(bytes: &[u8], le: Endian) -> Self {
+    fn load(bytes: &[u8], le: Endian, _: crate::shim::Inner) -> Self {
         SymtabCommand {
             cmd: le.u32_at(bytes, 0),
             cmdsize: le.u32_at(bytes, 4),
@@ -54,9 +65,11 @@ impl Record for SymtabCommand {
 impl SymtabCommand {
     /// Builds the command of a table without symbols.
     ///
-    /// # Proved
+    /// <details><summary>Proved</summary>
     ///
     /// - `result ≡ new_symtab`
+    ///
+    /// </details>
     pub fn new() -> Self {
         SymtabCommand {
             cmd: LC_SYMTAB,
@@ -76,7 +89,7 @@ impl Default for SymtabCommand {
 }
 
 /// The order of the symbols, and the places of the dynamic linker's tables (struct dysymtab_command, `LC_DYSYMTAB`).
-#[derive(Clone, Copy, Debug)]
+#[derive(Clone, Copy, Eq, Hash, PartialEq)]
 pub struct DysymtabCommand {
     /// Its number: one of the `LC_` constants.
     pub cmd: u32,
@@ -120,13 +133,36 @@ pub struct DysymtabCommand {
     pub nlocrel: u32,
 }
 
+crate::shim::shown!(DysymtabCommand {
+    cmd: Hex,
+    cmdsize: Hex,
+    ilocalsym: Hex,
+    nlocalsym: Hex,
+    iextdefsym: Hex,
+    nextdefsym: Hex,
+    iundefsym: Hex,
+    nundefsym: Hex,
+    tocoff: Hex,
+    ntoc: Hex,
+    modtaboff: Hex,
+    nmodtab: Hex,
+    extrefsymoff: Hex,
+    nextrefsyms: Hex,
+    indirectsymoff: Hex,
+    nindirectsyms: Hex,
+    extreloff: Hex,
+    nextrel: Hex,
+    locreloff: Hex,
+    nlocrel: Hex
+});
+
 /// The size of a `DysymtabCommand` in bytes.
 pub const SIZEOF_DYSYMTAB_COMMAND: usize = 80;
 
 impl Record for DysymtabCommand {
     const SIZE: usize = SIZEOF_DYSYMTAB_COMMAND;
 
-    fn load(bytes: &[u8], le: Endian) -> Self {
+    fn load(bytes: &[u8], le: Endian, _: crate::shim::Inner) -> Self {
         DysymtabCommand {
             cmd: le.u32_at(bytes, 0),
             cmdsize: le.u32_at(bytes, 4),
@@ -184,9 +220,11 @@ impl Record for DysymtabCommand {
 impl DysymtabCommand {
     /// Builds the command of tables without entries.
     ///
-    /// # Proved
+    /// <details><summary>Proved</summary>
     ///
     /// - `result ≡ new_dysymtab`
+    ///
+    /// </details>
     pub fn new() -> Self {
         DysymtabCommand {
             cmd: LC_DYSYMTAB,
@@ -220,7 +258,7 @@ impl Default for DysymtabCommand {
 }
 
 /// The place of the hints of a two-level namespace (struct twolevel_hints_command, `LC_TWOLEVEL_HINTS`).
-#[derive(Clone, Copy, Debug)]
+#[derive(Clone, Copy, Eq, Hash, PartialEq)]
 pub struct TwolevelHintsCommand {
     /// Its number: one of the `LC_` constants.
     pub cmd: u32,
@@ -232,10 +270,17 @@ pub struct TwolevelHintsCommand {
     pub nhints: u32,
 }
 
+crate::shim::shown!(TwolevelHintsCommand {
+    cmd: Hex,
+    cmdsize: Hex,
+    offset: Hex,
+    nhints: Hex
+});
+
 impl Record for TwolevelHintsCommand {
     const SIZE: usize = 16;
 
-    fn load(bytes: &[u8], le: Endian) -> Self {
+    fn load(bytes: &[u8], le: Endian, _: crate::shim::Inner) -> Self {
         TwolevelHintsCommand {
             cmd: le.u32_at(bytes, 0),
             cmdsize: le.u32_at(bytes, 4),
@@ -255,7 +300,7 @@ impl Record for TwolevelHintsCommand {
 
 /// Where the search for an undefined symbol begins (struct twolevel_hint).
 /// The 8-bit and 24-bit fields of the C struct take 8 and 24 bytes here.
-#[derive(Clone, Copy, Debug)]
+#[derive(Clone, Copy, Eq, Hash, PartialEq)]
 pub struct TwolevelHint {
     /// 0 for the library itself, or else the number of a part of it, from 1.
     pub isub_image: u64,
@@ -263,10 +308,15 @@ pub struct TwolevelHint {
     pub itoc: [u8; 24],
 }
 
+crate::shim::shown!(TwolevelHint {
+    isub_image: Hex,
+    itoc: HexBytes
+});
+
 impl Record for TwolevelHint {
     const SIZE: usize = 32;
 
-    fn load(bytes: &[u8], le: Endian) -> Self {
+    fn load(bytes: &[u8], le: Endian, _: crate::shim::Inner) -> Self {
         TwolevelHint {
             isub_image: le.u64_at(bytes, 0),
             itoc: array_at(bytes, 8),
@@ -281,7 +331,7 @@ impl Record for TwolevelHint {
 }
 
 /// A symbol segment of the old GNU form; obsolete (struct symseg_command, `LC_SYMSEG`).
-#[derive(Clone, Copy, Debug)]
+#[derive(Clone, Copy, Eq, Hash, PartialEq)]
 pub struct SymsegCommand {
     /// Its number: one of the `LC_` constants.
     pub cmd: u32,
@@ -293,13 +343,20 @@ pub struct SymsegCommand {
     pub size: u32,
 }
 
+crate::shim::shown!(SymsegCommand {
+    cmd: Hex,
+    cmdsize: Hex,
+    offset: Hex,
+    size: Hex
+});
+
 /// The size of a `SymsegCommand` in bytes.
 pub const SIZEOF_SYMSEG_COMMAND: usize = 16;
 
 impl Record for SymsegCommand {
     const SIZE: usize = SIZEOF_SYMSEG_COMMAND;
 
-    fn load(bytes: &[u8], le: Endian) -> Self {
+    fn load(bytes: &[u8], le: Endian, _: crate::shim::Inner) -> Self {
         SymsegCommand {
             cmd: le.u32_at(bytes, 0),
             cmdsize: le.u32_at(bytes, 4),

@@ -2,11 +2,13 @@
 //! Umbrella frameworks and libraries, and their parts (`mach-o/loader.h`).
 #![forbid(unsafe_code)]
 
+use crate::shim::ReadsNumbers;
+
 use crate::generated::mach_base::{Endian, Record, RecordBytes};
 use crate::generated::mach_records::load_command_header::LcStr;
 
 /// The umbrella that the image is a part of (struct sub_framework_command, `LC_SUB_FRAMEWORK`).
-#[derive(Clone, Copy, Debug)]
+#[derive(Clone, Copy, Eq, Hash, PartialEq)]
 pub struct SubFrameworkCommand {
     /// Its number: one of the `LC_` constants.
     pub cmd: u32,
@@ -16,13 +18,19 @@ pub struct SubFrameworkCommand {
     pub umbrella: LcStr,
 }
 
+crate::shim::shown!(SubFrameworkCommand {
+    cmd: Hex,
+    cmdsize: Hex,
+    umbrella: Hex
+});
+
 /// The size of a `SubFrameworkCommand` in bytes.
 pub const SIZEOF_SUB_FRAMEWORK_COMMAND: usize = 12;
 
 impl Record for SubFrameworkCommand {
     const SIZE: usize = SIZEOF_SUB_FRAMEWORK_COMMAND;
 
-    fn load(bytes: &[u8], le: Endian) -> Self {
+    fn load(bytes: &[u8], le: Endian, _: crate::shim::Inner) -> Self {
         SubFrameworkCommand {
             cmd: le.u32_at(bytes, 0),
             cmdsize: le.u32_at(bytes, 4),
@@ -39,7 +47,7 @@ impl Record for SubFrameworkCommand {
 }
 
 /// A client that may link to the image, although the image is a part of an umbrella (struct sub_client_command, `LC_SUB_CLIENT`).
-#[derive(Clone, Copy, Debug)]
+#[derive(Clone, Copy, Eq, Hash, PartialEq)]
 pub struct SubClientCommand {
     /// Its number: one of the `LC_` constants.
     pub cmd: u32,
@@ -49,13 +57,19 @@ pub struct SubClientCommand {
     pub client: LcStr,
 }
 
+crate::shim::shown!(SubClientCommand {
+    cmd: Hex,
+    cmdsize: Hex,
+    client: Hex
+});
+
 /// The size of a `SubClientCommand` in bytes.
 pub const SIZEOF_SUB_CLIENT_COMMAND: usize = 12;
 
 impl Record for SubClientCommand {
     const SIZE: usize = SIZEOF_SUB_CLIENT_COMMAND;
 
-    fn load(bytes: &[u8], le: Endian) -> Self {
+    fn load(bytes: &[u8], le: Endian, _: crate::shim::Inner) -> Self {
         SubClientCommand {
             cmd: le.u32_at(bytes, 0),
             cmdsize: le.u32_at(bytes, 4),
@@ -72,7 +86,7 @@ impl Record for SubClientCommand {
 }
 
 /// An umbrella framework whose symbols the image re-exports (struct sub_umbrella_command, `LC_SUB_UMBRELLA`).
-#[derive(Clone, Copy, Debug)]
+#[derive(Clone, Copy, Eq, Hash, PartialEq)]
 pub struct SubUmbrellaCommand {
     /// Its number: one of the `LC_` constants.
     pub cmd: u32,
@@ -82,13 +96,19 @@ pub struct SubUmbrellaCommand {
     pub sub_umbrella: LcStr,
 }
 
+crate::shim::shown!(SubUmbrellaCommand {
+    cmd: Hex,
+    cmdsize: Hex,
+    sub_umbrella: Hex
+});
+
 /// The size of a `SubUmbrellaCommand` in bytes.
 pub const SIZEOF_SUB_UMBRELLA_COMMAND: usize = 12;
 
 impl Record for SubUmbrellaCommand {
     const SIZE: usize = SIZEOF_SUB_UMBRELLA_COMMAND;
 
-    fn load(bytes: &[u8], le: Endian) -> Self {
+    fn load(bytes: &[u8], le: Endian, _: crate::shim::Inner) -> Self {
         SubUmbrellaCommand {
             cmd: le.u32_at(bytes, 0),
             cmdsize: le.u32_at(bytes, 4),
@@ -105,7 +125,7 @@ impl Record for SubUmbrellaCommand {
 }
 
 /// A library whose symbols the image re-exports (struct sub_library_command, `LC_SUB_LIBRARY`).
-#[derive(Clone, Copy, Debug)]
+#[derive(Clone, Copy, Eq, Hash, PartialEq)]
 pub struct SubLibraryCommand {
     /// Its number: one of the `LC_` constants.
     pub cmd: u32,
@@ -115,13 +135,19 @@ pub struct SubLibraryCommand {
     pub sub_library: LcStr,
 }
 
+crate::shim::shown!(SubLibraryCommand {
+    cmd: Hex,
+    cmdsize: Hex,
+    sub_library: Hex
+});
+
 /// The size of a `SubLibraryCommand` in bytes.
 pub const SIZEOF_SUB_LIBRARY_COMMAND: usize = 12;
 
 impl Record for SubLibraryCommand {
     const SIZE: usize = SIZEOF_SUB_LIBRARY_COMMAND;
 
-    fn load(bytes: &[u8], le: Endian) -> Self {
+    fn load(bytes: &[u8], le: Endian, _: crate::shim::Inner) -> Self {
         SubLibraryCommand {
             cmd: le.u32_at(bytes, 0),
             cmdsize: le.u32_at(bytes, 4),

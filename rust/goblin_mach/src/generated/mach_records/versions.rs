@@ -2,13 +2,15 @@
 //! The platform, the tools and the sources of an image (`mach-o/loader.h`).
 #![forbid(unsafe_code)]
 
+use crate::shim::ReadsNumbers;
+
 use crate::generated::mach_base::{Endian, Error, Record, RecordBytes};
-use crate::generated::mach_records::command_name::{
+use crate::generated::mach_records::command_names::{
     LC_VERSION_MIN_IPHONEOS, LC_VERSION_MIN_MACOSX, LC_VERSION_MIN_TVOS, LC_VERSION_MIN_WATCHOS,
 };
 
 /// A system that the number of a `LC_VERSION_MIN_` command names.
-#[derive(Clone, Copy, Debug)]
+#[derive(Clone, Copy, Debug, Eq, Hash, PartialEq)]
 pub enum Platform {
     /// macOS.
     Macos = LC_VERSION_MIN_MACOSX as isize,
@@ -36,7 +38,7 @@ impl TryFrom<u32> for Platform {
 }
 
 /// The oldest system that the image runs on (struct version_min_command, the four `LC_VERSION_MIN_` commands).
-#[derive(Clone, Copy, Debug)]
+#[derive(Clone, Copy, Eq, Hash, PartialEq)]
 pub struct VersionMinCommand {
     /// Its number: one of the `LC_` constants.
     pub cmd: u32,
@@ -48,13 +50,20 @@ pub struct VersionMinCommand {
     pub sdk: u32,
 }
 
+crate::shim::shown!(VersionMinCommand {
+    cmd: Hex,
+    cmdsize: Hex,
+    version: Hex,
+    sdk: Hex
+});
+
 /// The size of a `VersionMinCommand` in bytes.
 pub const SIZEOF_VERSION_MIN_COMMAND: usize = 16;
 
 impl Record for VersionMinCommand {
     const SIZE: usize = SIZEOF_VERSION_MIN_COMMAND;
 
-    fn load(bytes: &[u8], le: Endian) -> Self {
+    fn load(bytes: &[u8], le: Endian, _: crate::shim::Inner) -> Self {
         VersionMinCommand {
             cmd: le.u32_at(bytes, 0),
             cmdsize: le.u32_at(bytes, 4),
@@ -75,9 +84,11 @@ impl Record for VersionMinCommand {
 impl VersionMinCommand {
     /// Builds the command that names a platform. Its versions are 0.
     ///
-    /// # Proved
+    /// <details><summary>Proved</summary>
     ///
     /// - `result ≡ record { cmd = platform_cmd platform; cmdsize = SIZEOF_VERSION_MIN_COMMAND; version = 0; sdk = 0 }`
+    ///
+    /// </details>
     pub fn new(platform: Platform) -> Self {
         VersionMinCommand {
             cmd: platform as u32,
@@ -87,20 +98,16 @@ impl VersionMinCommand {
         }
     }
 
+    crate::shim::inner! {
     /// Returns the platform that the command names. `Platform::try_from` tests whether `cmd` names one.
-    ///
-    /// # Proved
-    ///
-    /// Callers make sure of: `IsPlatformCmd self.cmd`.
-    ///
-    /// - `self.cmd ≡ platform_cmd result`
-    pub fn platform(&self) -> Platform {
-        Platform::try_from(self.cmd).unwrap()
+        fn named_platform(&self) -> Platform {
+            Platform::try_from(self.cmd).unwrap()
+        }
     }
 }
 
 /// The platform that the image was built for (struct build_version_command, `LC_BUILD_VERSION`).
-#[derive(Clone, Copy, Debug)]
+#[derive(Clone, Copy, Eq, Hash, PartialEq)]
 pub struct BuildVersionCommand {
     /// Its number: one of the `LC_` constants.
     pub cmd: u32,
@@ -116,10 +123,19 @@ pub struct BuildVersionCommand {
     pub ntools: u32,
 }
 
+crate::shim::shown!(BuildVersionCommand {
+    cmd: Hex,
+    cmdsize: Hex,
+    platform: Hex,
+    minos: Hex,
+    sdk: Hex,
+    ntools: Hex
+});
+
 impl Record for BuildVersionCommand {
     const SIZE: usize = 24;
 
-    fn load(bytes: &[u8], le: Endian) -> Self {
+    fn load(bytes: &[u8], le: Endian, _: crate::shim::Inner) -> Self {
         BuildVersionCommand {
             cmd: le.u32_at(bytes, 0),
             cmdsize: le.u32_at(bytes, 4),
@@ -178,7 +194,7 @@ pub const PLATFORM_VISIONOS: u32 = 11;
 pub const PLATFORM_VISIONOSSIMULATOR: u32 = 12;
 
 /// A tool that the image was built with (struct build_tool_version).
-#[derive(Clone, Copy, Debug)]
+#[derive(Clone, Copy, Eq, Hash, PartialEq)]
 pub struct BuildToolVersion {
     /// One of the `TOOL_` constants.
     pub tool: u32,
@@ -186,10 +202,15 @@ pub struct BuildToolVersion {
     pub version: u32,
 }
 
+crate::shim::shown!(BuildToolVersion {
+    tool: Hex,
+    version: Hex
+});
+
 impl Record for BuildToolVersion {
     const SIZE: usize = 8;
 
-    fn load(bytes: &[u8], le: Endian) -> Self {
+    fn load(bytes: &[u8], le: Endian, _: crate::shim::Inner) -> Self {
         BuildToolVersion {
             tool: le.u32_at(bytes, 0),
             version: le.u32_at(bytes, 4),
@@ -214,7 +235,7 @@ pub const TOOL_LD: u32 = 3;
 pub const TOOL_LLD: u32 = 4;
 
 /// The version of the sources that the image was built from (struct source_version_command, `LC_SOURCE_VERSION`).
-#[derive(Clone, Copy, Debug)]
+#[derive(Clone, Copy, Eq, Hash, PartialEq)]
 pub struct SourceVersionCommand {
     /// Its number: one of the `LC_` constants.
     pub cmd: u32,
@@ -224,10 +245,16 @@ pub struct SourceVersionCommand {
     pub version: u64,
 }
 
+crate::shim::shown!(SourceVersionCommand {
+    cmd: Hex,
+    cmdsize: Hex,
+    version: Hex
+});
+
 impl Record for SourceVersionCommand {
     const SIZE: usize = 16;
 
-    fn load(bytes: &[u8], le: Endian) -> Self {
+    fn load(bytes: &[u8], le: Endian, _: crate::shim::Inner) -> Self {
         SourceVersionCommand {
             cmd: le.u32_at(bytes, 0),
             cmdsize: le.u32_at(bytes, 4),

@@ -16,11 +16,19 @@ fn bytes_between(image: &[u8], start: u64, end: u64) -> &[u8] {
 }
 
 // The pages that a directory covers; the first `count` of them are judged.
-#[derive(Clone, Copy)]
+#[derive(Clone, Copy, Eq, Hash, PartialEq)]
+#[cfg_attr(not(feature = "internals"), non_exhaustive)]
 pub struct Pages<'a> {
     pub directory: CodeDirectory<'a>,
     pub image: &'a [u8],
     pub count: u32,
+}
+
+impl<'a> core::fmt::Debug for Pages<'a> {
+    /// Prints the name of the type.
+    fn fmt(&self, f: &mut core::fmt::Formatter<'_>) -> core::fmt::Result {
+        f.debug_struct("Pages").finish_non_exhaustive()
+    }
 }
 
 impl<'a> Numbered for Pages<'a> {
@@ -55,6 +63,13 @@ pub struct CodeFaults<'a> {
     pub(crate) pages: NumberedFaults<Pages<'a>>,
 }
 
+impl<'a> core::fmt::Debug for CodeFaults<'a> {
+    /// Prints the name of the type.
+    fn fmt(&self, f: &mut core::fmt::Formatter<'_>) -> core::fmt::Result {
+        f.debug_struct("CodeFaults").finish_non_exhaustive()
+    }
+}
+
 impl<'a> Iterator for CodeFaults<'a> {
     type Item = CodeFault;
 
@@ -65,6 +80,8 @@ impl<'a> Iterator for CodeFaults<'a> {
         self.pages.take_next()
     }
 }
+
+impl<'a> core::iter::FusedIterator for CodeFaults<'a> {}
 
 impl<'a> CodeDirectory<'a> {
     // Returns the reason why the pages of an image can't be judged, if there is one.
@@ -89,9 +106,11 @@ impl<'a> CodeDirectory<'a> {
     /// Returns the faults of the image's code that this directory covers, in order. There are none exactly when the image has all
     /// covered bytes and the hash of each page is its code slot.
     ///
-    /// # Proved
+    /// <details><summary>Proved</summary>
     ///
     /// - `code_faults_left result ≡ code_faults_of (directory_view self) image`
+    ///
+    /// </details>
     pub fn code_faults(&self, image: &'a [u8]) -> CodeFaults<'a> {
         let first = self.form_fault(image);
         let count = if first.is_none() {

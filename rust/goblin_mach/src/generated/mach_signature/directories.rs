@@ -9,9 +9,17 @@ use crate::generated::mach_signature::signature::CodeSignature;
 use crate::generated::mach_signature::slots::is_directory_slot;
 
 // The blobs of a signature; those of directory slots are reported.
-#[derive(Clone, Copy)]
+#[derive(Clone, Copy, Eq, Hash, PartialEq)]
+#[cfg_attr(not(feature = "internals"), non_exhaustive)]
 pub struct DirectoryBlobs<'a> {
     pub signature: CodeSignature<'a>,
+}
+
+impl<'a> core::fmt::Debug for DirectoryBlobs<'a> {
+    /// Prints the name of the type.
+    fn fmt(&self, f: &mut core::fmt::Formatter<'_>) -> core::fmt::Result {
+        f.debug_struct("DirectoryBlobs").finish_non_exhaustive()
+    }
 }
 
 impl<'a> Numbered for DirectoryBlobs<'a> {
@@ -36,6 +44,13 @@ pub struct Directories<'a> {
     pub(crate) reported: NumberedFaults<DirectoryBlobs<'a>>,
 }
 
+impl<'a> core::fmt::Debug for Directories<'a> {
+    /// Prints the name of the type.
+    fn fmt(&self, f: &mut core::fmt::Formatter<'_>) -> core::fmt::Result {
+        f.debug_struct("Directories").finish_non_exhaustive()
+    }
+}
+
 impl<'a> Directories<'a> {
     // An iterator over none of a signature's directories.
     pub(crate) fn none(signature: CodeSignature<'a>) -> Directories<'a> {
@@ -56,6 +71,8 @@ impl<'a> Iterator for Directories<'a> {
     }
 }
 
+impl<'a> core::iter::FusedIterator for Directories<'a> {}
+
 // Returns the directory if it can be read and its hash has the given rank.
 fn if_of_rank(directory: Result<CodeDirectory<'_>>, rank: u8) -> Option<CodeDirectory<'_>> {
     match directory {
@@ -72,9 +89,11 @@ impl<'a> CodeSignature<'a> {
 
     /// Returns the code directories with their slots, in the order of the index. Their slots are 0 and the alternate ones, 0x1000 to 0x1004.
     ///
-    /// # Proved
+    /// <details><summary>Proved</summary>
     ///
     /// - `directories_left result ≡ directories_of (signature_view self)`
+    ///
+    /// </details>
     pub fn directories(&self) -> Directories<'a> {
         Directories {
             reported: NumberedFaults::of(DirectoryBlobs { signature: *self }),
@@ -121,10 +140,12 @@ impl<'a> CodeSignature<'a> {
     /// is that of the first such directory. If there is no directory, or two have the same hash, it is `Malformed` and says
     /// which. So a signature has at most four.
     ///
-    /// # Proved
+    /// <details><summary>Proved</summary>
     ///
     /// - *value*: `Reads directory_view result (directory_of (signature_view self))`
     /// - *words*: if `Err(e)`: if `first_refused (directories_of (signature_view self)) ≡ None`, `SaysNoneCounts e (signature_view self)`
+    ///
+    /// </details>
     pub fn directory(&self) -> Result<CodeDirectory<'a>> {
         if let Some(e) = self.refused() {
             return Err(e);

@@ -2,6 +2,8 @@
 //! A code directory: the hashes of the pages of an image, and of the other things that its signature seals (`cs_blobs.h`).
 #![forbid(unsafe_code)]
 
+use crate::shim::ReadsNumbers;
+
 use crate::generated::mach_base::{
     BE, Error, Record, Result, ScrollError, bytes_at, read_text, read_u32, try_rest_at,
 };
@@ -11,12 +13,19 @@ use crate::generated::mach_signature::slots::MAGIC_DIRECTORY;
 use core::ops::Range;
 
 /// A code directory. Offsets count from its first byte.
-#[derive(Clone, Copy)]
+#[derive(Clone, Copy, Eq, Hash, PartialEq)]
+#[cfg_attr(not(feature = "internals"), non_exhaustive)]
 pub struct CodeDirectory<'a> {
     /// The bytes of its blob.
+    #[cfg(feature = "internals")]
     pub bytes: &'a [u8],
+    #[cfg(not(feature = "internals"))]
+    pub(crate) bytes: &'a [u8],
     /// The fields that every version has.
+    #[cfg(feature = "internals")]
     pub head: DirectoryHead,
+    #[cfg(not(feature = "internals"))]
+    pub(crate) head: DirectoryHead,
     /// The hash that it uses.
     pub hash: HashType,
     /// The offset of its scatter vector, since version 0x20100; 0 if it has none.
@@ -31,6 +40,13 @@ pub struct CodeDirectory<'a> {
     pub executable: Option<ExecutableSegment>,
     /// The fields for the hardened runtime, since version 0x20500.
     pub runtime: Option<RuntimeFields>,
+}
+
+impl<'a> core::fmt::Debug for CodeDirectory<'a> {
+    /// Prints the name of the type.
+    fn fmt(&self, f: &mut core::fmt::Formatter<'_>) -> core::fmt::Result {
+        f.debug_struct("CodeDirectory").finish_non_exhaustive()
+    }
 }
 
 // Returns `n` if the bytes have this length at least.
@@ -54,7 +70,9 @@ fn fields_len(version: u32) -> usize {
 // Returns the version if it is one that is read.
 fn readable_version(version: u32) -> Result<u32> {
     if version < 0x20001 || version > 0x2f000 {
-        return Err(Error::Malformed("the version of a code directory"));
+        return Err(Error::Malformed(
+            "a code directory is of an unknown version",
+        ));
     }
     Ok(version)
 }
@@ -62,10 +80,14 @@ fn readable_version(version: u32) -> Result<u32> {
 // Returns the hash if its size is the one that the directory gives, and the page size is one that is read.
 fn sized_hash(head: &DirectoryHead, hash: HashType) -> Result<HashType> {
     if head.hash_size != hash.size() {
-        return Err(Error::Malformed("the hash size of a code directory"));
+        return Err(Error::Malformed(
+            "a code directory has a hash size that is not its hash's",
+        ));
     }
     if head.page_size > 31 {
-        return Err(Error::Malformed("the page size of a code directory"));
+        return Err(Error::Malformed(
+            "a code directory has pages of more than 2^31 bytes",
+        ));
     }
     Ok(hash)
 }
@@ -142,7 +164,7 @@ fn name_at(bytes: &[u8], place: Option<u32>) -> Result<Option<&str>> {
     }
     let rest = try_rest_at(bytes, place as usize)?;
     if !rest.contains(&0) {
-        return Err(Error::Malformed("a name of a code directory"));
+        return Err(Error::Malformed("a name of a code directory has no end"));
     }
     let name = read_text(bytes, place as usize)?;
     Ok(Some(name))
@@ -154,9 +176,11 @@ impl<'a> CodeDirectory<'a> {
     /// It is `BadMagic` if the blob begins with another magic. It is `Malformed` if the version, the hash or the page size isn't
     /// one that is read, and `BadOffset` or `BufferTooShort` if the slots don't lie in the blob.
     ///
-    /// # Proved
+    /// <details><summary>Proved</summary>
     ///
     /// - `Reads directory_view result (directory_at bytes)`
+    ///
+    /// </details>
     pub fn parse(bytes: &'a [u8]) -> Result<CodeDirectory<'a>> {
         let magic = read_u32(bytes, 0, BE)?;
         if magic != MAGIC_DIRECTORY {
@@ -166,7 +190,9 @@ impl<'a> CodeDirectory<'a> {
         let version = readable_version(head.version)?;
         room(bytes, fields_len(version))?;
         let Some(found) = HashType::of(head.hash_type) else {
-            return Err(Error::Malformed("the hash type of a code directory"));
+            return Err(Error::Malformed(
+                "a code directory is of an unknown hash type",
+            ));
         };
         let sized = sized_hash(&head, found)?;
         let hash = with_slots(bytes, &head, sized)?;
@@ -198,27 +224,33 @@ impl<'a> CodeDirectory<'a> {
     /// Returns the identifier of the code, if it has one. It is `BadOffset` if it doesn't lie in the directory, `Malformed` if no
     /// zero byte ends it, and `BadInput` if it isn't UTF-8.
     ///
-    /// # Proved
+    /// <details><summary>Proved</summary>
     ///
     /// - `Reads (option_map (λ name. name)) result (identifier_of (directory_view self))`
+    ///
+    /// </details>
     pub fn identifier(&self) -> Result<Option<&'a str>> {
         name_at(self.bytes, Some(self.head.ident_offset))
     }
 
     /// Returns the name of the team, if it has one. Errors are those of `identifier`.
     ///
-    /// # Proved
+    /// <details><summary>Proved</summary>
     ///
     /// - `Reads (option_map (λ name. name)) result (team_of (directory_view self))`
+    ///
+    /// </details>
     pub fn team(&self) -> Result<Option<&'a str>> {
         name_at(self.bytes, self.team_offset)
     }
 
     /// Returns how many bytes of the image are covered.
     ///
-    /// # Proved
+    /// <details><summary>Proved</summary>
     ///
     /// - `result ≡ code_limit_of (directory_view self)`
+    ///
+    /// </details>
     pub fn code_limit(&self) -> u64 {
         match self.code_limit64 {
             Some(long) if long != 0 => long,
@@ -233,9 +265,11 @@ impl<'a> CodeDirectory<'a> {
 
     /// Returns how many pages the covered bytes have.
     ///
-    /// # Proved
+    /// <details><summary>Proved</summary>
     ///
     /// - `result ≡ page_count_of (directory_view self)`
+    ///
+    /// </details>
     pub fn page_count(&self) -> u64 {
         let limit = self.code_limit();
         if self.head.page_size == 0 {
@@ -246,9 +280,11 @@ impl<'a> CodeDirectory<'a> {
 
     /// Returns the range of a page's bytes in the image.
     ///
-    /// # Proved
+    /// <details><summary>Proved</summary>
     ///
     /// - `result ≡ record { start = page_start (directory_view self) index; end = page_end (directory_view self) index }`
+    ///
+    /// </details>
     pub fn page(&self, index: u32) -> Range<u64> {
         let limit = self.code_limit();
         if self.head.page_size == 0 {
@@ -265,9 +301,11 @@ impl<'a> CodeDirectory<'a> {
 
     /// Returns the hash of a page, if there is a page of this number.
     ///
-    /// # Proved
+    /// <details><summary>Proved</summary>
     ///
     /// - `slot_read result ≡ code_slot_of (directory_view self) index`
+    ///
+    /// </details>
     pub fn code_slot(&self, index: u32) -> Option<&'a [u8]> {
         if index >= self.head.n_code_slots {
             return None;
@@ -278,9 +316,11 @@ impl<'a> CodeDirectory<'a> {
 
     /// Returns the hash of a special slot, if there is one of this number. Special slots count from 1.
     ///
-    /// # Proved
+    /// <details><summary>Proved</summary>
     ///
     /// - `slot_read result ≡ special_slot_of (directory_view self) number`
+    ///
+    /// </details>
     pub fn special_slot(&self, number: u32) -> Option<&'a [u8]> {
         if number == 0 || number > self.head.n_special_slots {
             return None;
@@ -291,9 +331,11 @@ impl<'a> CodeDirectory<'a> {
 
     /// Returns the first 20 bytes of the directory's own hash. Callers compare them to identify the directory.
     ///
-    /// # Proved
+    /// <details><summary>Proved</summary>
     ///
     /// - `result ≡ cdhash_of (directory_view self)`
+    ///
+    /// </details>
     pub fn cdhash(&self) -> [u8; 20] {
         self.hash.first_bytes(self.bytes)
     }

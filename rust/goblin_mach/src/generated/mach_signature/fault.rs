@@ -8,6 +8,7 @@ use core::fmt::{Display, Formatter};
 
 /// A slot that is written as its name, or as its number if it has none.
 #[derive(Clone, Copy, Debug, PartialEq)]
+#[cfg_attr(not(feature = "internals"), non_exhaustive)]
 pub struct SlotName(pub u32);
 
 impl Display for SlotName {
@@ -40,7 +41,8 @@ impl Display for SlotName {
 }
 
 /// A fault of the code that a directory covers.
-#[derive(Clone, Copy, Debug, PartialEq)]
+#[derive(Clone, Copy, Debug, PartialEq, Eq, Hash)]
+#[cfg_attr(not(feature = "internals"), non_exhaustive)]
 pub enum CodeFault {
     /// The pages are scattered, as the vector at this place says, and aren't judged.
     Scattered {
@@ -91,7 +93,8 @@ impl Display for CodeFault {
 }
 
 /// A fault of a special slot, or of a blob that no slot seals.
-#[derive(Clone, Copy, Debug, PartialEq)]
+#[derive(Clone, Copy, Debug, PartialEq, Eq, Hash)]
+#[cfg_attr(not(feature = "internals"), non_exhaustive)]
 pub enum SpecialFault {
     /// The slot isn't known.
     Unknown {
@@ -139,7 +142,8 @@ impl Display for SpecialFault {
 }
 
 /// A fault of a code directory, or of what it covers.
-#[derive(Debug)]
+#[derive(Debug, Clone, Eq, Hash, PartialEq)]
+#[cfg_attr(not(feature = "internals"), non_exhaustive)]
 pub enum DirectoryFault {
     /// The identifier can't be read.
     Identifier(Error),
@@ -179,7 +183,8 @@ impl Display for DirectoryFault {
 }
 
 /// A fault of a signature: something that isn't as it was signed.
-#[derive(Debug)]
+#[derive(Debug, Clone, Eq, Hash, PartialEq)]
+#[cfg_attr(not(feature = "internals"), non_exhaustive)]
 pub enum SignatureFault {
     /// A blob can't be read.
     Blob {

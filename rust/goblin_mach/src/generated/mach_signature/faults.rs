@@ -15,9 +15,11 @@ use crate::generated::mach_signature::special_faults::SpecialFaults;
 /// Reads the signature at the place that a command gives: `datasize` bytes at `dataoff` of the image. Errors are those of
 /// `CodeSignature::parse`, and of a bounded read if the range isn't in the image.
 ///
-/// # Proved
+/// <details><summary>Proved</summary>
 ///
 /// - `Reads signature_view result (defined.signature_in image dataoff datasize)`
+///
+/// </details>
 pub fn code_signature(image: &[u8], dataoff: u32, datasize: u32) -> Result<CodeSignature<'_>> {
     if datasize == 0 {
         return CodeSignature::parse(&[]);
@@ -27,7 +29,8 @@ pub fn code_signature(image: &[u8], dataoff: u32, datasize: u32) -> Result<CodeS
 }
 
 /// An image with its signature.
-#[derive(Clone, Copy)]
+#[derive(Clone, Copy, Eq, Hash, PartialEq)]
+#[cfg_attr(not(feature = "internals"), non_exhaustive)]
 pub struct SignedBytes<'a> {
     /// The bytes of the image.
     pub image: &'a [u8],
@@ -39,10 +42,25 @@ pub struct SignedBytes<'a> {
     pub plist: Option<&'a [u8]>,
 }
 
+impl<'a> core::fmt::Debug for SignedBytes<'a> {
+    /// Prints the name of the type.
+    fn fmt(&self, f: &mut core::fmt::Formatter<'_>) -> core::fmt::Result {
+        f.debug_struct("SignedBytes").finish_non_exhaustive()
+    }
+}
+
 // The blobs of a signature, each checked against its slot.
-#[derive(Clone, Copy)]
+#[derive(Clone, Copy, Eq, Hash, PartialEq)]
+#[cfg_attr(not(feature = "internals"), non_exhaustive)]
 pub struct BlobTests<'a> {
     pub signature: CodeSignature<'a>,
+}
+
+impl<'a> core::fmt::Debug for BlobTests<'a> {
+    /// Prints the name of the type.
+    fn fmt(&self, f: &mut core::fmt::Formatter<'_>) -> core::fmt::Result {
+        f.debug_struct("BlobTests").finish_non_exhaustive()
+    }
 }
 
 impl<'a> Numbered for BlobTests<'a> {
@@ -73,12 +91,21 @@ impl<'a> Numbered for BlobTests<'a> {
 }
 
 // An iterator over the faults of a directory, in order.
+#[derive(Clone)]
+#[cfg_attr(not(feature = "internals"), non_exhaustive)]
 pub struct DirectoryFaults<'a> {
     pub identifier: Option<Error>,
     pub team: Option<Error>,
     pub short: Option<DirectoryFault>,
     pub code: CodeFaults<'a>,
     pub special: SpecialFaults<'a>,
+}
+
+impl<'a> core::fmt::Debug for DirectoryFaults<'a> {
+    /// Prints the name of the type.
+    fn fmt(&self, f: &mut core::fmt::Formatter<'_>) -> core::fmt::Result {
+        f.debug_struct("DirectoryFaults").finish_non_exhaustive()
+    }
 }
 
 impl<'a> DirectoryFaults<'a> {
@@ -136,9 +163,18 @@ fn of_slot(slot: u32, fault: DirectoryFault) -> SignatureFault {
 }
 
 // An iterator over the faults of the directory at a slot, if one is being judged.
+#[derive(Clone)]
+#[cfg_attr(not(feature = "internals"), non_exhaustive)]
 pub struct Current<'a> {
     pub slot: u32,
     pub faults: Option<DirectoryFaults<'a>>,
+}
+
+impl<'a> core::fmt::Debug for Current<'a> {
+    /// Prints the name of the type.
+    fn fmt(&self, f: &mut core::fmt::Formatter<'_>) -> core::fmt::Result {
+        f.debug_struct("Current").finish_non_exhaustive()
+    }
 }
 
 impl<'a> Current<'a> {
@@ -166,9 +202,11 @@ impl<'a> SignedBytes<'a> {
 
     /// Returns all faults of the signature, in order.
     ///
-    /// # Proved
+    /// <details><summary>Proved</summary>
     ///
     /// - `signature_faults_left result ≡ defined.signature_faults_of (signed_view self)`
+    ///
+    /// </details>
     pub fn faults(&self) -> SignatureFaults<'a> {
         let (refused, directories) = match self.signature.directory() {
             Ok(_) => (None, self.signature.directories()),
@@ -191,6 +229,7 @@ impl<'a> SignedBytes<'a> {
 
 /// An iterator over the faults of a signature, in order: those of its blobs, then those of each code directory. If no directory
 /// counts, only that is reported after the faults of the blobs.
+#[derive(Clone)]
 pub struct SignatureFaults<'a> {
     pub(crate) signed: SignedBytes<'a>,
     pub(crate) blobs: NumberedFaults<BlobTests<'a>>,
@@ -198,6 +237,13 @@ pub struct SignatureFaults<'a> {
     // The directory that is being judged; `directories` are those after it.
     pub(crate) current: Current<'a>,
     pub(crate) directories: Directories<'a>,
+}
+
+impl<'a> core::fmt::Debug for SignatureFaults<'a> {
+    /// Prints the name of the type.
+    fn fmt(&self, f: &mut core::fmt::Formatter<'_>) -> core::fmt::Result {
+        f.debug_struct("SignatureFaults").finish_non_exhaustive()
+    }
 }
 
 impl<'a> Iterator for SignatureFaults<'a> {
@@ -222,12 +268,16 @@ impl<'a> Iterator for SignatureFaults<'a> {
     }
 }
 
+impl<'a> core::iter::FusedIterator for SignatureFaults<'a> {}
+
 /// Returns the faults of the signature that a command places, in order. Errors are those of `code_signature`. `plist` is the
 /// section `__info_plist` of `__TEXT`, if the image has one. There are none exactly when everything is as signed.
 ///
-/// # Proved
+/// <details><summary>Proved</summary>
 ///
 /// - `Reads signature_faults_left result (defined.faults_in image dataoff datasize (slot_read plist.entry))`
+///
+/// </details>
 pub fn signature_faults<'a>(
     image: &'a [u8],
     dataoff: u32,

@@ -7,7 +7,8 @@ use crate::generated::sha1::Sha1;
 use crate::generated::sha2::{Digest, Sha256, Sha384};
 
 /// The hash that a code directory uses.
-#[derive(Clone, Copy, Debug, PartialEq)]
+#[derive(Clone, Copy, Debug, PartialEq, Eq, Hash)]
+#[cfg_attr(not(feature = "internals"), non_exhaustive)]
 pub enum HashType {
     /// SHA-1: 20 bytes.
     Sha1,
@@ -22,9 +23,11 @@ pub enum HashType {
 impl HashType {
     /// Returns the hash of a number, if it is one of the four.
     ///
-    /// # Proved
+    /// <details><summary>Proved</summary>
     ///
     /// - `result ≡ defined.hash_type_of number`
+    ///
+    /// </details>
     pub fn of(number: u8) -> Option<HashType> {
         match number {
             1 => Some(HashType::Sha1),
@@ -37,9 +40,11 @@ impl HashType {
 
     /// Returns how many bytes a hash has.
     ///
-    /// # Proved
+    /// <details><summary>Proved</summary>
     ///
     /// - `result ≡ defined.hash_len self`
+    ///
+    /// </details>
     pub fn size(self) -> u8 {
         match self {
             HashType::Sha1 => 20,
@@ -51,9 +56,11 @@ impl HashType {
 
     /// Returns the rank of the hash. Of two code directories the one of the higher rank counts.
     ///
-    /// # Proved
+    /// <details><summary>Proved</summary>
     ///
     /// - `result ≡ defined.hash_rank self`
+    ///
+    /// </details>
     pub fn rank(self) -> u8 {
         match self {
             HashType::Sha1 => 1,
@@ -65,9 +72,11 @@ impl HashType {
 
     /// Whether a slot is the hash of some bytes.
     ///
-    /// # Proved
+    /// <details><summary>Proved</summary>
     ///
     /// - `result ≡ bytes_eq (hash_of self bytes) slot`
+    ///
+    /// </details>
     pub fn seals(self, bytes: &[u8], slot: &[u8]) -> bool {
         match self {
             HashType::Sha1 => {
@@ -91,9 +100,11 @@ impl HashType {
 
     /// Returns the first 20 bytes of the hash of some bytes.
     ///
-    /// # Proved
+    /// <details><summary>Proved</summary>
     ///
     /// - `result ≡ take 20 (hash_of self bytes)`
+    ///
+    /// </details>
     pub fn first_bytes(self, bytes: &[u8]) -> [u8; 20] {
         match self {
             HashType::Sha1 => Sha1::digest(bytes),

@@ -13,9 +13,11 @@ pub use crate::generated::mach_signature::signature_place::signature_place;
 /// Returns the code signature of an image: the one that its first `LC_CODE_SIGNATURE` places, or none without such a command.
 /// Opening an image checks nothing of it. Errors are those of `crate::faults::code_signature`. It allocates nothing.
 ///
-/// # Proved
+/// <details><summary>Proved</summary>
 ///
 /// - `Reads (option_map signature_view) result (image_signature (bytes_view image) (commands_view image))`
+///
+/// </details>
 pub fn code_signature<'a>(image: &MachO<'a>) -> Result<Option<CodeSignature<'a>>> {
     let Some((dataoff, datasize)) = signature_place(image.load_commands.as_slice()) else {
         return Ok(None);
@@ -28,9 +30,11 @@ pub fn code_signature<'a>(image: &MachO<'a>) -> Result<Option<CodeSignature<'a>>
 /// Returns the code directory that counts in the signature of an image: the system knows the code by it. It is none without a
 /// signature. Errors are those of `code_signature` and of `CodeSignature::directory`. It allocates nothing.
 ///
-/// # Proved
+/// <details><summary>Proved</summary>
 ///
 /// - `Reads (option_map directory_view) result (image_directory (bytes_view image) (commands_view image))`
+///
+/// </details>
 pub fn code_directory<'a>(image: &MachO<'a>) -> Result<Option<CodeDirectory<'a>>> {
     let Some(signature) = code_signature(image)? else {
         return Ok(None);
@@ -41,9 +45,11 @@ pub fn code_directory<'a>(image: &MachO<'a>) -> Result<Option<CodeDirectory<'a>>
 
 /// Returns the section that the signature of an image seals as its Info.plist, if there is one and its bytes are in the file.
 ///
-/// # Proved
+/// <details><summary>Proved</summary>
 ///
 /// - `slot_read result ≡ plist_of (bytes_view image) (segments_view image)`
+///
+/// </details>
 pub fn image_plist<'a>(image: &MachO<'a>) -> Option<&'a [u8]> {
     info_plist(image.bytes(), image.segments.as_slice())
 }
@@ -52,9 +58,11 @@ pub fn image_plist<'a>(image: &MachO<'a>) -> Option<&'a [u8]> {
 /// is as signed. Errors are those of `code_signature`. It allocates nothing, and hashes the image at most once for each of four
 /// directories.
 ///
-/// # Proved
+/// <details><summary>Proved</summary>
 ///
 /// - `Reads (option_map signature_faults_left) result (image_faults (bytes_view image) (commands_view image) (segments_view image))`
+///
+/// </details>
 pub fn signature_faults<'a>(image: &MachO<'a>) -> Result<Option<SignatureFaults<'a>>> {
     let Some((dataoff, datasize)) = signature_place(image.load_commands.as_slice()) else {
         return Ok(None);
@@ -82,9 +90,11 @@ fn are_unreported(faults: Option<SignatureFaults<'_>>) -> bool {
 
 /// Whether an image has a signature and is as it was signed. Errors are those of `code_signature`. It allocates nothing.
 ///
-/// # Proved
+/// <details><summary>Proved</summary>
 ///
 /// - `Reads (λ is. is) result (defined.is_as_signed (image_faults (bytes_view image) (commands_view image) (segments_view image)))`
+///
+/// </details>
 pub fn is_as_signed(image: &MachO<'_>) -> Result<bool> {
     let faults = signature_faults(image)?;
     Ok(are_unreported(faults))

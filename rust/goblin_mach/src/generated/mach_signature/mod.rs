@@ -18,8 +18,15 @@ mod special_faults;
 
 // The signature of an image: where its command places it, and its faults.
 pub mod image;
+pub mod page;
 mod plist;
 mod signature_place;
+
+// Entitlements.
+pub mod entitlements;
+
+// Requirements.
+pub mod requirements;
 
 pub use crate::generated::mach_signature::code_faults::CodeFaults;
 pub use crate::generated::mach_signature::directories::Directories;

@@ -9,43 +9,59 @@ pub trait Numbered {
 
     /// Returns how many things there are.
     ///
-    /// # Proved
+    /// <details><summary>Proved</summary>
     ///
     /// - `result ≡ count self`
+    ///
+    /// </details>
     fn count(&self) -> u32;
 
     /// Returns the report on one thing, if there is one.
     ///
-    /// # Proved
+    /// <details><summary>Proved</summary>
     ///
     /// Callers make sure of: `number < count self`.
     ///
     /// - `option_map view result ≡ reports self number`
+    ///
+    /// </details>
     fn report(&self, number: u32) -> Option<Self::Item>;
 }
 
 /// An iterator over the reports, from a number on.
-#[derive(Clone, Copy)]
+#[derive(Clone, Copy, Eq, Hash, PartialEq)]
+#[cfg_attr(not(feature = "internals"), non_exhaustive)]
 pub struct NumberedFaults<T> {
     pub things: T,
     pub next: u32,
 }
 
+impl<T> core::fmt::Debug for NumberedFaults<T> {
+    /// Prints the name of the type.
+    fn fmt(&self, f: &mut core::fmt::Formatter<'_>) -> core::fmt::Result {
+        f.debug_struct("NumberedFaults").finish_non_exhaustive()
+    }
+}
+
 impl<T: Numbered> NumberedFaults<T> {
     /// Returns the reports on all things.
     ///
-    /// # Proved
+    /// <details><summary>Proved</summary>
     ///
     /// - `result ≡ record { things = things; next = 0 }`
+    ///
+    /// </details>
     pub fn of(things: T) -> NumberedFaults<T> {
         NumberedFaults { things, next: 0 }
     }
 
     /// Returns the next report.
     ///
-    /// # Proved
+    /// <details><summary>Proved</summary>
     ///
     /// - `YieldsFirstBy T.view (reported_left T.count T.reports) self.old result self.new`
+    ///
+    /// </details>
     #[inline(always)]
     pub fn take_next(&mut self) -> Option<T::Item> {
         while self.next < self.things.count() {

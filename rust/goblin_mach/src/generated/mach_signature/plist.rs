@@ -32,9 +32,11 @@ fn among_sections(segments: &[Segment<'_>]) -> Option<NumberedSection> {
 ///
 /// It looks at the sections in their segment's command and in the bytes. So a count in a file never sets the work.
 ///
-/// # Proved
+/// <details><summary>Proved</summary>
 ///
 /// - `slot_read result ≡ defined.plist_of bytes (map segment_view segments)`
+///
+/// </details>
 pub fn info_plist<'a>(bytes: &'a [u8], segments: &[Segment<'_>]) -> Option<&'a [u8]> {
     let found = among_sections(segments)?;
     let section = &found.section;

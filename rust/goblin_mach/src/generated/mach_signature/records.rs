@@ -2,10 +2,13 @@
 //! The records of a signature (`cs_blobs.h`). All their numbers are big-endian.
 #![forbid(unsafe_code)]
 
+use crate::shim::ReadsNumbers;
+
 use crate::generated::mach_base::{Endian, Record, RecordBytes};
 
 /// The head of a signature (struct __SC_SuperBlob).
-#[derive(Clone, Copy, Debug)]
+#[derive(Clone, Copy, Debug, Eq, Hash, PartialEq)]
+#[cfg_attr(not(feature = "internals"), non_exhaustive)]
 pub struct SuperBlobHead {
     /// The magic number.
     pub magic: u32,
@@ -18,7 +21,7 @@ pub struct SuperBlobHead {
 impl Record for SuperBlobHead {
     const SIZE: usize = 12;
 
-    fn load(bytes: &[u8], le: Endian) -> Self {
+    fn load(bytes: &[u8], le: Endian, _: crate::shim::Inner) -> Self {
         SuperBlobHead {
             magic: le.u32_at(bytes, 0),
             length: le.u32_at(bytes, 4),
@@ -35,7 +38,8 @@ impl Record for SuperBlobHead {
 }
 
 /// The head of a blob (struct __SC_GenericBlob).
-#[derive(Clone, Copy, Debug)]
+#[derive(Clone, Copy, Debug, Eq, Hash, PartialEq)]
+#[cfg_attr(not(feature = "internals"), non_exhaustive)]
 pub struct BlobHead {
     /// The magic number.
     pub magic: u32,
@@ -46,7 +50,7 @@ pub struct BlobHead {
 impl Record for BlobHead {
     const SIZE: usize = 8;
 
-    fn load(bytes: &[u8], le: Endian) -> Self {
+    fn load(bytes: &[u8], le: Endian, _: crate::shim::Inner) -> Self {
         BlobHead {
             magic: le.u32_at(bytes, 0),
             length: le.u32_at(bytes, 4),
@@ -59,7 +63,8 @@ impl Record for BlobHead {
 }
 
 /// The fields that every code directory has (struct __CodeDirectory).
-#[derive(Clone, Copy, Debug)]
+#[derive(Clone, Copy, Debug, Eq, Hash, PartialEq)]
+#[cfg_attr(not(feature = "internals"), non_exhaustive)]
 pub struct DirectoryHead {
     /// The magic number.
     pub magic: u32,
@@ -94,7 +99,7 @@ pub struct DirectoryHead {
 impl Record for DirectoryHead {
     const SIZE: usize = 44;
 
-    fn load(bytes: &[u8], le: Endian) -> Self {
+    fn load(bytes: &[u8], le: Endian, _: crate::shim::Inner) -> Self {
         DirectoryHead {
             magic: le.u32_at(bytes, 0),
             length: le.u32_at(bytes, 4),
@@ -133,7 +138,8 @@ impl Record for DirectoryHead {
 }
 
 /// The executable segment, which code directories have since version 0x20400.
-#[derive(Clone, Copy, Debug)]
+#[derive(Clone, Copy, Debug, Eq, Hash, PartialEq)]
+#[cfg_attr(not(feature = "internals"), non_exhaustive)]
 pub struct ExecutableSegment {
     /// The file offset of the segment.
     pub base: u64,
@@ -144,7 +150,8 @@ pub struct ExecutableSegment {
 }
 
 /// The fields for the hardened runtime, which code directories have since version 0x20500.
-#[derive(Clone, Copy, Debug)]
+#[derive(Clone, Copy, Debug, Eq, Hash, PartialEq)]
+#[cfg_attr(not(feature = "internals"), non_exhaustive)]
 pub struct RuntimeFields {
     /// The version of the runtime: 16 bits for the first number, 8 bits for each of two others.
     pub version: u32,

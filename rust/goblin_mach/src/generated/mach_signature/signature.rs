@@ -2,6 +2,8 @@
 //! A signature: blobs by slots, after an index (`cs_blobs.h`, struct __SC_SuperBlob).
 #![forbid(unsafe_code)]
 
+use crate::shim::ReadsNumbers;
+
 use crate::generated::mach_base::{BE, Error, Record, Result, ScrollError, bytes_at};
 use crate::generated::mach_signature::records::{BlobHead, SuperBlobHead};
 use crate::generated::mach_signature::slots::{
@@ -9,16 +11,31 @@ use crate::generated::mach_signature::slots::{
 };
 
 /// A signature: its bytes, cut at the length that it gives, and how many blobs its index names.
-#[derive(Clone, Copy)]
+#[derive(Clone, Copy, Eq, Hash, PartialEq)]
+#[cfg_attr(not(feature = "internals"), non_exhaustive)]
 pub struct CodeSignature<'a> {
     /// The bytes of the signature.
+    #[cfg(feature = "internals")]
     pub bytes: &'a [u8],
+    #[cfg(not(feature = "internals"))]
+    pub(crate) bytes: &'a [u8],
     /// The number of its blobs.
+    #[cfg(feature = "internals")]
     pub count: u32,
+    #[cfg(not(feature = "internals"))]
+    pub(crate) count: u32,
+}
+
+impl<'a> core::fmt::Debug for CodeSignature<'a> {
+    /// Prints the name of the type.
+    fn fmt(&self, f: &mut core::fmt::Formatter<'_>) -> core::fmt::Result {
+        f.debug_struct("CodeSignature").finish_non_exhaustive()
+    }
 }
 
 /// A blob of a signature.
-#[derive(Clone, Copy)]
+#[derive(Clone, Copy, Eq, Hash, PartialEq)]
+#[cfg_attr(not(feature = "internals"), non_exhaustive)]
 pub struct Blob<'a> {
     /// The slot, which says what the blob is for.
     pub slot: u32,
@@ -30,15 +47,24 @@ pub struct Blob<'a> {
     pub bytes: &'a [u8],
 }
 
+impl<'a> core::fmt::Debug for Blob<'a> {
+    /// Prints the name of the type.
+    fn fmt(&self, f: &mut core::fmt::Formatter<'_>) -> core::fmt::Result {
+        f.debug_struct("Blob").finish_non_exhaustive()
+    }
+}
+
 impl<'a> CodeSignature<'a> {
     /// Reads the signature at the start of the bytes. Bytes past its length are ignored.
     ///
     /// It is `BadMagic` if the bytes begin with another magic, `Malformed` if its length is below 12, and `BufferTooShort` if the
     /// index doesn't lie in the length.
     ///
-    /// # Proved
+    /// <details><summary>Proved</summary>
     ///
     /// - `Reads signature_view result (signature_at bytes)`
+    ///
+    /// </details>
     pub fn parse(bytes: &'a [u8]) -> Result<CodeSignature<'a>> {
         let head = SuperBlobHead::read(bytes, 0, BE)?;
         if head.magic != MAGIC_SIGNATURE {
@@ -46,7 +72,7 @@ impl<'a> CodeSignature<'a> {
         }
         let length = head.length as usize;
         if length < 12 {
-            return Err(Error::Malformed("the length of a signature"));
+            return Err(Error::Malformed("a signature is shorter than its header"));
         }
         if length > bytes.len() {
             return Err(Error::Scroll(ScrollError::TooBig {
@@ -63,44 +89,38 @@ impl<'a> CodeSignature<'a> {
         })
     }
 
+    crate::shim::inner! {
     /// Returns the slot of a blob.
-    ///
-    /// # Proved
-    ///
-    /// Callers make sure of: `index < self.count`.
-    ///
-    /// - `result ≡ slot_at (signature_view self) index`
-    pub fn slot(&self, index: u32) -> u32 {
-        BE.u32_at(self.bytes, 12 + 8 * index as usize)
+        fn slot(&self, index: u32) -> u32 {
+            BE.u32_at(self.bytes, 12 + 8 * index as usize)
+        }
     }
 
+    crate::shim::inner! {
     /// Returns a blob. It is `Malformed` if its length is below 8.
-    ///
-    /// # Proved
-    ///
-    /// Callers make sure of: `index < self.count`.
-    ///
-    /// - `Reads blob_view result (blob_at (signature_view self) index)`
-    pub fn blob_at(&self, index: u32) -> Result<Blob<'a>> {
-        let offset = BE.u32_at(self.bytes, 16 + 8 * index as usize) as usize;
-        let head = BlobHead::read(self.bytes, offset, BE)?;
-        if head.length < 8 {
-            return Err(Error::Malformed("the length of a blob"));
+        fn blob_at(&self, index: u32) -> Result<Blob<'a>> {
+            let offset = BE.u32_at(self.bytes, 16 + 8 * index as usize) as usize;
+            let head = BlobHead::read(self.bytes, offset, BE)?;
+            if head.length < 8 {
+                return Err(Error::Malformed("a blob is shorter than its header"));
+            }
+            let bytes = bytes_at(self.bytes, offset, head.length as usize)?;
+            Ok(Blob {
+                slot: self.slot(index),
+                offset,
+                magic: head.magic,
+                bytes,
+            })
         }
-        let bytes = bytes_at(self.bytes, offset, head.length as usize)?;
-        Ok(Blob {
-            slot: self.slot(index),
-            offset,
-            magic: head.magic,
-            bytes,
-        })
     }
 
     /// Returns the blobs in the order of the index, exactly as many as it names. A blob that can't be read is an item with its error.
     ///
-    /// # Proved
+    /// <details><summary>Proved</summary>
     ///
     /// - `blobs_left result ≡ blobs_of (signature_view self)`
+    ///
+    /// </details>
     pub fn blobs(&self) -> Blobs<'a> {
         Blobs {
             signature: *self,
@@ -120,9 +140,11 @@ impl<'a> CodeSignature<'a> {
 
     /// Returns the first blob of a slot.
     ///
-    /// # Proved
+    /// <details><summary>Proved</summary>
     ///
     /// - `Reads (option_map blob_view) result (blob_of (signature_view self) slot)`
+    ///
+    /// </details>
     pub fn blob(&self, slot: u32) -> Result<Option<Blob<'a>>> {
         match self.first_of(slot) {
             Some(index) => Ok(Some(self.blob_at(index)?)),
@@ -140,36 +162,44 @@ impl<'a> CodeSignature<'a> {
 
     /// Returns the entitlements in XML, if there are any: the bytes after the head of their blob.
     ///
-    /// # Proved
+    /// <details><summary>Proved</summary>
     ///
     /// - `Reads (option_map (λ content. content)) result (content_of (signature_view self) 5)`
+    ///
+    /// </details>
     pub fn entitlements(&self) -> Result<Option<&'a [u8]>> {
         self.content(SLOT_ENTITLEMENTS)
     }
 
     /// Returns the entitlements in DER, if there are any.
     ///
-    /// # Proved
+    /// <details><summary>Proved</summary>
     ///
     /// - `Reads (option_map (λ content. content)) result (content_of (signature_view self) 7)`
+    ///
+    /// </details>
     pub fn der_entitlements(&self) -> Result<Option<&'a [u8]>> {
         self.content(SLOT_DER_ENTITLEMENTS)
     }
 
-    /// Returns the requirements, if there are any.
+    /// Returns the bytes of the requirements after the head of their blob, if there are any.
     ///
-    /// # Proved
+    /// <details><summary>Proved</summary>
     ///
     /// - `Reads (option_map (λ content. content)) result (content_of (signature_view self) 2)`
-    pub fn requirements(&self) -> Result<Option<&'a [u8]>> {
+    ///
+    /// </details>
+    pub fn requirement_bytes(&self) -> Result<Option<&'a [u8]>> {
         self.content(SLOT_REQUIREMENTS)
     }
 
     /// Returns the CMS message, if there is one. It says who signed, and isn't verified. An ad hoc signature has none, or an empty one.
     ///
-    /// # Proved
+    /// <details><summary>Proved</summary>
     ///
     /// - `Reads (option_map (λ content. content)) result (content_of (signature_view self) 0x10000)`
+    ///
+    /// </details>
     pub fn cms(&self) -> Result<Option<&'a [u8]>> {
         self.content(SLOT_CMS)
     }
@@ -185,6 +215,13 @@ fn after_head(bytes: &[u8]) -> &[u8] {
 pub struct Blobs<'a> {
     signature: CodeSignature<'a>,
     index: u32,
+}
+
+impl<'a> core::fmt::Debug for Blobs<'a> {
+    /// Prints the name of the type.
+    fn fmt(&self, f: &mut core::fmt::Formatter<'_>) -> core::fmt::Result {
+        f.debug_struct("Blobs").finish_non_exhaustive()
+    }
 }
 
 impl<'a> Iterator for Blobs<'a> {
@@ -205,6 +242,8 @@ impl<'a> Iterator for Blobs<'a> {
         (left, Some(left))
     }
 }
+
+impl<'a> core::iter::FusedIterator for Blobs<'a> {}
 
 impl<'a> ExactSizeIterator for Blobs<'a> {
     /// Returns how many items are left.

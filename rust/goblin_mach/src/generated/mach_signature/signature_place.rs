@@ -8,8 +8,16 @@ use crate::generated::mach_load::{CommandVariant, LoadCommand};
 use crate::generated::mach_records::LinkeditDataCommand;
 
 // The commands that place a signature.
-#[derive(Clone, Copy)]
+#[derive(Clone, Copy, Eq, Hash, PartialEq)]
+#[cfg_attr(not(feature = "internals"), non_exhaustive)]
 pub struct SignaturePlaces;
+
+impl core::fmt::Debug for SignaturePlaces {
+    /// Prints the name of the type.
+    fn fmt(&self, f: &mut core::fmt::Formatter<'_>) -> core::fmt::Result {
+        f.debug_struct("SignaturePlaces").finish_non_exhaustive()
+    }
+}
 
 impl Subject for SignaturePlaces {
     type Value = LinkeditDataCommand;
@@ -25,9 +33,11 @@ impl Subject for SignaturePlaces {
 
 /// Returns the offset and the size that the first `LC_CODE_SIGNATURE` gives the signature, if there is such a command.
 ///
-/// # Proved
+/// <details><summary>Proved</summary>
 ///
 /// - `result ≡ signature_place_in (map command_of commands)`
+///
+/// </details>
 pub fn signature_place(commands: &[LoadCommand]) -> Option<(u32, u32)> {
     let place = first_readable(&SignaturePlaces, commands)?;
     Some((place.dataoff, place.datasize))

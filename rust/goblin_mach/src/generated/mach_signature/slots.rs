@@ -22,15 +22,18 @@ pub const SLOT_CMS: u32 = 0x10000;
 
 /// Whether a slot is one of a code directory: the first or an alternate one.
 ///
-/// # Proved
+/// <details><summary>Proved</summary>
 ///
 /// - `result ≡ defined.is_directory_slot slot`
+///
+/// </details>
 pub fn is_directory_slot(slot: u32) -> bool {
     slot == 0 || (0x1000 <= slot && slot <= 0x1004)
 }
 
 /// The blobs that a slot may have.
-#[derive(Clone, Copy, Debug, PartialEq)]
+#[derive(Clone, Copy, Debug, PartialEq, Eq, Hash)]
+#[cfg_attr(not(feature = "internals"), non_exhaustive)]
 pub enum SlotMagic {
     /// A blob of this magic.
     Only(u32),
@@ -42,9 +45,11 @@ pub enum SlotMagic {
 
 /// Returns which blobs a slot may have.
 ///
-/// # Proved
+/// <details><summary>Proved</summary>
 ///
 /// - `result ≡ defined.slot_magic slot`
+///
+/// </details>
 pub fn slot_magic(slot: u32) -> SlotMagic {
     if is_directory_slot(slot) {
         return SlotMagic::Only(MAGIC_DIRECTORY);
@@ -62,9 +67,11 @@ pub fn slot_magic(slot: u32) -> SlotMagic {
 
 /// Whether a slot may have a blob of the given magic.
 ///
-/// # Proved
+/// <details><summary>Proved</summary>
 ///
 /// - `result ≡ defined.has_magic slot magic`
+///
+/// </details>
 pub fn has_magic(slot: u32, magic: u32) -> bool {
     match slot_magic(slot) {
         SlotMagic::Only(only) => magic == only,
@@ -75,9 +82,11 @@ pub fn has_magic(slot: u32, magic: u32) -> bool {
 
 /// Whether a slot may seal something outside of the image, for example the resources of a bundle.
 ///
-/// # Proved
+/// <details><summary>Proved</summary>
 ///
 /// - `result ≡ defined.is_outside slot`
+///
+/// </details>
 pub fn is_outside(slot: u32) -> bool {
     slot == 1 || slot == 3 || slot == 4 || slot == 6
 }

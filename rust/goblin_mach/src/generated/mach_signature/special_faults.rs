@@ -11,9 +11,11 @@ use crate::generated::mach_signature::slots::is_outside;
 
 /// Whether a slot seals nothing: all its bytes are zero.
 ///
-/// # Proved
+/// <details><summary>Proved</summary>
 ///
 /// - `result ≡ defined.is_unsealing slot`
+///
+/// </details>
 pub fn is_unsealing(slot: &[u8]) -> bool {
     slot.iter().all(|byte| *byte == 0)
 }
@@ -21,9 +23,11 @@ pub fn is_unsealing(slot: &[u8]) -> bool {
 /// Returns what a special slot seals in the image: the first blob of the slot, with its head. For slot 1 without a blob it is
 /// `plist`, the section `__info_plist` of `__TEXT`.
 ///
-/// # Proved
+/// <details><summary>Proved</summary>
 ///
 /// - `Reads slot_read result (defined.component_of (signature_view signature) (slot_read plist.entry) slot)`
+///
+/// </details>
 pub fn component<'a>(
     signature: &CodeSignature<'a>,
     plist: Option<&'a [u8]>,
@@ -37,11 +41,19 @@ pub fn component<'a>(
 }
 
 // The special slots of a directory, and what they seal.
-#[derive(Clone, Copy)]
+#[derive(Clone, Copy, Eq, Hash, PartialEq)]
+#[cfg_attr(not(feature = "internals"), non_exhaustive)]
 pub struct SpecialSlots<'a> {
     pub directory: CodeDirectory<'a>,
     pub signature: CodeSignature<'a>,
     pub plist: Option<&'a [u8]>,
+}
+
+impl<'a> core::fmt::Debug for SpecialSlots<'a> {
+    /// Prints the name of the type.
+    fn fmt(&self, f: &mut core::fmt::Formatter<'_>) -> core::fmt::Result {
+        f.debug_struct("SpecialSlots").finish_non_exhaustive()
+    }
 }
 
 impl<'a> SpecialSlots<'a> {
@@ -96,10 +108,18 @@ impl<'a> Numbered for SpecialSlots<'a> {
 }
 
 // The blobs of a signature. Each should have its hash in the directory.
-#[derive(Clone, Copy)]
+#[derive(Clone, Copy, Eq, Hash, PartialEq)]
+#[cfg_attr(not(feature = "internals"), non_exhaustive)]
 pub struct Entries<'a> {
     pub directory: CodeDirectory<'a>,
     pub signature: CodeSignature<'a>,
+}
+
+impl<'a> core::fmt::Debug for Entries<'a> {
+    /// Prints the name of the type.
+    fn fmt(&self, f: &mut core::fmt::Formatter<'_>) -> core::fmt::Result {
+        f.debug_struct("Entries").finish_non_exhaustive()
+    }
 }
 
 impl<'a> Numbered for Entries<'a> {
@@ -128,6 +148,13 @@ pub struct SpecialFaults<'a> {
     pub(crate) entries: NumberedFaults<Entries<'a>>,
 }
 
+impl<'a> core::fmt::Debug for SpecialFaults<'a> {
+    /// Prints the name of the type.
+    fn fmt(&self, f: &mut core::fmt::Formatter<'_>) -> core::fmt::Result {
+        f.debug_struct("SpecialFaults").finish_non_exhaustive()
+    }
+}
+
 impl<'a> Iterator for SpecialFaults<'a> {
     type Item = SpecialFault;
 
@@ -139,12 +166,16 @@ impl<'a> Iterator for SpecialFaults<'a> {
     }
 }
 
+impl<'a> core::iter::FusedIterator for SpecialFaults<'a> {}
+
 impl<'a> CodeDirectory<'a> {
     /// Returns the fault of one special slot, if it has one. Slots count from 1. `plist` is as for `special_faults`.
     ///
-    /// # Proved
+    /// <details><summary>Proved</summary>
     ///
     /// - `result ≡ defined.special_fault (directory_view self) (signature_view signature) (slot_read plist.entry) number`
+    ///
+    /// </details>
     pub fn special_fault(
         &self,
         signature: &CodeSignature<'a>,
@@ -162,9 +193,11 @@ impl<'a> CodeDirectory<'a> {
     /// Returns the faults of the special slots and of the blobs that no slot seals, in order. `plist` is the section
     /// `__info_plist` of `__TEXT`, if the image has one. There are none exactly when each slot seals what is there.
     ///
-    /// # Proved
+    /// <details><summary>Proved</summary>
     ///
     /// - `special_faults_left result ≡ defined.special_faults_of (directory_view self) (signature_view signature) (slot_read plist.entry)`
+    ///
+    /// </details>
     pub fn special_faults(
         &self,
         signature: &CodeSignature<'a>,

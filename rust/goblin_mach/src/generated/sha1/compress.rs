@@ -69,11 +69,13 @@ fn last_step(w: &mut [u32; 16], v: [u32; 5], t: usize) -> [u32; 5] {
 
 /// Runs the 80 rounds over `block`, and adds the result to `state`.
 ///
-/// # Proved
+/// <details><summary>Proved</summary>
 ///
 /// Callers make sure of: `length block ≡ 64`.
 ///
 /// - `state.new ≡ compress state.old block`
+///
+/// </details>
 pub fn compress(state: &mut [u32; 5], block: &[u8]) {
     let mut w = [0u32; 16];
     for i in 0..16 {

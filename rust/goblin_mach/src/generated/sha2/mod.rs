@@ -38,33 +38,47 @@ pub trait Digest {
 
     /// The length of a digest in bytes.
     ///
-    /// # Proved
+    /// <details><summary>Proved</summary>
     ///
     /// - `result ≡ size`
+    ///
+    /// </details>
     fn output_size() -> usize;
 
     /// A hasher of the empty message.
     ///
-    /// # Proved
+    /// <details><summary>Proved</summary>
     ///
     /// - `holds result []`
+    ///
+    /// </details>
     fn new() -> Self;
 
     /// Adds `data` to the message.
     ///
-    /// # Proved
+    /// <details><summary>Proved</summary>
     ///
     /// - for each `m : List ℕ`, if `holds self.old m`, `holds self.new (m ++ T.items «data»)`
+    ///
+    /// </details>
     fn update<T: AsSlice<u8>>(&mut self, data: T);
 
     /// The digest of the message.
     ///
-    /// # Proved
+    /// <details><summary>Proved</summary>
     ///
     /// - for each `m : List ℕ`, if `holds self m`, `digest_of m result`
+    ///
+    /// </details>
     fn finalize(self) -> Self::Output;
 
     /// A hasher of the message `data`.
+    ///
+    /// <details><summary>Proved</summary>
+    ///
+    /// - `holds result (T.items «data»)`
+    ///
+    /// </details>
     fn new_with_prefix<T: AsSlice<u8>>(data: T) -> Self
     where
         Self: Sized,
@@ -75,6 +89,12 @@ pub trait Digest {
     }
 
     /// This hasher, with `data` added to the message.
+    ///
+    /// <details><summary>Proved</summary>
+    ///
+    /// - for each `m : List ℕ`, if `holds self m`, `holds result (m ++ T.items «data»)`
+    ///
+    /// </details>
     fn chain_update<T: AsSlice<u8>>(mut self, data: T) -> Self
     where
         Self: Sized,
@@ -84,6 +104,12 @@ pub trait Digest {
     }
 
     /// The digest of `data`.
+    ///
+    /// <details><summary>Proved</summary>
+    ///
+    /// - `digest_of (T.items «data») result`
+    ///
+    /// </details>
     fn digest<T: AsSlice<u8>>(data: T) -> Self::Output
     where
         Self: Sized,
@@ -92,6 +118,12 @@ pub trait Digest {
     }
 
     /// Starts again from the empty message.
+    ///
+    /// <details><summary>Proved</summary>
+    ///
+    /// - `holds self.new []`
+    ///
+    /// </details>
     fn reset(&mut self)
     where
         Self: Sized,
@@ -100,6 +132,12 @@ pub trait Digest {
     }
 
     /// Writes the digest of the message into `out`.
+    ///
+    /// <details><summary>Proved</summary>
+    ///
+    /// - for each `m : List ℕ`, if `holds self m`, `digest_of m out.new`
+    ///
+    /// </details>
     fn finalize_into(self, out: &mut Self::Output)
     where
         Self: Sized,
@@ -108,6 +146,13 @@ pub trait Digest {
     }
 
     /// Writes the digest of the message into `out`, and starts again from the empty message.
+    ///
+    /// <details><summary>Proved</summary>
+    ///
+    /// - *digest*: for each `m : List ℕ`, if `holds self.old m`, `digest_of m out.new`
+    /// - *empty*: `holds self.new []`
+    ///
+    /// </details>
     fn finalize_into_reset(&mut self, out: &mut Self::Output)
     where
         Self: Sized,
@@ -116,6 +161,13 @@ pub trait Digest {
     }
 
     /// The digest of the message, and starts again from the empty message.
+    ///
+    /// <details><summary>Proved</summary>
+    ///
+    /// - *digest*: for each `m : List ℕ`, if `holds self.old m`, `digest_of m result`
+    /// - *empty*: `holds self.new []`
+    ///
+    /// </details>
     fn finalize_reset(&mut self) -> Self::Output
     where
         Self: Sized,

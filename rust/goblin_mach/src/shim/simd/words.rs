@@ -17,8 +17,12 @@ pub struct Mask([u64; 4]);
 impl u8x32 {
     #[inline(always)]
     pub fn from_slice(bytes: &[u8]) -> u8x32 {
-        let (words, _) = bytes[..32].as_chunks::<8>();
-        u8x32(from_fn(|k| u64::from_le_bytes(words[k])))
+        let bytes = &bytes[..32];
+        u8x32(from_fn(|k| {
+            let mut word = [0; 8];
+            word.copy_from_slice(&bytes[8 * k..8 * k + 8]);
+            u64::from_le_bytes(word)
+        }))
     }
 
     #[inline(always)]

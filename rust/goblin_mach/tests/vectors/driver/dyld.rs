@@ -126,6 +126,7 @@ fn fixup(it: Fixup) -> String {
         FixupKind::Rebase { target } => format!("rebase {target:#x}"),
         FixupKind::Bind { import, addend } => format!("bind {import} addend {addend}"),
         FixupKind::Value { value } => format!("value {value:#x}"),
+        _ => panic!("the vectors have no such variant"),
     };
     let (address, segment, offset) = (it.address, it.segment, it.offset);
     format!(

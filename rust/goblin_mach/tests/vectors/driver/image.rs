@@ -53,7 +53,7 @@ pub fn segments(image: &MachO) -> Lines {
             it.vmsize,
             it.fileoff,
             it.filesize,
-            it.bytes.len(),
+            it.data.len(),
             it.initprot,
             it.maxprot,
             it.nsects,
@@ -125,6 +125,7 @@ fn library(it: Library) -> String {
         LibraryKind::Reexport => "reexport",
         LibraryKind::Upward => "upward",
         LibraryKind::Lazy => "lazy",
+        _ => panic!("the vectors have no such variant"),
     };
     let used = it.attributes;
     [
@@ -177,6 +178,7 @@ pub fn indirect_symbols(image: &MachO) -> Lines {
             IndirectSymbol::Local => "local".to_string(),
             IndirectSymbol::Absolute => "absolute".to_string(),
             IndirectSymbol::LocalAbsolute => "local-absolute".to_string(),
+            _ => panic!("the vectors have no such variant"),
         };
         format!("indirect {symbol}")
     })
@@ -226,12 +228,14 @@ fn slot(it: SymbolSlot) -> String {
         SlotKind::Stub => "stub",
         SlotKind::LazyLibraryPointer => "lazy-library-pointer",
         SlotKind::ThreadLocalPointer => "thread-local-pointer",
+        _ => panic!("the vectors have no such variant"),
     };
     let symbol = match it.symbol {
         SlotSymbol::Named { index, name } => format!("{index} {}", quoted(name)),
         SlotSymbol::Local => "local".to_string(),
         SlotSymbol::Absolute => "absolute".to_string(),
         SlotSymbol::LocalAbsolute => "local-absolute".to_string(),
+        _ => panic!("the vectors have no such variant"),
     };
     format!(
         "slot {kind} at {:#x} size {} segment {} section {} index {} of {symbol}",
@@ -255,6 +259,7 @@ pub fn place_of(provider: Provider) -> String {
         Provider::MainExecutable => "main-executable".to_string(),
         Provider::Flat => "flat".to_string(),
         Provider::WeakLookup => "weak-look-up".to_string(),
+        _ => panic!("the vectors have no such variant"),
     }
 }
 

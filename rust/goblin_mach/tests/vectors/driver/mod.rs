@@ -1,4 +1,7 @@
 //! Tries vectors on this crate, by its public calls.
+// With the feature `internals` no type may grow, and the arm for other variants is never reached.
+#![allow(unreachable_patterns)]
+
 #[cfg(feature = "archive")]
 mod archives;
 mod calls;

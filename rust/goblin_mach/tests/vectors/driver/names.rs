@@ -2,13 +2,12 @@
 use super::lines::{Lines, list};
 use super::vector::Vector;
 use goblin_mach::header::{filetype_to_str, flag_to_str};
-use goblin_mach::load_command::cmd_to_str;
+use goblin_mach::load_command::command_name;
 use goblin_mach::relocation::reloc_to_str;
 use goblin_mach::symbols::{N_STAB, N_TYPE, n_type_to_str};
 
 /// What the calls give for a number without a name.
 const UNKNOWN: &[&str] = &[
-    "LC_UNKNOWN",
     "UNKNOWN FLAG",
     "UNKNOWN FILETYPE",
     "UNKNOWN_N_TYPE",
@@ -34,7 +33,9 @@ fn named(vector: &Vector, name: impl Fn(&[u64]) -> &'static str) -> Option<Lines
 }
 
 pub fn commands(vector: &Vector) -> Option<Lines> {
-    named(vector, |numbers| cmd_to_str(numbers[0] as u32))
+    named(vector, |numbers| {
+        command_name(numbers[0] as u32).unwrap_or("none")
+    })
 }
 
 pub fn file_types(vector: &Vector) -> Option<Lines> {

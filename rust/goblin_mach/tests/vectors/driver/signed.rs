@@ -26,12 +26,12 @@ fn said(signature: CodeSignature) -> Result<String> {
         "signature {} team {} version {:#x} flags {:#x} hash {} limit {} pages {} page-size {} entitlements {} cdhash {cdhash}",
         text(it.identifier(), quoted),
         text(it.team(), quoted),
-        it.head.version,
-        it.head.flags,
-        it.head.hash_type,
+        it.head().version,
+        it.head().flags,
+        it.head().hash_type,
         it.code_limit(),
         it.page_count(),
-        it.head.page_size,
+        it.head().page_size,
         text(signature.entitlements(), |xml| xml.len().to_string()),
     ))
 }
@@ -69,6 +69,7 @@ fn code(slot: u32, fault: CodeFault) -> Row {
         CodeFault::Limit { limit, len } => row("limit", 0, limit, len),
         CodeFault::Slots { slots, pages } => row("slots", 0, slots.into(), pages),
         CodeFault::Page { index, start, end } => row("page", index, start, end),
+        _ => panic!("the vectors have no such variant"),
     }
 }
 
@@ -78,6 +79,7 @@ fn special(slot: u32, fault: SpecialFault) -> Row {
         SpecialFault::Unsealed { slot } => ("unsealed", slot),
         SpecialFault::Changed { slot } => ("special", slot),
         SpecialFault::Absent { slot } => ("absent", slot),
+        _ => panic!("the vectors have no such variant"),
     };
     Row {
         kind,
@@ -109,6 +111,7 @@ fn of_directory(slot: u32, fault: DirectoryFault) -> Row {
         }
         DirectoryFault::Code(fault) => code(slot, fault),
         DirectoryFault::Special(fault) => special(slot, fault),
+        _ => panic!("the vectors have no such variant"),
     }
 }
 
@@ -134,6 +137,7 @@ fn row(fault: SignatureFault) -> Row {
         },
         SignatureFault::First(fault) => of_directory(0, fault),
         SignatureFault::Alternate { slot, fault } => of_directory(slot, fault),
+        _ => panic!("the vectors have no such variant"),
     }
 }
 

@@ -2,8 +2,8 @@
 //! What an image has at an address.
 #![forbid(unsafe_code)]
 
-use goblin_mach::generated::mach::segment::NumberedSection;
-use goblin_mach::generated::mach::{Function, MachO, SymbolAt};
+use goblin_mach::segment::NumberedSection;
+use goblin_mach::{Function, MachO, SymbolAt};
 
 // The line and the object for what was found.
 pub mod line;
@@ -23,9 +23,11 @@ pub struct FoundAt<'a> {
 impl<'a> FoundAt<'a> {
     /// Looks up an address in an image.
     ///
-    /// # Proved
+    /// <details><summary>Proved</summary>
     ///
     /// - for each `bytes : List ℕ`, if `IsImage bytes 0 image`, `IsFoundAt bytes address result`
+    ///
+    /// </details>
     pub fn look_up(image: &MachO<'a>, address: u64) -> FoundAt<'a> {
         FoundAt {
             section: image.section_at(address),

@@ -4,9 +4,22 @@
 
 /// Returns how many items of a list in a file are visited at most: no more than the limit, and no more than the file has bytes.
 ///
-/// # Proved
+/// <details><summary>Proved</summary>
 ///
 /// - `result ≡ most_items limit bytes`
+///
+/// </details>
 pub fn most_items(limit: usize, bytes: &[u8]) -> usize {
     limit.min(bytes.len())
+}
+
+/// Returns how many images of a file are shown if so many of its lines are: as many, and one at least.
+///
+/// <details><summary>Proved</summary>
+///
+/// - `result ≡ most_images limit`
+///
+/// </details>
+pub fn most_images(limit: usize) -> usize {
+    limit.max(1)
 }

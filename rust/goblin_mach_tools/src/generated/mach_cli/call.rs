@@ -2,8 +2,8 @@
 //! The arguments of a call.
 #![forbid(unsafe_code)]
 
-use crate::shim::TryGrow;
 use alloc::vec::Vec;
+use goblin_mach::internals::shim::TryGrow;
 
 use crate::generated::mach_cli::color::Color;
 use crate::generated::mach_cli::cpu::{Arch, Cpu};
@@ -12,7 +12,7 @@ use crate::generated::mach_cli::misuse::Misuse;
 use crate::generated::mach_cli::named::Others;
 use crate::generated::mach_cli::options::{Format, Options, OwnOptions};
 use crate::generated::mach_cli::word::{NoText, Word};
-use crate::shim::AllocError;
+use goblin_mach::AllocError;
 
 /// The arguments of a call, after the program's name and the options.
 pub struct Call<'a, O> {
@@ -244,9 +244,11 @@ fn no_text(number: usize, bytes: &[u8]) -> NoText<'_> {
 /// Parses the arguments after the program's name. An option may be anywhere before `--`; after it nothing is an option. `-` is no
 /// option.
 ///
-/// # Proved
+/// <details><summary>Proved</summary>
 ///
 /// - if `Ok(x)`: `IsRequest O.taken options (empty_call own) words x`
+///
+/// </details>
 pub fn understand<'a, O: OwnOptions>(
     options: Options,
     own: O,

@@ -22,9 +22,11 @@ pub enum Color {
 impl Color {
     /// Returns the setting of a name.
     ///
-    /// # Proved
+    /// <details><summary>Proved</summary>
     ///
     /// - `result ≡ color_named word`
+    ///
+    /// </details>
     pub fn named(word: &str) -> Option<Color> {
         match word {
             "auto" => Some(Color::Auto),
@@ -36,9 +38,11 @@ impl Color {
 
     /// Whether output is coloured that goes to a terminal or not, if the environment refuses colours or not.
     ///
-    /// # Proved
+    /// <details><summary>Proved</summary>
     ///
     /// - `result ≡ is_coloured self is_terminal is_refused`
+    ///
+    /// </details>
     pub fn is_on(self, is_terminal: bool, is_refused: bool) -> bool {
         match self {
             Color::Auto => is_terminal && !is_refused,
@@ -49,11 +53,13 @@ impl Color {
 
     /// Whether the standard output of a call is coloured, if it has this form. JSON never is.
     ///
-    /// # Proved
+    /// <details><summary>Proved</summary>
     ///
     /// - *json*: if `is_json format ≡ true`, `result ≡ false`
     /// - *never*: if `self ≡ Color.Never`, `result ≡ false`
     /// - *always*: if `self ≡ Color.Always`, if `is_json format ≡ false`, `result ≡ true`
+    ///
+    /// </details>
     pub fn is_for(self, rt: &HostRuntime, format: Format) -> bool {
         !format.is_json() && self.is_on(rt.stdout().is_terminal(), refuses_colors(rt))
     }

@@ -4,12 +4,12 @@
 
 use core::fmt;
 use core::fmt::{Display, Formatter};
-use goblin_mach::generated::mach::EntryCpu;
-use goblin_mach::generated::mach::cputype::{
+use goblin_mach::EntryCpu;
+use goblin_mach::cputype::{
     CPU_ARCH_ABI64, CPU_SUBTYPE_MASK, CPU_TYPE_ARM, CPU_TYPE_ARM64, CPU_TYPE_ARM64_32,
     CPU_TYPE_POWERPC, CPU_TYPE_X86, CPU_TYPE_X86_64,
 };
-use goblin_mach::generated::mach::fat::FatArch;
+use goblin_mach::fat::FatArch;
 
 const CPU_TYPE_POWERPC64: u32 = CPU_TYPE_POWERPC | CPU_ARCH_ABI64;
 
@@ -38,9 +38,11 @@ pub enum Cpu {
 impl Cpu {
     /// Whether an image for a cpu of these numbers is selected.
     ///
-    /// # Proved
+    /// <details><summary>Proved</summary>
     ///
     /// - `result ≡ is_of_cpu self cputype cpusubtype`
+    ///
+    /// </details>
     pub fn takes(&self, cputype: u32, cpusubtype: u32) -> bool {
         match self {
             Cpu::Any => true,
@@ -53,9 +55,11 @@ impl Cpu {
 
     /// Whether the entry of a record is selected.
     ///
-    /// # Proved
+    /// <details><summary>Proved</summary>
     ///
     /// - `result ≡ is_selected self arch`
+    ///
+    /// </details>
     pub fn takes_entry(&self, arch: &FatArch) -> bool {
         self.takes(arch.cputype, arch.cpusubtype)
     }
@@ -72,9 +76,11 @@ impl Cpu {
 
     /// Whether a cpu is selected, and none of these records is for it.
     ///
-    /// # Proved
+    /// <details><summary>Proved</summary>
     ///
     /// - `result ≡ misses self archs`
+    ///
+    /// </details>
     pub fn misses(&self, archs: &[FatArch]) -> bool {
         match self {
             Cpu::Any => false,
@@ -108,9 +114,11 @@ fn row(name: &'static str, cputype: u32, cpusubtype: u32) -> Option<Arch> {
 impl Arch {
     /// Returns the cpu of a name.
     ///
-    /// # Proved
+    /// <details><summary>Proved</summary>
     ///
     /// - `option_map arch_row_of result ≡ arch_named arch_rows name`
+    ///
+    /// </details>
     pub fn named(name: &str) -> Option<Arch> {
         match name {
             "i386" => row("i386", CPU_TYPE_X86, 3),
@@ -138,9 +146,11 @@ impl Arch {
 
 /// Returns the name of the cpu with this number and this subtype without capabilities, if it has one.
 ///
-/// # Proved
+/// <details><summary>Proved</summary>
 ///
 /// - `text_in result ≡ cpu_named arch_rows cputype kind`
+///
+/// </details>
 pub fn cpu_name(cputype: u32, kind: u32) -> Option<&'static str> {
     match (cputype, kind) {
         (CPU_TYPE_X86, 3) => Some("i386"),
@@ -167,9 +177,11 @@ pub fn cpu_name(cputype: u32, kind: u32) -> Option<&'static str> {
 
 /// Returns the name of the cpu of an entry of a fat file, if its record can be read and the cpu has a name.
 ///
-/// # Proved
+/// <details><summary>Proved</summary>
 ///
 /// - `text_in result ≡ entry_cpu_name cpu`
+///
+/// </details>
 pub fn entry_cpu_name(cpu: Option<EntryCpu>) -> Option<&'static str> {
     match cpu {
         Some(cpu) => cpu_name(cpu.cputype, cpu.cpusubtype % 0x100_0000),

@@ -8,11 +8,13 @@ use crate::shim::io::Write;
 
 /// Prints a name on one line, if there is one.
 ///
-/// # Proved
+/// <details><summary>Proved</summary>
 ///
 /// - if `Ok`: `Appends (O.contents out.old) (O.contents out.new) (name_text (read_as (option_map (λ text. text)) name.entry))`
+///
+/// </details>
 pub fn print_name<O: Write>(
-    name: goblin_mach::generated::mach_base::Result<Option<&str>>,
+    name: goblin_mach::Result<Option<&str>>,
     out: &mut O,
 ) -> io::Result<()> {
     match name {

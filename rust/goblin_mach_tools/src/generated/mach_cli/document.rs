@@ -4,21 +4,22 @@
 
 use alloc::vec::Vec;
 
+use crate::generated::mach_cli::bounds::most_images;
 use crate::generated::mach_cli::cpu::Cpu;
+use crate::generated::mach_cli::entries::{archs_left_out, archs_shown, outside_at};
 use crate::generated::mach_cli::failure::ShowFailure;
 use crate::generated::mach_cli::image_view::{ImageView, Outcome};
 use crate::generated::mach_cli::label::Label;
 use crate::generated::mach_cli::names::Names;
 use crate::generated::mach_cli::output::failed;
-use crate::generated::mach_cli::parts::selection::is_for;
+use crate::generated::mach_cli::parts::Parts;
+use crate::generated::mach_cli::parts::selection::{SelectedParts, are_more};
 use crate::generated::mach_cli::refusal::{Refusal, complain, refusal_of, refusal_of_content};
 use crate::generated::mach_cli::sink::Sink;
 use crate::shim::io;
 use crate::shim::io::{BufWriter, Write};
-use goblin_mach::generated::mach::fat::FatArch;
-use goblin_mach::generated::mach::{
-    Content, Images, Input, InputItem, Mach, MachO, Result, describe,
-};
+use goblin_mach::fat::FatArch;
+use goblin_mach::{Content, Images, Input, InputItem, Mach, MachO, Result, describe};
 
 /// How a file is shown: what of its images a view prints, and how a sink puts this together.
 #[derive(Clone, Copy)]
@@ -27,7 +28,7 @@ pub struct Document<'a, V, K> {
     pub names: Names<'a>,
     /// The cpu whose images are selected.
     pub cpu: Cpu,
-    /// The number of lines for all images together.
+    /// The number of lines for all images together, and of images (`most_images`).
     pub limit: usize,
     /// What is printed of an image.
     pub view: &'a V,
@@ -69,11 +70,13 @@ impl<V: ImageView, K: Sink> Document<'_, V, K> {
     ///
     /// Except after a failed write the buffer is flushed.
     ///
-    /// # Proved
+    /// <details><summary>Proved</summary>
     ///
     /// - *status*: `IsStatus result`
     /// - *shown*: if `let d = self in let file = d.names.file in result ≤ 1`, there is `shown : Shown` with: `ShowsFile K.texts (names_text d.names.program file) (V.lines d.view file d.limit) d.cpu file d.limit bytes shown × (result ≡ status_by shown.whole) × Writes shown (writer_contents W.contents out.old) (writer_contents W.contents out.new) (E.contents err.old) (E.contents err.new)`
     /// - *flushed*: if `result ≤ 1`, `writer_buffer out.new ≡ []`
+    ///
+    /// </details>
     pub fn run<W: Write, E: Write>(&self, bytes: &[u8], out: &mut BufWriter<W>, err: &mut E) -> u8 {
         match self.show_all(bytes, out, err) {
             Ok(whole) => status(whole),
@@ -98,7 +101,7 @@ impl<V: ImageView, K: Sink> Document<'_, V, K> {
         match open(bytes) {
             Ok(Subject::Image(image)) => self.show_one(&image, out, err),
             Ok(Subject::Fat(images, records)) => {
-                self.show_fat(images, records.as_slice(), out, err)
+                self.show_fat(bytes, images, records.as_slice(), out, err)
             }
             Err(error) => self.refuse(refusal_of(bytes, &error), out, err),
         }
@@ -117,15 +120,16 @@ impl<V: ImageView, K: Sink> Document<'_, V, K> {
         {
             return self.refuse(Refusal::OtherImage(self.cpu), out, err);
         }
-        self.sink.begin_file(out)?;
+        self.sink.begin_file(0, out)?;
         let outcome = self.show_image(Label::None, image, self.limit, out, err)?;
-        self.sink.end_file("image", self.names.file, out)?;
+        self.sink.end_file(false, "image", self.names.file, out)?;
         Ok(outcome.whole)
     }
 
     // Shows a fat file with these items and records, if one of its entries is selected.
     fn show_fat<O: Write, E: Write>(
         &self,
+        bytes: &[u8],
         images: Images<'_>,
         records: &[FatArch],
         out: &mut O,
@@ -134,33 +138,75 @@ impl<V: ImageView, K: Sink> Document<'_, V, K> {
         if self.cpu.misses(records) {
             return self.refuse(Refusal::NoEntry(self.cpu), out, err);
         }
-        self.sink.begin_file(out)?;
-        let whole = self.show_items(images, out, err)?;
-        self.sink.end_file("fat file", self.names.file, out)?;
-        Ok(whole)
+        let most = archs_shown(bytes, records);
+        let left_out = archs_left_out(bytes, records);
+        let parts = Parts::within(images, most);
+        let count = most_images(self.limit);
+        let first = SelectedParts::of(count, self.cpu, parts);
+        let is_cut = are_more(count, self.cpu, parts);
+        self.sink.begin_file(left_out, out)?;
+        let whole = self.show_items(bytes, first, out, err)?;
+        self.sink
+            .end_file(is_cut, "fat file", self.names.file, out)?;
+        self.cut(is_cut, err)?;
+        self.leave_out(left_out, err)?;
+        Ok(whole & (!is_cut & (left_out == 0)))
     }
 
-    // Shows the selected items, and returns whether none is refused and each is whole.
+    // Reports that more items are selected than the limit allows, if so.
+    fn cut<E: Write>(&self, is_cut: bool, err: &mut E) -> io::Result<()> {
+        if !is_cut {
+            return Ok(());
+        }
+        let count = most_images(self.limit);
+        complain(self.names, Label::None, Refusal::Limit(count), err)
+    }
+
+    // Reports how many entries are left out, if there are some.
+    fn leave_out<E: Write>(&self, count: usize, err: &mut E) -> io::Result<()> {
+        if count == 0 {
+            return Ok(());
+        }
+        complain(self.names, Label::None, Refusal::LeftOut(count), err)
+    }
+
+    // Shows these items of a file, and returns whether none is refused and each is whole.
     fn show_items<O: Write, E: Write>(
         &self,
-        images: Images<'_>,
+        bytes: &[u8],
+        items: SelectedParts<'_>,
         out: &mut O,
         err: &mut E,
     ) -> io::Result<bool> {
         let mut whole = true;
         let mut left = self.limit;
         let mut is_first = true;
-        for item in images {
-            if !is_for(self.cpu, &item.place) {
-                continue;
-            }
+        for item in items {
             self.separate(is_first, out)?;
-            let outcome = self.show_item(item, left, out, err)?;
+            let outcome = self.show_placed(bytes, item, left, out, err)?;
             is_first = false;
             whole &= outcome.whole;
             left = outcome.left;
         }
         Ok(whole)
+    }
+
+    // Shows an item of a file under its label, or reports that it is out of the file.
+    fn show_placed<O: Write, E: Write>(
+        &self,
+        bytes: &[u8],
+        item: InputItem<'_>,
+        left: usize,
+        out: &mut O,
+        err: &mut E,
+    ) -> io::Result<Outcome> {
+        match outside_at::<FatArch>(bytes, item.place.entry) {
+            None => self.show_item(item, left, out, err),
+            Some(outside) => {
+                let named = Label::of(&item);
+                self.refuse_image(named, Refusal::OutOfFile(outside), left, out, err)
+            }
+        }
     }
 
     // Writes what is between two images, before one that isn't the first.

@@ -7,8 +7,9 @@ use crate::shim::io::Write;
 use core::fmt;
 use core::fmt::{Display, Formatter};
 
-/// A text of a file, such as a name, on one line. A backslash is `\\`. Each byte of a control character (below U+0020, U+007F to
-/// U+009F), of a direction control and of U+2028 and U+2029 is `\xNN`. Everything else is unchanged.
+/// A text of a file, such as a name, on one line. A backslash is `\\`. Each byte of a hidden character is `\xNN`: of a control
+/// (below U+0020, U+007F to U+009F), a bidirectional control, U+2028, U+2029, and other format characters that show nothing.
+/// Everything else is unchanged.
 #[derive(Clone, Copy)]
 pub struct Escaped<'a>(pub &'a str);
 
@@ -83,29 +84,80 @@ fn is_quoted(style: Style, byte: u8) -> bool {
 // Returns how many bytes the first character has, if it is hidden.
 fn hidden_len(bytes: &[u8]) -> usize {
     let first = byte_in(bytes, 0);
-    if first < 0x20 || first == 0x7f {
-        1
-    } else if first == 0xc2 && is_c1(byte_in(bytes, 1)) {
+    if first < 0x80 {
+        if first < 0x20 || first == 0x7f { 1 } else { 0 }
+    } else if hides_two(first, byte_in(bytes, 1)) {
         2
-    } else if first == 0xe2 && is_mark(byte_in(bytes, 1), byte_in(bytes, 2)) {
+    } else if hides_three(first, byte_in(bytes, 1), byte_in(bytes, 2)) {
         3
+    } else if hides_four(
+        first,
+        byte_in(bytes, 1),
+        byte_in(bytes, 2),
+        byte_in(bytes, 3),
+    ) {
+        4
     } else {
         0
     }
 }
 
-// Whether a byte after 0xc2 makes a control character.
-fn is_c1(second: u8) -> bool {
-    0x80 <= second && second <= 0x9f
+// Whether a byte goes on with a character of UTF-8.
+fn is_tail(byte: u8) -> bool {
+    0x80 <= byte && byte <= 0xbf
 }
 
-// Whether two bytes after 0xe2 make a direction control, or a line end.
-fn is_mark(second: u8, third: u8) -> bool {
-    match second {
-        0x80 => matches!(third, 0x8e..=0x8f | 0xa8..=0xae),
-        0x81 => matches!(third, 0xa6..=0xa9),
-        _ => false,
-    }
+// Whether two bytes are a hidden character.
+fn hides_two(first: u8, second: u8) -> bool {
+    (0xc2 <= first && first <= 0xdf && is_tail(second)) && is_hidden(char_of_two(first, second))
+}
+
+// Whether three bytes are a hidden character.
+fn hides_three(first: u8, second: u8, third: u8) -> bool {
+    (0xe1 <= first && first <= 0xef && (is_tail(second) && is_tail(third)))
+        && is_hidden(char_of_three(first, second, third))
+}
+
+// Whether four bytes are a hidden character.
+fn hides_four(first: u8, second: u8, third: u8, fourth: u8) -> bool {
+    (0xf1 <= first && first <= 0xf4 && (is_tail(second) && (is_tail(third) && is_tail(fourth))))
+        && is_hidden(char_of_four(first, second, third, fourth))
+}
+
+// Returns the number of a character of two bytes.
+fn char_of_two(first: u8, second: u8) -> u32 {
+    u32::from(first) % 0x20 * 0x40 + u32::from(second) % 0x40
+}
+
+// Returns the number of a character of three bytes.
+fn char_of_three(first: u8, second: u8, third: u8) -> u32 {
+    u32::from(first) % 0x10 * 0x1000 + u32::from(second) % 0x40 * 0x40 + u32::from(third) % 0x40
+}
+
+// Returns the number of a character of four bytes.
+fn char_of_four(first: u8, second: u8, third: u8, fourth: u8) -> u32 {
+    u32::from(first) % 8 * 0x4_0000
+        + u32::from(second) % 0x40 * 0x1000
+        + u32::from(third) % 0x40 * 0x40
+        + u32::from(fourth) % 0x40
+}
+
+// Whether a character from U+0080 on is hidden.
+fn is_hidden(char: u32) -> bool {
+    matches!(
+        char,
+        0x80..=0x9f
+            | 0xad
+            | 0x61c
+            | 0x180e
+            | 0x200b..=0x200f
+            | 0x2028..=0x202e
+            | 0x2060..=0x206f
+            | 0xfeff
+            | 0xfff9..=0xfffb
+            | 0xe0001
+            | 0xe0020..=0xe007f
+    )
 }
 
 // Writes the escape of the first character.
@@ -119,18 +171,30 @@ fn write_escape(f: &mut Formatter<'_>, style: Style, bytes: &[u8]) -> fmt::Resul
         Style::Json if byte == b'"' => f.write_str("\\\""),
         Style::Json => {
             let number = hidden_char(bytes);
-            write!(f, "\\u{number:04x}")
+            write_number(f, number)
+        }
+    }
+}
+
+// Writes the number of a character as JSON has it.
+fn write_number(f: &mut Formatter<'_>, number: u32) -> fmt::Result {
+    match number.checked_sub(0x1_0000) {
+        None => write!(f, "\\u{number:04x}"),
+        Some(rest) => {
+            let (high, low) = (0xd800 + rest / 0x400, 0xdc00 + rest % 0x400);
+            write!(f, "\\u{high:04x}\\u{low:04x}")
         }
     }
 }
 
 // Returns the number of the first character, which is hidden.
 fn hidden_char(bytes: &[u8]) -> u32 {
-    let (second, third) = (u32::from(byte_in(bytes, 1)), u32::from(byte_in(bytes, 2)));
+    let (first, second) = (byte_in(bytes, 0), byte_in(bytes, 1));
     match hidden_len(bytes) {
-        1 => u32::from(byte_in(bytes, 0)),
-        2 => second,
-        _ => 0x2000 + second % 0x40 * 0x40 + third % 0x40,
+        1 => u32::from(first),
+        2 => char_of_two(first, second),
+        3 => char_of_three(first, second, byte_in(bytes, 2)),
+        _ => char_of_four(first, second, byte_in(bytes, 2), byte_in(bytes, 3)),
     }
 }
 
@@ -153,9 +217,11 @@ fn write_chunks(f: &mut Formatter<'_>, bytes: &[u8]) -> fmt::Result {
 
 /// Prints a name on one line, as `Escaped` writes it.
 ///
-/// # Proved
+/// <details><summary>Proved</summary>
 ///
 /// - if `Ok`: `Appends (O.contents out.old) (O.contents out.new) (escaped_text name)`
+///
+/// </details>
 pub fn print_escaped<O: Write>(name: &str, out: &mut O) -> io::Result<()> {
     let name = Escaped(name);
     write!(out, "{name}")
@@ -163,9 +229,11 @@ pub fn print_escaped<O: Write>(name: &str, out: &mut O) -> io::Result<()> {
 
 /// Prints bytes, two digits each.
 ///
-/// # Proved
+/// <details><summary>Proved</summary>
 ///
 /// - if `Ok`: `Appends (O.contents out.old) (O.contents out.new) (bytes_text bytes)`
+///
+/// </details>
 pub fn print_bytes<O: Write>(bytes: &[u8], out: &mut O) -> io::Result<()> {
     for byte in bytes {
         write!(out, "{byte:02x}")?;

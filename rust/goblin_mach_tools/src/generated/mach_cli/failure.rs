@@ -2,8 +2,8 @@
 //! Why an image is not shown.
 #![forbid(unsafe_code)]
 
-use crate::shim::AllocError;
 use crate::shim::io;
+use goblin_mach::AllocError;
 
 /// Why an image is not shown.
 pub enum ShowFailure {

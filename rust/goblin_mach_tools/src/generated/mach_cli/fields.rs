@@ -9,7 +9,7 @@ use crate::shim::io;
 use crate::shim::io::Write;
 use core::fmt;
 use core::fmt::{Display, Formatter};
-use goblin_mach::generated::mach::chained_fixups::PointerAuth;
+use goblin_mach::chained_fixups::PointerAuth;
 
 /// The value of a field.
 #[derive(Clone, Copy)]
@@ -62,9 +62,11 @@ pub struct Field<'a> {
 impl<'a> Field<'a> {
     /// Returns a field that both a line and an object have.
     ///
-    /// # Proved
+    /// <details><summary>Proved</summary>
     ///
     /// - `field_view result ≡ field_of name (value_view value.entry) column`
+    ///
+    /// </details>
     pub fn new(name: &'static str, value: Value<'a>, column: usize) -> Field<'a> {
         Field {
             name,
@@ -76,45 +78,55 @@ impl<'a> Field<'a> {
 
     /// Returns the same field with at least so many characters in a line.
     ///
-    /// # Proved
+    /// <details><summary>Proved</summary>
     ///
     /// - `field_view result ≡ wide_field width (field_view self.entry)`
+    ///
+    /// </details>
     pub fn wide(self, width: usize) -> Field<'a> {
         Field { width, ..self }
     }
 
     /// Returns a field that only an object has, or a line after its name.
     ///
-    /// # Proved
+    /// <details><summary>Proved</summary>
     ///
     /// - `field_view result ≡ object_field name (value_view value.entry)`
+    ///
+    /// </details>
     pub fn of_object(name: &'static str, value: Value<'a>) -> Field<'a> {
         Field::new(name, value, 0)
     }
 
     /// Returns a field that only an object has.
     ///
-    /// # Proved
+    /// <details><summary>Proved</summary>
     ///
     /// - `field_view result ≡ alone_field name (value_view value.entry)`
+    ///
+    /// </details>
     pub fn alone(name: &'static str, value: Value<'a>) -> Field<'a> {
         Field::new(name, value, 10)
     }
 
     /// Returns a field that only a line has.
     ///
-    /// # Proved
+    /// <details><summary>Proved</summary>
     ///
     /// - `field_view result ≡ line_field (value_view value.entry) column`
+    ///
+    /// </details>
     pub fn of_line(value: Value<'a>, column: usize) -> Field<'a> {
         Field::new("", value, column)
     }
 
     /// Returns a field that only an object has, which says whether something is so.
     ///
-    /// # Proved
+    /// <details><summary>Proved</summary>
     ///
     /// - `field_view result ≡ whether name is_so`
+    ///
+    /// </details>
     pub fn whether(name: &'static str, is_so: bool) -> Field<'a> {
         let (yes, no) = ("", "");
         Field::of_object(name, Value::Flag { is_so, yes, no })
@@ -133,9 +145,11 @@ fn key_text(key: u8) -> &'static str {
 
 /// Returns a word if something is so, and another otherwise.
 ///
-/// # Proved
+/// <details><summary>Proved</summary>
 ///
 /// - `result ≡ word_if is_so word otherwise`
+///
+/// </details>
 pub fn word_if(is_so: bool, word: &'static str, otherwise: &'static str) -> &'static str {
     if is_so { word } else { otherwise }
 }
@@ -317,15 +331,23 @@ fn write_string(f: &mut Formatter<'_>, text: &str) -> fmt::Result {
 /// How the fields of an item are written.
 pub trait FieldsForm {
     /// Writes an item with these fields.
+    ///
+    /// <details><summary>Proved</summary>
+    ///
+    /// - if `Ok`: `Appends (O.contents out.old) (O.contents out.new) (fields_text (map field_view fields))`
+    ///
+    /// </details>
     fn write<O: Write>(fields: &[Field<'_>], out: &mut O) -> io::Result<()> {
         Self::write_both(fields, &[], out)
     }
 
     /// Writes an item with these fields and others after them.
     ///
-    /// # Proved
+    /// <details><summary>Proved</summary>
     ///
     /// - if `Ok`: `Appends (O.contents out.old) (O.contents out.new) (fields_text (map field_view fields ++ map field_view others))`
+    ///
+    /// </details>
     fn write_both<O: Write>(
         fields: &[Field<'_>],
         others: &[Field<'_>],

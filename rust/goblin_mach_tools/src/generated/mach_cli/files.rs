@@ -5,34 +5,39 @@
 use crate::shim::rt::Eprint;
 use crate::shim::rt::HostRuntime;
 
+use crate::generated::mach_cli::bounds::most_images;
 use crate::generated::mach_cli::cpu::Cpu;
+use crate::generated::mach_cli::entries::outside_at;
 use crate::generated::mach_cli::first_bytes::begins_fat;
 use crate::generated::mach_cli::label::Label;
 use crate::generated::mach_cli::named::{Others, names_of};
 use crate::generated::mach_cli::names::Names;
-use crate::generated::mach_cli::parts::parts_of;
-use crate::generated::mach_cli::parts::selection::{is_for, is_missed};
+use crate::generated::mach_cli::parts::selection::{SelectedParts, are_more, is_missed};
 use crate::generated::mach_cli::parts::shown::{ShownPart, shown_part};
+use crate::generated::mach_cli::parts::{parts_left_out, parts_of};
 use crate::generated::mach_cli::program::Program;
 use crate::generated::mach_cli::progress::Progress;
 use crate::generated::mach_cli::refusal::{Refusal, complain};
 use crate::generated::mach_cli::title::{Title, title_of};
 use crate::generated::mach_cli::titled::{Titled, put_title};
 use crate::generated::mach_cli::word::NoText;
-use crate::shim::AllocError;
 use crate::shim::io::{BufWriter, IsTerminal, Write};
 use core::str;
-use goblin_mach::generated::mach::InputItem;
-use goblin_mach::generated::mach_base::describe;
+use goblin_mach::AllocError;
+use goblin_mach::FatArch64;
+use goblin_mach::InputItem;
+use goblin_mach::describe;
 
 /// What a program shows of a file.
 pub trait FileView<W> {
     /// Shows a file of a name, and returns the exit status.
     ///
-    /// # Proved
+    /// <details><summary>Proved</summary>
     ///
     /// - *status*: `IsStatus result`
     /// - *shown*: if `result ≤ 1`, `shows self name bytes out.old out.new result`
+    ///
+    /// </details>
     fn show(&self, rt: &HostRuntime, name: &str, bytes: &[u8], out: &mut W) -> u8;
 }
 
@@ -47,6 +52,8 @@ pub struct Files {
     pub has_titles: bool,
     /// Whether each part of a file is shown, instead of the file itself.
     pub has_parts: bool,
+    /// How many lines of a file are shown, and of its parts as many, and one at least.
+    pub limit: usize,
 }
 
 // A call over files.
@@ -76,10 +83,12 @@ impl Files {
     /// Shows files in order, then those named in other ways, and returns the worst status. The status of a failed write is an
     /// error, since nothing is shown after it.
     ///
-    /// # Proved
+    /// <details><summary>Proved</summary>
     ///
     /// - *shown*: if `Ok(worst)`: `ShowsFiles self (S.shows shows) files others out.old out.new worst`
     /// - *unwritten*: if `Err(status)`: `IsUnwritten status`
+    ///
+    /// </details>
     pub fn show<S: FileView<BufWriter<Titled<W>>>, W: Write>(
         &self,
         rt: &HostRuntime,
@@ -94,10 +103,12 @@ impl Files {
     /// Shows files as `show` does, with the titles of `llvm-nm`: those of the entries of a fat file have the file's name and the cpu,
     /// and a fat file of 32 bits has none, since the headings of its entries name it.
     ///
-    /// # Proved
+    /// <details><summary>Proved</summary>
     ///
     /// - *shown*: if `Ok(worst)`: `ShowsFilesBy true self (S.shows shows) files others out.old out.new worst`
     /// - *unwritten*: if `Err(status)`: `IsUnwritten status`
+    ///
+    /// </details>
     pub fn show_as_nm<S: FileView<BufWriter<Titled<W>>>, W: Write>(
         &self,
         rt: &HostRuntime,
@@ -234,7 +245,7 @@ impl Running {
         if name.is_empty() {
             return Ok(0);
         }
-        match str::from_utf8(name) {
+        match core::str::from_utf8(name) {
             Ok(file) => self.show_file(rt, shows, progress, file, out),
             Err(_) => Ok(self.refuse_name(rt, list, index, name)),
         }
@@ -268,42 +279,54 @@ impl Running {
         if !self.files.has_parts {
             return self.show_itself(rt, shows, file, bytes, out);
         }
-        if is_missed(self.files.cpu, bytes) {
+        let parts = parts_of(bytes);
+        let Files { cpu, limit, .. } = self.files;
+        let count = most_images(limit);
+        if is_missed(cpu, parts) {
             return Ok(self.miss(rt, file));
         }
-        self.show_parts(rt, shows, file, bytes, out)
+        let first = SelectedParts::of(count, cpu, parts);
+        let status = self.show_parts(rt, shows, file, bytes, first, out)?;
+        let cut = self.cut(rt, file, are_more(count, cpu, parts));
+        let left_out = self.leave_out(rt, file, parts_left_out(bytes));
+        Ok(worse(worse(status, cut), left_out))
     }
 
-    // Shows the selected parts of a file, and returns the worst status.
+    // Shows these parts of a file, and returns the worst status.
     fn show_parts<S: FileView<BufWriter<Titled<W>>>, W: Write>(
         &self,
         rt: &HostRuntime,
         shows: &S,
         file: &str,
         bytes: &[u8],
+        parts: SelectedParts<'_>,
         out: &mut BufWriter<Titled<W>>,
     ) -> Result<u8, u8> {
         let mut worst = 0u8;
-        for part in parts_of(bytes) {
-            let status = self.show_selected(rt, shows, file, part, out)?;
+        for part in parts {
+            let status = self.show_placed(rt, shows, file, bytes, part, out)?;
             worst = worse(worst, status);
         }
         Ok(worst)
     }
 
-    // Shows a part of a file, if it is selected, and returns the status.
-    fn show_selected<S: FileView<BufWriter<Titled<W>>>, W: Write>(
+    // Shows a part of a file that is selected, if it is not out of the file, and returns the status.
+    fn show_placed<S: FileView<BufWriter<Titled<W>>>, W: Write>(
         &self,
         rt: &HostRuntime,
         shows: &S,
         file: &str,
+        bytes: &[u8],
         part: InputItem<'_>,
         out: &mut BufWriter<Titled<W>>,
     ) -> Result<u8, u8> {
-        if !is_for(self.files.cpu, &part.place) {
-            return Ok(0);
+        match outside_at::<FatArch64>(bytes, part.place.entry) {
+            None => self.show_part(rt, shows, file, part, out),
+            Some(outside) => {
+                let label = Label::of(&part);
+                Ok(self.refuse(rt, file, label, Refusal::OutOfFile(outside)))
+            }
         }
-        self.show_part(rt, shows, file, part, out)
     }
 
     // Shows a part of a file, and returns the status.
@@ -392,6 +415,23 @@ impl Running {
     // Reports that no part of a file is selected, and returns the status.
     fn miss(&self, rt: &HostRuntime, file: &str) -> u8 {
         self.refuse(rt, file, Label::None, Refusal::NoEntry(self.files.cpu))
+    }
+
+    // Reports that more parts of a file are selected than the limit allows, if so, and returns the status.
+    fn cut(&self, rt: &HostRuntime, file: &str, is_cut: bool) -> u8 {
+        if !is_cut {
+            return 0;
+        }
+        let count = most_images(self.files.limit);
+        self.refuse(rt, file, Label::None, Refusal::Limit(count))
+    }
+
+    // Reports how many entries of a file are left out, if there are some, and returns the status.
+    fn leave_out(&self, rt: &HostRuntime, file: &str, count: usize) -> u8 {
+        if count == 0 {
+            return 0;
+        }
+        self.refuse(rt, file, Label::None, Refusal::LeftOut(count))
     }
 
     // Reports that a file, or a part with this label, is refused, and returns the status.

@@ -2,19 +2,23 @@
 //! What a file is by its first bytes: whether it is divided into parts, what an entry or a member is, and the kind of a refused one.
 #![forbid(unsafe_code)]
 
-use goblin_mach::generated::mach::fat::FAT_MAGIC;
-use goblin_mach::generated::mach::first_bytes::foreign_kind;
-use goblin_mach::generated::mach::{
+use crate::generated::mach_cli::entries::{EntryCounts, NO_ENTRIES, counts_in};
+use goblin_mach::FatArch64;
+use goblin_mach::archive::Archive;
+use goblin_mach::fat::{FAT_MAGIC, FatArch};
+use goblin_mach::internals::mach::foreign_kind;
+use goblin_mach::{
     Error, FAT_MAGIC_64, Foreign, Hint, Input, MultiArch64, begins_archive, peek, peek_bytes,
     take_hint_bytes,
 };
-use goblin_mach::generated::mach_archive::Archive;
 
 /// Returns the kind of a file that is refused for this error, if it isn't Mach-O. If memory ran out, any file has none.
 ///
-/// # Proved
+/// <details><summary>Proved</summary>
 ///
 /// - `result ≡ refused_kind bytes error`
+///
+/// </details>
 pub fn refused_kind(bytes: &[u8], error: &Error) -> Option<Foreign> {
     match error {
         Error::Memory(_) => None,
@@ -24,9 +28,11 @@ pub fn refused_kind(bytes: &[u8], error: &Error) -> Option<Foreign> {
 
 /// Returns the archive or the fat file of 64 bits that the bytes are, if they are one. Its parts are shown as files of their own.
 ///
-/// # Proved
+/// <details><summary>Proved</summary>
 ///
 /// - if `None`: `parts_in bytes ≡ itself bytes ∷ []`; if `Some(x)`: `IsDivided bytes x`
+///
+/// </details>
 pub fn divided(bytes: &[u8]) -> Option<Input<'_>> {
     if begins_archive(bytes) {
         return match Archive::parse(bytes) {
@@ -43,6 +49,40 @@ pub fn divided(bytes: &[u8]) -> Option<Input<'_>> {
     }
 }
 
+/// Returns how many entries of a file are shown, and how many aren't. Of what is no fat file there are none.
+///
+/// <details><summary>Proved</summary>
+///
+/// - `result ≡ entry_counts bytes`
+///
+/// </details>
+pub fn entry_counts(bytes: &[u8]) -> EntryCounts {
+    let is_archive = begins_archive(bytes);
+    if is_archive {
+        return NO_ENTRIES;
+    }
+    match peek(bytes, 0) {
+        Ok(FAT_MAGIC_64) => counts_in::<FatArch64>(bytes),
+        Ok(FAT_MAGIC) => counts_in::<FatArch>(bytes),
+        _ => NO_ENTRIES,
+    }
+}
+
+/// Returns the same of a fat file of 64 bits. Of one of 32 bits there are none, since it isn't divided.
+///
+/// <details><summary>Proved</summary>
+///
+/// - `result ≡ wide_counts bytes`
+///
+/// </details>
+pub fn wide_counts(bytes: &[u8]) -> EntryCounts {
+    if begins_fat(bytes) {
+        NO_ENTRIES
+    } else {
+        entry_counts(bytes)
+    }
+}
+
 /// Whether bytes begin as a fat file of 32 bits does.
 pub(crate) fn begins_fat(bytes: &[u8]) -> bool {
     match peek(bytes, 0) {
@@ -53,9 +93,11 @@ pub(crate) fn begins_fat(bytes: &[u8]) -> bool {
 
 /// Returns the kind of a member or an entry, by its first 16 bytes.
 ///
-/// # Proved
+/// <details><summary>Proved</summary>
 ///
 /// - `result ≡ entry_kind entry`
+///
+/// </details>
 pub fn entry_kind(entry: &[u8]) -> &'static str {
     let Some(front) = take_hint_bytes(entry) else {
         return "too short";
@@ -70,9 +112,11 @@ pub fn entry_kind(entry: &[u8]) -> &'static str {
 
 /// Whether bytes begin as an archive does that has its members in it.
 ///
-/// # Proved
+/// <details><summary>Proved</summary>
 ///
 /// - `result ≡ begins_archive bytes`
+///
+/// </details>
 pub fn begins_whole_archive(bytes: &[u8]) -> bool {
     bytes.starts_with(b"!<arch>\n")
 }

@@ -40,18 +40,22 @@ fn segment_flags() -> [FlagWord; 7] {
 
 /// Prints the flags of a code directory.
 ///
-/// # Proved
+/// <details><summary>Proved</summary>
 ///
 /// - if `Ok`: `Appends (O.contents out.old) (O.contents out.new) (worded_flags_text defined.code_flags flags)`
+///
+/// </details>
 pub fn print_code_flags<O: Write>(flags: u32, out: &mut O) -> io::Result<()> {
     print_flags(u64::from(flags), &code_flags(), out)
 }
 
 /// Prints the flags of an executable segment.
 ///
-/// # Proved
+/// <details><summary>Proved</summary>
 ///
 /// - if `Ok`: `Appends (O.contents out.old) (O.contents out.new) (worded_flags_text defined.segment_flags flags)`
+///
+/// </details>
 pub fn print_segment_flags<O: Write>(flags: u64, out: &mut O) -> io::Result<()> {
     print_flags(flags, &segment_flags(), out)
 }

@@ -17,19 +17,23 @@ fn number_in(word: &str, most: usize) -> Option<u64> {
 
 /// Returns the cpu number in an argument: `0x`, and 1 to 8 hexadecimal digits.
 ///
-/// # Proved
+/// <details><summary>Proved</summary>
 ///
 /// - *value*: if `Some(number)`: `IsCputype word number`
 /// - *none*: if `None`: for each `number : ℕ`, if `IsCputype word number`, `⊥`
+///
+/// </details>
 pub fn cputype_in(word: &str) -> Option<u32> {
     u32::try_from(number_in(word, 8)?).ok()
 }
 
 /// Returns the address in an argument: `0x`, and 1 to 16 hexadecimal digits.
 ///
-/// # Proved
+/// <details><summary>Proved</summary>
 ///
 /// - `result ≡ word_address word`
+///
+/// </details>
 pub fn address_in(word: &str) -> Option<u64> {
     number_in(word, 16)
 }

@@ -32,9 +32,11 @@ impl<T: Copy, J: Copy> ImageFiles<T, J> {
     /// Returns how a call shows its files, with titles: the lines of one view, or with `--json` the objects of another; at most
     /// `most` of a file if no limit is given.
     ///
-    /// # Proved
+    /// <details><summary>Proved</summary>
     ///
     /// - `let c = call in result ≡ record { program = program; cpu = c.cpu; limit = limit_of c.limit most; is_json = is_json c.format; has_titles = true; lines = lines; objects = objects; }`
+    ///
+    /// </details>
     pub fn of<O>(program: Program, call: &Call<'_, O>, most: usize, lines: T, objects: J) -> Self {
         ImageFiles {
             program,
@@ -49,23 +51,28 @@ impl<T: Copy, J: Copy> ImageFiles<T, J> {
 
     /// Returns how the files are shown: part by part, without titles if objects are shown.
     ///
-    /// # Proved
+    /// <details><summary>Proved</summary>
     ///
     /// - `result ≡ files_of self`
+    ///
+    /// </details>
     pub fn files(&self) -> Files {
         Files {
             program: self.program,
             cpu: self.cpu,
             has_titles: self.has_titles & !self.is_json,
             has_parts: true,
+            limit: self.limit,
         }
     }
 
     /// Returns what is shown of each file as text.
     ///
-    /// # Proved
+    /// <details><summary>Proved</summary>
     ///
     /// - `let s = self in result ≡ record { program = s.program; cpu = s.cpu; limit = s.limit; view = s.lines; sink = record {} }`
+    ///
+    /// </details>
     pub fn as_text(&self) -> ImagesView<T, Text> {
         ImagesView {
             program: self.program,
@@ -78,9 +85,11 @@ impl<T: Copy, J: Copy> ImageFiles<T, J> {
 
     /// Returns what is shown of each file as text, under the headings of `llvm-nm`.
     ///
-    /// # Proved
+    /// <details><summary>Proved</summary>
     ///
     /// - `let s = self in result ≡ record { program = s.program; cpu = s.cpu; limit = s.limit; view = s.lines; sink = record {} }`
+    ///
+    /// </details>
     pub fn as_nm(&self) -> ImagesView<T, NmText> {
         ImagesView {
             program: self.program,
@@ -93,9 +102,11 @@ impl<T: Copy, J: Copy> ImageFiles<T, J> {
 
     /// Returns what is shown of each file as JSON.
     ///
-    /// # Proved
+    /// <details><summary>Proved</summary>
     ///
     /// - `let s = self in result ≡ record { program = s.program; cpu = s.cpu; limit = s.limit; view = s.objects; sink = record {} }`
+    ///
+    /// </details>
     pub fn as_json(&self) -> ImagesView<J, Json> {
         ImagesView {
             program: self.program,

@@ -2,16 +2,18 @@
 //! What an image is, in words.
 #![forbid(unsafe_code)]
 
-use goblin_mach::generated::mach::header::{
+use goblin_mach::header::{
     MH_BUNDLE, MH_CORE, MH_DSYM, MH_DYLIB, MH_DYLIB_STUB, MH_DYLINKER, MH_EXECUTE, MH_FILESET,
     MH_FVMLIB, MH_GPU_DYLIB, MH_GPU_EXECUTE, MH_KEXT_BUNDLE, MH_OBJECT, MH_PRELOAD,
 };
 
 /// Returns the kind of an image in words, by the number of its header.
 ///
-/// # Proved
+/// <details><summary>Proved</summary>
 ///
 /// - `result ≡ image_kind filetype`
+///
+/// </details>
 pub fn image_kind(filetype: u32) -> &'static str {
     match filetype {
         MH_OBJECT => "object",

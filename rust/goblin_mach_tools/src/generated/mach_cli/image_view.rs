@@ -4,7 +4,7 @@
 
 use crate::generated::mach_cli::failure::ShowFailure;
 use crate::shim::io::Write;
-use goblin_mach::generated::mach::MachO;
+use goblin_mach::MachO;
 
 /// The outcome of showing an image.
 #[derive(Clone, Copy)]
@@ -20,10 +20,12 @@ pub trait ImageView {
     /// Shows an image of a file with at most `left` of the `limit` lines of the file, and returns whether it is whole, and how
     /// many lines are left. It allocates all its memory before it writes.
     ///
-    /// # Proved
+    /// <details><summary>Proved</summary>
     ///
     /// - *shown*: for each `bytes : List ℕ`, if `IsImage bytes 0 image`, if `Ok(outcome)`: there is `text : List ℕ` with: `lines self file limit left bytes text outcome.whole outcome.left × Appends (O.contents out.old) (O.contents out.new) text`
     /// - *memory*: if `Err(e)`: `IfMemory (Appends (O.contents out.old) (O.contents out.new) []) e`
+    ///
+    /// </details>
     fn show<O: Write>(
         &self,
         file: &str,

@@ -13,30 +13,38 @@ pub trait ItemList {
 
     /// Returns the next item, or why it can't be read.
     ///
-    /// # Proved
+    /// <details><summary>Proved</summary>
     ///
     /// - if `None`: `items_left self.old ≡ []`; if `Some(item)`: `items_left self.old ≡ read_as fields item ∷ items_left self.new`
-    fn next_item(&mut self) -> Option<goblin_mach::generated::mach::Result<Self::Item>>;
+    ///
+    /// </details>
+    fn next_item(&mut self) -> Option<goblin_mach::Result<Self::Item>>;
 
     /// Returns how many more items the whole list claims, with records that begin past the end of the bytes.
     ///
-    /// # Proved
+    /// <details><summary>Proved</summary>
     ///
     /// - `result ≡ items_past self`
+    ///
+    /// </details>
     fn items_past(&self) -> usize;
 
     /// Returns the plural name of its items, for the line about those past the end.
     ///
-    /// # Proved
+    /// <details><summary>Proved</summary>
     ///
     /// - `result ≡ items_name self`
+    ///
+    /// </details>
     fn items_name(&self) -> &'static str;
 
     /// Writes the fields of an item in a form.
     ///
-    /// # Proved
+    /// <details><summary>Proved</summary>
     ///
     /// - if `Ok`: `Appends (O.contents out.old) (O.contents out.new) (F.fields_text (fields item))`
+    ///
+    /// </details>
     fn write_item<F: FieldsForm, O: Write>(item: &Self::Item, out: &mut O) -> io::Result<()>;
 }
 
@@ -51,7 +59,7 @@ pub struct InForm<L, F> {
 impl<L: ItemList, F: FieldsForm> Listing for InForm<L, F> {
     type Row = L::Item;
 
-    fn next_row(&mut self) -> Option<goblin_mach::generated::mach::Result<L::Item>> {
+    fn next_row(&mut self) -> Option<goblin_mach::Result<L::Item>> {
         self.list.next_item()
     }
 

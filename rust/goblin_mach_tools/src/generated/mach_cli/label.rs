@@ -7,8 +7,8 @@ use crate::generated::mach_cli::escaped::Escaped;
 use crate::generated::mach_cli::json::text::JsonString;
 use core::fmt;
 use core::fmt::{Display, Formatter};
-use goblin_mach::generated::mach::{Content, EntryCpu, InputItem};
-use goblin_mach::generated::mach_archive::Member;
+use goblin_mach::archive::Member;
+use goblin_mach::{Content, EntryCpu, InputItem};
 
 /// The label of an image within a file.
 #[derive(Clone, Copy)]
@@ -24,9 +24,11 @@ pub enum Label<'a> {
 impl<'a> Label<'a> {
     /// Returns the label of an item of a file.
     ///
-    /// # Proved
+    /// <details><summary>Proved</summary>
     ///
     /// - `let x = input_item_read item in label_view result ≡ label_of x.place x.content`
+    ///
+    /// </details>
     pub fn of(item: &InputItem<'a>) -> Label<'a> {
         let cpu = item.place.cpu;
         match item.place.entry {

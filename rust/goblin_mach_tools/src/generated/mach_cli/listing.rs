@@ -5,7 +5,7 @@
 use crate::generated::mach_cli::image_view::Outcome;
 use crate::shim::io;
 use crate::shim::io::Write;
-use goblin_mach::generated::mach::describe;
+use goblin_mach::describe;
 
 /// A list of rows, read one after the other.
 pub trait Listing {
@@ -13,30 +13,38 @@ pub trait Listing {
 
     /// Returns the next row, or why it can't be read.
     ///
-    /// # Proved
+    /// <details><summary>Proved</summary>
     ///
     /// - if `None`: `left self.old ≡ []`; if `Some(row)`: `left self.old ≡ read_as text row ∷ left self.new`
-    fn next_row(&mut self) -> Option<goblin_mach::generated::mach::Result<Self::Row>>;
+    ///
+    /// </details>
+    fn next_row(&mut self) -> Option<goblin_mach::Result<Self::Row>>;
 
     /// Returns how many more items the whole list claims, with records that begin past the end of the bytes.
     ///
-    /// # Proved
+    /// <details><summary>Proved</summary>
     ///
     /// - `result ≡ past self`
+    ///
+    /// </details>
     fn past(&self) -> usize;
 
     /// Returns the plural name of its items, for the line about those past the end.
     ///
-    /// # Proved
+    /// <details><summary>Proved</summary>
     ///
     /// - `result ≡ past_name self`
+    ///
+    /// </details>
     fn past_name(&self) -> &'static str;
 
     /// Writes a row.
     ///
-    /// # Proved
+    /// <details><summary>Proved</summary>
     ///
     /// - if `Ok`: `Appends (O.contents out.old) (O.contents out.new) (text row)`
+    ///
+    /// </details>
     fn write_row<O: Write>(row: &Self::Row, out: &mut O) -> io::Result<()>;
 }
 
@@ -57,9 +65,11 @@ pub struct ListProgress {
 /// line says how many.
 /// The outcome is whole if all rows were printed and could be read and none is past the end. It also says how many lines are left.
 ///
-/// # Proved
+/// <details><summary>Proved</summary>
 ///
 /// - if `Ok(outcome)`: `WritesFirstLines word limit left (L.left list.old) (L.past_name list.old) (L.past list.old) outcome.whole outcome.left (O.contents out.old) (O.contents out.new)`
+///
+/// </details>
 pub fn print_listing<L: Listing, O: Write>(
     list: &mut L,
     word: &str,
@@ -79,9 +89,11 @@ pub fn print_listing<L: Listing, O: Write>(
 
 /// Prints how many more items of this name a list claims, with records that begin past the end of the bytes, if there are some.
 ///
-/// # Proved
+/// <details><summary>Proved</summary>
 ///
 /// - if `Ok`: `Appends (O.contents out.old) (O.contents out.new) (past_line name past)`
+///
+/// </details>
 pub fn print_past<O: Write>(name: &str, past: usize, out: &mut O) -> io::Result<()> {
     if past > 0 {
         writeln!(out, "{past} more {name} past the end")?;
@@ -91,9 +103,11 @@ pub fn print_past<O: Write>(name: &str, past: usize, out: &mut O) -> io::Result<
 
 /// Prints that there are more rows than the limit, if so.
 ///
-/// # Proved
+/// <details><summary>Proved</summary>
 ///
 /// - if `Ok`: `Appends (O.contents out.old) (O.contents out.new) (cut_line limit more)`
+///
+/// </details>
 pub fn print_cut<O: Write>(limit: usize, more: bool, out: &mut O) -> io::Result<()> {
     if more {
         writeln!(out, "limit: {limit} shown, and there are more")?;
@@ -103,9 +117,11 @@ pub fn print_cut<O: Write>(limit: usize, more: bool, out: &mut O) -> io::Result<
 
 /// Prints a line for each of the first rows of a list, up to a limit.
 ///
-/// # Proved
+/// <details><summary>Proved</summary>
 ///
 /// - if `Ok(x)`: `WritesRows word limit (L.left list.old) (O.contents out.old) (O.contents out.new) x`
+///
+/// </details>
 pub fn print_rows<L: Listing, O: Write>(
     list: &mut L,
     word: &str,
@@ -134,9 +150,11 @@ pub fn print_rows<L: Listing, O: Write>(
 
 /// Visits the first rows of a list, up to a limit, and prints nothing.
 ///
-/// # Proved
+/// <details><summary>Proved</summary>
 ///
 /// - `CountsRows limit (L.left list.old) result`
+///
+/// </details>
 pub fn count_rows<L: Listing>(list: &mut L, limit: usize) -> ListProgress {
     let mut left = limit;
     let mut whole = true;
@@ -160,7 +178,7 @@ pub fn count_rows<L: Listing>(list: &mut L, limit: usize) -> ListProgress {
 
 // Prints the line of a row, and returns whether it could be read.
 fn print_row<L: Listing, O: Write>(
-    answer: &goblin_mach::generated::mach::Result<L::Row>,
+    answer: &goblin_mach::Result<L::Row>,
     word: &str,
     out: &mut O,
 ) -> io::Result<bool> {

@@ -2,19 +2,21 @@
 //! The ranges of memory of segments and sections, and their names.
 #![forbid(unsafe_code)]
 
-use crate::shim::TryGrow;
 use alloc::vec::Vec;
+use goblin_mach::internals::shim::TryGrow;
 
 use crate::generated::mach_cli::stretches::Stretch;
-use crate::shim::AllocError;
-use goblin_mach::generated::mach::segment::{Section, SectionData, Segment};
-use goblin_mach::generated::mach::{Error, read_text};
+use goblin_mach::AllocError;
+use goblin_mach::segment::{Section, SectionData, Segment};
+use goblin_mach::{Error, read_text};
 
 /// Returns the room that the sections of a segment leave.
 ///
-/// # Proved
+/// <details><summary>Proved</summary>
 ///
 /// - `result ≡ room_after room (segment_view segment)`
+///
+/// </details>
 pub fn room_after(room: usize, segment: &Segment<'_>) -> usize {
     let count = segment.nsects as usize;
     if count <= room { room - count } else { room }
@@ -22,9 +24,11 @@ pub fn room_after(room: usize, segment: &Segment<'_>) -> usize {
 
 /// Returns the ranges of memory of a segment's sections, if there is room for them.
 ///
-/// # Proved
+/// <details><summary>Proved</summary>
 ///
 /// - if `Ok(v)`: `v.items ≡ sections_within room (segment_view segment)`
+///
+/// </details>
 pub fn sections_within(segment: &Segment<'_>, room: usize) -> Result<Vec<Stretch>, AllocError> {
     if segment.nsects as usize > room {
         return Ok(Vec::new());
@@ -61,15 +65,17 @@ fn stretches_of(sections: &[(Section, SectionData<'_>)]) -> Result<Vec<Stretch>,
 
 /// Returns the printed name of a segment or a section.
 ///
-/// # Proved
+/// <details><summary>Proved</summary>
 ///
 /// - `result ≡ stretch_name stretch`
+///
+/// </details>
 pub fn name_of(stretch: &Stretch) -> &str {
     shown_name(read_text(&stretch.name, 0))
 }
 
 // Returns a name as it is printed.
-fn shown_name(name: goblin_mach::generated::mach::Result<&str>) -> &str {
+fn shown_name(name: goblin_mach::Result<&str>) -> &str {
     match name {
         Ok(text) if !text.is_empty() => text,
         _ => "-",

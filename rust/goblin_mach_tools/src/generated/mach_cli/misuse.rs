@@ -4,10 +4,10 @@
 
 use crate::generated::mach_cli::escaped::Escaped;
 use crate::generated::mach_cli::word::NoText;
-use crate::shim::AllocError;
 use crate::shim::strsim::osa_distance;
 use core::fmt;
 use core::fmt::{Display, Formatter};
+use goblin_mach::AllocError;
 
 /// What is wrong with the arguments of a call.
 #[derive(Clone, Copy)]

@@ -2,12 +2,12 @@
 //! The files that a call names other than by an argument that is text.
 #![forbid(unsafe_code)]
 
-use crate::shim::TryGrow;
 use alloc::vec::Vec;
+use goblin_mach::internals::shim::TryGrow;
 
 use crate::generated::mach_cli::word::NoText;
-use crate::shim::AllocError;
-use crate::shim::memchr::memchr;
+use goblin_mach::AllocError;
+use goblin_mach::internals::shim::memchr::memchr;
 
 /// The files that a call names other than by an argument that is text.
 pub struct Others<'a> {
@@ -27,18 +27,22 @@ impl Others<'_> {
 
     /// Whether these files and `words` others may be several.
     ///
-    /// # Proved
+    /// <details><summary>Proved</summary>
     ///
     /// - `result ≡ are_several words self.lists.items self.no_texts.items`
+    ///
+    /// </details>
     pub fn are_several(&self, words: usize) -> bool {
         !self.lists.is_empty() || words.saturating_add(self.no_texts.len()) > 1
     }
 
     /// Returns the byte that ends a name in a list.
     ///
-    /// # Proved
+    /// <details><summary>Proved</summary>
     ///
     /// - `result ≡ name_end self.ends_with_nul`
+    ///
+    /// </details>
     pub fn name_end(&self) -> u8 {
         if self.ends_with_nul { 0 } else { b'\n' }
     }
@@ -54,9 +58,11 @@ fn first_name(end: u8, list: &[u8]) -> Option<(&[u8], &[u8])> {
 
 /// Returns the names of a list, in order, without the byte that ends each. What follows the last such byte is one too.
 ///
-/// # Proved
+/// <details><summary>Proved</summary>
 ///
 /// - if `Ok(names)`: `texts names.items ≡ listed_names end list`
+///
+/// </details>
 pub fn names_of(end: u8, list: &[u8]) -> Result<Vec<&[u8]>, AllocError> {
     let mut names = Vec::new();
     let mut rest = list;

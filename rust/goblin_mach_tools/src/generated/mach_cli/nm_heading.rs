@@ -7,8 +7,8 @@ use crate::generated::mach_cli::escaped::Escaped;
 use crate::generated::mach_cli::label::{Label, NameOnLine};
 use core::fmt;
 use core::fmt::{Display, Formatter};
-use goblin_mach::generated::mach::EntryCpu;
-use goblin_mach::generated::mach_archive::Member;
+use goblin_mach::EntryCpu;
+use goblin_mach::archive::Member;
 
 // The cpu of an entry: its name, or its number if it has no name.
 #[derive(Clone, Copy)]

@@ -16,9 +16,11 @@ pub enum Format {
 impl Format {
     /// Whether it is JSON.
     ///
-    /// # Proved
+    /// <details><summary>Proved</summary>
     ///
     /// - `result ≡ is_json self`
+    ///
+    /// </details>
     pub fn is_json(self) -> bool {
         matches!(self, Format::Json)
     }
@@ -71,9 +73,11 @@ impl Options {
 pub trait OwnOptions {
     /// Takes an argument that is no shared option and begins with a dash, and returns whether it is one of these options.
     ///
-    /// # Proved
+    /// <details><summary>Proved</summary>
     ///
     /// - `(self.new, result) ≡ taken self.old argument`
+    ///
+    /// </details>
     fn take(&mut self, argument: &str) -> bool;
 }
 

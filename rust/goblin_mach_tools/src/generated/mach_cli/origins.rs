@@ -2,7 +2,7 @@
 //! From which image a symbol comes, by a short name.
 #![forbid(unsafe_code)]
 
-use goblin_mach::generated::mach::Provider;
+use goblin_mach::Provider;
 
 // The longest path that a system opens (`MAXPATHLEN` of `sys/param.h`).
 const LONGEST_PATH: usize = 1024;
@@ -30,9 +30,11 @@ fn unless_empty(name: &str) -> Option<&str> {
 
 /// Returns the short name of a library, if it isn't empty. A longer path has none, so that a bind takes no time by its length.
 ///
-/// # Proved
+/// <details><summary>Proved</summary>
 ///
 /// - `option_map (λ t. t) result ≡ library_short_name path`
+///
+/// </details>
 pub fn library_short_name(path: &str) -> Option<&str> {
     if path.len() > LONGEST_PATH {
         return None;
@@ -42,9 +44,11 @@ pub fn library_short_name(path: &str) -> Option<&str> {
 
 /// Returns the short name of a provider, if it isn't empty.
 ///
-/// # Proved
+/// <details><summary>Proved</summary>
 ///
 /// - `option_map (λ t. t) result ≡ provider_name (provider_view provider)`
+///
+/// </details>
 pub fn provider_name<'a>(provider: &Provider<'a>) -> Option<&'a str> {
     match provider {
         Provider::Library { name, .. } => library_short_name(name),
@@ -58,9 +62,11 @@ pub fn provider_name<'a>(provider: &Provider<'a>) -> Option<&'a str> {
 /// Returns the ordinal of a provider: 0 for the image itself, above 0 for a library of its list, -1 for the main executable, -2 for
 /// any image, -3 for weak lookup.
 ///
-/// # Proved
+/// <details><summary>Proved</summary>
 ///
 /// - `result ≡ ordinal_of (provider_view provider)`
+///
+/// </details>
 pub fn ordinal_of(provider: &Provider<'_>) -> i128 {
     match provider {
         Provider::Library { ordinal, .. } => i128::from(*ordinal),
@@ -73,9 +79,11 @@ pub fn ordinal_of(provider: &Provider<'_>) -> i128 {
 
 /// Returns the short name of the provider that an ordinal has, if it has one, given the image's libraries.
 ///
-/// # Proved
+/// <details><summary>Proved</summary>
 ///
 /// - `option_map (λ t. t) result ≡ origin_of (provider_of (texts libs) ordinal)`
+///
+/// </details>
 pub fn origin_of<'a>(libs: &[&'a str], ordinal: i32) -> Option<&'a str> {
     match Provider::of_ordinal(libs, i64::from(ordinal)) {
         Ok(provider) => provider_name(&provider),

@@ -11,10 +11,12 @@ const CLOSED: u8 = 141;
 
 /// Prints a text, and returns the exit status: 0, or that of a failed write of the program of this name.
 ///
-/// # Proved
+/// <details><summary>Proved</summary>
 ///
 /// - *status*: if `result ≢ 0`, `IsUnwritten result`
 /// - *message*: if `result ≡ 0`, `Appends (O.contents out.old) (O.contents out.new) text`
+///
+/// </details>
 pub fn say<O: Write, E: Write>(name: &str, text: &str, out: &mut O, err: &mut E) -> u8 {
     match put(text, out) {
         Ok(()) => 0,
@@ -31,12 +33,14 @@ fn put<O: Write>(text: &str, out: &mut O) -> io::Result<()> {
 /// Returns the status of a write that failed with this error. If the reader of a pipe has closed it, nothing is reported. Any
 /// other failure is reported on `err`, if possible, with the name of the file, if it has one.
 ///
-/// # Proved
+/// <details><summary>Proved</summary>
 ///
 /// - *closed*: if `error_kind error ≡ ErrorKind.BrokenPipe`, `result ≡ 141`
 /// - *other*: if `error_kind error ≢ ErrorKind.BrokenPipe`, `result ≡ 2`
 /// - *status*: `IsUnwritten result`
 /// - *least*: `2 ≤ result`
+///
+/// </details>
 pub fn failed<E: Write>(name: &str, file: &str, error: io::Error, err: &mut E) -> u8 {
     match error.kind() {
         ErrorKind::BrokenPipe => CLOSED,

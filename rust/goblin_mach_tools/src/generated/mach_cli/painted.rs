@@ -22,9 +22,11 @@ pub enum Painted<W> {
 impl<W> Painted<W> {
     /// Wraps a writer, whose output is coloured or not.
     ///
-    /// # Proved
+    /// <details><summary>Proved</summary>
     ///
     /// - `result ≡ painter_of is_coloured inner`
+    ///
+    /// </details>
     pub fn new(inner: W, is_coloured: bool) -> Self {
         if is_coloured {
             Painted::Coloured(inner)

@@ -6,12 +6,13 @@ pub(crate) mod name;
 pub(crate) mod selection;
 pub(crate) mod shown;
 
-use crate::generated::mach_cli::first_bytes::divided;
-use goblin_mach::generated::mach::{Content, Images, InputItem, ItemPlace};
+use crate::generated::mach_cli::first_bytes::{divided, entry_counts, wide_counts};
+use goblin_mach::{Content, Images, InputItem, ItemPlace};
 
 /// The parts of a file that are shown as files of their own, one after the other:
 /// - an archive: its members;
-/// - a fat file of 64 bits: its entries, and the members of an archive among them;
+/// - a fat file of 64 bits: its entries, and the members of an archive among them, as long as the entries have no more bytes together
+///   than the file;
 /// - any other file: the file itself.
 ///
 /// It allocates nothing.
@@ -21,15 +22,46 @@ pub struct Parts<'a> {
     itself: Option<&'a [u8]>,
     // The items of a divided file.
     images: Option<Images<'a>>,
+    // How many of the first entries are shown.
+    most: usize,
 }
 
 impl<'a> Parts<'a> {
+    /// Returns the items of a fat file up to the first of an entry from `most` on.
+    pub(crate) fn within(images: Images<'a>, most: usize) -> Parts<'a> {
+        Parts {
+            itself: None,
+            images: Some(images),
+            most,
+        }
+    }
+
     // Returns the next item of a divided file.
-    fn next_item(&mut self) -> Option<InputItem<'a>> {
+    fn next_image(&mut self) -> Option<InputItem<'a>> {
         match &mut self.images {
             Some(images) => images.next(),
             None => None,
         }
+    }
+
+    // Returns the next item of a divided file that is shown.
+    fn next_item(&mut self) -> Option<InputItem<'a>> {
+        let Some(item) = self.next_image() else {
+            return None;
+        };
+        if is_entry_before(self.most, item.place.entry) {
+            return Some(item);
+        }
+        self.images = None;
+        None
+    }
+}
+
+// Whether something is one of the first entries, or no entry.
+fn is_entry_before(most: usize, entry: Option<usize>) -> bool {
+    match entry {
+        Some(index) => index < most,
+        None => true,
     }
 }
 
@@ -55,20 +87,53 @@ impl<'a> Iterator for Parts<'a> {
     }
 }
 
-/// Returns the parts of a file.
-///
-/// # Proved
-///
-/// - `parts_left result ≡ parts_in bytes`
-pub fn parts_of(bytes: &[u8]) -> Parts<'_> {
+impl<'a> core::iter::FusedIterator for Parts<'a> {}
+
+// Returns the parts of a file up to the first of an entry from `most` on.
+fn parts_before(bytes: &[u8], most: usize) -> Parts<'_> {
     match divided(bytes) {
         Some(input) => Parts {
             itself: None,
             images: Some(input.images()),
+            most,
         },
         None => Parts {
             itself: Some(bytes),
             images: None,
+            most,
         },
     }
+}
+
+/// Returns the parts of a file that are shown.
+///
+/// <details><summary>Proved</summary>
+///
+/// - `parts_left result ≡ shown_parts bytes`
+///
+/// </details>
+pub fn parts_of(bytes: &[u8]) -> Parts<'_> {
+    parts_before(bytes, wide_counts(bytes).shown)
+}
+
+/// Returns how many entries of a file aren't shown, since they overlap.
+///
+/// <details><summary>Proved</summary>
+///
+/// - `result ≡ parts_left_out bytes`
+///
+/// </details>
+pub fn parts_left_out(bytes: &[u8]) -> usize {
+    wide_counts(bytes).left_out
+}
+
+/// Returns the items of an opened file that are shown: those of its first entries, and all that is no entry.
+///
+/// <details><summary>Proved</summary>
+///
+/// - if `input_items_left images.entry ≡ items_in bytes`, `parts_left result ≡ shown_items bytes`
+///
+/// </details>
+pub fn items_shown<'a>(bytes: &[u8], images: Images<'a>) -> Parts<'a> {
+    Parts::within(images, entry_counts(bytes).shown)
 }

@@ -19,9 +19,9 @@ use crate::generated::mach_cli::refusal::{Refusal, complain};
 use crate::generated::mach_cli::terminal::ForTerminal;
 use crate::generated::mach_cli::titled::Titled;
 use crate::generated::mach_cli::word::{Word, call_words};
-use crate::shim::AllocError;
 use crate::shim::io::{BufWriter, ErrorKind, IsTerminal, Printer, Read};
 use crate::shim::{fs, io};
+use goblin_mach::AllocError;
 
 /// What a program says about itself.
 #[derive(Clone, Copy)]
@@ -45,9 +45,11 @@ impl Program {
     /// Returns the arguments of a call; the first is the program's name. If memory runs out that is reported, and the error is
     /// the exit status.
     ///
-    /// # Proved
+    /// <details><summary>Proved</summary>
     ///
     /// - if `Err(status)`: `status ≡ 1`
+    ///
+    /// </details>
     pub fn words(&self, rt: &HostRuntime) -> Result<Vec<Word>, u8> {
         match call_words(rt) {
             Ok(words) => Ok(words),
@@ -58,10 +60,12 @@ impl Program {
     /// Parses the arguments of a call; the first is the program's name. `own` has the program's own options, of which none is
     /// given yet. `--help`, `--version` and misuse are answered here, and the error is the exit status.
     ///
-    /// # Proved
+    /// <details><summary>Proved</summary>
     ///
     /// - *selected*: if `Ok(call)`: `Selects O.taken self.options None (empty_call own) (drop 1 words) (call_view call)`
     /// - *unread*: if `Err(e)`: `IsStatus e`
+    ///
+    /// </details>
     pub fn call<'a, O: OwnOptions>(
         &self,
         rt: &HostRuntime,
@@ -80,9 +84,11 @@ impl Program {
     /// Returns standard output for this form, coloured if `color` says so. If memory runs out that is reported, and the error is
     /// the exit status.
     ///
-    /// # Proved
+    /// <details><summary>Proved</summary>
     ///
     /// - if `Err(status)`: `status ≡ 1`
+    ///
+    /// </details>
     pub fn output<'r>(
         &self,
         rt: &'r HostRuntime,
@@ -105,9 +111,11 @@ impl Program {
     /// Returns the bytes of a file, or of standard input for the name `-`. If they can't be read the reason is reported, and the
     /// error is the exit status.
     ///
-    /// # Proved
+    /// <details><summary>Proved</summary>
     ///
     /// - if `Err(e)`: `IsUnreadStatus e`
+    ///
+    /// </details>
     pub fn read(&self, rt: &HostRuntime, file: &str) -> Result<Vec<u8>, u8> {
         let names = Names {
             program: self.name,
@@ -127,9 +135,11 @@ impl Program {
 
     /// Reports that memory ran out for a file, and returns the status.
     ///
-    /// # Proved
+    /// <details><summary>Proved</summary>
     ///
     /// - `result ≡ 1`
+    ///
+    /// </details>
     pub fn no_memory_for(&self, rt: &HostRuntime, file: &str) -> u8 {
         let names = Names {
             program: self.name,
@@ -141,9 +151,11 @@ impl Program {
 
     /// Reports a misuse and the usage, and returns the status.
     ///
-    /// # Proved
+    /// <details><summary>Proved</summary>
     ///
     /// - `result ≡ 2`
+    ///
+    /// </details>
     pub fn bad_usage(&self, rt: &HostRuntime, misuse: Misuse<'_>) -> u8 {
         let meant = misuse.meant(self.known).unwrap_or(None);
         self.complain(rt, Trouble::Misused(misuse, meant));
@@ -153,9 +165,11 @@ impl Program {
 
     /// Reports that memory ran out, and returns the status.
     ///
-    /// # Proved
+    /// <details><summary>Proved</summary>
     ///
     /// - `result ≡ 1`
+    ///
+    /// </details>
     pub fn out_of_memory(&self, rt: &impl Eprint) -> u8 {
         self.complain(rt, Trouble::Memory);
         1

@@ -39,10 +39,12 @@ pub struct Progress {
 impl Progress {
     /// Starts with a call that begins now. If the error output is no terminal, or the clock can't be read, nothing is ever reported.
     ///
-    /// # Proved
+    /// <details><summary>Proved</summary>
     ///
     /// - *never*: if `is_terminal ≡ false`, `result.due ≡ None`
     /// - *started*: `result.started ≡ 0`
+    ///
+    /// </details>
     pub fn new<C: Clock>(clock: &C, is_terminal: bool) -> Progress {
         let due = match clock.monotonic() {
             Ok(now) if is_terminal => now.checked_add(Duration::from_secs(QUIET)),
@@ -53,12 +55,14 @@ impl Progress {
 
     /// Counts a file of this name that begins, and reports it if that is due. It returns whether the report was written.
     ///
-    /// # Proved
+    /// <details><summary>Proved</summary>
     ///
     /// - *never*: if `self.old.due ≡ None`, `(self.new.due ≡ None) × (E.contents err.new ≡ E.contents err.old)`
     /// - *counted*: `self.new.started ≡ min (self.old.started + 1) (2 ^ 64 - 1)`
     /// - *reported*: if `result ≡ true`, `Appends (E.contents err.old) (E.contents err.new) (step_text program self.new.started file ++ codes "\n")`
     /// - *later*: if `result ≡ true`, `IfSome self.old.due (λ old. IfSome self.new.due (λ new. as_nanos old + 2 * 10 ^ 9 ≤ as_nanos new))`
+    ///
+    /// </details>
     pub fn begin<C: Clock, E: Write>(
         &mut self,
         clock: &C,

@@ -3,6 +3,7 @@
 #![forbid(unsafe_code)]
 
 use crate::generated::mach_cli::cpu::Cpu;
+use crate::generated::mach_cli::entries::OutOfFile;
 use crate::generated::mach_cli::first_bytes::refused_kind;
 use crate::generated::mach_cli::label::{Label, LabelSuffix};
 use crate::generated::mach_cli::names::Names;
@@ -10,7 +11,7 @@ use crate::shim::io;
 use crate::shim::io::Write;
 use core::fmt;
 use core::fmt::{Display, Formatter};
-use goblin_mach::generated::mach::{Content, Description, Error, Foreign, describe};
+use goblin_mach::{Content, Description, Error, Foreign, describe};
 
 /// Why nothing is shown of a file or of an image.
 #[derive(Clone, Copy)]
@@ -27,6 +28,12 @@ pub enum Refusal<'a> {
     Memory,
     /// It lacks what is selected; these are the words for that.
     Lacks(&'static str),
+    /// It is an entry whose bytes aren't all in the file.
+    OutOfFile(OutOfFile),
+    /// So many of its entries are left out, since entries overlap.
+    LeftOut(usize),
+    /// So many of its images are shown, and the limit leaves out more.
+    Limit(usize),
 }
 
 impl Display for Refusal<'_> {
@@ -38,15 +45,24 @@ impl Display for Refusal<'_> {
             Refusal::NoEntry(cpu) => write!(f, "no entry of {cpu}"),
             Refusal::Memory => write!(f, "out of memory"),
             Refusal::Lacks(words) => write!(f, "{words}"),
+            Refusal::OutOfFile(outside) => write!(f, "{outside}"),
+            Refusal::LeftOut(count) => {
+                write!(f, "entries overlap: the last {count} are left out")
+            }
+            Refusal::Limit(count) => {
+                write!(f, "limit: only the first {count} of its images are shown")
+            }
         }
     }
 }
 
 /// Returns why a file is refused for this error: its kind, if it isn't Mach-O, else the fault.
 ///
-/// # Proved
+/// <details><summary>Proved</summary>
 ///
 /// - `refusal_reason result ≡ refused_words bytes error`
+///
+/// </details>
 pub fn refusal_of<'a>(bytes: &[u8], error: &'a Error) -> Refusal<'a> {
     match refused_kind(bytes, error) {
         Some(kind) => Refusal::Kind(kind),
@@ -56,9 +72,11 @@ pub fn refusal_of<'a>(bytes: &[u8], error: &'a Error) -> Refusal<'a> {
 
 /// Returns why no image opens in the content of an item for this error. Of a member it is the kind, if that isn't Mach-O.
 ///
-/// # Proved
+/// <details><summary>Proved</summary>
 ///
 /// - `refusal_reason result ≡ content_words (content_view content.entry) error`
+///
+/// </details>
 pub fn refusal_of_content<'a>(content: Content<'_>, error: &'a Error) -> Refusal<'a> {
     match content {
         Content::Member(member) => refusal_of(member.bytes, error),
@@ -68,9 +86,11 @@ pub fn refusal_of_content<'a>(content: Content<'_>, error: &'a Error) -> Refusal
 
 /// Reports a refusal of a file, or of what has this label in it, in a line on `err`.
 ///
-/// # Proved
+/// <details><summary>Proved</summary>
 ///
 /// - if `Ok`: `Appends (E.contents err.old) (E.contents err.new) (label_complaint (names_text names.entry.program names.entry.file) (label_view label.entry) (refusal_reason refusal.entry))`
+///
+/// </details>
 pub fn complain<E: Write>(
     names: Names<'_>,
     label: Label<'_>,

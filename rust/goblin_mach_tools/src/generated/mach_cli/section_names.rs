@@ -2,14 +2,14 @@
 //! The segments of an image with their sections, and the names of those that hold an address.
 #![forbid(unsafe_code)]
 
-use crate::shim::TryGrow;
 use alloc::vec::Vec;
+use goblin_mach::internals::shim::TryGrow;
 
 use crate::generated::mach_cli::memory::{name_of, room_after, sections_within};
 use crate::generated::mach_cli::stretches::{Stretch, Stretches};
-use crate::shim::AllocError;
-use goblin_mach::generated::mach::MachO;
-use goblin_mach::generated::mach::segment::Segment;
+use goblin_mach::AllocError;
+use goblin_mach::MachO;
+use goblin_mach::segment::Segment;
 
 /// A segment with its sections.
 pub struct SegmentStretches {
@@ -42,18 +42,22 @@ impl SegmentStretches {
 impl SegmentStretches {
     /// Returns the printed name of the segment.
     ///
-    /// # Proved
+    /// <details><summary>Proved</summary>
     ///
     /// - `result ≡ stretch_name (part_view self).memory`
+    ///
+    /// </details>
     pub fn name(&self) -> &str {
         name_of(&self.memory)
     }
 
     /// Returns the printed name of the first section that holds an address, if one does.
     ///
-    /// # Proved
+    /// <details><summary>Proved</summary>
     ///
     /// - `text_in result ≡ section_with address (part_view self).sections`
+    ///
+    /// </details>
     pub fn section_with(&self, address: u64) -> Option<&str> {
         let number = self.sections.first_with(address)?;
         let section = self.sections.items.get(number)?;
@@ -64,9 +68,11 @@ impl SegmentStretches {
 impl AllStretches {
     /// Returns the segments of an image with their sections, in order. Of these there are no more than the image has bytes.
     ///
-    /// # Proved
+    /// <details><summary>Proved</summary>
     ///
     /// - for each `bytes : List ℕ`, `o : ℕ`, if `IsImage bytes o image`, if `Ok(parts)`: there is `segments : List SegmentView` with: `HasSegments bytes o segments × (parts_view parts ≡ parts_of (length bytes) segments)`
+    ///
+    /// </details>
     pub fn of_image(image: &MachO<'_>) -> Result<Self, AllocError> {
         let room = image.bytes().len();
         Self::of_segments(image.segments.as_slice(), room)
@@ -91,18 +97,22 @@ impl AllStretches {
 impl AllStretches {
     /// Returns the segment with a number.
     ///
-    /// # Proved
+    /// <details><summary>Proved</summary>
     ///
     /// - `option_map (λ p. part_view p) result ≡ slice_get (parts_view self) number`
+    ///
+    /// </details>
     pub fn get(&self, number: usize) -> Option<&SegmentStretches> {
         self.items.get(number)
     }
 
     /// Returns the first segment that holds an address, if one does.
     ///
-    /// # Proved
+    /// <details><summary>Proved</summary>
     ///
     /// - `option_map (λ p. part_view p) result ≡ part_with address (parts_view self)`
+    ///
+    /// </details>
     pub fn first_with(&self, address: u64) -> Option<&SegmentStretches> {
         match self.memory.first_with(address) {
             Some(number) => self.get(number),

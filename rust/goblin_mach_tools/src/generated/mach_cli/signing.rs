@@ -2,14 +2,16 @@
 //! How a pointer is signed, and what a rebase adjusts, as the values of fields.
 #![forbid(unsafe_code)]
 
-use goblin_mach::generated::mach::RebaseKind;
-use goblin_mach::generated::mach::chained_fixups::PointerAuth;
+use goblin_mach::RebaseKind;
+use goblin_mach::chained_fixups::PointerAuth;
 
 /// Whether a pointer is signed.
 ///
-/// # Proved
+/// <details><summary>Proved</summary>
 ///
 /// - `result ≡ has_auth (auth_option_view auth)`
+///
+/// </details>
 pub fn has_auth(auth: Option<PointerAuth>) -> bool {
     match auth {
         Some(_) => true,
@@ -19,9 +21,11 @@ pub fn has_auth(auth: Option<PointerAuth>) -> bool {
 
 /// Returns the key of a signed pointer, 0 if it isn't signed.
 ///
-/// # Proved
+/// <details><summary>Proved</summary>
 ///
 /// - `result ≡ key_by (auth_option_view auth)`
+///
+/// </details>
 pub fn key_by(auth: Option<PointerAuth>) -> u8 {
     match auth {
         Some(auth) => auth.key,
@@ -31,9 +35,11 @@ pub fn key_by(auth: Option<PointerAuth>) -> u8 {
 
 /// Returns the diversity of a signed pointer, 0 if it isn't signed.
 ///
-/// # Proved
+/// <details><summary>Proved</summary>
 ///
 /// - `result ≡ diversity_by (auth_option_view auth)`
+///
+/// </details>
 pub fn diversity_by(auth: Option<PointerAuth>) -> u16 {
     match auth {
         Some(auth) => auth.diversity,
@@ -43,9 +49,11 @@ pub fn diversity_by(auth: Option<PointerAuth>) -> u16 {
 
 /// Whether the address of a signed pointer is mixed in, too.
 ///
-/// # Proved
+/// <details><summary>Proved</summary>
 ///
 /// - `result ≡ diverse_by (auth_option_view auth)`
+///
+/// </details>
 pub fn diverse_by(auth: Option<PointerAuth>) -> bool {
     match auth {
         Some(auth) => auth.is_address_diverse,
@@ -55,9 +63,11 @@ pub fn diverse_by(auth: Option<PointerAuth>) -> bool {
 
 /// Returns what a rebase adjusts.
 ///
-/// # Proved
+/// <details><summary>Proved</summary>
 ///
 /// - `result ≡ rebase_type kind`
+///
+/// </details>
 pub fn rebase_type(kind: RebaseKind) -> &'static str {
     match kind {
         RebaseKind::Pointer => "pointer",

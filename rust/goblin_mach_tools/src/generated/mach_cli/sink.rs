@@ -11,25 +11,37 @@ use crate::shim::io::Write;
 
 /// Writes what the images of a file are put into. The output of an image itself is a program's.
 pub trait Sink: Copy {
-    /// Begins a file that has images.
+    /// Begins a file that has images, of whose entries so many are left out.
     ///
-    /// # Proved
+    /// <details><summary>Proved</summary>
     ///
-    /// - if `Ok`: `Appends (O.contents out.old) (O.contents out.new) texts.file_front`
-    fn begin_file<O: Write>(&self, out: &mut O) -> io::Result<()>;
+    /// - if `Ok`: `Appends (O.contents out.old) (O.contents out.new) (texts.file_front left_out)`
+    ///
+    /// </details>
+    fn begin_file<O: Write>(&self, left_out: usize, out: &mut O) -> io::Result<()>;
 
-    /// Ends a file of this kind and name.
+    /// Ends a file of this kind and name. It says whether the limit leaves out more of its images.
     ///
-    /// # Proved
+    /// <details><summary>Proved</summary>
     ///
-    /// - if `Ok`: `Appends (O.contents out.old) (O.contents out.new) (texts.file_end kind name)`
-    fn end_file<O: Write>(&self, kind: &str, name: &str, out: &mut O) -> io::Result<()>;
+    /// - if `Ok`: `Appends (O.contents out.old) (O.contents out.new) (texts.file_end is_cut kind name)`
+    ///
+    /// </details>
+    fn end_file<O: Write>(
+        &self,
+        is_cut: bool,
+        kind: &str,
+        name: &str,
+        out: &mut O,
+    ) -> io::Result<()>;
 
     /// Writes, in place of its images, why nothing is shown of a file of this name.
     ///
-    /// # Proved
+    /// <details><summary>Proved</summary>
     ///
     /// - if `Ok`: `Appends (O.contents out.old) (O.contents out.new) (texts.refused_file name (refusal_reason refusal.entry))`
+    ///
+    /// </details>
     fn refuse_file<O: Write>(
         &self,
         name: &str,
@@ -39,37 +51,47 @@ pub trait Sink: Copy {
 
     /// Writes what is between two images.
     ///
-    /// # Proved
+    /// <details><summary>Proved</summary>
     ///
     /// - if `Ok`: `Appends (O.contents out.old) (O.contents out.new) texts.separator`
+    ///
+    /// </details>
     fn separate<O: Write>(&self, out: &mut O) -> io::Result<()>;
 
     /// Begins an image with this label, of a file of this name.
     ///
-    /// # Proved
+    /// <details><summary>Proved</summary>
     ///
     /// - if `Ok`: `Appends (O.contents out.old) (O.contents out.new) (texts.image_front name (label_view label.entry))`
+    ///
+    /// </details>
     fn begin_image<O: Write>(&self, name: &str, label: Label<'_>, out: &mut O) -> io::Result<()>;
 
     /// Ends an image whose output is written.
     ///
-    /// # Proved
+    /// <details><summary>Proved</summary>
     ///
     /// - if `Ok`: `Appends (O.contents out.old) (O.contents out.new) texts.image_end`
+    ///
+    /// </details>
     fn end_image<O: Write>(&self, out: &mut O) -> io::Result<()>;
 
     /// Writes, in place of an image's output, that it is an archive without members, and ends it.
     ///
-    /// # Proved
+    /// <details><summary>Proved</summary>
     ///
     /// - if `Ok`: `Appends (O.contents out.old) (O.contents out.new) texts.archive`
+    ///
+    /// </details>
     fn end_archive<O: Write>(&self, out: &mut O) -> io::Result<()>;
 
     /// Writes, in place of its output, why an image with this label isn't shown, and ends it.
     ///
-    /// # Proved
+    /// <details><summary>Proved</summary>
     ///
     /// - if `Ok`: `Appends (O.contents out.old) (O.contents out.new) (texts.refused_image (label_view label.entry) (refusal_reason refusal.entry))`
+    ///
+    /// </details>
     fn refuse_image<O: Write>(
         &self,
         label: Label<'_>,
@@ -83,11 +105,17 @@ pub trait Sink: Copy {
 pub struct Text;
 
 impl Sink for Text {
-    fn begin_file<O: Write>(&self, _out: &mut O) -> io::Result<()> {
+    fn begin_file<O: Write>(&self, _left_out: usize, _out: &mut O) -> io::Result<()> {
         Ok(())
     }
 
-    fn end_file<O: Write>(&self, _kind: &str, _name: &str, _out: &mut O) -> io::Result<()> {
+    fn end_file<O: Write>(
+        &self,
+        _is_cut: bool,
+        _kind: &str,
+        _name: &str,
+        _out: &mut O,
+    ) -> io::Result<()> {
         Ok(())
     }
 
@@ -135,12 +163,18 @@ impl Sink for Text {
 pub struct NmText;
 
 impl Sink for NmText {
-    fn begin_file<O: Write>(&self, out: &mut O) -> io::Result<()> {
-        Text.begin_file(out)
+    fn begin_file<O: Write>(&self, left_out: usize, out: &mut O) -> io::Result<()> {
+        Text.begin_file(left_out, out)
     }
 
-    fn end_file<O: Write>(&self, kind: &str, name: &str, out: &mut O) -> io::Result<()> {
-        Text.end_file(kind, name, out)
+    fn end_file<O: Write>(
+        &self,
+        is_cut: bool,
+        kind: &str,
+        name: &str,
+        out: &mut O,
+    ) -> io::Result<()> {
+        Text.end_file(is_cut, kind, name, out)
     }
 
     fn refuse_file<O: Write>(
@@ -184,13 +218,23 @@ impl Sink for NmText {
 pub struct Json;
 
 impl Sink for Json {
-    fn begin_file<O: Write>(&self, out: &mut O) -> io::Result<()> {
-        write!(out, "{{\"images\":[")
+    fn begin_file<O: Write>(&self, left_out: usize, out: &mut O) -> io::Result<()> {
+        if left_out == 0 {
+            return write!(out, "{{\"images\":[");
+        }
+        write!(out, "{{\"entries_left_out\":{left_out},\"images\":[")
     }
 
-    fn end_file<O: Write>(&self, kind: &str, name: &str, out: &mut O) -> io::Result<()> {
+    fn end_file<O: Write>(
+        &self,
+        is_cut: bool,
+        kind: &str,
+        name: &str,
+        out: &mut O,
+    ) -> io::Result<()> {
         let name = JsonString(name);
-        writeln!(out, "],\"kind\":\"{kind}\",\"name\":{name}}}")
+        let cut = if is_cut { ",\"limit_met\":true" } else { "" };
+        writeln!(out, "],\"kind\":\"{kind}\"{cut},\"name\":{name}}}")
     }
 
     fn refuse_file<O: Write>(

@@ -2,10 +2,10 @@
 //! Ranges of memory that may overlap, and the first of them that holds an address.
 #![forbid(unsafe_code)]
 
-use crate::shim::TryGrow;
 use alloc::vec::Vec;
+use goblin_mach::internals::shim::TryGrow;
 
-use crate::shim::AllocError;
+use goblin_mach::AllocError;
 
 /// A range of memory with a name: a segment, or a section.
 #[derive(Clone, Copy)]
@@ -34,9 +34,11 @@ pub struct Stretches {
 impl Stretches {
     /// Returns some ranges with their table, in n log n steps.
     ///
-    /// # Proved
+    /// <details><summary>Proved</summary>
     ///
     /// - if `Ok(s)`: `s.items.items ≡ items.items`
+    ///
+    /// </details>
     pub fn of(items: Vec<Stretch>) -> Result<Self, AllocError> {
         let changes = changes_of(&items, 0)?;
         Ok(Stretches { items, changes })
@@ -46,9 +48,11 @@ impl Stretches {
 impl Stretches {
     /// Returns the number of the first range that holds an address, if one does, in log n steps.
     ///
-    /// # Proved
+    /// <details><summary>Proved</summary>
     ///
     /// - `result ≡ first_holder address 0 self.items.items`
+    ///
+    /// </details>
     pub fn first_with(&self, address: u64) -> Option<usize> {
         let passed = passed_at(&self.changes, address);
         holder_after(&self.changes, passed)

@@ -17,9 +17,11 @@ pub enum ForTerminal<W> {
 impl<W> ForTerminal<W> {
     /// Wraps a writer, which is a terminal or not.
     ///
-    /// # Proved
+    /// <details><summary>Proved</summary>
     ///
     /// - `result ≡ writer_for is_terminal inner`
+    ///
+    /// </details>
     pub fn new(inner: W, is_terminal: bool) -> Self {
         if is_terminal {
             ForTerminal::Shown(inner)

@@ -8,9 +8,9 @@ use alloc::vec::Vec;
 use crate::generated::mach_cli::escaped::Escaped;
 use crate::generated::mach_cli::label::{Label, LabelCpu};
 use crate::generated::mach_cli::nm_heading::NmHeading;
-use crate::shim::AllocError;
 use core::fmt;
 use core::fmt::{Display, Formatter};
+use goblin_mach::AllocError;
 
 // The title of what has this name: an empty line, and a line with the name, and with the cpu of an entry.
 #[derive(Clone, Copy)]

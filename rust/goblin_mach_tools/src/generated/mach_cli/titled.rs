@@ -19,10 +19,12 @@ pub struct Titled<W> {
 impl<W> Titled<W> {
     /// Returns a writer without a title.
     ///
-    /// # Proved
+    /// <details><summary>Proved</summary>
     ///
     /// - *inner*: `titled_inner result ≡ inner`
     /// - *title*: `pending_title result ≡ []`
+    ///
+    /// </details>
     pub fn new(inner: W) -> Titled<W> {
         Titled {
             inner,
@@ -68,9 +70,11 @@ impl<W: Write> Write for Titled<W> {
 
 /// Sets the title of what is written next. It replaces the previous title if that isn't written yet.
 ///
-/// # Proved
+/// <details><summary>Proved</summary>
 ///
 /// - `IsUnder title.items out.old out.new`
+///
+/// </details>
 pub fn put_title<W: Write>(out: &mut BufWriter<Titled<W>>, title: Vec<u8>) {
     out.get_mut().set(title);
 }

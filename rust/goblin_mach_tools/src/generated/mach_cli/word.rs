@@ -2,16 +2,16 @@
 //! The arguments of a call as the system gives them: bytes that may not be text.
 #![forbid(unsafe_code)]
 
-use crate::shim::TryGrow;
 use crate::shim::rt::HostRuntime;
 use alloc::string::String;
 use alloc::vec::Vec;
+use goblin_mach::internals::shim::TryGrow;
 
 use crate::generated::mach_cli::escaped::EscapedBytes;
-use crate::shim::AllocError;
 use crate::shim::env::{Env, FillError};
 use core::fmt;
 use core::fmt::{Display, Formatter};
+use goblin_mach::AllocError;
 
 /// An argument of a call.
 pub enum Word {
@@ -24,9 +24,11 @@ pub enum Word {
 impl Word {
     /// Returns the text; empty if the argument isn't text.
     ///
-    /// # Proved
+    /// <details><summary>Proved</summary>
     ///
     /// - `result ≡ word_text self`
+    ///
+    /// </details>
     pub fn as_str(&self) -> &str {
         match self {
             Word::Text(text) => text.as_str(),

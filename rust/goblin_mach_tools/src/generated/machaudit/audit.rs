@@ -2,8 +2,8 @@
 //! Finds what is wrong with a file, image by image and part by part.
 #![forbid(unsafe_code)]
 
-use crate::shim::TryGrow;
 use alloc::vec::Vec;
+use goblin_mach::internals::shim::TryGrow;
 
 use crate::generated::mach_cli::{Cpu, most_items};
 use crate::generated::machaudit::items::Items;
@@ -16,12 +16,12 @@ use crate::generated::machaudit::report::{
     Parts, Records, Report, no_memory,
 };
 use crate::generated::machaudit::signed::audit_signature;
-use goblin_mach::generated::mach::fat::FatArch;
-use goblin_mach::generated::mach::layout::layout_faults;
-use goblin_mach::generated::mach::segment::Segment;
-use goblin_mach::generated::mach::{Ctx, Error, Mach, MachO, MultiArch, SingleArch};
-use goblin_mach::generated::mach_archive::{Archive, Member, Members};
-use goblin_mach::generated::mach_layout::{LayoutFault, container_faults};
+use goblin_mach::archive::{Archive, Member, Members};
+use goblin_mach::fat::FatArch;
+use goblin_mach::layout::layout_faults;
+use goblin_mach::layout::{LayoutFault, container_faults};
+use goblin_mach::segment::Segment;
+use goblin_mach::{Ctx, Error, Mach, MachO, MultiArch, SingleArch};
 
 // Audits the relocations of all sections, if these were visited to their end and each can be read.
 fn audit_relocated(
@@ -114,7 +114,7 @@ fn audit_image(bytes: &[u8], limit: usize) -> Result<ImageReport, AuditFailure> 
 
 // Audits an item of an archive: a member, or the error at which the members end.
 fn audit_member<'a>(
-    member: goblin_mach::generated::mach::Result<Member<'a>>,
+    member: goblin_mach::Result<Member<'a>>,
     limit: usize,
 ) -> Result<MemberReport<'a>, AuditFailure> {
     match member {
@@ -233,11 +233,13 @@ fn audit_fat<'a>(
 /// Audits a file and returns its report. Of each list it visits at most `limit` items, and of a list of an image no more than the
 /// image has bytes. Of the faults of a part it keeps the first ten.
 ///
-/// # Proved
+/// <details><summary>Proved</summary>
 ///
 /// - *reported*: if `Ok(x)`: `IsFileReport limit bytes x`
 /// - *judged*: if `Ok(r)`: `Judges (IsSound bytes) (IsLong limit bytes) (verdict_of_report r)`
 /// - *memory*: if `Err(failure)`: `failure ≡ failures.Memory`
+///
+/// </details>
 pub fn audit<'a>(bytes: &'a [u8], limit: usize) -> Result<Report<'a>, AuditFailure> {
     match Mach::parse(bytes) {
         Ok(Mach::Binary(image)) => {

@@ -26,6 +26,7 @@ impl<W: Write> FileView<BufWriter<W>> for Audits {
             options: self.options,
             name,
             heading: self.only.as_str() != name,
+            outside: None,
         };
         let err = &mut rt.stderr();
         match run_for(self.cpu, call, bytes, out, err) {

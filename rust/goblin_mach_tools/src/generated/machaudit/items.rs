@@ -2,10 +2,10 @@
 //! The items of a list of an image, one after the other.
 #![forbid(unsafe_code)]
 
-use goblin_mach::generated::mach::imports::BindIterator;
-use goblin_mach::generated::mach::segment::{RelocationIterator, SectionIterator};
-use goblin_mach::generated::mach::symbols::SymbolIterator;
-use goblin_mach::generated::mach::{BindingIterator, Error, FixupIterator};
+use goblin_mach::imports::BindIterator;
+use goblin_mach::segment::{RelocationIterator, SectionIterator};
+use goblin_mach::symbols::SymbolIterator;
+use goblin_mach::{BindingIterator, Error, FixupIterator};
 
 /// The items of a list that are left.
 pub enum Items<'i> {
@@ -20,9 +20,11 @@ pub enum Items<'i> {
 impl Items<'_> {
     /// Takes the next item, and returns its error if it can't be read.
     ///
-    /// # Proved
+    /// <details><summary>Proved</summary>
     ///
     /// - if `None`: `faults_left self.old ≡ []`; if `Some(error)`: `faults_left self.old ≡ option_map fault_of error ∷ faults_left self.new`
+    ///
+    /// </details>
     pub fn next_error(&mut self) -> Option<Option<Error>> {
         match self {
             Items::Sections(items) => Some(items.next()?.err()),

@@ -5,24 +5,32 @@
 pub mod fault;
 pub mod part;
 
-use crate::generated::mach_cli::{JsonString, comma_before};
-use crate::generated::machaudit::json::fault::{NoImage, Refusal};
+use crate::generated::mach_cli::entries::{OutOfFile, outside_at};
+use crate::generated::mach_cli::{JsonString, Refusal, comma_before};
+use crate::generated::machaudit::json::fault::NoImage;
 use crate::generated::machaudit::json::part::{Unreported, write_layout, write_part, write_parts};
 use crate::generated::machaudit::report::{
     ArchiveReport, EntryReport, FatReport, ImageReport, MemberReport, Report,
 };
+use crate::generated::machaudit::source::{Source, refusal_of_image};
 use crate::generated::machaudit::verdict::Verdict;
 use crate::shim::io;
 use crate::shim::io::Write;
-use goblin_mach::generated::mach::Error;
-use goblin_mach::generated::mach_archive::Member;
+use goblin_mach::archive::Member;
+use goblin_mach::describe;
+use goblin_mach::fat::FatArch;
 
 /// Writes the object of a file on a line: its name, whether it is sound, what it is, and its images.
-pub fn print_object<O: Write>(name: &str, report: &Report<'_>, out: &mut O) -> io::Result<()> {
+pub fn print_object<O: Write>(
+    name: &str,
+    source: Source<'_>,
+    report: &Report<'_>,
+    out: &mut O,
+) -> io::Result<()> {
     write!(out, "{{\"container\":[")?;
     write_container(report, out)?;
     write!(out, "],\"images\":[")?;
-    write_images(report, out)?;
+    write_images(source, report, out)?;
     write_end(name, report, out)
 }
 
@@ -44,7 +52,10 @@ fn write_fat<O: Write>(fat: &FatReport<'_>, out: &mut O) -> io::Result<()> {
 // Writes the part of the table itself: why it can't be read, or its faults.
 fn write_table<O: Write>(fat: &FatReport<'_>, out: &mut O) -> io::Result<()> {
     match &fat.table {
-        Some(error) => write_part("table", &[Refusal(error)], Unreported::NOTHING, out),
+        Some(error) => {
+            let refusal = Refusal::Fault(describe(error));
+            write_part("table", &[refusal], Unreported::NOTHING, out)
+        }
         None => write_layout("table", fat.container.as_slice(), out),
     }
 }
@@ -64,30 +75,35 @@ fn write_entries<O: Write>(fat: &FatReport<'_>, out: &mut O) -> io::Result<()> {
 }
 
 // Writes the images of a file: its entries, or itself.
-fn write_images<O: Write>(report: &Report<'_>, out: &mut O) -> io::Result<()> {
+fn write_images<O: Write>(source: Source<'_>, report: &Report<'_>, out: &mut O) -> io::Result<()> {
     match report {
-        Report::Image(image) => write_image(image, out),
-        Report::Fat(fat) => write_each(fat.entries.as_slice(), out),
+        Report::Image(image) => write_image(source.outside, image, out),
+        Report::Fat(fat) => write_each(source.bytes, fat.entries.as_slice(), out),
     }
 }
 
-// Writes the entries of a fat file.
-fn write_each<O: Write>(entries: &[EntryReport<'_>], out: &mut O) -> io::Result<()> {
-    let mut is_first = true;
-    for entry in entries {
-        write_entry(entry, is_first, out)?;
-        is_first = false;
+// Writes the entries of a fat file, which has these bytes.
+fn write_each<O: Write>(bytes: &[u8], entries: &[EntryReport<'_>], out: &mut O) -> io::Result<()> {
+    for (index, entry) in entries.iter().enumerate() {
+        write_entry(bytes, index, entry, out)?;
     }
     Ok(())
 }
 
-// Writes an entry of a fat file, after a comma unless it is the first.
-fn write_entry<O: Write>(entry: &EntryReport<'_>, is_first: bool, out: &mut O) -> io::Result<()> {
-    let comma = comma_before(is_first);
+// Writes the entry with this number of a fat file, after a comma unless it is the first.
+fn write_entry<O: Write>(
+    bytes: &[u8],
+    index: usize,
+    entry: &EntryReport<'_>,
+    out: &mut O,
+) -> io::Result<()> {
+    let comma = comma_before(index == 0);
     write!(out, "{comma}")?;
     match entry {
         EntryReport::Archive(archive) => write_archive(archive, out),
-        EntryReport::Image(image) => write_image(image, out),
+        EntryReport::Image(image) => {
+            write_image(outside_at::<FatArch>(bytes, Some(index)), image, out)
+        }
     }
 }
 
@@ -107,7 +123,10 @@ fn write_archive_part<O: Write>(archive: &ArchiveReport<'_>, out: &mut O) -> io:
         ..Unreported::NOTHING
     };
     match archive.error() {
-        Some(error) => write_part("archive", &[Refusal(error)], unreported, out),
+        Some(error) => {
+            let refusal = Refusal::Fault(describe(error));
+            write_part("archive", &[refusal], unreported, out)
+        }
         None => write_part::<Refusal<'_>, O>("archive", &[], unreported, out),
     }
 }
@@ -121,7 +140,7 @@ fn write_members<O: Write>(members: &[MemberReport<'_>], out: &mut O) -> io::Res
             write!(out, "{comma}{{\"kind\":\"image\",\"member\":")?;
             write_name(*member, out)?;
             write!(out, ",")?;
-            write_opened(image, out)?;
+            write_opened(None, image, out)?;
             is_first = false;
         }
     }
@@ -139,14 +158,22 @@ fn write_name<O: Write>(member: Member<'_>, out: &mut O) -> io::Result<()> {
     }
 }
 
-// Writes an image: how it opens, and its parts.
-fn write_image<O: Write>(image: &ImageReport, out: &mut O) -> io::Result<()> {
+// Writes an image: how it opens, and its parts; of an entry that is out of the file, where both end.
+fn write_image<O: Write>(
+    outside: Option<OutOfFile>,
+    image: &ImageReport,
+    out: &mut O,
+) -> io::Result<()> {
     write!(out, "{{\"kind\":\"image\",")?;
-    write_opened(image, out)
+    write_opened(outside, image, out)
 }
 
 // Writes how an image opens, and its parts, and the end of its object.
-fn write_opened<O: Write>(image: &ImageReport, out: &mut O) -> io::Result<()> {
+fn write_opened<O: Write>(
+    outside: Option<OutOfFile>,
+    image: &ImageReport,
+    out: &mut O,
+) -> io::Result<()> {
     let opens = words_of_opening(image);
     write!(out, "\"opens\":\"{opens}\",\"parts\":[")?;
     match image {
@@ -155,17 +182,17 @@ fn write_opened<O: Write>(image: &ImageReport, out: &mut O) -> io::Result<()> {
             write_parts(parts, out)?;
         }
         ImageReport::OpensLossily(error, parts) => {
-            write_refused(error, out)?;
+            write_refused(Refusal::Fault(describe(error)), out)?;
             write_parts(parts, out)?;
         }
-        ImageReport::Refused(error) => write_refused(error, out)?,
+        ImageReport::Refused(error) => write_refused(refusal_of_image(outside, error), out)?,
     }
     write!(out, "]}}")
 }
 
 // Writes the part of an image that doesn't open strictly.
-fn write_refused<O: Write>(error: &Error, out: &mut O) -> io::Result<()> {
-    write_part("opens", &[Refusal(error)], Unreported::NOTHING, out)
+fn write_refused<O: Write>(refusal: Refusal<'_>, out: &mut O) -> io::Result<()> {
+    write_part("opens", &[refusal], Unreported::NOTHING, out)
 }
 
 // Returns how an image opens.

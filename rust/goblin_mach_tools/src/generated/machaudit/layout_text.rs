@@ -5,7 +5,7 @@
 use crate::generated::machaudit::tally::MOST_REPORTED;
 use crate::shim::io;
 use crate::shim::io::Write;
-use goblin_mach::generated::mach_layout::{LayoutFault, Rule};
+use goblin_mach::layout::{LayoutFault, Rule};
 
 /// How many faults of each rule were met.
 #[derive(Clone, Copy)]

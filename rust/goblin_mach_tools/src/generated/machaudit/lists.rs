@@ -7,15 +7,17 @@ use crate::generated::machaudit::report::{
     AuditFailure, FaultPlace, ItemList, PartReport, Records, no_memory,
 };
 use crate::generated::machaudit::tally::Tally;
-use goblin_mach::generated::mach::segment::{Section, SectionData, SectionIterator, Segment};
-use goblin_mach::generated::mach::{Ctx, MachO};
+use goblin_mach::segment::{Section, SectionData, SectionIterator, Segment};
+use goblin_mach::{Ctx, MachO};
 
 /// Audits a list, at most `limit` items.
 ///
-/// # Proved
+/// <details><summary>Proved</summary>
 ///
 /// - *reported*: if `Ok(x)`: `ReportsOf limit (placed_from list 0 (faults_left items.entry)) x`
 /// - *memory*: if `Err(failure)`: `failure ≡ failures.Memory`
+///
+/// </details>
 pub fn audit_list(
     list: ItemList,
     items: Items<'_>,
@@ -41,10 +43,12 @@ fn add_list(list: ItemList, mut items: Items<'_>, tally: &mut Tally) -> Result<(
 
 /// Audits the sections of all segments that begin within the bytes, at most `limit`.
 ///
-/// # Proved
+/// <details><summary>Proved</summary>
 ///
 /// - *reported*: `let views = map segment_view segments in IfOk result (ReportsRecords limit (section_faults_reported views) (sections_beyond views))`
 /// - *memory*: if `Err(failure)`: `failure ≡ failures.Memory`
+///
+/// </details>
 pub fn audit_sections(segments: &[Segment<'_>], limit: usize) -> Result<Records, AuditFailure> {
     let mut tally = Tally::new(limit);
     let mut past = 0usize;
@@ -63,10 +67,12 @@ pub fn audit_sections(segments: &[Segment<'_>], limit: usize) -> Result<Records,
 
 /// Audits the relocations of all sections that begin within the bytes, at most `limit`.
 ///
-/// # Proved
+/// <details><summary>Proved</summary>
 ///
 /// - *reported*: `let views = map segment_view segments in IfOk result (ReportsRecords limit (relocation_faults ctx bytes views) (relocations_past ctx bytes views))`
 /// - *memory*: if `Err(failure)`: `failure ≡ failures.Memory`
+///
+/// </details>
 pub fn audit_relocations(
     bytes: &[u8],
     ctx: Ctx,
@@ -99,7 +105,7 @@ fn relocations_past(bytes: &[u8], ctx: Ctx, sections: SectionIterator<'_>) -> us
 fn relocations_past_of(
     bytes: &[u8],
     ctx: Ctx,
-    item: &goblin_mach::generated::mach::Result<(Section, SectionData<'_>)>,
+    item: &goblin_mach::Result<(Section, SectionData<'_>)>,
 ) -> usize {
     let Ok((section, _)) = item else {
         return 0;
@@ -131,7 +137,7 @@ fn add_relocations_by(
     bytes: &[u8],
     ctx: Ctx,
     numbers: (usize, usize),
-    item: &goblin_mach::generated::mach::Result<(Section, SectionData<'_>)>,
+    item: &goblin_mach::Result<(Section, SectionData<'_>)>,
     tally: &mut Tally,
 ) -> Result<(), AuditFailure> {
     let Ok((section, _)) = item else {
@@ -144,10 +150,12 @@ fn add_relocations_by(
 
 /// Audits the exports of the trie, at most `limit`, up to the first fault.
 ///
-/// # Proved
+/// <details><summary>Proved</summary>
 ///
 /// - *reported*: if `Ok(x)`: `ReportsOfTrie limit (trie_or_empty (trie_view image)) (texts image.libs.items) x`
 /// - *memory*: if `Err(failure)`: `failure ≡ failures.Memory`
+///
+/// </details>
 pub fn audit_exports(image: &MachO<'_>, limit: usize) -> Result<PartReport, AuditFailure> {
     let mut tally = Tally::new(limit);
     let Ok(mut walk) = image.walk_exports() else {
@@ -177,11 +185,13 @@ pub fn audit_exports(image: &MachO<'_>, limit: usize) -> Result<PartReport, Audi
 
 /// Audits the symbols that begin within the bytes, at most `limit`.
 ///
-/// # Proved
+/// <details><summary>Proved</summary>
 ///
 /// - *reported*: `let table = option_map table_of image.symbols in IfOk result (ReportsRecords limit (symbols_unread table) (symbols_beyond table))`
 /// - *broken*: if `Ok(records)`: if `0 < records.past`, if `IsTrue (are_all_ok (symbols_view image.symbols))`, `⊥`
 /// - *memory*: if `Err(failure)`: `failure ≡ failures.Memory`
+///
+/// </details>
 pub fn audit_symbols(image: &MachO<'_>, limit: usize) -> Result<Records, AuditFailure> {
     match &image.symbols {
         Some(table) => {

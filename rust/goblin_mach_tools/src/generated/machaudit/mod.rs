@@ -24,13 +24,14 @@ mod layout_text;
 mod options;
 mod output;
 mod signature_text;
+mod source;
 mod text;
 
 use crate::generated::mach_cli::{Call, Files, Misuse, Program, SharedOnly};
 use crate::generated::machaudit::audits::Audits;
 use crate::generated::machaudit::options::{DEFAULT_LIMIT, Options};
 use crate::generated::machaudit::output::NAME;
-use crate::shim::AllocError;
+use goblin_mach::AllocError;
 use std::process::ExitCode;
 
 const PROGRAM: Program = Program {
@@ -78,11 +79,12 @@ fn audit_files(rt: &HostRuntime, call: &Call<'_, SharedOnly>) -> Result<u8, u8> 
     let Ok(only) = only_of(others.are_several(files.len()), files) else {
         return Err(PROGRAM.out_of_memory(rt));
     };
+    let limit = call.limit.unwrap_or(DEFAULT_LIMIT);
     let audits = Audits {
         cpu: call.cpu,
         options: Options {
             format: call.format,
-            limit: call.limit.unwrap_or(DEFAULT_LIMIT),
+            limit,
         },
         only,
     };
@@ -92,6 +94,7 @@ fn audit_files(rt: &HostRuntime, call: &Call<'_, SharedOnly>) -> Result<u8, u8> 
         cpu: call.cpu,
         has_titles: false,
         has_parts: true,
+        limit,
     };
     shown.show(rt, &audits, files, others, &mut lines)
 }

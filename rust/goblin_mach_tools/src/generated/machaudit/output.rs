@@ -2,6 +2,7 @@
 //! What the program prints, and its exit status.
 #![forbid(unsafe_code)]
 
+use crate::generated::mach_cli::entries::OutOfFile;
 use crate::generated::mach_cli::{
     Escaped, Format, Label, Names, Refusal, ShowFailure, complain, refused_kind,
 };
@@ -9,17 +10,18 @@ use crate::generated::machaudit::audit::audit;
 use crate::generated::machaudit::json::print_object;
 use crate::generated::machaudit::options::Options;
 use crate::generated::machaudit::report::Report;
+use crate::generated::machaudit::source::Source;
 use crate::generated::machaudit::text::print_report;
 use crate::generated::machaudit::verdict::Verdict;
 use crate::shim::io;
 use crate::shim::io::{BufWriter, Write};
-use goblin_mach::generated::mach::Error;
+use goblin_mach::Error;
 
 /// The program's name.
 pub const NAME: &str = "machaudit";
 
 /// How a file is reported.
-#[derive(Clone, Copy, Debug)]
+#[derive(Clone, Copy)]
 pub struct Call<'a> {
     /// The options.
     pub options: Options,
@@ -27,15 +29,17 @@ pub struct Call<'a> {
     pub name: &'a str,
     /// Whether the name is printed before the lines.
     pub heading: bool,
+    /// If it is an entry that isn't all in its fat file: where both end.
+    pub outside: Option<OutOfFile>,
 }
 
 /// Audits the bytes of a file, prints the report, and returns the exit status.
 ///
 /// It is 0 if the file is sound and none of its lists is longer than the limit, else 1. All that is printed has left the buffer
 /// then. With `--quiet` it is one line, which says the same as the status. If the file doesn't open and is not Mach-O, `err` has
-/// a line with its kind.
+/// a line with its kind, unless it is an entry that is out of its fat file.
 ///
-/// # Proved
+/// <details><summary>Proved</summary>
 ///
 /// - *bounds*: if `Ok(status)`: `status ≤ 1`
 /// - *sound*: if `Ok(status)`: if `status ≡ 0`, `IsSound bytes`
@@ -43,7 +47,9 @@ pub struct Call<'a> {
 /// - *faulty*: if `Ok(status)`: if `status ≡ 1`, `(IsSound bytes → ⊥) ⊎ IsLong call.entry.options.limit bytes`
 /// - *quiet*: if `Ok(status)`: if `call.entry.options.format ≡ formats.Quiet`, there is `v : Verdict` with: `(status ≡ status_of v) × Judges (IsSound bytes) (IsLong call.entry.options.limit bytes) v × IsOneLine (quiet_line call.entry.name v) × Appends (writer_contents W.contents out.old) (writer_contents W.contents out.new) (quiet_line call.entry.name v)`
 /// - *flushed*: if `Ok`: `writer_buffer out.new ≡ []`
-/// - *message*: if `Ok`: `SaysForeign call.entry.name bytes (E.contents err.old) (E.contents err.new)`
+/// - *message*: if `Ok`: `SaysForeign call.entry.outside call.entry.name bytes (E.contents err.old) (E.contents err.new)`
+///
+/// </details>
 pub fn run<W: Write, E: Write>(
     call: Call<'_>,
     bytes: &[u8],
@@ -53,9 +59,22 @@ pub fn run<W: Write, E: Write>(
     let Ok(report) = audit(bytes, call.options.limit) else {
         return Err(ShowFailure::Memory);
     };
-    write_report(call, &report, out)?;
-    say_refusal(call.name, bytes, &report, err)?;
+    write_report(call, bytes, &report, out)?;
+    say_unless_outside(call, bytes, &report, err)?;
     Ok(status(report.verdict()))
+}
+
+// Prints the kind of a file as `say_refusal` does, but nothing of an entry that is out of its fat file.
+fn say_unless_outside<E: Write>(
+    call: Call<'_>,
+    bytes: &[u8],
+    report: &Report<'_>,
+    err: &mut E,
+) -> io::Result<()> {
+    match call.outside {
+        Some(_) => Ok(()),
+        None => say_refusal(call.name, bytes, report, err),
+    }
 }
 
 // Prints the kind of a file, if it is refused as a whole and is not Mach-O.
@@ -89,9 +108,11 @@ fn names_of(file: &str) -> Names<'_> {
 
 /// Reports that a file is refused, and returns the exit status.
 ///
-/// # Proved
+/// <details><summary>Proved</summary>
 ///
 /// - `result ≡ 1`
+///
+/// </details>
 pub fn refuse<E: Write>(file: &str, refusal: Refusal<'_>, err: &mut E) -> u8 {
     let _ = complain(names_of(file), Label::None, refusal, err);
     1
@@ -108,25 +129,35 @@ fn status(verdict: Verdict) -> u8 {
 // Prints the report of a file and flushes it.
 fn write_report<W: Write>(
     call: Call<'_>,
+    bytes: &[u8],
     report: &Report<'_>,
     out: &mut BufWriter<W>,
 ) -> io::Result<()> {
-    print(call, report, out)?;
+    print(call, bytes, report, out)?;
     out.flush()
 }
 
 // Prints the report of a file.
-fn print<O: Write>(call: Call<'_>, report: &Report<'_>, out: &mut O) -> io::Result<()> {
+fn print<O: Write>(
+    call: Call<'_>,
+    bytes: &[u8],
+    report: &Report<'_>,
+    out: &mut O,
+) -> io::Result<()> {
+    let source = Source {
+        bytes,
+        outside: call.outside,
+    };
     match call.options.format {
         Format::Text => {
             if call.heading {
                 let name = Escaped(call.name);
                 writeln!(out, "{name}:")?;
             }
-            print_report(report, out)
+            print_report(source, report, out)
         }
         Format::Quiet => print_verdict(call.name, report.verdict(), out),
-        Format::Json => print_object(call.name, report, out),
+        Format::Json => print_object(call.name, source, report, out),
     }
 }
 

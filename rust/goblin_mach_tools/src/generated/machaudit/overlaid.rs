@@ -3,14 +3,16 @@
 #![forbid(unsafe_code)]
 
 use crate::generated::mach_cli::Cpu;
-use goblin_mach::generated::mach::fat::FatArch;
+use goblin_mach::fat::FatArch;
 
 /// Returns how many of the first entries of a fat file are audited: at most `limit`, as long as they have no more bytes together
 /// than the file. The bytes of entries for another cpu don't count.
 ///
-/// # Proved
+/// <details><summary>Proved</summary>
 ///
 /// - `AreGoneOver cpu limit bytes archs result`
+///
+/// </details>
 pub fn entries_within(cpu: Cpu, limit: usize, bytes: &[u8], archs: &[FatArch]) -> usize {
     let mut left = bytes.len();
     let end = limit.min(archs.len());

@@ -4,13 +4,13 @@
 
 use alloc::vec::Vec;
 
-use crate::shim::AllocError;
 use crate::shim::io;
 use core::fmt;
-use goblin_mach::generated::mach::Error;
-use goblin_mach::generated::mach_archive::Member;
-use goblin_mach::generated::mach_layout::LayoutFault;
-use goblin_mach::generated::mach_signature::SignatureFault;
+use goblin_mach::AllocError;
+use goblin_mach::Error;
+use goblin_mach::archive::Member;
+use goblin_mach::layout::LayoutFault;
+use goblin_mach::signature::SignatureFault;
 
 /// Why an audit did not end.
 #[derive(Clone, Copy, Debug)]
@@ -44,11 +44,13 @@ impl From<io::Error> for AuditFailure {
 
 /// Returns an error unchanged, unless it is a refused allocation.
 ///
-/// # Proved
+/// <details><summary>Proved</summary>
 ///
 /// - *reported*: if `Ok(e)`: `(e ≡ error) × IsReported e`
 /// - *memory*: if `Err(failure)`: `failure ≡ failures.Memory`
 /// - *only*: if `IsReported error`, the result is `Ok`
+///
+/// </details>
 pub fn no_memory(error: Error) -> Result<Error, AuditFailure> {
     match error {
         Error::Memory(_) => Err(AuditFailure::Memory),
@@ -220,9 +222,11 @@ impl Report<'_> {
     /// Returns the error for which the whole file is refused, if it is: it opens in no mode, or is a fat file whose table can't
     /// be read.
     ///
-    /// # Proved
+    /// <details><summary>Proved</summary>
     ///
     /// - `option_copied result ≡ refusal_in self`
+    ///
+    /// </details>
     pub fn refusal(&self) -> Option<&Error> {
         match self {
             Report::Image(ImageReport::Refused(error)) => Some(error),

@@ -6,13 +6,14 @@ use crate::shim::format_in;
 use alloc::string::String;
 use alloc::vec::Vec;
 
+use crate::generated::mach_cli::entries::outside_at;
 use crate::generated::mach_cli::{Cpu, Names, Refusal, ShowFailure};
 use crate::generated::machaudit::output::{Call, NAME, refuse, run};
 use crate::generated::machaudit::overlaid::entries_within;
-use crate::shim::AllocError;
 use crate::shim::io::{BufWriter, Write};
-use goblin_mach::generated::mach::fat::FatArch;
-use goblin_mach::generated::mach::{Error, Mach, MachO, MultiArch};
+use goblin_mach::AllocError;
+use goblin_mach::fat::FatArch;
+use goblin_mach::{Error, Mach, MachO, MultiArch};
 
 // What of a file is selected.
 enum Selected {
@@ -31,11 +32,13 @@ enum Selected {
 /// none of its lists is longer than the limit. It is 1 if one isn't sound or has a longer list; and also if nothing is for the
 /// cpu, and then `err` has a line that says so.
 ///
-/// # Proved
+/// <details><summary>Proved</summary>
 ///
 /// - *bounds*: if `Ok(status)`: `status ≤ 1`
 /// - *sound*: if `Ok(status)`: if `status ≡ 0`, `IsSoundFor cpu bytes`
 /// - *faulty*: if `Ok(status)`: if `status ≡ 1`, `FailsFor cpu call.entry.options.limit bytes ⊎ MissesAll cpu bytes`
+///
+/// </details>
 pub fn run_for<W: Write, E: Write>(
     cpu: Cpu,
     call: Call<'_>,
@@ -129,7 +132,11 @@ fn run_entries<W: Write, E: Write>(
     let mut worst = 0u8;
     for (index, arch) in archs.iter().enumerate() {
         if cpu.takes_entry(arch) {
-            let status = run_entry(call, index, arch.slice(bytes), out, err)?;
+            let entry_call = Call {
+                outside: outside_at::<FatArch>(bytes, Some(index)),
+                ..call
+            };
+            let status = run_entry(entry_call, index, arch.slice(bytes), out, err)?;
             worst = worst.max(status);
         }
     }
@@ -149,6 +156,7 @@ fn run_entry<W: Write, E: Write>(
         options: call.options,
         name: &name,
         heading: true,
+        outside: call.outside,
     };
     run(call, entry, out, err)
 }

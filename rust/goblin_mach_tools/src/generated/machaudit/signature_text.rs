@@ -6,10 +6,8 @@ use crate::generated::machaudit::report::{SignaturePart, SignatureReport};
 use crate::shim::io;
 use crate::shim::io::Write;
 use core::fmt;
-use goblin_mach::generated::mach::describe;
-use goblin_mach::generated::mach_signature::{
-    CodeFault, DirectoryFault, SignatureFault, SlotName, SpecialFault,
-};
+use goblin_mach::describe;
+use goblin_mach::signature::{CodeFault, DirectoryFault, SignatureFault, SlotName, SpecialFault};
 
 /// The place of a fault in a signature.
 #[derive(Clone, Copy)]
@@ -49,11 +47,13 @@ pub struct SignatureMessage {
 
 /// Returns a fault as JSON has it.
 ///
-/// # Proved
+/// <details><summary>Proved</summary>
 ///
 /// - *kind*: `result.kind ≡ signature_kind fault`
 /// - *slot*: `result.slot ≡ signature_slot fault`
 /// - *place*: `result.place ≡ signature_place fault`
+///
+/// </details>
 pub fn message_of(fault: &SignatureFault) -> SignatureMessage {
     match fault {
         SignatureFault::Blob { index, error: _ } => SignatureMessage {

@@ -2,23 +2,25 @@
 //! Audits the signature of an image: what differs from what was signed, one fault at a time. Ten are kept.
 #![forbid(unsafe_code)]
 
-use crate::shim::TryGrow;
 use alloc::vec::Vec;
+use goblin_mach::internals::shim::TryGrow;
 
 use crate::generated::machaudit::report::{
     AuditFailure, SignaturePart, SignatureReport, no_memory,
 };
 use crate::generated::machaudit::tally::MOST_REPORTED;
-use goblin_mach::generated::mach::MachO;
-use goblin_mach::generated::mach_signature::image::signature_faults;
-use goblin_mach::generated::mach_signature::{SignatureFault, SignatureFaults};
+use goblin_mach::MachO;
+use goblin_mach::signature::image::signature_faults;
+use goblin_mach::signature::{SignatureFault, SignatureFaults};
 
 /// Audits the signature of an image: there is none, it can't be read, or these things differ from what was signed.
 ///
-/// # Proved
+/// <details><summary>Proved</summary>
 ///
 /// - *reported*: if `Ok(x)`: `ReportsSignature (image_faults (bytes_view image) (commands_view image) (segments_view image)) x`
 /// - *memory*: if `Err(failure)`: `failure ≡ failures.Memory`
+///
+/// </details>
 pub fn audit_signature(image: &MachO<'_>) -> Result<SignatureReport, AuditFailure> {
     match signature_faults(image) {
         Ok(Some(faults)) => {

@@ -2,11 +2,11 @@
 //! A count of the items of a list that can't be read.
 #![forbid(unsafe_code)]
 
-use crate::shim::TryGrow;
 use alloc::vec::Vec;
+use goblin_mach::internals::shim::TryGrow;
 
 use crate::generated::machaudit::report::{AuditFailure, FaultPlace, Finding, PartReport};
-use goblin_mach::generated::mach::Error;
+use goblin_mach::Error;
 
 /// How many faults of one part, or of one rule, are reported; the others are only counted.
 pub const MOST_REPORTED: usize = 10;
@@ -20,9 +20,11 @@ pub struct Tally {
 impl Tally {
     /// Returns an empty count, of at most `limit` items.
     ///
-    /// # Proved
+    /// <details><summary>Proved</summary>
     ///
     /// - `HasMet limit [] result`
+    ///
+    /// </details>
     pub fn new(limit: usize) -> Tally {
         Tally {
             part: PartReport {
@@ -37,12 +39,14 @@ impl Tally {
     /// Counts one more item, with its error if it can't be read. Returns whether to go on: false if this is one item more than
     /// the limit. A refused allocation is no fault of an item.
     ///
-    /// # Proved
+    /// <details><summary>Proved</summary>
     ///
     /// - *met*: if `Ok`: for each `limit : ℕ`, `items : List (Option FaultAt)`, if `HasMet limit items self.old`, `HasMet limit (items ++ placed_fault place (option_map fault_of error) ∷ []) self.new`
     /// - *over*: if `Ok(more)`: if `more ≡ false`, `IsTrue self.new.part.cut`
     /// - *memory*: if `Err(failure)`: `failure ≡ failures.Memory`
     /// - *on*: if `Ok(more)`: if `more ≡ true`, `1 ≤ self.old.left`
+    ///
+    /// </details>
     pub fn take(&mut self, place: FaultPlace, error: Option<Error>) -> Result<bool, AuditFailure> {
         let Some(left) = self.left.checked_sub(1) else {
             self.part.cut = true;
@@ -57,9 +61,11 @@ impl Tally {
 
     /// Returns the report of the part.
     ///
-    /// # Proved
+    /// <details><summary>Proved</summary>
     ///
     /// - `result ≡ self.part`
+    ///
+    /// </details>
     pub fn part(self) -> PartReport {
         self.part
     }

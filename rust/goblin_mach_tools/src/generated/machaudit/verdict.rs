@@ -6,7 +6,7 @@ use crate::generated::machaudit::report::{
     ArchiveReport, EntryReport, FatReport, ImageReport, MemberReport, PartReport, Parts, Records,
     Report, SignatureReport,
 };
-use goblin_mach::generated::mach_layout::LayoutFault;
+use goblin_mach::layout::LayoutFault;
 
 /// Whether a file is sound.
 #[derive(Clone, Copy, Debug, PartialEq)]
@@ -33,9 +33,11 @@ impl Verdict {
 impl PartReport {
     /// Whether all items of the part were visited, and each can be read.
     ///
-    /// # Proved
+    /// <details><summary>Proved</summary>
     ///
     /// - `result ≡ is_clean self`
+    ///
+    /// </details>
     pub fn is_clean(&self) -> bool {
         self.faults == 0 && !self.cut
     }
@@ -55,9 +57,11 @@ impl PartReport {
 impl Records {
     /// Whether none is past the end of the bytes, all items were visited, and each can be read.
     ///
-    /// # Proved
+    /// <details><summary>Proved</summary>
     ///
     /// - `result ≡ are_clean self`
+    ///
+    /// </details>
     pub fn is_clean(&self) -> bool {
         self.past == 0 && self.in_bounds.is_clean()
     }
@@ -127,9 +131,11 @@ impl ImageReport {
 // Something of which there are several, each with a verdict of its own.
 trait Judged {
     // Returns the verdict on it.
-    /// # Proved
+    /// <details><summary>Proved</summary>
     ///
     /// - `result ≡ judgement self`
+    ///
+    /// </details>
     fn verdict(&self) -> Verdict;
 }
 
@@ -202,9 +208,11 @@ fn all_verdict<T: Judged>(things: &[T]) -> Verdict {
 impl Report<'_> {
     /// Returns the verdict on the file.
     ///
-    /// # Proved
+    /// <details><summary>Proved</summary>
     ///
     /// - `result ≡ verdict_of_report self`
+    ///
+    /// </details>
     pub fn verdict(&self) -> Verdict {
         match self {
             Report::Image(image) => image.verdict(),

@@ -2,9 +2,9 @@
 //! Prints the load commands, the exports or the imports of a Mach-O file, a line each; of a fat file those of each entry.
 #![forbid(unsafe_code)]
 
-use crate::shim::TryList;
 use crate::shim::rt::Eprint;
 use crate::shim::rt::HostRuntime;
+use goblin_mach::internals::shim::TryList;
 
 mod output;
 

@@ -2,14 +2,14 @@
 //! What the program prints of some bytes, and its exit status.
 #![forbid(unsafe_code)]
 
-use crate::shim::AllocError;
 use crate::shim::io;
 use crate::shim::io::{BufWriter, Write};
 use core::fmt;
-use goblin_mach::generated::mach::exports::ExportInfo;
-use goblin_mach::generated::mach::imports::Import;
-use goblin_mach::generated::mach::load_command::{LoadCommand, LoadCommandHeader};
-use goblin_mach::generated::mach::{Error, Mach, MachO, MultiArch, SingleArch};
+use goblin_mach::AllocError;
+use goblin_mach::exports::ExportInfo;
+use goblin_mach::imports::Import;
+use goblin_mach::load_command::{LoadCommand, LoadCommandHeader};
+use goblin_mach::{Error, Mach, MachO, MultiArch, SingleArch};
 
 /// The list that is printed of a file: the program's first argument.
 #[derive(Clone, Copy, Debug, PartialEq)]
@@ -25,11 +25,13 @@ pub enum Word {
 impl Word {
     /// Returns the word with this spelling, if there is one.
     ///
-    /// # Proved
+    /// <details><summary>Proved</summary>
     ///
     /// - *commands*: `result ≡ Some Word.Commands ↔ (text ≡ codes "commands")`
     /// - *exports*: `result ≡ Some Word.Exports ↔ (text ≡ codes "exports")`
     /// - *imports*: `result ≡ Some Word.Imports ↔ (text ≡ codes "imports")`
+    ///
+    /// </details>
     pub fn parse(text: &str) -> Option<Word> {
         match text {
             "commands" => Some(Word::Commands),
@@ -46,11 +48,13 @@ impl Word {
 /// a fat file is refused. It is 2 if a write fails. No list of exports is kept, so a refused allocation may be reported after
 /// some of their lines. Unless the status is 2, nothing is left in the buffer.
 ///
-/// # Proved
+/// <details><summary>Proved</summary>
 ///
 /// - *status*: `result ≤ 2`
 /// - *printed*: if `result ≡ 0`, `MachOpens Opens bytes`
 /// - *flushed*: if `result ≢ 2`, `writer_buffer out.new ≡ []`
+///
+/// </details>
 pub fn run<W: Write, E: Write>(
     word: Word,
     bytes: &[u8],
@@ -208,7 +212,7 @@ fn print_commands<O: Write>(out: &mut O, commands: &[LoadCommand]) -> io::Result
 }
 
 // Visits the exports of an image without keeping them: Ok if they have a list.
-fn walk_over(image: &MachO<'_>) -> goblin_mach::generated::mach::Result<()> {
+fn walk_over(image: &MachO<'_>) -> goblin_mach::Result<()> {
     let mut walk = image.walk_exports()?;
     while let Some(export) = walk.next() {
         if let Err(error) = export {

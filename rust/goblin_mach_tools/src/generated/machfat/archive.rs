@@ -10,14 +10,16 @@ use crate::generated::machfat::archive::member::print_members;
 use crate::generated::machfat::archive::symbol::print_symbols;
 use crate::shim::io;
 use crate::shim::io::Write;
-use goblin_mach::generated::mach_archive::Archive;
-use goblin_mach::generated::mach_base::{Error, describe};
+use goblin_mach::archive::Archive;
+use goblin_mach::{Error, describe};
 
 /// Prints the line of what is refused, with its error. Returns that it is not whole.
 ///
-/// # Proved
+/// <details><summary>Proved</summary>
 ///
 /// - if `Ok(whole)`: `(whole ≡ false) × Appends (O.contents out.old) (O.contents out.new) (refused_line what error)`
+///
+/// </details>
 pub fn print_refused<O: Write>(what: &str, error: &Error, out: &mut O) -> io::Result<bool> {
     let words = describe(error);
     writeln!(out, "{what}: {words}")?;
@@ -26,9 +28,11 @@ pub fn print_refused<O: Write>(what: &str, error: &Error, out: &mut O) -> io::Re
 
 /// Prints a name and the end of its line.
 ///
-/// # Proved
+/// <details><summary>Proved</summary>
 ///
 /// - if `Ok`: `Appends (O.contents out.old) (O.contents out.new) (name_tail name)`
+///
+/// </details>
 pub fn print_name_end<O: Write>(name: &str, out: &mut O) -> io::Result<()> {
     let name = Escaped(name);
     writeln!(out, "{name}")
@@ -37,9 +41,11 @@ pub fn print_name_end<O: Write>(name: &str, out: &mut O) -> io::Result<()> {
 /// Prints the lines of an archive: of its members, then of the symbols of its index, no more than `left`; if there are more, a
 /// line says that `limit` are printed. Returns whether there are no more and no line has a fault, and how many lines are left.
 ///
-/// # Proved
+/// <details><summary>Proved</summary>
 ///
 /// - if `Ok(outcome)`: `WritesAs (AreArchiveLines limit left (archive_of archive)) outcome (O.contents out.old) (O.contents out.new)`
+///
+/// </details>
 pub fn print_archive<O: Write>(
     archive: &Archive<'_>,
     limit: usize,

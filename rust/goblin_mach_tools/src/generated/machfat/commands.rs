@@ -6,6 +6,7 @@ use crate::generated::mach_cli::output::failed;
 use crate::generated::mach_cli::{Names, most_items};
 use crate::generated::machfat::entry::{entry_bytes, list};
 use crate::generated::machfat::new_file::place_file;
+use crate::generated::machfat::permissions::NewMode;
 use crate::generated::machfat::refusal::{Refusal, WriteFailure};
 use crate::shim::io::{BufWriter, Write};
 use crate::shim::rt::Files;
@@ -19,12 +20,14 @@ pub const NAME: &str = "machfat";
 /// and then `err` has a line that says why, and `out` nothing. It is 2 or 141 if a write fails. Unless a write fails, nothing is
 /// left in the buffer.
 ///
-/// # Proved
+/// <details><summary>Proved</summary>
 ///
 /// - *status*: `IsStatus result`
 /// - *listed*: if `result ≡ 0`, `ReportsList (most_items limit bytes) file bytes true (writer_contents W.contents out.old) (writer_contents W.contents out.new)`
 /// - *refused*: if `result ≡ 1`, `ReportsList (most_items limit bytes) file bytes false (writer_contents W.contents out.old) (writer_contents W.contents out.new) ⊎ RefusesFile (Refuses bytes (listed_file_in bytes)) file (writer_contents W.contents out.old) (writer_contents W.contents out.new) (E.contents err.old) (E.contents err.new)`
 /// - *flushed*: if `result ≤ 1`, `writer_buffer out.new ≡ []`
+///
+/// </details>
 pub fn run_list<W: Write, E: Write>(
     limit: usize,
     file: &str,
@@ -38,13 +41,15 @@ pub fn run_list<W: Write, E: Write>(
 
 /// Flushes the output, reports a refusal on `err`, and returns the exit status of a file's lines, which are whole or not.
 ///
-/// # Proved
+/// <details><summary>Proved</summary>
 ///
 /// - *bound*: `IsStatus result`
 /// - *whole*: if `result ≡ 0`, `answer ≡ Ok true`
 /// - *refused*: if `result ≡ 1`, `(answer ≡ Ok false) ⊎ ((refusal : Refusal) × (answer ≡ Err (failures.Refused refusal)) × Appends (E.contents err.old) (E.contents err.new) (refusal_line file refusal))`
 /// - *kept*: if `result ≤ 1`, `Keeps (writer_contents W.contents out.old) (writer_contents W.contents out.new)`
 /// - *flushed*: if `result ≤ 1`, `writer_buffer out.new ≡ []`
+///
+/// </details>
 pub fn reported<W: Write, E: Write>(
     answer: Result<bool, WriteFailure>,
     file: &str,
@@ -67,11 +72,13 @@ pub fn reported<W: Write, E: Write>(
 /// Returns the exit status. It is 0 if the file was written. It is 1 if there is no such entry, or an allocation is refused, and
 /// then `err` has a line that says why. It is 2 or 141 if the file can't be written. The file is written whole, or unchanged.
 ///
-/// # Proved
+/// <details><summary>Proved</summary>
 ///
 /// - *status*: `IsStatus result`
 /// - *extracted*: if `result ≡ 0`, there is `entry : List ℕ` with: `(indexed_entry_in bytes index ≡ Ok entry) × WasWritten R.File.contents entry`
 /// - *refused*: if `result ≡ 1`, there is `refusal : Refusal` with: `Refuses bytes (indexed_entry_in bytes index) refusal × Appends (E.contents err.old) (E.contents err.new) (refusal_line file refusal)`
+///
+/// </details>
 pub fn run_extract<R: Files, E: Write>(
     files: &R,
     file: &str,
@@ -80,28 +87,37 @@ pub fn run_extract<R: Files, E: Write>(
     target: &str,
     err: &mut E,
 ) -> u8 {
-    status(extract(files, bytes, index, target), file, target, err)
+    let mode = NewMode::as_file(files, file);
+    status(
+        extract(files, mode, bytes, index, target),
+        file,
+        target,
+        err,
+    )
 }
 
-// Writes an entry to a file, and returns the file. Nothing is written if there is no such entry.
+// Writes an entry to a file with some permissions, and returns the file. Nothing is written if there is no such entry.
 fn extract<R: Files>(
     files: &R,
+    mode: NewMode,
     bytes: &[u8],
     index: usize,
     target: &str,
 ) -> Result<R::File, WriteFailure> {
     let entry = entry_bytes(bytes, index)?;
-    place_file(files, entry, target)
+    place_file(files, mode, entry, target)
 }
 
 /// Returns the exit status of a file that was written, or reports on `err` why it wasn't: a failed write with the name of the
 /// target.
 ///
-/// # Proved
+/// <details><summary>Proved</summary>
 ///
 /// - *bound*: `IsStatus result`
 /// - *only*: if `result ≡ 0`, `IsOk answer`
 /// - *refused*: if `result ≡ 1`, there is `refusal : Refusal` with: `(answer ≡ Err (failures.Refused refusal)) × Appends (E.contents err.old) (E.contents err.new) (refusal_line file refusal)`
+///
+/// </details>
 pub fn status<F, E: Write>(
     answer: Result<F, WriteFailure>,
     file: &str,
@@ -117,11 +133,13 @@ pub fn status<F, E: Write>(
 
 /// Reports a refusal, and returns the status.
 ///
-/// # Proved
+/// <details><summary>Proved</summary>
 ///
 /// - *bound*: `IsStatus result`
 /// - *not zero*: `1 ≤ result`
 /// - *reported*: if `result ≡ 1`, `Appends (E.contents err.old) (E.contents err.new) (refusal_line file refusal)`
+///
+/// </details>
 pub fn refused<E: Write>(file: &str, refusal: &Refusal, err: &mut E) -> u8 {
     let names = Names {
         program: NAME,

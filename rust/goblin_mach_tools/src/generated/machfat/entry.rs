@@ -4,12 +4,13 @@
 
 use crate::generated::mach_cli::{Escaped, Line, Object, print_cut, refused_kind};
 use crate::generated::machfat::listed::{Listed, list_of};
+use crate::generated::machfat::outside::refused_entries;
 use crate::generated::machfat::refusal::{Refusal, WriteFailure};
 use crate::generated::machfat::text::{CpuText, EndText, write_record};
 use crate::shim::io;
 use crate::shim::io::Write;
-use goblin_mach::generated::mach::Foreign;
-use goblin_mach::generated::mach_fat_writer::{EntryRecord, EntryRefusal, indexed_entry};
+use goblin_mach::Foreign;
+use goblin_mach::write::{EntryRecord, EntryRefusal, indexed_entry};
 
 // Returns the kind of a file whose entries are refused, if its first bytes show it.
 fn kind_by_front(bytes: &[u8], why: &EntryRefusal) -> Option<Foreign> {
@@ -21,15 +22,17 @@ fn kind_by_front(bytes: &[u8], why: &EntryRefusal) -> Option<Foreign> {
 
 /// Returns an answer about a file's entries, or the refusal of the file.
 ///
-/// # Proved
+/// <details><summary>Proved</summary>
 ///
 /// - `result ≡ said_in bytes answer`
+///
+/// </details>
 pub fn said<T>(bytes: &[u8], answer: Result<T, EntryRefusal>) -> Result<T, Refusal> {
     match answer {
         Ok(found) => Ok(found),
         Err(why) => match kind_by_front(bytes, &why) {
             Some(kind) => Err(Refusal::Foreign(kind)),
-            None => Err(Refusal::Entries(why)),
+            None => Err(Refusal::Entries(refused_entries(bytes, why))),
         },
     }
 }
@@ -45,9 +48,11 @@ pub enum ListForm {
 
 /// Prints some records of a fat file in a form, each with the kind of its entry.
 ///
-/// # Proved
+/// <details><summary>Proved</summary>
 ///
 /// - if `Ok`: `Appends (O.contents out.old) (O.contents out.new) (records_from form bytes 0 records)`
+///
+/// </details>
 pub fn print_records<O: Write>(
     form: ListForm,
     bytes: &[u8],
@@ -102,9 +107,11 @@ fn print_object<O: Write>(
 
 /// Returns the first of some items, no more than a limit.
 ///
-/// # Proved
+/// <details><summary>Proved</summary>
 ///
 /// - `result ≡ take limit items`
+///
+/// </details>
 pub fn first_of<T>(items: &[T], limit: usize) -> &[T] {
     items.get(..limit).unwrap_or(items)
 }
@@ -112,10 +119,12 @@ pub fn first_of<T>(items: &[T], limit: usize) -> &[T] {
 /// Prints what is shown of a file: of a fat file a line for each of its first records, in order, no more than a limit, and a line
 /// if there are more; of one image a line. Returns whether there are no more.
 ///
-/// # Proved
+/// <details><summary>Proved</summary>
 ///
 /// - *listed*: if `Ok(whole)`: `ReportsList limit file bytes whole (O.contents out.old) (O.contents out.new)`
 /// - *refused*: if `Err(e)`: `RefusesUnwritten (Refuses bytes (listed_file_in bytes)) (O.contents out.old) (O.contents out.new) e`
+///
+/// </details>
 pub fn list<O: Write>(
     limit: usize,
     file: &str,
@@ -172,10 +181,12 @@ fn print_image<O: Write>(file: &str, cputype: u32, cpusubtype: u32, out: &mut O)
 
 /// Returns the bytes of an entry of a fat file of 32 or of 64 bits.
 ///
-/// # Proved
+/// <details><summary>Proved</summary>
 ///
 /// - *found*: if `Ok(entry)`: `indexed_entry_in bytes index ≡ Ok entry`
 /// - *refused*: if `Err(e)`: `Refuses bytes (indexed_entry_in bytes index) e`
+///
+/// </details>
 pub fn entry_bytes(bytes: &[u8], index: usize) -> Result<&[u8], Refusal> {
     said(bytes, indexed_entry(bytes, index))
 }

@@ -3,17 +3,19 @@
 #![forbid(unsafe_code)]
 
 use crate::generated::mach_cli::image_kind;
-use goblin_mach::generated::mach_base::read_u32;
-use goblin_mach::generated::mach_parts::magic::parse_magic_and_ctx;
+use goblin_mach::internals::mach_base::read_u32;
+use goblin_mach::parse_magic_and_ctx;
 
 // The place of the kind in a header.
 const FILETYPE_PLACE: usize = 12;
 
 /// Returns the kind of the image that the bytes begin with, if they begin with one.
 ///
-/// # Proved
+/// <details><summary>Proved</summary>
 ///
 /// - `text_in result ≡ image_words bytes`
+///
+/// </details>
 pub fn image_words(bytes: &[u8]) -> Option<&'static str> {
     match filetype(bytes) {
         Some(filetype) => Some(image_kind(filetype)),

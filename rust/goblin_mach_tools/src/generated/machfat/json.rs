@@ -11,7 +11,7 @@ use crate::generated::machfat::refusal::Refusal;
 use crate::generated::machfat::text::cpu_of;
 use crate::shim::io;
 use crate::shim::io::{BufWriter, Write};
-use goblin_mach::generated::mach_fat_writer::EntryRecord;
+use goblin_mach::write::EntryRecord;
 
 /// Writes the object of a file with this name on a line: of a fat file with an object for each of its first records, in order, no
 /// more than a limit; of one image with its cpu.
@@ -20,12 +20,14 @@ use goblin_mach::generated::mach_fat_writer::EntryRecord;
 /// and then the object has a member `error`, and `err` a line that says why. It is 2 or 141 if a write fails. Unless a write
 /// fails, nothing is left in the buffer.
 ///
-/// # Proved
+/// <details><summary>Proved</summary>
 ///
 /// - *status*: `IsStatus result`
 /// - *listed*: if `result ≡ 0`, `ReportsDocument (most_items limit bytes) file bytes true (writer_contents W.contents out.old) (writer_contents W.contents out.new)`
 /// - *refused*: if `result ≡ 1`, `ReportsDocument (most_items limit bytes) file bytes false (writer_contents W.contents out.old) (writer_contents W.contents out.new) ⊎ ((refusal : Refusal) × Refuses bytes (listed_file_in bytes) refusal × Appends (writer_contents W.contents out.old) (writer_contents W.contents out.new) (refusal_document file (refusal_words refusal)) × Appends (E.contents err.old) (E.contents err.new) (refusal_line file refusal))`
 /// - *flushed*: if `result ≤ 1`, `writer_buffer out.new ≡ []`
+///
+/// </details>
 pub fn run_list_json<W: Write, E: Write>(
     limit: usize,
     file: &str,

@@ -6,7 +6,7 @@ use alloc::vec::Vec;
 
 use crate::generated::machfat::entry::said;
 use crate::generated::machfat::refusal::Refusal;
-use goblin_mach::generated::mach_fat_writer::{EntryRecord, EntryRefusal, FatEntry, fat_records};
+use goblin_mach::write::{EntryRecord, EntryRefusal, FatEntry, fat_records};
 
 /// What is shown of a file.
 pub enum Listed {
@@ -18,10 +18,12 @@ pub enum Listed {
 
 /// Returns the records of a fat file of 32 or of 64 bits, in order, or the cpu of one image.
 ///
-/// # Proved
+/// <details><summary>Proved</summary>
 ///
 /// - *held*: if `Ok(file)`: `listed_file_in bytes ≡ Ok (listed_view file)`
 /// - *refused*: if `Err(e)`: `Refuses bytes (listed_file_in bytes) e`
+///
+/// </details>
 pub fn list_of(bytes: &[u8]) -> Result<Listed, Refusal> {
     said(bytes, records_or_image(bytes))
 }

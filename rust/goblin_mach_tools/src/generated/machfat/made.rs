@@ -5,12 +5,12 @@
 use crate::generated::mach_cli::Escaped;
 use crate::generated::machfat::commands::{NAME, refused, status};
 use crate::generated::machfat::new_file::{first_same, place_file};
+use crate::generated::machfat::outside::refused_entries;
+use crate::generated::machfat::permissions::NewMode;
 use crate::generated::machfat::refusal::Refusal;
 use crate::shim::io::Write;
 use crate::shim::rt::Files;
-use goblin_mach::generated::mach_fat_writer::{
-    FileRefusal, Form, MakeRefusal, create, remove, replace,
-};
+use goblin_mach::write::{FileRefusal, Form, MakeRefusal, create, remove, replace};
 
 /// Writes the fat file that consists of some files.
 ///
@@ -18,12 +18,14 @@ use goblin_mach::generated::mach_fat_writer::{
 /// refused, and then `err` has a line that says why. It is 2 if one of the files is the target. It is 2 or 141 if the file can't
 /// be written. The target is written whole, or unchanged.
 ///
-/// # Proved
+/// <details><summary>Proved</summary>
 ///
 /// - *status*: `IsStatus result`
 /// - *created*: if `result ≡ 0`, there is `made : List ℕ` with: `IsCreated (form_of form) (texts_now inputs) made × WasWritten R.File.contents made`
 /// - *apart*: if `result ≡ 0`, `AreOther names target`
-/// - *refused*: if `result ≡ 1`, there is `refusal : MakeRefusal` with: `RefusesCreate (form_of form) (texts_now inputs) refusal × Appends (E.contents err.old) (E.contents err.new) (make_line names target refusal)`
+/// - *refused*: if `result ≡ 1`, there is `refusal : MakeRefusal` with: `RefusesCreate (form_of form) (texts_now inputs) refusal × Appends (E.contents err.old) (E.contents err.new) (make_line names inputs target refusal)`
+///
+/// </details>
 pub fn run_create<R: Files, E: Write>(
     files: &R,
     form: Form,
@@ -36,20 +38,25 @@ pub fn run_create<R: Files, E: Write>(
         return one_file(name, target, err);
     }
     match create(form, inputs) {
-        Ok(made) => place_made(files, made.as_slice(), target, err),
-        Err(refusal) => refuse(names, target, refusal, err),
+        Ok(made) => {
+            let mode = NewMode::of_any(files, names);
+            place_made(files, mode, made.as_slice(), target, err)
+        }
+        Err(refusal) => refuse(names, inputs, target, refusal, err),
     }
 }
 
 /// Writes a fat file in which another file replaces each entry for its cpu, and returns the exit status as `run_create` does.
 /// `both` are the names of the fat file and of the other one.
 ///
-/// # Proved
+/// <details><summary>Proved</summary>
 ///
 /// - *status*: `IsStatus result`
 /// - *replaced*: if `result ≡ 0`, there is `made : List ℕ` with: `IsReplaced bytes new made × WasWritten R.File.contents made`
 /// - *apart*: if `result ≡ 0`, `AreOther both target`
-/// - *refused*: if `result ≡ 1`, there is `refusal : MakeRefusal` with: `RefusesReplace bytes new refusal × Appends (E.contents err.old) (E.contents err.new) (make_line both target refusal)`
+/// - *refused*: if `result ≡ 1`, there is `refusal : MakeRefusal` with: `RefusesReplace bytes new refusal × Appends (E.contents err.old) (E.contents err.new) (make_line both (bytes.entry ∷ new.entry ∷ []) target refusal)`
+///
+/// </details>
 pub fn run_replace<R: Files, E: Write>(
     files: &R,
     both: &[&str],
@@ -62,20 +69,25 @@ pub fn run_replace<R: Files, E: Write>(
         return one_file(name, target, err);
     }
     match replace(bytes, new) {
-        Ok(made) => place_made(files, made.as_slice(), target, err),
-        Err(refusal) => refuse(both, target, refusal, err),
+        Ok(made) => {
+            let mode = NewMode::as_first(files, both);
+            place_made(files, mode, made.as_slice(), target, err)
+        }
+        Err(refusal) => refuse(both, &[bytes, new], target, refusal, err),
     }
 }
 
 /// Writes a fat file without the entry with an index, and returns the exit status as `run_create` does. `only` has the name of
 /// the fat file.
 ///
-/// # Proved
+/// <details><summary>Proved</summary>
 ///
 /// - *status*: `IsStatus result`
 /// - *removed*: if `result ≡ 0`, there is `made : List ℕ` with: `IsWithout bytes index made × WasWritten R.File.contents made`
 /// - *apart*: if `result ≡ 0`, `AreOther only target`
-/// - *refused*: if `result ≡ 1`, there is `refusal : MakeRefusal` with: `RefusesRemove bytes index refusal × Appends (E.contents err.old) (E.contents err.new) (make_line only target refusal)`
+/// - *refused*: if `result ≡ 1`, there is `refusal : MakeRefusal` with: `RefusesRemove bytes index refusal × Appends (E.contents err.old) (E.contents err.new) (make_line only (bytes.entry ∷ []) target refusal)`
+///
+/// </details>
 pub fn run_remove<R: Files, E: Write>(
     files: &R,
     only: &[&str],
@@ -88,20 +100,37 @@ pub fn run_remove<R: Files, E: Write>(
         return one_file(name, target, err);
     }
     match remove(bytes, index) {
-        Ok(made) => place_made(files, made.as_slice(), target, err),
-        Err(refusal) => refuse(only, target, refusal, err),
+        Ok(made) => {
+            let mode = NewMode::as_first(files, only);
+            place_made(files, mode, made.as_slice(), target, err)
+        }
+        Err(refusal) => refuse(only, &[bytes], target, refusal, err),
     }
 }
 
-// Writes a created file, and returns the exit status.
-fn place_made<R: Files, E: Write>(files: &R, made: &[u8], target: &str, err: &mut E) -> u8 {
-    status(place_file(files, made, target), target, target, err)
+// Writes a created file with some permissions, and returns the exit status.
+fn place_made<R: Files, E: Write>(
+    files: &R,
+    mode: NewMode,
+    made: &[u8],
+    target: &str,
+    err: &mut E,
+) -> u8 {
+    status(place_file(files, mode, made, target), target, target, err)
 }
 
-// Reports a refusal, with the name of the file that is refused or else of the target, and returns the status.
-fn refuse<E: Write>(names: &[&str], target: &str, refusal: MakeRefusal, err: &mut E) -> u8 {
+// Reports a refusal of files with these names and bytes, with the name of the file that is refused or else of the target, and
+// returns the status.
+fn refuse<E: Write>(
+    names: &[&str],
+    inputs: &[&[u8]],
+    target: &str,
+    refusal: MakeRefusal,
+    err: &mut E,
+) -> u8 {
     match refusal {
         MakeRefusal::OfFile(FileRefusal { file, why }) => {
+            let why = refused_entries(given_bytes(inputs, file), why);
             refused(given_name(names, file), &Refusal::Entries(why), err)
         }
         MakeRefusal::OfAll(error) => refused(target, &Refusal::Refused(error), err),
@@ -116,11 +145,21 @@ fn given_name<'a>(names: &[&'a str], index: usize) -> &'a str {
     }
 }
 
+// Returns the bytes of a file, by its index among the given ones.
+fn given_bytes<'a>(inputs: &[&'a [u8]], index: usize) -> &'a [u8] {
+    match inputs.get(index) {
+        Some(bytes) => bytes,
+        None => &[],
+    }
+}
+
 /// Reports that a file that is read is the one to write, and returns the status.
 ///
-/// # Proved
+/// <details><summary>Proved</summary>
 ///
 /// - `result ≡ 2`
+///
+/// </details>
 pub fn one_file<E: Write>(file: &str, target: &str, err: &mut E) -> u8 {
     let (file, target) = (Escaped(file), Escaped(target));
     let _ = writeln!(err, "{NAME}: {file} and {target} are one file");

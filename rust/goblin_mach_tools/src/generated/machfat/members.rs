@@ -7,14 +7,15 @@ use alloc::vec::Vec;
 use crate::generated::mach_cli::{Outcome, most_items, refused_kind};
 use crate::generated::machfat::archive::{print_archive, print_refused};
 use crate::generated::machfat::commands::reported;
+use crate::generated::machfat::outside::refused_entries;
 use crate::generated::machfat::refusal::{Refusal, WriteFailure, refused_by};
 use crate::shim::io;
 use crate::shim::io::{BufWriter, Write};
-use goblin_mach::generated::mach::Foreign;
-use goblin_mach::generated::mach::first_bytes::begins_image;
-use goblin_mach::generated::mach_archive::Archive;
-use goblin_mach::generated::mach_base::Error;
-use goblin_mach::generated::mach_fat_writer::{EntryRecord, EntryRefusal, Form};
+use goblin_mach::Error;
+use goblin_mach::Foreign;
+use goblin_mach::archive::Archive;
+use goblin_mach::internals::mach::begins_image;
+use goblin_mach::write::{EntryRecord, EntryRefusal, Form};
 
 /// Prints a line for each member of an archive and each symbol of its index, also of those that are entries of a fat file, no
 /// more than a limit in all.
@@ -23,12 +24,14 @@ use goblin_mach::generated::mach_fat_writer::{EntryRecord, EntryRefusal, Form};
 /// more; or if the file or an allocation is refused, and then `err` has a line that says why, and `out` nothing. It is 2 or 141
 /// if a write fails. Unless a write fails, nothing is left in the buffer.
 ///
-/// # Proved
+/// <details><summary>Proved</summary>
 ///
 /// - *status*: `IsStatus result`
 /// - *whole*: if `result ≡ 0`, `WritesAs (AreFileLines (most_items limit bytes) bytes) true (writer_contents W.contents out.old) (writer_contents W.contents out.new)`
 /// - *refused*: if `result ≡ 1`, `WritesAs (AreFileLines (most_items limit bytes) bytes) false (writer_contents W.contents out.old) (writer_contents W.contents out.new) ⊎ RefusesFile (RefusesMembers bytes) file (writer_contents W.contents out.old) (writer_contents W.contents out.new) (E.contents err.old) (E.contents err.new)`
 /// - *flushed*: if `result ≤ 1`, `writer_buffer out.new ≡ []`
+///
+/// </details>
 pub fn run_members<W: Write, E: Write>(
     limit: usize,
     file: &str,
@@ -103,8 +106,8 @@ fn print_content<O: Write>(
     out: &mut O,
 ) -> io::Result<Outcome> {
     let Some(entry) = arch.slice(bytes) else {
-        let refusal = EntryRefusal::OutOfFile(index);
-        writeln!(out, "refused: {refusal}")?;
+        let refused = refused_entries(bytes, EntryRefusal::OutOfFile(index));
+        writeln!(out, "refused: {refused}")?;
         return Ok(Outcome { whole: false, left });
     };
     if begins_image(entry) {

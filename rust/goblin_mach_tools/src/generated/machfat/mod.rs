@@ -10,8 +10,8 @@
 #![forbid(unsafe_code)]
 
 use crate::shim::rt::HostRuntime;
-use crate::shim::{TryGrow, TryVec};
 use alloc::vec::Vec;
+use goblin_mach::internals::shim::{TryGrow, TryVec};
 
 // Fat files: taken apart, written, and listed.
 mod arguments;
@@ -23,6 +23,8 @@ mod listed;
 mod made;
 mod members;
 mod new_file;
+mod outside;
+mod permissions;
 mod refusal;
 mod shown;
 mod text;
@@ -33,11 +35,11 @@ mod verify;
 mod archive;
 
 use crate::generated::mach_cli::{Call, Cpu, Files, Misuse, Options, Others, Program, Titled};
-use crate::shim::AllocError;
 use crate::shim::io::{BufWriter, Write};
 use arguments::{WIDE, Width};
 use commands::{NAME, run_extract};
-use goblin_mach::generated::mach_fat_writer::Form;
+use goblin_mach::AllocError;
+use goblin_mach::write::Form;
 use made::{one_file, run_create, run_remove, run_replace};
 use new_file::is_same_file;
 use shown::{Selected, Shown};
@@ -191,6 +193,7 @@ fn shown_whole(shown: Shown) -> Files {
         cpu: Cpu::Any,
         has_titles: !matches!(shown, Shown::Object),
         has_parts: false,
+        limit: usize::MAX,
     }
 }
 

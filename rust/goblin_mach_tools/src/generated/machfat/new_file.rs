@@ -5,9 +5,10 @@
 use crate::shim::format_in;
 use alloc::string::String;
 
+use crate::generated::machfat::permissions::NewMode;
 use crate::generated::machfat::refusal::WriteFailure;
 use crate::shim::fs::MetadataExt;
-use crate::shim::fs::{File, OpenFile};
+use crate::shim::fs::OpenFile;
 use crate::shim::io::{ErrorKind, Write};
 use crate::shim::rt::Files;
 use crate::shim::{fs, io};
@@ -24,9 +25,11 @@ pub struct Node {
 
 /// Whether two paths lead to one file: exactly if they are one text, or the system knows them as one file.
 ///
-/// # Proved
+/// <details><summary>Proved</summary>
 ///
 /// - there is `here : Option Node` with: there is `there : Option Node` with: `(result ≡ is_one_file one other here there)`
+///
+/// </details>
 pub fn is_same_file<R: Files>(files: &R, one: &str, other: &str) -> bool {
     let here = node_of(files, one);
     let there = node_of(files, other);
@@ -35,9 +38,11 @@ pub fn is_same_file<R: Files>(files: &R, one: &str, other: &str) -> bool {
 
 /// Returns the first of some paths that leads to the file of another, if there is one.
 ///
-/// # Proved
+/// <details><summary>Proved</summary>
 ///
 /// - if `None`: `AreOther paths other`; if `Some(path)`: `IsSame path other`
+///
+/// </details>
 pub fn first_same<'a, R: Files>(files: &R, paths: &[&'a str], other: &str) -> Option<&'a str> {
     for path in paths {
         if is_same_file(files, path, other) {
@@ -71,25 +76,29 @@ fn is_one_node(here: Option<Node>, there: Option<Node>) -> bool {
     }
 }
 
-/// Writes bytes under another name beside the target, and renames that file once it is whole. Returns the file.
+/// Writes bytes under another name beside the target, with some permissions, and renames that file once it is whole. Returns the
+/// file.
 ///
 /// Until then the target is unchanged. If a step fails, it stays unchanged and nothing is left beside it. Nothing is written if
 /// something other than a plain file has the target's name.
 ///
-/// # Proved
+/// <details><summary>Proved</summary>
 ///
 /// - *written*: if `Ok(file)`: `TookLast R.File.contents file bytes`
 /// - *refused*: if `Err(e)`: `IsRefusal IsWant e`
+///
+/// </details>
 pub fn place_file<R: Files>(
     files: &R,
+    mode: NewMode,
     bytes: &[u8],
     target: &str,
 ) -> Result<R::File, WriteFailure> {
     if !is_free(files, target) {
         return Err(taken());
     }
-    let (name, file) = new_file(files, target)?;
-    match complete(files, bytes, file, name.as_str(), target) {
+    let (name, file) = new_file(files, mode, target)?;
+    match complete(files, mode, bytes, file, name.as_str(), target) {
         Ok(file) => Ok(file),
         Err(failure) => {
             let _ = fs::remove_file(files, name.as_str());
@@ -106,11 +115,15 @@ fn is_free<R: Files>(files: &R, path: &str) -> bool {
     }
 }
 
-// Creates a file with a new name beside a path.
-fn new_file<R: Files>(files: &R, path: &str) -> Result<(String, R::File), WriteFailure> {
+// Creates a file with some permissions, and a new name beside a path.
+fn new_file<R: Files>(
+    files: &R,
+    mode: NewMode,
+    path: &str,
+) -> Result<(String, R::File), WriteFailure> {
     for number in 0..NAMES {
         let name = format_in!("{path}.{number}.part")?;
-        match File::create_new(files, name.as_str()) {
+        match mode.create(files, name.as_str()) {
             Ok(file) => return Ok((name, file)),
             Err(error) if error.kind() == ErrorKind::AlreadyExists => {}
             Err(error) => return Err(WriteFailure::Unwritten(error)),
@@ -132,14 +145,16 @@ fn fill<F: Write + OpenFile>(bytes: &[u8], file: &mut F) -> Result<(), WriteFail
     Ok(())
 }
 
-// Writes bytes to a new file, and nothing else, and gives it the name of the target. Returns the file.
+// Gives a new file its permissions, writes bytes to it, and nothing else, and gives it the name of the target. Returns the file.
 fn complete<R: Files>(
     files: &R,
+    mode: NewMode,
     bytes: &[u8],
     mut file: R::File,
     name: &str,
     target: &str,
 ) -> Result<R::File, WriteFailure> {
+    mode.set(&file)?;
     fill(bytes, &mut file)?;
     fs::rename(files, name, target)?;
     Ok(file)

@@ -3,12 +3,12 @@
 #![forbid(unsafe_code)]
 
 use crate::generated::mach_cli::Cpu;
-use crate::shim::AllocError;
+use crate::generated::machfat::outside::RefusedEntries;
 use crate::shim::io;
 use core::fmt;
 use core::fmt::{Display, Formatter};
-use goblin_mach::generated::mach::{Error, Foreign, describe};
-use goblin_mach::generated::mach_fat_writer::EntryRefusal;
+use goblin_mach::AllocError;
+use goblin_mach::{Error, Foreign, describe};
 
 /// Why a file has no such list or entry.
 pub enum Refusal {
@@ -19,7 +19,7 @@ pub enum Refusal {
     /// It is one image.
     NotFat,
     /// Its entries are refused, or it doesn't have the selected one.
-    Entries(EntryRefusal),
+    Entries(RefusedEntries),
     /// It has no entry for this cpu.
     NoEntryOf(Cpu),
 }
@@ -27,12 +27,6 @@ pub enum Refusal {
 impl From<Error> for Refusal {
     fn from(error: Error) -> Refusal {
         Refusal::Refused(error)
-    }
-}
-
-impl From<EntryRefusal> for Refusal {
-    fn from(entries: EntryRefusal) -> Refusal {
-        Refusal::Entries(entries)
     }
 }
 
@@ -50,9 +44,11 @@ impl Display for Refusal {
 
 /// Returns the refusal of a file for an error: by its kind, if that is known.
 ///
-/// # Proved
+/// <details><summary>Proved</summary>
 ///
 /// - `result ≡ refused_by kind error`
+///
+/// </details>
 pub fn refused_by(kind: Option<Foreign>, error: Error) -> Refusal {
     match kind {
         Some(kind) => Refusal::Foreign(kind),

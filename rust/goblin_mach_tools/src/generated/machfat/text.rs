@@ -8,7 +8,7 @@ use crate::shim::io;
 use crate::shim::io::Write;
 use core::fmt;
 use core::fmt::{Display, Formatter};
-use goblin_mach::generated::mach_fat_writer::EntryRecord;
+use goblin_mach::write::EntryRecord;
 
 // The units of sizes, in bytes.
 const KIB: u64 = 1 << 10;
@@ -19,9 +19,11 @@ const GIB: u64 = 1 << 30;
 
 /// Returns the name of the cpu with these numbers, if it has one.
 ///
-/// # Proved
+/// <details><summary>Proved</summary>
 ///
 /// - `text_in result ≡ cpu_of_numbers cputype cpusubtype`
+///
+/// </details>
 pub fn cpu_of(cputype: u32, cpusubtype: u32) -> Option<&'static str> {
     cpu_name(cputype, cpusubtype % 0x100_0000)
 }
@@ -88,9 +90,11 @@ impl Display for EndText {
 
 /// Writes the fields of a record in a form, with what its entry is.
 ///
-/// # Proved
+/// <details><summary>Proved</summary>
 ///
 /// - if `Ok`: `Appends (O.contents out.old) (O.contents out.new) (F.fields_text (record_fields bytes arch))`
+///
+/// </details>
 pub fn write_record<F: FieldsForm, O: Write>(
     bytes: &[u8],
     arch: EntryRecord,

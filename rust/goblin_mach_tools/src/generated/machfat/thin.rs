@@ -6,17 +6,21 @@ use crate::generated::mach_cli::{Arch, Cpu, cputype_in};
 use crate::generated::machfat::commands::status;
 use crate::generated::machfat::made::one_file;
 use crate::generated::machfat::new_file::{is_same_file, place_file};
+use crate::generated::machfat::outside::refused_entries;
+use crate::generated::machfat::permissions::NewMode;
 use crate::generated::machfat::refusal::{Refusal, WriteFailure};
 use crate::shim::io::Write;
 use crate::shim::rt::Files;
-use goblin_mach::generated::mach_fat_writer::{EntryRecord, EntryRefusal, fat_records};
+use goblin_mach::write::{EntryRecord, EntryRefusal, fat_records};
 
 /// Returns the cpu that a word says, by its number or by its name.
 ///
-/// # Proved
+/// <details><summary>Proved</summary>
 ///
 /// - *said*: if `Some(x)`: `SaysCpu word x`
 /// - *none*: if `None`: for each `cpu : Cpu`, if `SaysCpu word cpu`, `⊥`
+///
+/// </details>
 pub fn cpu_in(word: &str) -> Option<Cpu> {
     if let Some(number) = cputype_in(word) {
         return Some(Cpu::Number(number));
@@ -33,12 +37,14 @@ pub fn cpu_in(word: &str) -> Option<Cpu> {
 /// then `err` has a line that says why. It is 2 if the fat file is the target. It is 2 or 141 if the target can't be written. The
 /// target is written whole, or unchanged.
 ///
-/// # Proved
+/// <details><summary>Proved</summary>
 ///
 /// - *status*: `IsStatus result`
 /// - *thinned*: if `result ≡ 0`, there is `entry : List ℕ` with: `(cpu_entry_in bytes cpu ≡ Ok (Some entry)) × WasWritten R.File.contents entry`
 /// - *apart*: if `result ≡ 0`, `IsOther file target`
-/// - *refused*: if `result ≡ 1`, there is `refusal : Refusal` with: `RefusesCpu (cpu_entry_in bytes cpu) cpu refusal × Appends (E.contents err.old) (E.contents err.new) (refusal_line file refusal)`
+/// - *refused*: if `result ≡ 1`, there is `refusal : Refusal` with: `RefusesCpu bytes (cpu_entry_in bytes cpu) cpu refusal × Appends (E.contents err.old) (E.contents err.new) (refusal_line file refusal)`
+///
+/// </details>
 pub fn run_thin<R: Files, E: Write>(
     files: &R,
     file: &str,
@@ -50,14 +56,16 @@ pub fn run_thin<R: Files, E: Write>(
     if is_same_file(files, file, target) {
         return one_file(file, target, err);
     }
-    status(thin(files, bytes, cpu, target), file, target, err)
+    let mode = NewMode::as_file(files, file);
+    status(thin(files, mode, bytes, cpu, target), file, target, err)
 }
 
 // Returns the bytes of the first entry for a cpu, or why there are none.
 fn entry_of_cpu(bytes: &[u8], cpu: Cpu) -> Result<&[u8], Refusal> {
-    match cpu_entry(bytes, cpu)? {
-        Some(entry) => Ok(entry),
-        None => Err(Refusal::NoEntryOf(cpu)),
+    match cpu_entry(bytes, cpu) {
+        Ok(Some(entry)) => Ok(entry),
+        Ok(None) => Err(Refusal::NoEntryOf(cpu)),
+        Err(why) => Err(Refusal::Entries(refused_entries(bytes, why))),
     }
 }
 
@@ -84,13 +92,15 @@ fn first_entry<'a>(
     Ok(None)
 }
 
-// Writes the first entry for a cpu to a file, and returns the file. Nothing is written if there is no such entry.
+// Writes the first entry for a cpu to a file with some permissions, and returns the file. Nothing is written if there is no such
+// entry.
 fn thin<R: Files>(
     files: &R,
+    mode: NewMode,
     bytes: &[u8],
     cpu: Cpu,
     target: &str,
 ) -> Result<R::File, WriteFailure> {
     let entry = entry_of_cpu(bytes, cpu)?;
-    place_file(files, entry, target)
+    place_file(files, mode, entry, target)
 }

@@ -10,11 +10,11 @@ use crate::generated::machfat::entry::first_of;
 use crate::generated::machfat::refusal::{Refusal, WriteFailure, refused_by};
 use crate::shim::io;
 use crate::shim::io::{BufWriter, Write};
-use goblin_mach::generated::mach::fat::FatArch;
-use goblin_mach::generated::mach::{Mach, MultiArch64};
-use goblin_mach::generated::mach_fat_writer::Form;
-use goblin_mach::generated::mach_layout::{LayoutFault, container_faults};
-use goblin_mach::generated::mach_parts::FatArch64;
+use goblin_mach::FatArch64;
+use goblin_mach::fat::FatArch;
+use goblin_mach::layout::{LayoutFault, container_faults};
+use goblin_mach::write::Form;
+use goblin_mach::{Mach, MultiArch64};
 
 /// Prints the faults of a fat file's layout, a line each, no more than a limit.
 ///
@@ -22,12 +22,14 @@ use goblin_mach::generated::mach_parts::FatArch64;
 /// and then `err` has a line that says why, and `out` nothing. It is 2 or 141 if a write fails. Unless a write fails, nothing is
 /// left in the buffer.
 ///
-/// # Proved
+/// <details><summary>Proved</summary>
 ///
 /// - *status*: `IsStatus result`
 /// - *sound*: if `result ≡ 0`, `ReportsFatFaults (most_items limit bytes) bytes [] (writer_contents W.contents out.old) (writer_contents W.contents out.new)`
 /// - *faulty*: if `result ≡ 1`, `((fault : LayoutFault) × (faults : List LayoutFault) × ReportsFatFaults (most_items limit bytes) bytes (fault ∷ faults) (writer_contents W.contents out.old) (writer_contents W.contents out.new)) ⊎ RefusesFile (RefusesFaults bytes) file (writer_contents W.contents out.old) (writer_contents W.contents out.new) (E.contents err.old) (E.contents err.new)`
 /// - *flushed*: if `result ≤ 1`, `writer_buffer out.new ≡ []`
+///
+/// </details>
 pub fn run_verify<W: Write, E: Write>(
     limit: usize,
     file: &str,

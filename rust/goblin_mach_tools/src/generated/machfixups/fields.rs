@@ -10,8 +10,8 @@ use crate::generated::machfixups::row::{Action, Bind, Location, Row};
 use crate::generated::machfixups::target_symbols::TargetSymbol;
 use crate::shim::io;
 use crate::shim::io::Write;
-use goblin_mach::generated::mach::RebaseKind;
-use goblin_mach::generated::mach::chained_fixups::PointerAuth;
+use goblin_mach::RebaseKind;
+use goblin_mach::chained_fixups::PointerAuth;
 
 // Returns the field for the addend of a bind; no line has it if it is 0.
 fn addend_field(addend: i128) -> Field<'static> {
@@ -259,9 +259,11 @@ fn strong_fields(name: &str) -> [Field<'_>; 8] {
 
 /// Writes the fields of a row in a form.
 ///
-/// # Proved
+/// <details><summary>Proved</summary>
 ///
 /// - if `Ok`: `Appends (O.contents out.old) (O.contents out.new) (F.fields_text (pointer_fields (row_view row)))`
+///
+/// </details>
 pub fn write_row<F: FieldsForm, O: Write>(row: &Row<'_, '_>, out: &mut O) -> io::Result<()> {
     match row {
         Row::At { place, action, raw } => match action {
@@ -322,9 +324,11 @@ fn write_ending<O: Write>(row: &Row<'_, '_>, out: &mut O) -> io::Result<()> {
 
 /// Writes the line of a row, without its end.
 ///
-/// # Proved
+/// <details><summary>Proved</summary>
 ///
 /// - if `Ok`: `Appends (O.contents out.old) (O.contents out.new) (pointer_line (row_view row))`
+///
+/// </details>
 pub fn write_line<O: Write>(row: &Row<'_, '_>, out: &mut O) -> io::Result<()> {
     write_row::<Line, O>(row, out)?;
     write_ending(row, out)

@@ -25,7 +25,7 @@ pub struct HeadedRow<R> {
 impl<L: Listing> Listing for Headed<L> {
     type Row = HeadedRow<L::Row>;
 
-    fn next_row(&mut self) -> Option<goblin_mach::generated::mach::Result<HeadedRow<L::Row>>> {
+    fn next_row(&mut self) -> Option<goblin_mach::Result<HeadedRow<L::Row>>> {
         match self.list.next_row() {
             Some(Ok(row)) => {
                 let heading = if self.is_written { "" } else { self.heading };

@@ -8,7 +8,7 @@ use crate::generated::machfixups::members::write_members;
 use crate::generated::machfixups::rows::Selection;
 use crate::generated::machfixups::target_symbols::TargetSymbols;
 use crate::shim::io::Write;
-use goblin_mach::generated::mach::MachO;
+use goblin_mach::MachO;
 
 /// The objects of the selected lists.
 #[derive(Clone, Copy)]

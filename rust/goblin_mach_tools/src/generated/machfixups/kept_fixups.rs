@@ -2,8 +2,8 @@
 //! The fixups of the chains that are shown.
 #![forbid(unsafe_code)]
 
-use goblin_mach::generated::mach::chained_fixups::{Fixup, FixupKind};
-use goblin_mach::generated::mach::{FixupIterator, Result};
+use goblin_mach::chained_fixups::{Fixup, FixupKind};
+use goblin_mach::{FixupIterator, Result};
 
 /// Which fixups of the chains are shown, by their kinds.
 #[derive(Clone, Copy)]
@@ -57,18 +57,22 @@ pub struct KeptFixups<'a, 'b> {
 impl<'a, 'b> KeptFixups<'a, 'b> {
     /// Returns the fixups of these kinds.
     ///
-    /// # Proved
+    /// <details><summary>Proved</summary>
     ///
     /// - `kept_left result ≡ kept_fixups kinds (image_fixups_left fixups.entry)`
+    ///
+    /// </details>
     pub fn of(fixups: FixupIterator<'a, 'b>, kinds: ShownKinds) -> Self {
         KeptFixups { fixups, kinds }
     }
 
     /// Returns no fixup.
     ///
-    /// # Proved
+    /// <details><summary>Proved</summary>
     ///
     /// - `kept_left result ≡ []`
+    ///
+    /// </details>
     pub fn none() -> Self {
         KeptFixups {
             fixups: FixupIterator::default(),
@@ -95,3 +99,5 @@ impl<'a, 'b> Iterator for KeptFixups<'a, 'b> {
         }
     }
 }
+
+impl<'a, 'b> core::iter::FusedIterator for KeptFixups<'a, 'b> {}

@@ -11,13 +11,13 @@ use crate::generated::machfixups::stored_pointers::StoredPointers;
 use crate::generated::machfixups::target_symbols::TargetSymbols;
 use crate::shim::io;
 use crate::shim::io::Write;
-use goblin_mach::generated::mach::MachO;
-use goblin_mach::generated::mach::chained_fixups::ChainedFixups;
+use goblin_mach::MachO;
+use goblin_mach::chained_fixups::ChainedFixups;
 
 impl<'p, 'a> ItemList for Rows<'p, 'a, '_> {
     type Item = Row<'p, 'a>;
 
-    fn next_item(&mut self) -> Option<goblin_mach::generated::mach::Result<Row<'p, 'a>>> {
+    fn next_item(&mut self) -> Option<goblin_mach::Result<Row<'p, 'a>>> {
         self.next()
     }
 
@@ -82,9 +82,11 @@ impl<'p, 'a, 'b> ImageRows<'p, 'a, 'b> {
     /// Returns the rows of an image of the lists that are shown, given its segments, the symbols at targets, which fixups of the
     /// chains each list has, and whether these are shown with their pointers.
     ///
-    /// # Proved
+    /// <details><summary>Proved</summary>
     ///
     /// - for each `bytes : List ℕ`, `o : ℕ`, if `IsImage bytes o image`, there is `lists : PointerLists` with: `HasPointerLists bytes o lists × (libs : List (List ℕ)) × HasLibraries bytes o libs × (chained : Result (Option Fixups) Fault) × HasChainedFixups bytes o chained × (image_rows_left result ≡ rows_shown has_raw shown kinds (parts_view parts) (symbols_seen symbols) libs (readable_table chained) lists)`
+    ///
+    /// </details>
     pub fn of(
         image: &'b MachO<'a>,
         parts: &'p AllStretches,
@@ -118,7 +120,7 @@ impl<'p, 'a, 'b> ImageRows<'p, 'a, 'b> {
 impl<'p, 'a> Listing for ImageRows<'p, 'a, '_> {
     type Row = Row<'p, 'a>;
 
-    fn next_row(&mut self) -> Option<goblin_mach::generated::mach::Result<Row<'p, 'a>>> {
+    fn next_row(&mut self) -> Option<goblin_mach::Result<Row<'p, 'a>>> {
         if let Some(row) = self.rebases.next() {
             return Some(row);
         }

@@ -16,9 +16,11 @@ use crate::shim::io::Write;
 /// Of all objects it writes the first `left`, and whether there are more; the rest is not read then. Each object uses up one of
 /// the limit for the images after it.
 ///
-/// # Proved
+/// <details><summary>Proved</summary>
 ///
 /// - if `Ok(outcome)`: `WritesListMembers left (pointer_members (image_rows_left rows.entry)) outcome.whole outcome.left (O.contents out.old) (O.contents out.new)`
+///
+/// </details>
 pub fn write_members<O: Write>(
     rows: ImageRows<'_, '_, '_>,
     left: usize,

@@ -7,10 +7,8 @@ use crate::generated::mach_cli::{
 };
 use crate::generated::machfixups::stored_pointers::{StoredPointers, raw_of};
 use crate::generated::machfixups::target_symbols::{TargetSymbol, TargetSymbols};
-use goblin_mach::generated::mach::chained_fixups::{
-    ChainedFixups, ChainedImport, Fixup, FixupKind, PointerAuth,
-};
-use goblin_mach::generated::mach::{Binding, Error, Rebase, RebaseKind, Result, WeakBind};
+use goblin_mach::chained_fixups::{ChainedFixups, ChainedImport, Fixup, FixupKind, PointerAuth};
+use goblin_mach::{Binding, Error, Rebase, RebaseKind, Result, WeakBind};
 
 /// An address.
 #[derive(Clone, Copy)]
@@ -175,7 +173,7 @@ fn row_by_segment<'b, 'a>(
 fn import_in<'a>(table: &Option<ChainedFixups<'a>>, index: u32) -> Result<ChainedImport<'a>> {
     match table {
         Some(table) => table.import(index),
-        None => Err(Error::Malformed("an import is one of a table")),
+        None => Err(Error::Malformed("there is no table of imports")),
     }
 }
 
@@ -241,9 +239,11 @@ fn row_of_fixup<'b, 'a>(
 
 /// Returns the row of a rebase of the opcodes; its place is in its own segment.
 ///
-/// # Proved
+/// <details><summary>Proved</summary>
 ///
 /// - `row_read result ≡ row_for_rebase (parts_view parts) (symbols_seen symbols) (rebase_read item)`
+///
+/// </details>
 pub fn rebase_row<'b, 'a>(
     parts: &'b AllStretches,
     symbols: &Option<TargetSymbols<'a, '_>>,
@@ -263,9 +263,11 @@ pub fn rebase_row<'b, 'a>(
 
 /// Returns the row of a weak bind of the opcodes.
 ///
-/// # Proved
+/// <details><summary>Proved</summary>
 ///
 /// - `row_read result ≡ row_for_weak (parts_view parts) (weak_bind_read item.entry)`
+///
+/// </details>
 pub fn weak_row<'b, 'a>(
     parts: &'b AllStretches,
     item: Result<WeakBind<'a>>,
@@ -281,9 +283,11 @@ pub fn weak_row<'b, 'a>(
 
 /// Returns the row of a bind of the opcodes; its place is in the first segment that holds its address.
 ///
-/// # Proved
+/// <details><summary>Proved</summary>
 ///
 /// - `row_read result ≡ row_for_binding (parts_view parts) (binding_read item.entry)`
+///
+/// </details>
 pub fn binding_row<'b, 'a>(
     parts: &'b AllStretches,
     item: Result<Binding<'a>>,
@@ -295,9 +299,11 @@ pub fn binding_row<'b, 'a>(
 
 /// Returns the row of a fixup of the chains, given the image's libraries.
 ///
-/// # Proved
+/// <details><summary>Proved</summary>
 ///
 /// - `row_read result ≡ row_for_fixup (parts_view parts) (symbols_seen symbols) (texts libs) (fixups_table_view table) (source_option_view source) (fixup_read item)`
+///
+/// </details>
 pub fn fixup_row<'b, 'a>(
     parts: &'b AllStretches,
     symbols: &Option<TargetSymbols<'a, '_>>,

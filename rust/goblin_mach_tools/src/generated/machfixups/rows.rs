@@ -7,10 +7,8 @@ use crate::generated::machfixups::kept_fixups::{KeptFixups, KindsOfLists, ShownK
 use crate::generated::machfixups::row::{Row, binding_row, fixup_row, rebase_row, weak_row};
 use crate::generated::machfixups::stored_pointers::StoredPointers;
 use crate::generated::machfixups::target_symbols::TargetSymbols;
-use goblin_mach::generated::mach::chained_fixups::ChainedFixups;
-use goblin_mach::generated::mach::{
-    OpcodeBindingIterator, OpcodeRebaseIterator, Result, WeakBindIterator,
-};
+use goblin_mach::chained_fixups::ChainedFixups;
+use goblin_mach::{OpcodeBindingIterator, OpcodeRebaseIterator, Result, WeakBindIterator};
 
 /// Which lists are selected.
 #[derive(Clone, Copy)]
@@ -32,9 +30,11 @@ impl Selection {
 
     /// Returns the lists that are shown: all if none is selected.
     ///
-    /// # Proved
+    /// <details><summary>Proved</summary>
     ///
     /// - `result ≡ shown_picks self`
+    ///
+    /// </details>
     pub fn shown(self) -> Selection {
         let is_all = !(self.rebases || self.binds || self.weak || self.chains);
         Selection {
@@ -47,9 +47,11 @@ impl Selection {
 
     /// Whether one of these lists has rebases.
     ///
-    /// # Proved
+    /// <details><summary>Proved</summary>
     ///
     /// - `result ≡ (self.rebases || self.chains)`
+    ///
+    /// </details>
     pub fn has_rebases(self) -> bool {
         self.rebases || self.chains
     }
@@ -57,9 +59,11 @@ impl Selection {
     /// Returns the lists that have the fixups of the chains, if they are lines and these lists are shown: that of the chains has
     /// each of them once. With the chains these are all of them, else the rebases with the rebases, and the binds with the binds.
     ///
-    /// # Proved
+    /// <details><summary>Proved</summary>
     ///
     /// - `result ≡ kinds_in_lines self`
+    ///
+    /// </details>
     pub fn kinds_in_lines(self) -> KindsOfLists {
         KindsOfLists {
             rebases: ShownKinds::NONE,
@@ -75,9 +79,11 @@ impl Selection {
     /// Returns the lists that have the fixups of the chains, if they are objects and these lists are shown: a rebase and a bind
     /// are in that of their kind, and every fixup is in that of the chains.
     ///
-    /// # Proved
+    /// <details><summary>Proved</summary>
     ///
     /// - `result ≡ kinds_in_objects self`
+    ///
+    /// </details>
     pub fn kinds_in_objects(self) -> KindsOfLists {
         KindsOfLists {
             rebases: ShownKinds {
@@ -164,3 +170,5 @@ impl<'p, 'a> Iterator for Rows<'p, 'a, '_> {
         }
     }
 }
+
+impl<'p, 'a> core::iter::FusedIterator for Rows<'p, 'a, '_> {}

@@ -2,9 +2,11 @@
 //! The pointers of chains as they are stored.
 #![forbid(unsafe_code)]
 
-use goblin_mach::generated::mach::chained_fixups::{ChainedFixups, Fixup};
-use goblin_mach::generated::mach::segment::Segment;
-use goblin_mach::generated::mach::{Endian, MachO};
+use goblin_mach::internals::shim::ReadsNumbers;
+
+use goblin_mach::chained_fixups::{ChainedFixups, Fixup};
+use goblin_mach::segment::Segment;
+use goblin_mach::{Endian, MachO};
 
 /// What the pointers of chains are read from.
 #[derive(Clone, Copy)]
@@ -38,9 +40,11 @@ fn number_there(le: Endian, format: u16, bytes: &[u8], place: usize) -> Option<u
 impl<'a, 'b> StoredPointers<'a, 'b> {
     /// Returns what the pointers of an image are read from, if they are shown.
     ///
-    /// # Proved
+    /// <details><summary>Proved</summary>
     ///
     /// - `source_option_view result ≡ if is_shown then Some (record { segments = segments_view image; le = (ctx_view image).le }) else None`
+    ///
+    /// </details>
     pub fn of(image: &'b MachO<'a>, is_shown: bool) -> Option<Self> {
         if !is_shown {
             return None;
@@ -57,7 +61,7 @@ impl<'a, 'b> StoredPointers<'a, 'b> {
             Ok(Some((starts, _))) => match self.segments.get(fixup.segment as usize) {
                 Some(segment) => {
                     let place = fixup.offset as usize;
-                    number_there(self.le, starts.pointer_format, segment.bytes, place)
+                    number_there(self.le, starts.pointer_format, segment.data, place)
                 }
                 None => None,
             },
@@ -69,9 +73,11 @@ impl<'a, 'b> StoredPointers<'a, 'b> {
 
 /// Returns the pointer that is stored at the place of a fixup, if there are a source and chains.
 ///
-/// # Proved
+/// <details><summary>Proved</summary>
 ///
 /// - `result ≡ raw_of (source_option_view source) (fixups_table_view table) (fixup_view fixup)`
+///
+/// </details>
 pub fn raw_of(
     source: &Option<StoredPointers<'_, '_>>,
     table: &Option<ChainedFixups<'_>>,

@@ -2,14 +2,14 @@
 //! The symbols at the targets of rebases.
 #![forbid(unsafe_code)]
 
-use crate::shim::TryGrow;
 use alloc::vec::Vec;
+use goblin_mach::internals::shim::TryGrow;
 
-use crate::shim::AllocError;
-use goblin_mach::generated::mach::segment::{NumberedSection, Segment};
-use goblin_mach::generated::mach::symbols::MAX_SECT;
-use goblin_mach::generated::mach::{MachO, SymbolAt, SymbolMap};
-use goblin_mach::generated::mach_parts::segment::ReadableSections;
+use goblin_mach::AllocError;
+use goblin_mach::segment::ReadableSections;
+use goblin_mach::segment::{NumberedSection, Segment};
+use goblin_mach::symbols::MAX_SECT;
+use goblin_mach::{MachO, SymbolAt, SymbolMap};
 
 /// A symbol, and how far an address is above its value.
 #[derive(Clone, Copy)]
@@ -69,9 +69,11 @@ fn number_at(sections: &[NameableSection], address: u64) -> Option<usize> {
 impl<'a, 'b> TargetSymbols<'a, 'b> {
     /// Returns the symbols of an image by address, if they are shown. It is refused only if memory runs out.
     ///
-    /// # Proved
+    /// <details><summary>Proved</summary>
     ///
     /// - if `Ok(found)`: if `is_shown ≡ true`, `symbols_seen found ≡ symbols_of_image image`
+    ///
+    /// </details>
     pub fn of(image: &'b MachO<'a>, is_shown: bool) -> Result<Option<Self>, AllocError> {
         if !is_shown {
             return Ok(None);
@@ -96,9 +98,11 @@ impl<'a> TargetSymbols<'a, '_> {
     /// Returns the symbol at an address: the nearest of the section that holds it, of those at or below it. After the section is
     /// found, among at most 255, it takes log n steps.
     ///
-    /// # Proved
+    /// <details><summary>Proved</summary>
     ///
     /// - `target_symbol_option_view result ≡ symbols_of_image (image_of_map self.symbols) address`
+    ///
+    /// </details>
     pub fn at(&self, address: u64) -> Option<TargetSymbol<'a>> {
         match self.found_at(address) {
             Some(found) => Some(TargetSymbol {

@@ -2,28 +2,31 @@
 //! What is shown of a load command, field by field: as a line, and as an object of JSON.
 #![forbid(unsafe_code)]
 
-use crate::generated::mach_cli::{Field, FieldsForm, Value};
+use crate::generated::mach_cli::{Field, FieldsForm, Value, name_in_field};
 use crate::generated::machinfo::commands::NumberedCommand;
 use crate::generated::machinfo::segments::rights_name;
 use crate::generated::machinfo::text::platform_name;
 use crate::shim::io;
 use crate::shim::io::Write;
-use goblin_mach::generated::mach::load_command::{
+use goblin_mach::load_command::{
     BuildVersionCommand, CommandVariant, DyldInfoCommand, DylibCommand, DylinkerCommand,
     DysymtabCommand, EncryptionInfoCommand32, EncryptionInfoCommand64, EntryPointCommand,
     FilesetEntryCommand, FvmfileCommand, FvmlibCommand, LinkeditDataCommand, LoadCommand,
-    NoteCommand, PrebindCksumCommand, PreboundDylibCommand, RoutinesCommand32, RoutinesCommand64,
-    RpathCommand, SegmentCommand32, SegmentCommand64, SourceVersionCommand, SubClientCommand,
-    SubFrameworkCommand, SubLibraryCommand, SubUmbrellaCommand, SymsegCommand, SymtabCommand,
-    ThreadCommand, TwolevelHintsCommand, UuidCommand, VersionMinCommand, cmd_to_str,
+    NewerCommand, NoteCommand, PrebindCksumCommand, PreboundDylibCommand, RoutinesCommand32,
+    RoutinesCommand64, RpathCommand, SegmentCommand32, SegmentCommand64, SourceVersionCommand,
+    SubClientCommand, SubFrameworkCommand, SubLibraryCommand, SubUmbrellaCommand, SymsegCommand,
+    SymtabCommand, TargetTripleCommand, ThreadCommand, TwolevelHintsCommand, UuidCommand,
+    VersionMinCommand, command_name,
 };
-use goblin_mach::generated::mach_base::read_text;
+use goblin_mach::read_text;
 
 /// Writes the fields of a command in a form: its number, its offset, its size and its name, and then those of its record.
 ///
-/// # Proved
+/// <details><summary>Proved</summary>
 ///
 /// - if `Ok`: `Appends (O.contents out.old) (O.contents out.new) (F.fields_text (numbered_command_fields (numbered_command_view numbered)))`
+///
+/// </details>
 pub fn write_command<F: FieldsForm, O: Write>(
     numbered: &NumberedCommand<'_, '_>,
     out: &mut O,
@@ -31,28 +34,40 @@ pub fn write_command<F: FieldsForm, O: Write>(
     let command = numbered.command;
     let head = command_head(numbered.number, command);
     let own = bytes_of_command(numbered.bytes, command);
-    write_record::<F, O>(&head, own, &command.command, out)
+    match NewerCommand::of(numbered.bytes, numbered.le, command) {
+        Some(newer) => write_newer::<F, O>(&head, own, &newer, out),
+        None => write_record::<F, O>(&head, own, &command.command, out),
+    }
+}
+
+// Returns the number of a command by its name, if it has one.
+fn named_command(cmd: u32) -> Value<'static> {
+    match command_name(cmd) {
+        Some(name) => Value::Named(u64::from(cmd), name),
+        None => Value::Named(u64::from(cmd), ""),
+    }
 }
 
 // Returns the number of a command, its offset, its size and its name.
 fn command_head(number: usize, command: &LoadCommand) -> [Field<'static>; 5] {
     let cmd = command.command.cmd();
-    let name = cmd_to_str(cmd);
     let size = command.command.cmdsize();
     [
         Field::new("number", Value::Number(number as u64), 1).wide(3),
         Field::new("command_offset", Value::Hex(command.offset as u64), 2).wide(7),
         Field::new("cmdsize", Value::Number(size as u64), 3).wide(4),
-        Field::new("cmd", named(cmd, name, "LC_UNKNOWN"), 4),
-        Field::alone("command", Value::Text(name)),
+        Field::new("cmd", named_command(cmd), 4),
+        Field::alone("command", Value::OptionalText(command_name(cmd))),
     ]
 }
 
 /// Returns the bytes of a command.
 ///
-/// # Proved
+/// <details><summary>Proved</summary>
 ///
 /// - `result ≡ bytes_of_command bytes (command_of command)`
+///
+/// </details>
 pub fn bytes_of_command<'a>(bytes: &'a [u8], command: &LoadCommand) -> &'a [u8] {
     let rest = &bytes[command.offset.min(bytes.len())..];
     &rest[..command.command.cmdsize().min(rest.len())]
@@ -60,9 +75,11 @@ pub fn bytes_of_command<'a>(bytes: &'a [u8], command: &LoadCommand) -> &'a [u8] 
 
 /// Returns a number by its name, unless that is the one of all that have none.
 ///
-/// # Proved
+/// <details><summary>Proved</summary>
 ///
 /// - `value_view result ≡ named number (if_known unknown name)`
+///
+/// </details>
 pub fn named<'a>(number: u32, name: &'static str, unknown: &'static str) -> Value<'a> {
     Value::Named(u64::from(number), if name == unknown { "" } else { name })
 }
@@ -74,18 +91,22 @@ fn platform<'a>(number: u32) -> Value<'a> {
 
 /// Returns a protection by its letters.
 ///
-/// # Proved
+/// <details><summary>Proved</summary>
 ///
 /// - `value_view result ≡ named protection (rights_text protection)`
+///
+/// </details>
 pub fn rights<'a>(protection: u32) -> Value<'a> {
     Value::Named(u64::from(protection), rights_name(protection))
 }
 
 /// Returns the text that begins at a place of some bytes, if there is one.
 ///
-/// # Proved
+/// <details><summary>Proved</summary>
 ///
 /// - `text_in result ≡ result_ok (text_at bytes place)`
+///
+/// </details>
 pub fn text_from(bytes: &[u8], place: usize) -> Option<&str> {
     match read_text(bytes, place) {
         Ok(text) => Some(text),
@@ -168,10 +189,27 @@ fn write_record<F: FieldsForm, O: Write>(
     }
 }
 
+// Writes fields, and after them those of the record of a command that goblin's table lacks.
+fn write_newer<F: FieldsForm, O: Write>(
+    head: &[Field<'_>],
+    own: &[u8],
+    command: &NewerCommand,
+    out: &mut O,
+) -> io::Result<()> {
+    match command {
+        NewerCommand::AtomInfo(c)
+        | NewerCommand::FunctionVariants(c)
+        | NewerCommand::FunctionVariantFixups(c) => {
+            F::write_both(head, &linkedit_data_fields(c), out)
+        }
+        NewerCommand::TargetTriple(c) => F::write_both(head, &target_triple_fields(own, c), out),
+    }
+}
+
 // Returns the fields of a segment.
 fn segment32_fields<'a>(c: &'a SegmentCommand32) -> [Field<'a>; 9] {
     [
-        Field::of_object("segname", Value::OptionalText(text_from(&c.segname, 0))),
+        Field::of_object("segname", Value::OptionalText(name_in_field(&c.segname))),
         Field::of_object("vmaddr", Value::Hex(u64::from(c.vmaddr))),
         Field::of_object("vmsize", Value::Hex(u64::from(c.vmsize))),
         Field::of_object("fileoff", Value::Hex(u64::from(c.fileoff))),
@@ -186,7 +224,7 @@ fn segment32_fields<'a>(c: &'a SegmentCommand32) -> [Field<'a>; 9] {
 // Returns the fields of a segment.
 fn segment64_fields<'a>(c: &'a SegmentCommand64) -> [Field<'a>; 9] {
     [
-        Field::of_object("segname", Value::OptionalText(text_from(&c.segname, 0))),
+        Field::of_object("segname", Value::OptionalText(name_in_field(&c.segname))),
         Field::of_object("vmaddr", Value::Hex(c.vmaddr)),
         Field::of_object("vmsize", Value::Hex(c.vmsize)),
         Field::of_object("fileoff", Value::Hex(c.fileoff)),
@@ -415,6 +453,17 @@ fn linkedit_data_fields(c: &LinkeditDataCommand) -> [Field<'static>; 2] {
     ]
 }
 
+// Returns the fields of the target that an image was compiled for.
+fn target_triple_fields<'a>(own: &'a [u8], c: &TargetTripleCommand) -> [Field<'a>; 2] {
+    [
+        Field::of_object(
+            "triple",
+            Value::OptionalText(text_from(own, c.triple as usize)),
+        ),
+        Field::of_object("triple_offset", Value::Number(u64::from(c.triple))),
+    ]
+}
+
 // Returns the fields of options for the linker; their texts are a list of their own.
 fn linker_option_fields(c: &LinkeditDataCommand) -> [Field<'static>; 1] {
     [Field::of_object(
@@ -476,7 +525,7 @@ fn note_fields<'a>(c: &'a NoteCommand) -> [Field<'a>; 3] {
     [
         Field::of_object(
             "data_owner",
-            Value::OptionalText(text_from(&c.data_owner, 0)),
+            Value::OptionalText(name_in_field(&c.data_owner)),
         ),
         Field::of_object("offset", Value::Hex(c.offset)),
         Field::of_object("size", Value::Number(c.size)),

@@ -2,21 +2,23 @@
 //! What is shown of a row of load commands, field by field: as a line, and as an object of JSON.
 #![forbid(unsafe_code)]
 
-use crate::generated::mach_cli::{Field, FieldsForm, Value};
-use crate::generated::machinfo::command_fields::{text_from, write_command};
+use crate::generated::mach_cli::{Field, FieldsForm, Value, name_in_field};
+use crate::generated::machinfo::command_fields::write_command;
 use crate::generated::machinfo::command_rows::CommandRow;
 use crate::generated::machinfo::command_sections::{CommandSection, SectionRecord};
 use crate::generated::machinfo::part_fields::section_type;
 use crate::generated::machinfo::registers::Register;
 use crate::shim::io;
 use crate::shim::io::Write;
-use goblin_mach::generated::mach::load_command::{Section32, Section64};
+use goblin_mach::load_command::{Section32, Section64};
 
 /// Writes the fields of a row in a form.
 ///
-/// # Proved
+/// <details><summary>Proved</summary>
 ///
 /// - if `Ok`: `Appends (O.contents out.old) (O.contents out.new) (F.fields_text (defined.command_row_fields (command_row_view row)))`
+///
+/// </details>
 pub fn write_command_row<F: FieldsForm, O: Write>(
     row: &CommandRow<'_, '_>,
     out: &mut O,
@@ -56,8 +58,8 @@ fn section_kind(flags: u32) -> Field<'static> {
 // Returns the fields of a section of a 32-bit segment.
 fn narrow_fields<'a>(s: &'a Section32) -> [Field<'a>; 12] {
     [
-        Field::of_object("sectname", Value::OptionalText(text_from(&s.sectname, 0))),
-        Field::of_object("segname", Value::OptionalText(text_from(&s.segname, 0))),
+        Field::of_object("sectname", Value::OptionalText(name_in_field(&s.sectname))),
+        Field::of_object("segname", Value::OptionalText(name_in_field(&s.segname))),
         Field::of_object("addr", Value::Hex(u64::from(s.addr))),
         Field::of_object("size", Value::Hex(u64::from(s.size))),
         Field::of_object("offset", Value::Hex(u64::from(s.offset))),
@@ -74,8 +76,8 @@ fn narrow_fields<'a>(s: &'a Section32) -> [Field<'a>; 12] {
 // Returns the fields of a section of a 64-bit segment.
 fn wide_fields<'a>(s: &'a Section64) -> [Field<'a>; 13] {
     [
-        Field::of_object("sectname", Value::OptionalText(text_from(&s.sectname, 0))),
-        Field::of_object("segname", Value::OptionalText(text_from(&s.segname, 0))),
+        Field::of_object("sectname", Value::OptionalText(name_in_field(&s.sectname))),
+        Field::of_object("segname", Value::OptionalText(name_in_field(&s.segname))),
         Field::of_object("addr", Value::Hex(s.addr)),
         Field::of_object("size", Value::Hex(s.size)),
         Field::of_object("offset", Value::Hex(u64::from(s.offset))),

@@ -5,8 +5,8 @@
 use crate::generated::machinfo::command_sections::{CommandSection, CommandSections};
 use crate::generated::machinfo::commands::{NumberedCommand, NumberedCommands};
 use crate::generated::machinfo::registers::{Register, Registers};
-use goblin_mach::generated::mach::load_command::CommandVariant;
-use goblin_mach::generated::mach::{Container, Endian, MachO};
+use goblin_mach::load_command::CommandVariant;
+use goblin_mach::{Container, MachO};
 
 /// A row: a command, or one of what the command before it holds.
 #[derive(Clone, Copy)]
@@ -34,27 +34,22 @@ pub struct CommandRows<'a, 'b> {
     pub below: CommandParts<'a, 'b>,
     /// The commands after it.
     pub commands: NumberedCommands<'a, 'b>,
-    /// The byte order.
-    pub le: Endian,
     /// The cpu's type.
     pub cputype: u32,
 }
 
 impl<'a, 'b> CommandParts<'a, 'b> {
     // Returns what a command holds.
-    fn of(le: Endian, cputype: u32, numbered: &NumberedCommand<'a, 'b>) -> Self {
+    fn of(cputype: u32, numbered: &NumberedCommand<'a, 'b>) -> Self {
         match &numbered.command.command {
-            CommandVariant::Segment32(c) => CommandParts::Sections(CommandSections::of(
-                Container::Little,
-                le,
-                numbered,
-                c.nsects,
-            )),
+            CommandVariant::Segment32(c) => {
+                CommandParts::Sections(CommandSections::of(Container::Little, numbered, c.nsects))
+            }
             CommandVariant::Segment64(c) => {
-                CommandParts::Sections(CommandSections::of(Container::Big, le, numbered, c.nsects))
+                CommandParts::Sections(CommandSections::of(Container::Big, numbered, c.nsects))
             }
             CommandVariant::Thread(c) | CommandVariant::Unixthread(c) => {
-                CommandParts::Registers(Registers::of(cputype, numbered.number, c))
+                CommandParts::Registers(Registers::of(numbered.le, cputype, numbered.number, c))
             }
             _ => CommandParts::None,
         }
@@ -73,29 +68,32 @@ impl<'a, 'b> CommandParts<'a, 'b> {
 impl<'a, 'b> CommandRows<'a, 'b> {
     /// Returns the rows of an image's commands.
     ///
-    /// # Proved
+    /// <details><summary>Proved</summary>
     ///
-    /// - `defined.command_rows_left result ≡ defined.rows_of_commands (ctx_view image).le image.header.cputype (numbered_commands_from (bytes_view image) 0 (commands_view image))`
+    /// - `defined.command_rows_left result ≡ defined.rows_of_commands image.header.cputype (numbered_commands_from (ctx_view image).le (bytes_view image) 0 (commands_view image))`
+    ///
+    /// </details>
     pub fn of(image: &'b MachO<'a>) -> Self {
         CommandRows {
             below: CommandParts::None,
             commands: NumberedCommands::of(image),
-            le: image.ctx().le,
             cputype: image.header.cputype,
         }
     }
 
     /// Returns the next row.
     ///
-    /// # Proved
+    /// <details><summary>Proved</summary>
     ///
     /// - `YieldsFirstBy defined.command_row_view defined.command_rows_left self.old result self.new`
+    ///
+    /// </details>
     pub fn take_next(&mut self) -> Option<CommandRow<'a, 'b>> {
         if let Some(row) = self.below.take_next() {
             return Some(row);
         }
         let command = self.commands.take_next()?;
-        self.below = CommandParts::of(self.le, self.cputype, &command);
+        self.below = CommandParts::of(self.cputype, &command);
         Some(CommandRow::Itself(command))
     }
 }

@@ -4,9 +4,9 @@
 
 use crate::generated::machinfo::command_fields::bytes_of_command;
 use crate::generated::machinfo::commands::NumberedCommand;
-use goblin_mach::generated::mach::load_command::{Section32, Section64};
-use goblin_mach::generated::mach::segment::place_of;
-use goblin_mach::generated::mach::{Container, Ctx, Endian, Record, Result};
+use goblin_mach::load_command::{Section32, Section64};
+use goblin_mach::segment::place_of;
+use goblin_mach::{Container, Ctx, Record, Result};
 
 /// The record of a section, of a 32-bit or a 64-bit segment.
 #[derive(Clone, Copy)]
@@ -62,20 +62,17 @@ fn section_in(own: &[u8], ctx: Ctx, command: usize, number: u32) -> Result<Comma
 impl<'a> CommandSections<'a> {
     /// Returns the sections of a segment's command of this width, which counts so many.
     ///
-    /// # Proved
+    /// <details><summary>Proved</summary>
     ///
-    /// - `let it = numbered_command_view numbered in defined.command_sections_left result ≡ defined.command_sections_from (record { container = width; le = le }) (bytes_of_command it.bytes it.command) it.number count 0`
-    pub fn of(
-        width: Container,
-        le: Endian,
-        numbered: &NumberedCommand<'a, '_>,
-        count: u32,
-    ) -> Self {
+    /// - `let it = numbered_command_view numbered in defined.command_sections_left result ≡ defined.command_sections_from (record { container = width; le = it.le }) (bytes_of_command it.bytes it.command) it.number count 0`
+    ///
+    /// </details>
+    pub fn of(width: Container, numbered: &NumberedCommand<'a, '_>, count: u32) -> Self {
         CommandSections {
             command: numbered.number,
             ctx: Ctx {
                 container: width,
-                le,
+                le: numbered.le,
             },
             own: bytes_of_command(numbered.bytes, numbered.command),
             count,
@@ -93,9 +90,11 @@ impl<'a> CommandSections<'a> {
 
     /// Returns the next section. Sections that do not lie in the command's bytes are left out.
     ///
-    /// # Proved
+    /// <details><summary>Proved</summary>
     ///
     /// - `YieldsFirstBy defined.command_section_view defined.command_sections_left self.old result self.new`
+    ///
+    /// </details>
     pub fn take_next(&mut self) -> Option<CommandSection> {
         let section = self.following()?;
         self.number += 1;

@@ -2,14 +2,16 @@
 //! The load commands of an image with their numbers.
 #![forbid(unsafe_code)]
 
-use goblin_mach::generated::mach::MachO;
-use goblin_mach::generated::mach::load_command::LoadCommand;
+use goblin_mach::load_command::LoadCommand;
+use goblin_mach::{Endian, MachO};
 
 /// A load command, and its number.
 #[derive(Clone, Copy)]
 pub struct NumberedCommand<'a, 'b> {
     /// The bytes that hold it.
     pub bytes: &'a [u8],
+    /// Their order.
+    pub le: Endian,
     /// Its number.
     pub number: usize,
     /// The command itself.
@@ -21,6 +23,8 @@ pub struct NumberedCommand<'a, 'b> {
 pub struct NumberedCommands<'a, 'b> {
     /// The bytes that hold the commands.
     pub bytes: &'a [u8],
+    /// Their order.
+    pub le: Endian,
     /// The commands.
     pub commands: &'b [LoadCommand],
     /// The number of the next one.
@@ -30,12 +34,15 @@ pub struct NumberedCommands<'a, 'b> {
 impl<'a, 'b> NumberedCommands<'a, 'b> {
     /// Returns the commands of an image.
     ///
-    /// # Proved
+    /// <details><summary>Proved</summary>
     ///
-    /// - `numbered_commands_left result ≡ numbered_commands_from (bytes_view image) 0 (commands_view image)`
+    /// - `numbered_commands_left result ≡ numbered_commands_from (ctx_view image).le (bytes_view image) 0 (commands_view image)`
+    ///
+    /// </details>
     pub fn of(image: &'b MachO<'a>) -> Self {
         NumberedCommands {
             bytes: image.bytes(),
+            le: image.ctx().le,
             commands: image.load_commands.as_slice(),
             number: 0,
         }
@@ -43,15 +50,18 @@ impl<'a, 'b> NumberedCommands<'a, 'b> {
 
     /// Returns the next command.
     ///
-    /// # Proved
+    /// <details><summary>Proved</summary>
     ///
     /// - `YieldsFirstBy numbered_command_view numbered_commands_left self.old result self.new`
+    ///
+    /// </details>
     pub fn take_next(&mut self) -> Option<NumberedCommand<'a, 'b>> {
-        let (bytes, number) = (self.bytes, self.number);
+        let (bytes, le, number) = (self.bytes, self.le, self.number);
         let command = self.commands.get(number)?;
         self.number = number + 1;
         Some(NumberedCommand {
             bytes,
+            le,
             number,
             command,
         })

@@ -9,7 +9,7 @@ use crate::shim::io;
 use crate::shim::io::Write;
 use core::fmt;
 use core::fmt::{Display, Formatter};
-use goblin_mach::generated::mach::MachO;
+use goblin_mach::MachO;
 
 /// The lists that are counted.
 pub const COUNTED: [Word; 12] = [
@@ -93,9 +93,11 @@ impl Display for CountMembers {
 ///
 /// Returns whether all items can be read, and no list has more than the limit or claims more past the end of the bytes.
 ///
-/// # Proved
+/// <details><summary>Proved</summary>
 ///
 /// - for each `bytes : List ℕ`, if `IsImage bytes 0 image`, if `Ok(whole)`: there is `text : List ℕ` with: `AreCounts form limit bytes words text whole × Appends (O.contents out.old) (O.contents out.new) text`
+///
+/// </details>
 pub fn print_counts<O: Write>(
     form: Form,
     words: &[Word],

@@ -5,47 +5,12 @@
 use crate::generated::mach_cli::{
     Escaped, FieldsForm, JsonString, Line, Listing, Object, UuidText, VersionText,
 };
-use crate::generated::machinfo::command_facts::{CommandFacts, PlatformFact};
 use crate::generated::machinfo::fields::write_library;
 use crate::generated::machinfo::text::{PlatformObject, PlatformText, ToolText};
 use crate::shim::io;
 use crate::shim::io::Write;
-use core::slice::Iter;
-use goblin_mach::generated::mach::load_command::BuildToolVersion;
-use goblin_mach::generated::mach::{BuildToolIterator, Library, LibraryIterator, Result};
-
-/// A row of a list of the summary.
-#[derive(Clone, Copy)]
-pub enum Fact<'a> {
-    Uuid([u8; 16]),
-    Platform(PlatformFact),
-    Tool(BuildToolVersion),
-    Library(Library<'a>),
-    RunPath(&'a str),
-}
-
-/// What is left of a list of the summary.
-pub enum FactList<'a, 'b> {
-    Commands(CommandFacts<'b>),
-    Tools(BuildToolIterator<'a, 'b>),
-    Libraries(LibraryIterator<'a, 'b>),
-    Paths(Iter<'b, &'a str>),
-}
-
-impl<'a> FactList<'a, '_> {
-    // Returns the next row, or the error if it can't be read.
-    fn take_next(&mut self) -> Option<Result<Fact<'a>>> {
-        match self {
-            FactList::Commands(list) => Some(Ok(list.take_next()?)),
-            FactList::Tools(list) => match list.next()? {
-                Ok((_, tool)) => Some(Ok(Fact::Tool(tool))),
-                Err(error) => Some(Err(error)),
-            },
-            FactList::Libraries(list) => Some(Ok(Fact::Library(list.next()?))),
-            FactList::Paths(list) => Some(Ok(Fact::RunPath(*list.next()?))),
-        }
-    }
-}
+use goblin_mach::audit::{Fact, FactList};
+use goblin_mach::{Library, Result};
 
 /// The rows of a list as lines.
 pub struct FactLines<'a, 'b>(pub FactList<'a, 'b>);

@@ -3,28 +3,28 @@
 #![forbid(unsafe_code)]
 
 use crate::generated::mach_cli::{
-    Field, FieldsForm, Value, diverse_by, diversity_by, has_auth, key_by, rebase_type,
+    Field, FieldsForm, Value, diverse_by, diversity_by, has_auth, if_not_empty, key_by, rebase_type,
 };
 use crate::generated::machinfo::command_row_fields::write_command_row;
 use crate::generated::machinfo::notes::NumberedNote;
 use crate::generated::machinfo::part_fields::write_part;
 use crate::generated::machinfo::providers::Provided;
 use crate::generated::machinfo::row::Row;
-use crate::generated::machinfo::security::finding_fields;
 use crate::generated::machinfo::text::tool_name;
 use crate::shim::io;
 use crate::shim::io::Write;
-use goblin_mach::generated::mach::load_command::{BuildToolVersion, DataInCodeEntry};
-use goblin_mach::generated::mach::slots::{IndirectSymbol, SlotKind, SlotSymbol, SymbolSlot};
-use goblin_mach::generated::mach::{
-    Binding, Library, LibraryAttributes, LibraryKind, Provider, Rebase, WeakBind,
-};
+use goblin_mach::audit::Finding;
+use goblin_mach::load_command::{BuildToolVersion, DataInCodeEntry};
+use goblin_mach::slots::{IndirectSymbol, SlotKind, SlotSymbol, SymbolSlot};
+use goblin_mach::{Binding, Library, LibraryAttributes, LibraryKind, Provider, Rebase, WeakBind};
 
 /// Writes the fields of a row in a form.
 ///
-/// # Proved
+/// <details><summary>Proved</summary>
 ///
 /// - if `Ok`: `Appends (O.contents out.old) (O.contents out.new) (F.fields_text (fields_shown row))`
+///
+/// </details>
 pub fn write_fields<F: FieldsForm, O: Write>(row: &Row<'_, '_>, out: &mut O) -> io::Result<()> {
     match *row {
         Row::Command(row) => write_command_row::<F, O>(&row, out),
@@ -47,18 +47,22 @@ pub fn write_fields<F: FieldsForm, O: Write>(row: &Row<'_, '_>, out: &mut O) -> 
 
 /// Returns the column of a field that a line has only if something is so.
 ///
-/// # Proved
+/// <details><summary>Proved</summary>
 ///
 /// - `result ≡ column_if is_so column`
+///
+/// </details>
 pub fn column_if(is_so: bool, column: usize) -> usize {
     if is_so { column } else { 0 }
 }
 
 /// Returns a flag, of which a line has the word if it is so.
 ///
-/// # Proved
+/// <details><summary>Proved</summary>
 ///
 /// - `field_view result ≡ flag_field name is_so word column`
+///
+/// </details>
 pub fn flag_field(
     name: &'static str,
     is_so: bool,
@@ -123,10 +127,11 @@ fn tool_fields(number: usize, tool: BuildToolVersion) -> [Field<'static>; 4] {
 
 // Returns the fields of a note: the number of its command, its owner, the offset of its bytes, and their number.
 fn note_fields<'a>(note: NumberedNote<'a>) -> [Field<'a>; 4] {
+    let owner = if_not_empty(Some(note.note.owner));
     [
         Field::new("command", Value::Number(note.number as u64), 1),
         Field::new("offset", Value::Hex(note.place), 3),
-        Field::new("owner", Value::Text(note.note.owner), 2),
+        Field::new("owner", Value::OptionalText(owner), 2),
         Field::new("size", Value::Number(note.note.data.len() as u64), 4),
     ]
 }
@@ -222,9 +227,11 @@ fn library_fields<'a>(library: Library<'a>) -> [Field<'a>; 10] {
 
 /// Writes the fields of a library in a form.
 ///
-/// # Proved
+/// <details><summary>Proved</summary>
 ///
 /// - if `Ok`: `Appends (O.contents out.old) (O.contents out.new) (F.fields_text (library_fields (library_view library.entry)))`
+///
+/// </details>
 pub fn write_library<F: FieldsForm, O: Write>(library: Library<'_>, out: &mut O) -> io::Result<()> {
     F::write(&library_fields(library), out)
 }
@@ -271,5 +278,20 @@ fn strong_fields<'a>(name: &'a str) -> [Field<'a>; 2] {
     [
         flag_field("is_strong", true, "strong", 1),
         Field::new("name", Value::Text(name), 2),
+    ]
+}
+
+// Returns the fields of a finding: the name of the verdict, whether it holds, and what `yes` means.
+fn finding_fields(finding: Finding) -> [Field<'static>; 3] {
+    let (name, meaning) = finding.verdict.words();
+    let is_so = Value::Flag {
+        is_so: finding.is_so,
+        yes: "yes",
+        no: "no ",
+    };
+    [
+        Field::new("is_so", is_so, 2),
+        Field::new("meaning", Value::Text(meaning), 3),
+        Field::new("name", Value::Text(name), 1).wide(22),
     ]
 }

@@ -9,7 +9,7 @@ use crate::generated::machinfo::fields::{column_if, flag_field};
 use crate::generated::machinfo::part_fields::text_or_dash;
 use crate::shim::io;
 use crate::shim::io::Write;
-use goblin_mach::generated::mach::{Binding, BindingIterator, Result};
+use goblin_mach::{Binding, BindingIterator, Result};
 
 /// A bind, with the segment and the section of its pointer.
 #[derive(Clone, Copy)]
@@ -63,20 +63,19 @@ fn placed<'a, 'p>(parts: &'p AllStretches, binding: Binding<'a>) -> Import<'a, '
     }
 }
 
-// Returns the name of a segment.
-fn segment_name<'p>(part: Option<&'p SegmentStretches>) -> Option<&'p str> {
-    match part {
-        Some(part) => Some(part.name()),
-        None => None,
-    }
+// Returns a printed name, none if it says that there is none.
+fn unless_dash(name: &str) -> Option<&str> {
+    if name == "-" { None } else { Some(name) }
 }
 
-// Returns the name of the first section of a segment that holds an address.
+// Returns the name of a segment, if it has one.
+fn segment_name<'p>(part: Option<&'p SegmentStretches>) -> Option<&'p str> {
+    unless_dash(part?.name())
+}
+
+// Returns the name of the first section of a segment that holds an address, if it has one.
 fn section_name<'p>(address: u64, part: Option<&'p SegmentStretches>) -> Option<&'p str> {
-    match part {
-        Some(part) => part.section_with(address),
-        None => None,
-    }
+    unless_dash(part?.section_with(address)?)
 }
 
 // Returns the field for the image that a symbol comes from: its short name; if there is none, only a line has it, with the ordinal.

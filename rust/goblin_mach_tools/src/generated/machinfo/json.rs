@@ -7,14 +7,14 @@ use crate::generated::mach_cli::{
     print_end_past, print_member,
 };
 use crate::generated::machinfo::counts::{COUNTED, Form, print_counts};
-use crate::generated::machinfo::exports::{ExportList, exports_of};
+use crate::generated::machinfo::export_rows::{ExportForm, print_exports_of, walk_of};
 use crate::generated::machinfo::imports::ImportList;
 use crate::generated::machinfo::list::ImageList;
 use crate::generated::machinfo::members::write_front;
 use crate::generated::machinfo::word::{Choice, Word};
 use crate::shim::io;
 use crate::shim::io::Write;
-use goblin_mach::generated::mach::MachO;
+use goblin_mach::MachO;
 
 /// The members of what a call selects, or of the summary.
 #[derive(Clone, Copy)]
@@ -54,18 +54,19 @@ fn write_rows<O: Write>(
     write_items(word.name(), ImageList::of(word, image), left, out)
 }
 
-// Writes the exports of an image as objects, at most `left` of them, or the fault of its trie.
+// Writes the exports of an image as objects as a walk meets them, at most `left` of them. A fault of the trie is the last object.
 fn write_exports<O: Write>(
     image: &MachO<'_>,
     left: usize,
     out: &mut O,
 ) -> Result<Outcome, ShowFailure> {
-    let (exports, refusal) = exports_of(image)?;
-    let list = ExportList {
-        refusal,
-        exports: exports.as_slice(),
-    };
-    Ok(write_items("exports", list, left, out)?)
+    let walk = walk_of(image)?;
+    write!(out, "\"exports\":")?;
+    write!(out, "[")?;
+    let shown = print_exports_of(ExportForm::Objects, image.base(), walk, left, out)?;
+    write!(out, "]")?;
+    write!(out, ",")?;
+    Ok(print_end_past(shown, 0, out)?)
 }
 
 // Writes what dyld binds in an image as objects, at most `left` of them.

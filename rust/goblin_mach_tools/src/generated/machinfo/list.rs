@@ -10,12 +10,12 @@ use crate::generated::machinfo::notes::NumberedNotes;
 use crate::generated::machinfo::parts::PartList;
 use crate::generated::machinfo::providers::ProvidedSymbols;
 use crate::generated::machinfo::row::Row;
-use crate::generated::machinfo::security::Findings;
 use crate::generated::machinfo::word::Word;
 use crate::shim::io;
 use crate::shim::io::Write;
-use goblin_mach::generated::mach::slots::{IndirectSymbolIterator, SlotIterator};
-use goblin_mach::generated::mach::{
+use goblin_mach::audit::Findings;
+use goblin_mach::slots::{IndirectSymbolIterator, SlotIterator};
+use goblin_mach::{
     BuildToolIterator, DataInCodeIterator, FunctionStartIterator, LibraryIterator,
     LinkerOptionIterator, MachO, RebaseIterator, Result, WeakBindIterator,
 };
@@ -59,10 +59,12 @@ fn data_in_bounds(list: DataInCodeIterator<'_>) -> (DataInCodeIterator<'_>, usiz
 impl<'a, 'b> ImageList<'a, 'b> {
     /// Returns the list of an image that a word selects.
     ///
-    /// # Proved
+    /// <details><summary>Proved</summary>
     ///
     /// - *rows*: for each `bytes : List ℕ`, `o : ℕ`, if `IsImage bytes o image`, `HasRows word bytes o (list_rows_left result) (list_rows_past result)`
     /// - *name*: `rows_name_of result ≡ past_name word`
+    ///
+    /// </details>
     pub fn of(word: Word, image: &'b MachO<'a>) -> Self {
         match word {
             Word::Commands => ImageList::Commands(CommandRows::of(image)),

@@ -7,14 +7,16 @@ use crate::generated::machinfo::list::ImageList;
 use crate::generated::machinfo::word::Word;
 use crate::shim::io;
 use crate::shim::io::Write;
-use goblin_mach::generated::mach::MachO;
+use goblin_mach::MachO;
 
 /// Prints the rows of a word's list in a form, at most `left` of them; a row that can't be read is `refused` and why. Returns whether
 /// all rows were printed and can be read, and how many more may be printed.
 ///
-/// # Proved
+/// <details><summary>Proved</summary>
 ///
 /// - for each `bytes : List ℕ`, if `IsImage bytes 0 image`, if `Ok(outcome)`: there is `text : List ℕ` with: `AreRowLines word F.fields_text refused limit left bytes text outcome.whole outcome.left × Appends (O.contents out.old) (O.contents out.new) text`
+///
+/// </details>
 pub fn print_in_form<F: FieldsForm, O: Write>(
     word: Word,
     form: F,

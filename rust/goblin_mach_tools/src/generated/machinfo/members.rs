@@ -3,33 +3,35 @@
 #![forbid(unsafe_code)]
 
 use crate::generated::mach_cli::{
-    InForm, ListProgress, Object, comma_before, cpu_name, image_kind, print_member, then,
+    InForm, ListProgress, Object, StringOrNull, comma_before, cpu_name, image_kind, print_member,
+    then,
 };
-use crate::generated::machinfo::command_facts::{CommandFacts, Question};
-use crate::generated::machinfo::fact::{FactList, FactObjects};
+use crate::generated::machinfo::fact::FactObjects;
 use crate::generated::machinfo::list::ImageList;
-use crate::generated::machinfo::segments::{TextOrNull, write_segments};
+use crate::generated::machinfo::segments::write_segments;
 use crate::generated::machinfo::signed::{is_ad_hoc, is_readable};
-use crate::generated::machinfo::state::{State, state_of};
 use crate::generated::machinfo::summary::flag_short_name;
 use crate::generated::machinfo::word::{Part, Word};
 use crate::shim::io;
 use crate::shim::io::Write;
-use goblin_mach::generated::mach::header::Header;
-use goblin_mach::generated::mach::{Error, MachO, Result, describe};
-use goblin_mach::generated::mach_signature::CodeDirectory;
-use goblin_mach::generated::mach_signature::image::code_directory;
+use goblin_mach::audit::{CommandFacts, FactList, Question, State, state_of};
+use goblin_mach::header::Header;
+use goblin_mach::signature::CodeDirectory;
+use goblin_mach::signature::image::code_directory;
+use goblin_mach::{Error, MachO, Result, describe};
 
 /// Writes the members of an image but for its counts and its kind, each with a comma after it, and of each list the rows up to
 /// the limit.
 ///
 /// Returns whether everything was written and can be read.
 ///
-/// # Proved
+/// <details><summary>Proved</summary>
 ///
 /// - if `Ok`: `WritesSome (O.contents out.old) (O.contents out.new)`
+///
+/// </details>
 pub fn write_front<O: Write>(image: &MachO<'_>, limit: usize, out: &mut O) -> io::Result<bool> {
-    write_header(&image.header, image.name, image.entry, out)?;
+    write_header(&image.header, image.name, image.base(), image.entry, out)?;
     write_flags(image.header.flags, out)?;
     let entry = write_entry(image, out)?;
     let lists = write_lists(image, limit, out)?;
@@ -79,20 +81,21 @@ fn write_list<O: Write>(
     Ok(reported)
 }
 
-// Writes the cpu, the entry point, the kind of the file, and the name as a library.
+// Writes the address of the first byte, the cpu, the entry point, the kind of the file, and the name as a library.
 fn write_header<O: Write>(
     header: &Header,
     name: Option<&str>,
+    base: u64,
     entry: u64,
     out: &mut O,
 ) -> io::Result<()> {
     let (cputype, cpusubtype) = (header.cputype, header.cpusubtype);
-    let cpu = TextOrNull(cpu_name(cputype, cpusubtype % 0x100_0000));
+    let cpu = StringOrNull(cpu_name(cputype, cpusubtype % 0x100_0000));
     let words = image_kind(header.filetype);
-    let name = TextOrNull(name);
+    let name = StringOrNull(name);
     write!(
         out,
-        "\"cpu\":{cpu},\"cpusubtype\":{cpusubtype},\"cputype\":{cputype},"
+        "\"base\":{base},\"cpu\":{cpu},\"cpusubtype\":{cpusubtype},\"cputype\":{cputype},"
     )?;
     write!(
         out,
@@ -164,9 +167,9 @@ fn write_refused<O: Write>(error: &Error, out: &mut O) -> io::Result<()> {
 // Writes what a code directory says.
 fn write_directory<O: Write>(directory: &CodeDirectory<'_>, out: &mut O) -> io::Result<()> {
     let flags = directory.head.flags;
-    let identifier = TextOrNull(directory.identifier().ok().flatten());
+    let identifier = StringOrNull(directory.identifier().ok().flatten());
     let ad_hoc = is_ad_hoc(flags);
-    let team = TextOrNull(directory.team().ok().flatten());
+    let team = StringOrNull(directory.team().ok().flatten());
     write!(
         out,
         "\"signature\":{{\"flags\":{flags},\"identifier\":{identifier},"

@@ -13,7 +13,6 @@
 use crate::shim::rt::HostRuntime;
 
 // The summary of an image.
-mod command_facts;
 mod counts;
 mod fact;
 mod json;
@@ -32,9 +31,9 @@ mod command_row_fields;
 mod command_rows;
 mod command_sections;
 mod commands;
+mod export_rows;
 mod exports;
 mod fields;
-mod hardening;
 mod imports;
 mod list;
 mod list_lines;
@@ -45,7 +44,6 @@ mod providers;
 mod registers;
 mod row;
 mod sections;
-mod security;
 
 // What a call selects.
 mod selection;

@@ -2,8 +2,8 @@
 //! The notes of an image with the numbers of their commands.
 #![forbid(unsafe_code)]
 
-use goblin_mach::generated::mach::load_command::{CommandVariant, LoadCommand};
-use goblin_mach::generated::mach::{MachO, Note, NoteIterator, Result};
+use goblin_mach::load_command::{CommandVariant, LoadCommand};
+use goblin_mach::{MachO, Note, NoteIterator, Result};
 
 /// A note, and where it comes from.
 #[derive(Clone, Copy)]
@@ -57,9 +57,11 @@ fn noted_by<'a>(
 impl<'a, 'b> NumberedNotes<'a, 'b> {
     /// Returns the notes of an image.
     ///
-    /// # Proved
+    /// <details><summary>Proved</summary>
     ///
     /// - `notes_numbered_left result ≡ numbered_notes_from (bytes_view image) 0 (commands_view image)`
+    ///
+    /// </details>
     pub fn of(image: &'b MachO<'a>) -> Self {
         NumberedNotes {
             bytes: image.bytes(),
@@ -70,9 +72,11 @@ impl<'a, 'b> NumberedNotes<'a, 'b> {
 
     /// Returns the next note, or the error if it can't be read.
     ///
-    /// # Proved
+    /// <details><summary>Proved</summary>
     ///
     /// - `YieldsFirstBy numbered_note_read notes_numbered_left self.old result self.new`
+    ///
+    /// </details>
     pub fn take_next(&mut self) -> Option<Result<NumberedNote<'a>>> {
         while let Some(command) = self.commands.get(self.number) {
             let number = self.number;

@@ -2,15 +2,17 @@
 //! What the rows of parts of an image show, field by field: as lines, and as objects of JSON.
 #![forbid(unsafe_code)]
 
-use crate::generated::mach_cli::{Field, FieldsForm, Value, cpu_name, image_kind};
-use crate::generated::machinfo::command_fields::{named, rights, text_from};
+use crate::generated::mach_cli::{
+    Field, FieldsForm, Value, cpu_name, if_not_empty, image_kind, name_in_field,
+};
+use crate::generated::machinfo::command_fields::{named, rights};
 use crate::generated::machinfo::fields::{column_if, flag_field};
 use crate::generated::machinfo::parts::{EntryRow, EntrySymbol, PartRow, UuidRow};
 use crate::generated::machinfo::sections::SectionRow;
 use crate::generated::machinfo::summary::flag_short_name;
 use crate::shim::io;
 use crate::shim::io::Write;
-use goblin_mach::generated::mach::header::{
+use goblin_mach::header::{
     Header, MH_ALLMODSBOUND, MH_ALLOW_STACK_EXECUTION, MH_APP_EXTENSION_SAFE, MH_BINDATLOAD,
     MH_BINDS_TO_WEAK, MH_CANONICAL, MH_DEAD_STRIPPABLE_DYLIB, MH_DYLDLINK, MH_FORCE_FLAT,
     MH_HAS_TLV_DESCRIPTORS, MH_INCRLINK, MH_LAZY_INIT, MH_NO_HEAP_EXECUTION,
@@ -18,14 +20,16 @@ use goblin_mach::generated::mach::header::{
     MH_PREBINDABLE, MH_PREBOUND, MH_ROOT_SAFE, MH_SETUID_SAFE, MH_SPLIT_SEGS,
     MH_SUBSECTIONS_VIA_SYMBOLS, MH_TWOLEVEL, MH_WEAK_DEFINES,
 };
-use goblin_mach::generated::mach::load_command::Section64;
-use goblin_mach::generated::mach::segment::{NumberedSection, Segment};
+use goblin_mach::load_command::Section64;
+use goblin_mach::segment::{NumberedSection, Segment};
 
 /// Writes the fields of a row in a form.
 ///
-/// # Proved
+/// <details><summary>Proved</summary>
 ///
 /// - if `Ok`: `Appends (O.contents out.old) (O.contents out.new) (F.fields_text (part_fields (part_row_view row)))`
+///
+/// </details>
 pub fn write_part<F: FieldsForm, O: Write>(row: &PartRow<'_, '_>, out: &mut O) -> io::Result<()> {
     match row {
         PartRow::Segment(number, segment) => F::write(&segment_fields(*number, segment), out),
@@ -44,9 +48,11 @@ pub fn write_part<F: FieldsForm, O: Write>(row: &PartRow<'_, '_>, out: &mut O) -
 
 /// Returns a text, `-` if there is none or it is empty.
 ///
-/// # Proved
+/// <details><summary>Proved</summary>
 ///
 /// - `result ≡ text_or_dash (text_in text.entry)`
+///
+/// </details>
 pub fn text_or_dash(text: Option<&str>) -> &str {
     let Some(text) = text else {
         return "-";
@@ -56,7 +62,7 @@ pub fn text_or_dash(text: Option<&str>) -> &str {
 
 // Returns the fields of a segment and its number.
 fn segment_fields<'a>(number: usize, segment: &'a Segment<'_>) -> [Field<'a>; 17] {
-    let name = text_from(&segment.segname, 0);
+    let name = name_in_field(&segment.segname);
     let (most, flags) = (segment.maxprot, segment.flags);
     let is_writable_code = most & 2 != 0 && most & 4 != 0;
     [
@@ -82,9 +88,11 @@ fn segment_fields<'a>(number: usize, segment: &'a Segment<'_>) -> [Field<'a>; 17
 
 /// Returns the words for a type of section, none if it has no name.
 ///
-/// # Proved
+/// <details><summary>Proved</summary>
 ///
 /// - `result ≡ section_type_name number`
+///
+/// </details>
 pub fn section_type(number: u32) -> &'static str {
     match number {
         0x0 => "regular",
@@ -118,8 +126,8 @@ pub fn section_type(number: u32) -> &'static str {
 fn section_fields<'a>(row: &'a SectionRow) -> [Field<'a>; 18] {
     let section = &row.section.section;
     let (segname, sectname) = (
-        text_from(&section.segname, 0),
-        text_from(&section.sectname, 0),
+        name_in_field(&section.segname),
+        name_in_field(&section.sectname),
     );
     let kind = section.flags % 0x100;
     let name = section_type(kind);
@@ -134,7 +142,7 @@ fn section_fields<'a>(row: &'a SectionRow) -> [Field<'a>; 18] {
         Field::new("size", Value::Hex(section.size), 5).wide(8),
         Field::new("file_offset", Value::Hex(u64::from(section.offset)), 6).wide(8),
         Field::new("type", Value::Named(u64::from(kind), name), 7),
-        Field::alone("type_name", Value::Text(name)),
+        Field::alone("type_name", Value::OptionalText(if_not_empty(Some(name)))),
         Field::of_object("align", Value::Number(u64::from(section.align))),
         Field::of_object("attributes", Value::Hex(u64::from(section.flags - kind))),
         Field::of_object("relocation_offset", Value::Hex(u64::from(section.reloff))),
@@ -191,7 +199,7 @@ fn rpath_fields<'a>(number: usize, path: &'a str) -> [Field<'a>; 2] {
 // Returns the name of a section's segment.
 fn segment_of_found(found: &Option<NumberedSection>) -> Option<&str> {
     match found {
-        Some(found) => text_from(&found.section.segname, 0),
+        Some(found) => name_in_field(&found.section.segname),
         None => None,
     }
 }
@@ -199,7 +207,7 @@ fn segment_of_found(found: &Option<NumberedSection>) -> Option<&str> {
 // Returns the name of a section.
 fn name_of_found(found: &Option<NumberedSection>) -> Option<&str> {
     match found {
-        Some(found) => text_from(&found.section.sectname, 0),
+        Some(found) => name_in_field(&found.section.sectname),
         None => None,
     }
 }

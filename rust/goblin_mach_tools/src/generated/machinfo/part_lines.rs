@@ -7,7 +7,7 @@ use crate::generated::machinfo::list_lines::print_in_form;
 use crate::generated::machinfo::word::{Part, Word};
 use crate::shim::io;
 use crate::shim::io::Write;
-use goblin_mach::generated::mach::MachO;
+use goblin_mach::MachO;
 
 // The line of an entry point.
 #[derive(Clone, Copy)]
@@ -57,9 +57,11 @@ impl FieldsForm for SectionLine {
 /// Prints the lines of an image for its entry point, its segments and its sections, each list up to the limit. Returns whether all
 /// were printed and can be read.
 ///
-/// # Proved
+/// <details><summary>Proved</summary>
 ///
 /// - for each `bytes : List ℕ`, if `IsImage bytes 0 image`, if `Ok(whole)`: there is `text : List ℕ` with: `AreLinesOfParts limit bytes text whole × Appends (O.contents out.old) (O.contents out.new) text`
+///
+/// </details>
 pub fn print_parts<O: Write>(image: &MachO<'_>, limit: usize, out: &mut O) -> io::Result<bool> {
     let word = Word::Part(Part::Entry);
     let entry = print_in_form(word, EntryLine, "entry: refused", image, 1, 1, out)?;

@@ -2,13 +2,13 @@
 //! The parts of an image that are lists of rows.
 #![forbid(unsafe_code)]
 
-use crate::generated::machinfo::command_facts::uuid_by;
 use crate::generated::machinfo::sections::{CountedSections, SectionRow, sections_past};
 use crate::generated::machinfo::word::Part;
-use goblin_mach::generated::mach::header::Header;
-use goblin_mach::generated::mach::load_command::LoadCommand;
-use goblin_mach::generated::mach::segment::{NumberedSection, Segment};
-use goblin_mach::generated::mach::{MachO, Result};
+use goblin_mach::audit::uuid_by;
+use goblin_mach::header::Header;
+use goblin_mach::load_command::LoadCommand;
+use goblin_mach::segment::{NumberedSection, Segment};
+use goblin_mach::{MachO, Result};
 
 /// A row of a part of an image.
 #[derive(Clone, Copy)]
@@ -198,11 +198,13 @@ pub enum PartList<'a, 'b> {
 impl<'a, 'b> PartList<'a, 'b> {
     /// Returns the rows of a part of an image.
     ///
-    /// # Proved
+    /// <details><summary>Proved</summary>
     ///
     /// - *rows*: `ArePartRows part image.entry (facts_view image) (part_rows_left result)`
     /// - *past*: `part_rows_past result ≡ past_of_part part (facts_view image)`
     /// - *name*: `part_name_of result ≡ part_past_name part`
+    ///
+    /// </details>
     pub fn of(part: Part, image: &'b MachO<'a>) -> Self {
         match part {
             Part::Segments => PartList::Segments(NumberedSegments::of(image)),
@@ -219,9 +221,11 @@ impl<'a, 'b> PartList<'a, 'b> {
 
     /// Returns the next row, or the error if it can't be read.
     ///
-    /// # Proved
+    /// <details><summary>Proved</summary>
     ///
     /// - `YieldsFirstBy part_row_read part_rows_left self.old result self.new`
+    ///
+    /// </details>
     pub fn take_next(&mut self) -> Option<Result<PartRow<'a, 'b>>> {
         match self {
             PartList::Segments(list) => list.take_next(),
@@ -241,9 +245,11 @@ impl<'a, 'b> PartList<'a, 'b> {
 
     /// Returns how many more rows are claimed past the end of the bytes.
     ///
-    /// # Proved
+    /// <details><summary>Proved</summary>
     ///
     /// - `result ≡ part_rows_past self`
+    ///
+    /// </details>
     pub fn past(&self) -> usize {
         match self {
             PartList::Sections(_, past) => *past,
@@ -253,9 +259,11 @@ impl<'a, 'b> PartList<'a, 'b> {
 
     /// Returns the name of such rows.
     ///
-    /// # Proved
+    /// <details><summary>Proved</summary>
     ///
     /// - `result ≡ part_name_of self`
+    ///
+    /// </details>
     pub fn past_name(&self) -> &'static str {
         match self {
             PartList::Sections(..) => "sections",

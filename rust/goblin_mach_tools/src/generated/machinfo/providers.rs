@@ -2,8 +2,8 @@
 //! The providers of an image's undefined symbols.
 #![forbid(unsafe_code)]
 
-use goblin_mach::generated::mach::symbols::SymbolIterator;
-use goblin_mach::generated::mach::{MachO, Provider, Result};
+use goblin_mach::symbols::SymbolIterator;
+use goblin_mach::{MachO, Provider, Result};
 
 /// A symbol, and its provider.
 #[derive(Clone, Copy)]
@@ -23,10 +23,12 @@ pub struct ProvidedSymbols<'a, 'b> {
 impl<'a, 'b> ProvidedSymbols<'a, 'b> {
     /// Returns the symbols of an image that have a provider.
     ///
-    /// # Proved
+    /// <details><summary>Proved</summary>
     ///
     /// - *left*: `provided_left result ≡ provided_in image.header.flags (texts image.libs.items) (symbol_table_view image)`
     /// - *past*: `result.past ≡ symbols_past_in (symbol_table_view image)`
+    ///
+    /// </details>
     pub fn of(image: &'b MachO<'a>) -> Self {
         let Some(table) = &image.symbols else {
             return ProvidedSymbols {
@@ -45,9 +47,11 @@ impl<'a, 'b> ProvidedSymbols<'a, 'b> {
 
     /// Returns the next symbol with its provider, or the error if either can't be read.
     ///
-    /// # Proved
+    /// <details><summary>Proved</summary>
     ///
     /// - `YieldsFirstBy provided_read provided_left self.old result self.new`
+    ///
+    /// </details>
     pub fn take_next(&mut self) -> Option<Result<Provided<'a>>> {
         loop {
             let (name, symbol) = match self.symbols.next() {

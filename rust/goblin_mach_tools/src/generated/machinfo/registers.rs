@@ -2,11 +2,12 @@
 //! The registers in the state of a thread.
 #![forbid(unsafe_code)]
 
-use goblin_mach::generated::mach::cputype::{
+use goblin_mach::Endian;
+use goblin_mach::cputype::{
     CPU_TYPE_ARM, CPU_TYPE_ARM64, CPU_TYPE_ARM64_32, CPU_TYPE_POWERPC, CPU_TYPE_X86,
     CPU_TYPE_X86_64,
 };
-use goblin_mach::generated::mach::load_command::ThreadCommand;
+use goblin_mach::load_command::ThreadCommand;
 
 /// Which registers the words of a state are.
 #[derive(Clone, Copy)]
@@ -90,6 +91,8 @@ pub struct Register {
 pub struct Registers<'b> {
     /// The number of the command.
     pub command: usize,
+    /// The byte order of the image.
+    pub le: Endian,
     /// How many words the state has.
     pub total: usize,
     /// The names of the registers of two words each.
@@ -100,8 +103,12 @@ pub struct Registers<'b> {
     pub words: &'b [u32],
 }
 
-// Returns a register of two words.
-fn double(low: u32, high: u32) -> u64 {
+// Returns a register of two words, as a number of eight bytes in the image's byte order.
+fn double(le: Endian, first: u32, second: u32) -> u64 {
+    let (low, high) = match le {
+        Endian::Little => (first, second),
+        Endian::Big => (second, first),
+    };
     u64::from(low) + u64::from(high) * 0x1_0000_0000
 }
 
@@ -111,16 +118,19 @@ fn state_words(command: &ThreadCommand) -> &[u32] {
 }
 
 impl<'b> Registers<'b> {
-    /// Returns the registers of a command with this number, of a cpu.
+    /// Returns the registers of a command with this number, in this byte order, of a cpu.
     ///
-    /// # Proved
+    /// <details><summary>Proved</summary>
     ///
-    /// - `defined.registers_left result ≡ defined.thread_registers cputype number (thread_values command)`
-    pub fn of(cputype: u32, number: usize, command: &'b ThreadCommand) -> Self {
+    /// - `defined.registers_left result ≡ defined.thread_registers le cputype number (thread_values command)`
+    ///
+    /// </details>
+    pub fn of(le: Endian, cputype: u32, number: usize, command: &'b ThreadCommand) -> Self {
         let layout = layout_of(cputype, command.flavor);
         let words = state_words(command);
         Registers {
             command: number,
+            le,
             total: words.len(),
             doubles: layout.doubles(),
             singles: layout.singles(),
@@ -140,9 +150,11 @@ impl<'b> Registers<'b> {
 
     /// Returns the next register.
     ///
-    /// # Proved
+    /// <details><summary>Proved</summary>
     ///
     /// - `YieldsFirstBy defined.register_view defined.registers_left self.old result self.new`
+    ///
+    /// </details>
     pub fn take_next(&mut self) -> Option<Register> {
         let [name, doubles @ ..] = self.doubles else {
             return self.take_single();
@@ -154,8 +166,9 @@ impl<'b> Registers<'b> {
                 self.words = &[];
                 Some(register)
             }
-            [low, high, words @ ..] => {
-                let register = self.register(Some(name), double(*low, *high));
+            [first, second, words @ ..] => {
+                let value = double(self.le, *first, *second);
+                let register = self.register(Some(name), value);
                 self.doubles = doubles;
                 self.words = words;
                 Some(register)

@@ -6,10 +6,10 @@ use crate::generated::machinfo::command_rows::CommandRow;
 use crate::generated::machinfo::notes::NumberedNote;
 use crate::generated::machinfo::parts::PartRow;
 use crate::generated::machinfo::providers::Provided;
-use crate::generated::machinfo::security::Finding;
-use goblin_mach::generated::mach::load_command::{BuildToolVersion, DataInCodeEntry};
-use goblin_mach::generated::mach::slots::{IndirectSymbol, SymbolSlot};
-use goblin_mach::generated::mach::{Library, Rebase, WeakBind};
+use goblin_mach::audit::Finding;
+use goblin_mach::load_command::{BuildToolVersion, DataInCodeEntry};
+use goblin_mach::slots::{IndirectSymbol, SymbolSlot};
+use goblin_mach::{Library, Rebase, WeakBind};
 
 /// A row of a list.
 #[derive(Clone, Copy)]

@@ -3,8 +3,8 @@
 #![forbid(unsafe_code)]
 
 use crate::generated::machinfo::segments::SectionList;
-use goblin_mach::generated::mach::segment::{NumberedSection, Segment};
-use goblin_mach::generated::mach::{MachO, Result};
+use goblin_mach::segment::{NumberedSection, Segment};
+use goblin_mach::{MachO, Result};
 
 /// A section, and its number among those of all segments, counted from 1.
 #[derive(Clone, Copy)]
@@ -36,9 +36,11 @@ fn begun(segment: &Segment<'_>) -> u32 {
 
 /// Returns how many sections some segments claim past the end of the bytes, at most the last number of 64 bits.
 ///
-/// # Proved
+/// <details><summary>Proved</summary>
 ///
 /// - `result ≡ sections_past (map segment_view segments)`
+///
+/// </details>
 pub fn sections_past(segments: &[Segment<'_>]) -> usize {
     let mut past = 0usize;
     for segment in segments {
@@ -57,9 +59,11 @@ fn row_at(segment: &Segment<'_>, n: usize, taken: u32, before: u64) -> Result<Se
 impl<'a, 'b> CountedSections<'a, 'b> {
     /// Returns the sections of an image.
     ///
-    /// # Proved
+    /// <details><summary>Proved</summary>
     ///
     /// - `sections_counted_left result ≡ section_rows_in 0 0 (segments_view image)`
+    ///
+    /// </details>
     pub fn of(image: &'b MachO<'a>) -> Self {
         CountedSections {
             segments: image.segments.as_slice(),
@@ -71,9 +75,11 @@ impl<'a, 'b> CountedSections<'a, 'b> {
 
     /// Returns the next section, or the error if it can't be read.
     ///
-    /// # Proved
+    /// <details><summary>Proved</summary>
     ///
     /// - `YieldsFirstBy section_row_read sections_counted_left self.old result self.new`
+    ///
+    /// </details>
     pub fn take_next(&mut self) -> Option<Result<SectionRow>> {
         loop {
             if self.segment >= self.segments.len() {

@@ -3,20 +3,20 @@
 #![forbid(unsafe_code)]
 
 use crate::generated::mach_cli::{
-    JsonString, ListProgress, Listing, comma_before, print_array, then,
+    ListProgress, Listing, StringOrNull, comma_before, name_in_field, print_array, then,
 };
 use crate::shim::io;
 use crate::shim::io::Write;
-use core::fmt;
-use core::fmt::{Display, Formatter};
-use goblin_mach::generated::mach::Result;
-use goblin_mach::generated::mach::segment::{Section, SectionIterator, Segment};
+use goblin_mach::Result;
+use goblin_mach::segment::{Section, SectionIterator, Segment};
 
 /// Returns the letters of a protection.
 ///
-/// # Proved
+/// <details><summary>Proved</summary>
 ///
 /// - `result ≡ rights_text protection`
+///
+/// </details>
 pub fn rights_name(protection: u32) -> &'static str {
     match (
         protection & 1 != 0,
@@ -45,10 +45,12 @@ pub struct SectionList<'a> {
 impl<'a> SectionList<'a> {
     /// Returns the sections of a segment.
     ///
-    /// # Proved
+    /// <details><summary>Proved</summary>
     ///
     /// - *left*: `sections_left result.sections ≡ items_in_bounds (sections_of (segment_view segment))`
     /// - *past*: `result.past ≡ sections_past_the_end (segment_view segment)`
+    ///
+    /// </details>
     pub fn of(segment: &Segment<'a>) -> Self {
         let all = segment.into_iter();
         let sections = all.in_bounds();
@@ -62,30 +64,6 @@ impl<'a> SectionList<'a> {
             Ok((section, _)) => Some(Ok(section)),
             Err(error) => Some(Err(error)),
         }
-    }
-}
-
-// A name, or `null` if it is no text.
-#[derive(Clone, Copy)]
-pub struct TextOrNull<'a>(pub Option<&'a str>);
-
-impl Display for TextOrNull<'_> {
-    fn fmt(&self, f: &mut Formatter<'_>) -> fmt::Result {
-        match self.0 {
-            Some(text) => {
-                let text = JsonString(text);
-                write!(f, "{text}")
-            }
-            None => write!(f, "null"),
-        }
-    }
-}
-
-// Returns the name of a section, if it is text.
-fn section_name(section: &Section) -> Option<&str> {
-    match section.name() {
-        Ok(name) => Some(name),
-        Err(_) => None,
     }
 }
 
@@ -111,7 +89,7 @@ impl Listing for SectionObjects<'_> {
     }
 
     fn write_row<O: Write>(row: &Section, out: &mut O) -> io::Result<()> {
-        let name = TextOrNull(section_name(row));
+        let name = StringOrNull(name_in_field(&row.sectname));
         let (address, size) = (row.addr, row.size);
         write!(
             out,
@@ -122,9 +100,11 @@ impl Listing for SectionObjects<'_> {
 
 /// Writes segments as a member that others follow: at most `limit`, each with its sections, of which it writes at most `limit` in all.
 ///
-/// # Proved
+/// <details><summary>Proved</summary>
 ///
 /// - if `Ok`: `WritesSome (O.contents out.old) (O.contents out.new)`
+///
+/// </details>
 pub fn write_segments<O: Write>(
     segments: &[Segment<'_>],
     limit: usize,
@@ -153,7 +133,7 @@ fn write_segment<O: Write>(
     out: &mut O,
 ) -> io::Result<ListProgress> {
     let comma = comma_before(is_first);
-    let name = TextOrNull(segment.name().ok());
+    let name = StringOrNull(name_in_field(&segment.segname));
     let (address, size) = (segment.vmaddr, segment.vmsize);
     let rights = rights_name(segment.initprot);
     write!(

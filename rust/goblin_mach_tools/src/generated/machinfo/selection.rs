@@ -16,10 +16,12 @@ pub struct Selection<'a, 'b> {
 
 /// Returns what a call selects: what images have at the address of `--at`, if that is given, or else what its arguments select.
 ///
-/// # Proved
+/// <details><summary>Proved</summary>
 ///
 /// - *selected*: `option_map words.selection_view (result_ok result) ≡ words.selected address arguments`
 /// - *misuse*: if `Err(e)`: `words.IsNoAddress (drop 1 arguments) e`
+///
+/// </details>
 pub fn selection_of<'a, 'b>(
     address: Option<u64>,
     arguments: &'a [&'b str],
@@ -72,9 +74,11 @@ fn files_named<'a, 'b>(arguments: &'a [&'b str]) -> &'a [&'b str] {
 
 /// Whether all bytes of a text are small letters.
 ///
-/// # Proved
+/// <details><summary>Proved</summary>
 ///
 /// - `result ≡ list_all words.is_small_letter text`
+///
+/// </details>
 pub fn has_small_letters(text: &[u8]) -> bool {
     let mut all = true;
     for byte in text {

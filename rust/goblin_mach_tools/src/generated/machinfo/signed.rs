@@ -5,16 +5,18 @@
 use crate::generated::mach_cli::{print_code_flags, print_name};
 use crate::shim::io;
 use crate::shim::io::Write;
-use goblin_mach::generated::mach::{Error, MachO, describe};
-use goblin_mach::generated::mach_signature::CodeDirectory;
-use goblin_mach::generated::mach_signature::image::code_directory;
+use goblin_mach::signature::CodeDirectory;
+use goblin_mach::signature::image::code_directory;
+use goblin_mach::{Error, MachO, describe};
 
 /// Prints whether an image is signed, and what the code directory says that is used; or the error. Returns whether all can be
 /// read.
 ///
-/// # Proved
+/// <details><summary>Proved</summary>
 ///
 /// - if `Ok(whole)`: `let there = image_directory (bytes_view image) (commands_view image) in (whole ≡ is_readable there) × WritesSignedLines there (O.contents out.old) (O.contents out.new)`
+///
+/// </details>
 pub fn print_signed<O: Write>(image: &MachO<'_>, out: &mut O) -> io::Result<bool> {
     let directory = code_directory(image);
     print_answer(&directory, out)?;
@@ -23,12 +25,12 @@ pub fn print_signed<O: Write>(image: &MachO<'_>, out: &mut O) -> io::Result<bool
 
 /// Whether a code directory and its names can be read, or there is none.
 ///
-/// # Proved
+/// <details><summary>Proved</summary>
 ///
 /// - `result ≡ is_readable (read_as (option_map directory_view) answer)`
-pub fn is_readable(
-    answer: &goblin_mach::generated::mach::Result<Option<CodeDirectory<'_>>>,
-) -> bool {
+///
+/// </details>
+pub fn is_readable(answer: &goblin_mach::Result<Option<CodeDirectory<'_>>>) -> bool {
     match answer {
         Ok(Some(directory)) => directory.identifier().is_ok() && directory.team().is_ok(),
         Ok(None) => true,
@@ -38,7 +40,7 @@ pub fn is_readable(
 
 // Prints an answer.
 fn print_answer<O: Write>(
-    answer: &goblin_mach::generated::mach::Result<Option<CodeDirectory<'_>>>,
+    answer: &goblin_mach::Result<Option<CodeDirectory<'_>>>,
     out: &mut O,
 ) -> io::Result<()> {
     match answer {
@@ -64,9 +66,11 @@ fn print_directory<O: Write>(directory: &CodeDirectory<'_>, out: &mut O) -> io::
 
 /// Whether the flags say that a signature is ad hoc, made without an identity.
 ///
-/// # Proved
+/// <details><summary>Proved</summary>
 ///
 /// - `result ≡ not (bit_and flags 2 == 0)`
+///
+/// </details>
 pub fn is_ad_hoc(flags: u32) -> bool {
     flags & 2 != 0
 }
@@ -93,7 +97,7 @@ fn print_team<O: Write>(directory: &CodeDirectory<'_>, out: &mut O) -> io::Resul
 // Prints the line of a label and a name.
 fn print_facts<O: Write>(
     label: &str,
-    name: goblin_mach::generated::mach::Result<Option<&str>>,
+    name: goblin_mach::Result<Option<&str>>,
     out: &mut O,
 ) -> io::Result<()> {
     write!(out, "{label}: ")?;

@@ -3,18 +3,20 @@
 #![forbid(unsafe_code)]
 
 use crate::generated::mach_cli::{Escaped, cpu_name, image_kind, print_listing};
-use crate::generated::machinfo::command_facts::{CommandFacts, Question};
-use crate::generated::machinfo::fact::{FactLines, FactList};
+use crate::generated::machinfo::fact::FactLines;
 use crate::shim::io;
 use crate::shim::io::Write;
-use goblin_mach::generated::mach::MachO;
-use goblin_mach::generated::mach::header::{Header, flag_to_str};
+use goblin_mach::MachO;
+use goblin_mach::audit::{CommandFacts, FactList, Question};
+use goblin_mach::header::{Header, flag_to_str};
 
 /// Prints the first lines of an image, each list up to the limit. Returns whether all were printed and can be read.
 ///
-/// # Proved
+/// <details><summary>Proved</summary>
 ///
 /// - if `Ok(whole)`: there is `text : List ℕ` with: `AreFrontLines limit (facts_view image) text whole × Appends (O.contents out.old) (O.contents out.new) text`
+///
+/// </details>
 pub fn print_front<O: Write>(image: &MachO<'_>, limit: usize, out: &mut O) -> io::Result<bool> {
     print_kind(&image.header, out)?;
     print_image_name(image.name, out)?;
@@ -25,14 +27,17 @@ pub fn print_front<O: Write>(image: &MachO<'_>, limit: usize, out: &mut O) -> io
     let list = FactList::Tools(image.build_tools());
     let tools = print_list(list, "tool: refused", limit, out)?;
     print_flags(image.header.flags, out)?;
+    print_base(image.base(), out)?;
     Ok(uuids & platforms & tools)
 }
 
 /// Prints the libraries of an image and its run paths. Returns whether all were printed.
 ///
-/// # Proved
+/// <details><summary>Proved</summary>
 ///
 /// - if `Ok(whole)`: there is `text : List ℕ` with: `AreUsedLines limit (facts_view image) text whole × Appends (O.contents out.old) (O.contents out.new) text`
+///
+/// </details>
 pub fn print_used<O: Write>(image: &MachO<'_>, limit: usize, out: &mut O) -> io::Result<bool> {
     let list = FactList::Libraries(image.libraries());
     let libraries = print_list(list, "library", limit, out)?;
@@ -102,11 +107,18 @@ fn print_flag<O: Write>(flag: u32, out: &mut O) -> io::Result<()> {
     }
 }
 
+// Prints the address of the first byte.
+fn print_base<O: Write>(base: u64, out: &mut O) -> io::Result<()> {
+    writeln!(out, "base: 0x{base:x}")
+}
+
 /// Returns the name of a bit of the header's flags without its prefix, if it has one.
 ///
-/// # Proved
+/// <details><summary>Proved</summary>
 ///
 /// - `text_in result ≡ flag_short_name (flag_name flag)`
+///
+/// </details>
 pub fn flag_short_name(flag: u32) -> Option<&'static str> {
     match flag_to_str(flag).strip_prefix("MH_") {
         Some(name) => Some(name),

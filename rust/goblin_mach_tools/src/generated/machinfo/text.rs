@@ -3,10 +3,10 @@
 #![forbid(unsafe_code)]
 
 use crate::generated::mach_cli::VersionText;
-use crate::generated::machinfo::command_facts::PlatformFact;
 use core::fmt;
 use core::fmt::{Display, Formatter};
-use goblin_mach::generated::mach::load_command::{
+use goblin_mach::audit::PlatformFact;
+use goblin_mach::load_command::{
     PLATFORM_BRIDGEOS, PLATFORM_DRIVERKIT, PLATFORM_IOS, PLATFORM_IOSSIMULATOR,
     PLATFORM_MACCATALYST, PLATFORM_MACOS, PLATFORM_TVOS, PLATFORM_TVOSSIMULATOR, PLATFORM_VISIONOS,
     PLATFORM_VISIONOSSIMULATOR, PLATFORM_WATCHOS, PLATFORM_WATCHOSSIMULATOR, TOOL_CLANG, TOOL_LD,
@@ -15,9 +15,11 @@ use goblin_mach::generated::mach::load_command::{
 
 /// Returns the name of a platform by its number.
 ///
-/// # Proved
+/// <details><summary>Proved</summary>
 ///
 /// - `result ≡ platform_name number`
+///
+/// </details>
 pub fn platform_name(number: u32) -> &'static str {
     match number {
         PLATFORM_MACOS => "macos",
@@ -38,9 +40,11 @@ pub fn platform_name(number: u32) -> &'static str {
 
 /// Returns the name of a tool by its number; none if it is not known.
 ///
-/// # Proved
+/// <details><summary>Proved</summary>
 ///
 /// - `result ≡ tool_name number`
+///
+/// </details>
 pub fn tool_name(number: u32) -> &'static str {
     match number {
         TOOL_CLANG => "clang",

@@ -3,21 +3,22 @@
 #![forbid(unsafe_code)]
 
 use crate::generated::mach_cli::{
-    AddressLinesOf, AllStretches, ImageView, InForm, Line, Outcome, Pairs, ShowFailure,
+    AddressLinesOf, AllStretches, ImageView, InForm, Line, Outcome, Pairs, ShowFailure, print_cut,
     print_listing,
 };
 use crate::generated::machinfo::counts::{COUNTED, Form, print_counts};
-use crate::generated::machinfo::exports::{ExportList, exports_of};
+use crate::generated::machinfo::export_rows::{ExportForm, print_exports_of, walk_of};
 use crate::generated::machinfo::imports::ImportList;
 use crate::generated::machinfo::list_lines::print_in_form;
 use crate::generated::machinfo::part_lines::print_parts;
 use crate::generated::machinfo::signed::print_signed;
-use crate::generated::machinfo::state::{print_state, state_of};
+use crate::generated::machinfo::state::print_state;
 use crate::generated::machinfo::summary::{print_front, print_used};
 use crate::generated::machinfo::word::{Choice, Part, Word};
 use crate::shim::io;
 use crate::shim::io::Write;
-use goblin_mach::generated::mach::MachO;
+use goblin_mach::MachO;
+use goblin_mach::audit::state_of;
 
 /// The lines of what a call selects, or of the summary.
 #[derive(Clone, Copy)]
@@ -67,20 +68,20 @@ fn print_list<O: Write>(
     }
 }
 
-// Prints the exports of an image, at most `left` of them, or the fault of its trie.
+// Prints the exports of an image as a walk meets them, at most `left` of them. A fault of the trie is the last line.
 fn print_exports<O: Write>(
     image: &MachO<'_>,
     limit: usize,
     left: usize,
     out: &mut O,
 ) -> Result<Outcome, ShowFailure> {
-    let (exports, refusal) = exports_of(image)?;
-    let list = ExportList {
-        refusal,
-        exports: exports.as_slice(),
-    };
-    let mut lines = InForm { list, form: Line };
-    Ok(print_listing(&mut lines, "refused", limit, left, out)?)
+    let walk = walk_of(image)?;
+    let shown = print_exports_of(ExportForm::Lines, image.base(), walk, left, out)?;
+    print_cut(limit, shown.more, out)?;
+    Ok(Outcome {
+        whole: shown.whole & !shown.more,
+        left: shown.left,
+    })
 }
 
 // Prints what dyld binds in an image, at most `left` binds; one that can't be read is a line that says why.

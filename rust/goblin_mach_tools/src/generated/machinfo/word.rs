@@ -70,9 +70,11 @@ pub enum Part {
 impl Choice {
     /// Returns what this spelling selects, if anything.
     ///
-    /// # Proved
+    /// <details><summary>Proved</summary>
     ///
     /// - `result ≡ choice_named text`
+    ///
+    /// </details>
     pub fn named(text: &str) -> Option<Choice> {
         match text {
             "exports" => Some(Choice::Exports),
@@ -85,9 +87,11 @@ impl Choice {
 impl Word {
     /// Returns the word with this spelling, if there is one.
     ///
-    /// # Proved
+    /// <details><summary>Proved</summary>
     ///
     /// - `result ≡ word_named text`
+    ///
+    /// </details>
     pub fn named(text: &str) -> Option<Word> {
         match text {
             "commands" => Some(Word::Commands),
@@ -115,9 +119,11 @@ impl Word {
 
     /// Returns the spelling of the word.
     ///
-    /// # Proved
+    /// <details><summary>Proved</summary>
     ///
     /// - `result ≡ spelling_of self`
+    ///
+    /// </details>
     pub fn name(self) -> &'static str {
         match self {
             Word::Commands => "commands",

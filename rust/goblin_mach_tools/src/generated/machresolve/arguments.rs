@@ -9,9 +9,11 @@ pub const DEFAULT_LIMIT: usize = 10_000_000;
 
 /// Returns the selected cpu, if not all are selected.
 ///
-/// # Proved
+/// <details><summary>Proved</summary>
 ///
 /// - `result ≡ selected_cpu cpu`
+///
+/// </details>
 pub fn selected_cpu(cpu: Cpu) -> Option<Cpu> {
     match cpu {
         Cpu::Any => None,

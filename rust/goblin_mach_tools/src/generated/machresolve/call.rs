@@ -2,7 +2,7 @@
 //! The arguments of a run.
 #![forbid(unsafe_code)]
 
-use crate::generated::machresolve::inputs::Given;
+use goblin_mach::resolve::Given;
 
 /// The arguments of a run.
 #[derive(Clone, Copy)]
@@ -18,9 +18,11 @@ pub struct Call<'a, 'b> {
 impl<'a> Call<'a, '_> {
     /// Returns the file with a number.
     ///
-    /// # Proved
+    /// <details><summary>Proved</summary>
     ///
     /// - `given_view result ≡ file_at (call_view_of self) number`
+    ///
+    /// </details>
     pub fn file_at(&self, number: usize) -> Given<'a> {
         match number.checked_sub(1) {
             Some(index) => self.libraries.get(index).copied().unwrap_or(self.program),

@@ -3,14 +3,11 @@
 #![forbid(unsafe_code)]
 
 use crate::generated::mach_cli::{Cpu, Escaped};
-use crate::generated::machresolve::answers::Answer;
 use crate::generated::machresolve::call::Call;
-use crate::generated::machresolve::follow::NamePlace;
-use crate::generated::machresolve::inputs::Given;
-use crate::generated::machresolve::note::Note;
 use core::fmt;
 use core::fmt::{Display, Formatter};
-use goblin_mach::generated::mach::Provider;
+use goblin_mach::Provider;
+use goblin_mach::resolve::{Answer, Given, NamePlace, Note};
 
 // The provider of a name.
 #[derive(Clone, Copy)]
@@ -78,23 +75,27 @@ impl<'a> Display for PlaceText<'a> {
     }
 }
 
-impl<'a> Answer<'a> {
+/// The answer for a binding.
+#[derive(Clone, Copy)]
+pub struct AnswerText<'a>(pub Answer<'a>);
+
+impl<'a> AnswerText<'a> {
     // Returns the words before the place, if the name may be missing and is.
     fn front(&self) -> &'static str {
-        match self.place {
+        match self.0.place {
             NamePlace::Found { .. } | NamePlace::LeadsBack { .. } => "",
-            _ if self.is_weak => "weak, ",
+            _ if self.0.is_weak => "weak, ",
             _ => "",
         }
     }
 }
 
-impl<'a> Display for Answer<'a> {
+impl<'a> Display for AnswerText<'a> {
     fn fmt(&self, f: &mut Formatter<'_>) -> fmt::Result {
-        let name = Escaped(self.name);
-        let provider = ProviderText(self.provider);
+        let name = Escaped(self.0.name);
+        let provider = ProviderText(self.0.provider);
         let front = self.front();
-        let place = PlaceText(self.place);
+        let place = PlaceText(self.0.place);
         write!(f, "{name} {provider} {front}{place}")
     }
 }

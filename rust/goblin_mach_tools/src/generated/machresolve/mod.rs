@@ -8,38 +8,28 @@
 //! `--limit` says; a line says so if an image has more than what is left.
 #![forbid(unsafe_code)]
 
-use crate::shim::TryGrow;
 use crate::shim::rt::HostRuntime;
 use alloc::vec::Vec;
+use goblin_mach::internals::shim::TryGrow;
 
-// The place of each of a program's bindings in some libraries.
-mod answers;
-mod file;
-mod files;
-mod follow;
-mod inputs;
-mod reexports;
-mod resolve;
-mod special;
+// The reports of programs.
+mod report;
 mod table;
 
-// What is printed of the answers.
+// What is printed of them.
 mod arguments;
 mod call;
-mod failure;
 mod lines;
-mod note;
 mod output;
 mod refusal;
-mod report;
 
 use crate::generated::mach_cli::{
     Color, Cpu, Format, Misuse, Options, Program, Progress, SharedOnly,
 };
 use crate::generated::machresolve::arguments::{DEFAULT_LIMIT, selected_cpu};
-use crate::generated::machresolve::inputs::Given;
 use crate::generated::machresolve::output::{NAME, run};
 use crate::shim::io::IsTerminal;
+use goblin_mach::resolve::Given;
 use std::process::ExitCode;
 
 const PROGRAM: Program = Program {

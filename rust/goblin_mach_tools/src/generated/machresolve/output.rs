@@ -4,17 +4,15 @@
 
 use crate::generated::mach_cli::output::failed;
 use crate::generated::mach_cli::{Cpu, most_items};
-use crate::generated::machresolve::answers::Answer;
 use crate::generated::machresolve::call::Call;
-use crate::generated::machresolve::inputs::Given;
-use crate::generated::machresolve::lines::{NoteText, NothingText};
-use crate::generated::machresolve::note::{Note, Notes, note_all};
+use crate::generated::machresolve::lines::{AnswerText, NoteText, NothingText};
 use crate::generated::machresolve::refusal::RefusalText;
 use crate::generated::machresolve::report::{Outcome, Report, report_on};
-use crate::generated::machresolve::resolve::Resolved;
-use crate::shim::indexmap::IndexSet;
 use crate::shim::io;
 use crate::shim::io::{BufWriter, Write};
+use goblin_mach::internals::mach_resolve::{Notes, note_all};
+use goblin_mach::internals::shim::indexmap::IndexSet;
+use goblin_mach::resolve::{Answer, Given, Note, Resolved};
 
 /// The program's name.
 pub const NAME: &str = "machresolve";
@@ -26,11 +24,13 @@ pub const NAME: &str = "machresolve";
 /// allocation is refused. It is 2 or 141 if a write fails. Unless a write fails, nothing is left in the buffer. The lines of one
 /// image are written whole or not at all. Notes, and the reason if nothing is printed, go to `err`.
 ///
-/// # Proved
+/// <details><summary>Proved</summary>
 ///
 /// - *status*: `IsStatus result`
 /// - *runs*: if `result ≤ 1`, `IsRun wanted (most_items limit program.entry.bytes) (given_view program.entry) (map given_view libraries) result (writer_contents W.contents out.old) (writer_contents W.contents out.new) (E.contents err.old) (E.contents err.new)`
 /// - *flushed*: if `result ≤ 1`, `writer_buffer out.new ≡ []`
+///
+/// </details>
 pub fn run<'a, W: Write, E: Write>(
     wanted: Option<Cpu>,
     limit: usize,
@@ -164,13 +164,14 @@ fn print_more<O: Write>(limit: usize, more: bool, out: &mut O) -> io::Result<()>
 // Prints a line for each answer, in order.
 fn print_answers<O: Write>(answers: &[Answer<'_>], out: &mut O) -> io::Result<()> {
     for answer in answers {
-        writeln!(out, "{answer}")?;
+        let text = AnswerText(*answer);
+        writeln!(out, "{text}")?;
     }
     Ok(())
 }
 
 // Returns the notes of a program, each once.
-fn notes_in<'a>(report: &Report<'a>) -> Result<Notes<'a>, crate::shim::AllocError> {
+fn notes_in<'a>(report: &Report<'a>) -> Result<Notes<'a>, goblin_mach::AllocError> {
     let mut notes = IndexSet::new();
     match report {
         Report::One(outcome) => note_outcome(&mut notes, outcome)?,
@@ -184,7 +185,7 @@ fn notes_in<'a>(report: &Report<'a>) -> Result<Notes<'a>, crate::shim::AllocErro
 fn note_entries<'a>(
     notes: &mut Notes<'a>,
     outcomes: &[Outcome<'a>],
-) -> Result<(), crate::shim::AllocError> {
+) -> Result<(), goblin_mach::AllocError> {
     for outcome in outcomes {
         note_outcome(notes, outcome)?;
     }
@@ -195,7 +196,7 @@ fn note_entries<'a>(
 fn note_outcome<'a>(
     notes: &mut Notes<'a>,
     outcome: &Outcome<'a>,
-) -> Result<(), crate::shim::AllocError> {
+) -> Result<(), goblin_mach::AllocError> {
     match outcome {
         Outcome::Answered(resolved) => note_all(notes, &resolved.notes),
         Outcome::Archive | Outcome::Refused { .. } => Ok(()),

@@ -3,11 +3,11 @@
 #![forbid(unsafe_code)]
 
 use crate::generated::mach_cli::{Escaped, refused_kind};
-use crate::generated::machresolve::inputs::Given;
 use core::fmt;
 use core::fmt::{Display, Formatter};
-use goblin_mach::generated::mach::fat::{FatHeader, SIZEOF_FAT_ARCH, SIZEOF_FAT_HEADER};
-use goblin_mach::generated::mach::{Error, Foreign, describe};
+use goblin_mach::fat::{FatHeader, SIZEOF_FAT_ARCH, SIZEOF_FAT_HEADER};
+use goblin_mach::resolve::Given;
+use goblin_mach::{Error, Foreign, describe};
 
 // Whether the bytes hold all records that their header counts, if they are a fat file.
 fn has_table(bytes: &[u8]) -> bool {

@@ -2,16 +2,16 @@
 //! The report of a program: of one image, or of each entry of a fat file.
 #![forbid(unsafe_code)]
 
-use crate::shim::TryGrow;
 use alloc::vec::Vec;
+use goblin_mach::internals::shim::TryGrow;
 
 use crate::generated::mach_cli::{Cpu, begins_whole_archive};
-use crate::generated::machresolve::answers::all_settled;
-use crate::generated::machresolve::failure::ResolveFailure;
-use crate::generated::machresolve::inputs::{Given, archive_error};
-use crate::generated::machresolve::resolve::{Resolved, resolve};
 use crate::generated::machresolve::table::find_entry;
-use goblin_mach::generated::mach::{ArchRecord, Error, FatTable, Input};
+use goblin_mach::internals::mach_resolve::archive_error;
+use goblin_mach::resolve::{
+    Given, ResolveFailure, Resolved, all_settled, resolve_first as resolve,
+};
+use goblin_mach::{ArchRecord, Error, FatTable, Input};
 
 /// The outcome for one program.
 pub enum Outcome<'a> {
@@ -64,9 +64,11 @@ fn all_whole(outcomes: &[Outcome<'_>]) -> bool {
 impl<'a> Report<'a> {
     /// Whether all is answered and settled, and nothing was refused.
     ///
-    /// # Proved
+    /// <details><summary>Proved</summary>
     ///
     /// - `result ≡ all_whole (report_view self)`
+    ///
+    /// </details>
     pub fn is_whole(&self) -> bool {
         match self {
             Report::One(outcome) => outcome.is_whole(),
@@ -221,11 +223,13 @@ fn report_fat<'a, R: ArchRecord>(
 /// Returns the report of a program: all of it, or what it has for the selected cpu. Of the bindings of its images, in order, the
 /// first `limit` are answered. It fails only if an allocation is refused.
 ///
-/// # Proved
+/// <details><summary>Proved</summary>
 ///
 /// - *reported*: if `Ok(r)`: `IsProgramReport limit (given_view program.entry) (map given_view libraries) wanted (report_view r)`
 /// - *few*: if `Ok(r)`: `answers_in (report_view r) ≤ limit`
 /// - *memory*: if `Err(failure)`: `failure ≡ failures.Memory`
+///
+/// </details>
 pub fn report_on<'a>(
     wanted: Option<Cpu>,
     limit: usize,

@@ -3,13 +3,15 @@
 #![forbid(unsafe_code)]
 
 use crate::generated::mach_cli::Cpu;
-use goblin_mach::generated::mach::{ArchRecord, Error, FatTable};
+use goblin_mach::{ArchRecord, Error, FatTable};
 
 /// Finds the first record of an entry for a cpu. Returns None if there is none, or the error of an unreadable record before it.
 ///
-/// # Proved
+/// <details><summary>Proved</summary>
 ///
-/// - `Reads (λ found. found) result (first_arch_for R.arch_form cpu (archs_in R.arch_form (file_view container)))`
+/// - `Reads (λ found. found) result (first_arch_for R.arch_form (is_of_cpu cpu) (archs_in R.arch_form (file_view container)))`
+///
+/// </details>
 pub fn find_entry<R: ArchRecord>(
     container: &FatTable<'_, R>,
     cpu: Cpu,

@@ -8,10 +8,8 @@ use crate::shim::io;
 use crate::shim::io::Write;
 use core::fmt;
 use core::fmt::{Display, Formatter};
-use goblin_mach::generated::mach_base::Result;
-use goblin_mach::generated::mach_signature::{
-    Blob, Blobs, CodeSignature, SlotName, is_directory_slot,
-};
+use goblin_mach::Result;
+use goblin_mach::signature::{Blob, Blobs, CodeSignature, SlotName, is_directory_slot};
 
 /// A blob that is no directory: its slot, and the number of its bytes after its header.
 #[derive(Clone, Copy)]
@@ -68,10 +66,12 @@ pub struct OtherBlobs<'a> {
 impl<'a> OtherBlobs<'a> {
     /// Returns the blobs of a signature.
     ///
-    /// # Proved
+    /// <details><summary>Proved</summary>
     ///
     /// - *blobs*: `blobs_yet result ≡ other_blobs_of (signature_view signature)`
     /// - *form*: `result.form ≡ form`
+    ///
+    /// </details>
     pub fn of(signature: &CodeSignature<'a>, form: Form) -> Self {
         OtherBlobs {
             form,

@@ -9,16 +9,18 @@ use crate::generated::machsign::special::{MOST_SLOTS, SpecialSlots};
 use crate::generated::machsign::text::{HeadFront, RuntimeText, SegmentFront, ShapeText};
 use crate::shim::io;
 use crate::shim::io::Write;
-use goblin_mach::generated::mach_signature::{
+use goblin_mach::signature::{
     CodeDirectory, CodeFault, CodeFaults, ExecutableSegment, HashType, RuntimeFields, SignedBytes,
     SpecialFaults,
 };
 
 /// Prints the lines of an image's code directory in a slot.
 ///
-/// # Proved
+/// <details><summary>Proved</summary>
 ///
 /// - if `Ok`: `Appends (O.contents out.old) (O.contents out.new) (defined.directory_lines (signed_view signed) slot (directory_view directory))`
+///
+/// </details>
 pub fn print_directory<O: Write>(
     signed: &SignedBytes<'_>,
     slot: u32,
@@ -84,7 +86,7 @@ fn print_team<O: Write>(directory: &CodeDirectory<'_>, out: &mut O) -> io::Resul
 // Prints the line of a label and a name.
 fn print_name<O: Write>(
     label: &str,
-    name: goblin_mach::generated::mach_base::Result<Option<&str>>,
+    name: goblin_mach::Result<Option<&str>>,
     out: &mut O,
 ) -> io::Result<()> {
     write!(out, "  {label}: ")?;

@@ -2,22 +2,15 @@
 //! The entitlements of a file.
 #![forbid(unsafe_code)]
 
-pub mod agreement;
-mod compare;
-mod der;
-mod digits;
-mod front;
-mod parts;
-mod spelling;
-mod xml;
-
 use crate::generated::mach_cli::output::failed;
-use crate::generated::mach_cli::{Cpu, Label, Names, Refusal, complain, refusal_of};
+use crate::generated::mach_cli::{
+    Cpu, Label, Names, Refusal, complain, entry_counts, items_shown, refusal_of,
+};
 use crate::shim::io;
 use crate::shim::io::{BufWriter, Write};
-use goblin_mach::generated::mach::{Content, EntryCpu, Error, Input, InputItem, MachO, Result};
-use goblin_mach::generated::mach_signature::CodeSignature;
-use goblin_mach::generated::mach_signature::image::code_signature;
+use goblin_mach::signature::CodeSignature;
+use goblin_mach::signature::image::code_signature;
+use goblin_mach::{Content, EntryCpu, Error, Input, InputItem, MachO, Result};
 
 /// The program's name.
 pub const NAME: &str = "machsign";
@@ -83,10 +76,12 @@ fn of_item<'a>(cpu: Cpu, item: InputItem<'a>) -> Result<Option<&'a [u8]>> {
     }
 }
 
-// Returns the entitlements of the first selected image of a file that has some: the file itself, an entry or a member.
+// Returns the entitlements of the first selected image of a file that has some: the file itself, an entry or a member. It goes over
+// the items that are shown.
 fn first_in<'a>(cpu: Cpu, bytes: &'a [u8]) -> Result<Option<&'a [u8]>> {
     let input = Input::parse(bytes)?;
-    for item in input.images() {
+    let shown = items_shown(bytes, input.images());
+    for item in shown {
         match of_item(cpu, item)? {
             Some(found) => return Ok(Some(found)),
             None => {}
@@ -102,6 +97,16 @@ fn put<W: Write>(bytes: &[u8], out: &mut BufWriter<W>) -> io::Result<()> {
     Ok(())
 }
 
+// Returns why no entitlements are written of a file whose shown images have none: entries are left out, or no image has some.
+fn reason_of_none(bytes: &[u8]) -> Refusal<'static> {
+    let left_out = entry_counts(bytes).left_out;
+    if left_out == 0 {
+        Refusal::Lacks("no entitlements")
+    } else {
+        Refusal::LeftOut(left_out)
+    }
+}
+
 // Reports why no entitlements of a file are written, and returns the status.
 fn refuse<E: Write>(file: &str, refusal: Refusal<'_>, err: &mut E) -> u8 {
     let names = Names {
@@ -114,18 +119,21 @@ fn refuse<E: Write>(file: &str, refusal: Refusal<'_>, err: &mut E) -> u8 {
     }
 }
 
-/// Writes the entitlements of the first selected image of a file, an archive or a fat file that has some, and nothing else.
+/// Writes the entitlements of the first selected image of a file, an archive or a fat file that has some, and nothing else. Of a
+/// fat file it goes over the entries that are shown.
 ///
 /// Returns the exit status. It is 0 if they were written, and then nothing is left in the buffer. It is 1 if there are none, or
 /// the file or an allocation is refused; then `err` has a line that says why, and `out` nothing. It is 2 or 141 if a write fails.
 ///
-/// # Proved
+/// <details><summary>Proved</summary>
 ///
 /// - *status*: `IsStatus result`
-/// - *written*: if `result ≡ 0`, there is `found : List ℕ` with: `EntitlesItems cpu (items_in bytes) (Some found) × Appends (writer_contents W.contents out.old) (writer_contents W.contents out.new) found`
+/// - *written*: if `result ≡ 0`, there is `found : List ℕ` with: `EntitlesItems cpu (shown_items bytes) (Some found) × Appends (writer_contents W.contents out.old) (writer_contents W.contents out.new) found`
 /// - *flushed*: if `result ≡ 0`, `writer_buffer out.new ≡ []`
 /// - *nothing*: if `result ≡ 1`, `Appends (writer_contents W.contents out.old) (writer_contents W.contents out.new) []`
 /// - *reported*: if `result ≡ 1`, there is `said : List ℕ` with: `SaysWhyNone cpu (names_text (codes "machsign") file) bytes said × Appends (E.contents err.old) (E.contents err.new) said`
+///
+/// </details>
 pub fn run_entitlements<W: Write, E: Write>(
     cpu: Cpu,
     file: &str,
@@ -138,7 +146,7 @@ pub fn run_entitlements<W: Write, E: Write>(
             Ok(()) => 0,
             Err(error) => failed(NAME, "", error, err),
         },
-        Ok(None) => refuse(file, Refusal::Lacks("no entitlements"), err),
+        Ok(None) => refuse(file, reason_of_none(bytes), err),
         Err(error) => refuse(file, refusal_of(bytes, &error), err),
     }
 }

@@ -5,17 +5,17 @@
 use crate::generated::mach_cli::{ListProgress, comma_before, print_name};
 use crate::generated::machsign::form::Form;
 use crate::generated::machsign::members::write_name;
-use crate::generated::machsign::page::{
-    ChangedPage, Place, first_directory, is_repeated, page_of, place_of,
-};
 use crate::shim::io;
 use crate::shim::io::Write;
 use core::fmt;
 use core::fmt::{Display, Formatter};
-use goblin_mach::generated::mach::Result;
-use goblin_mach::generated::mach::segment::Segment;
-use goblin_mach::generated::mach_base::read_text;
-use goblin_mach::generated::mach_signature::{SignatureFault, SignedBytes, SlotName};
+use goblin_mach::Result;
+use goblin_mach::read_text;
+use goblin_mach::segment::Segment;
+use goblin_mach::signature::page::{
+    ChangedPage, Place, first_directory, is_repeated, page_of, place_of,
+};
+use goblin_mach::signature::{SignatureFault, SignedBytes, SlotName};
 
 // The name of an alternate directory's slot before what it reports.
 #[derive(Clone, Copy)]
@@ -121,9 +121,11 @@ fn write_fault<O: Write>(
 /// Writes the first faults that are shown, up to a limit, in a form: all but an alternate directory's pages that the first directory
 /// reports, too. Returns whether there is none, how many more may be written, and whether there are more.
 ///
-/// # Proved
+/// <details><summary>Proved</summary>
 ///
 /// - if `Ok(x)`: `defined.WritesFaults form (map segment_view segments) limit (signed_view signed) (O.contents out.old) (O.contents out.new) x`
+///
+/// </details>
 pub fn write_faults<O: Write>(
     form: Form,
     segments: &[Segment<'_>],

@@ -5,15 +5,17 @@
 use crate::generated::mach_cli::print_bytes;
 use crate::shim::io;
 use crate::shim::io::Write;
-use goblin_mach::generated::mach_signature::HashType;
-use goblin_mach::generated::sha1::Sha1;
-use goblin_mach::generated::sha2::{Digest, Sha256, Sha384};
+use goblin_mach::internals::sha1::Sha1;
+use goblin_mach::internals::sha2::{Digest, Sha256, Sha384};
+use goblin_mach::signature::HashType;
 
 /// Prints the hash of some bytes.
 ///
-/// # Proved
+/// <details><summary>Proved</summary>
 ///
 /// - if `Ok`: `Appends (O.contents out.old) (O.contents out.new) (bytes_text (hash_of hash bytes))`
+///
+/// </details>
 pub fn print_hash_of<O: Write>(hash: HashType, bytes: &[u8], out: &mut O) -> io::Result<()> {
     match hash {
         HashType::Sha1 => print_bytes(&Sha1::digest(bytes), out),

@@ -5,7 +5,7 @@
 use crate::generated::mach_cli::{ImageView, Outcome, ShowFailure};
 use crate::generated::machsign::members::write_members;
 use crate::shim::io::Write;
-use goblin_mach::generated::mach::MachO;
+use goblin_mach::MachO;
 
 /// The object of the signature of an image: its blobs, the fields of the code directory that is used, and a string for everything
 /// that differs from what was signed. The limit is that of its blobs and its faults together.

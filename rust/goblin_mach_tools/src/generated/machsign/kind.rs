@@ -5,8 +5,8 @@
 use crate::generated::mach_cli::word_if;
 use core::fmt;
 use core::fmt::{Display, Formatter};
-use goblin_mach::generated::mach_base::Result;
-use goblin_mach::generated::mach_signature::{CodeDirectory, SignedBytes};
+use goblin_mach::Result;
+use goblin_mach::signature::{CodeDirectory, SignedBytes};
 
 /// The CMS message of a signature, which says who signed.
 #[derive(Clone, Copy)]
@@ -31,9 +31,11 @@ impl Cms {
 
     /// Whether there is a message that can be read.
     ///
-    /// # Proved
+    /// <details><summary>Proved</summary>
     ///
     /// - `result ≡ defined.has_cms self`
+    ///
+    /// </details>
     pub fn is_there(self) -> bool {
         match self {
             Cms::Lacking => false,
@@ -44,9 +46,11 @@ impl Cms {
 
     /// Returns why it isn't known who signed.
     ///
-    /// # Proved
+    /// <details><summary>Proved</summary>
     ///
     /// - `result ≡ defined.why_unknown self`
+    ///
+    /// </details>
     pub fn why_unknown(self) -> &'static str {
         match self {
             Cms::Lacking => "no CMS",
@@ -78,9 +82,11 @@ pub struct Kind {
 impl Kind {
     /// Returns the kind of a signature of which a code directory is used.
     ///
-    /// # Proved
+    /// <details><summary>Proved</summary>
     ///
     /// - `result ≡ defined.kind_of (signed_view signed) (directory_view directory)`
+    ///
+    /// </details>
     pub fn of(signed: &SignedBytes<'_>, directory: &CodeDirectory<'_>) -> Kind {
         Kind {
             flags: directory.head.flags,
@@ -95,36 +101,44 @@ impl Kind {
 
     /// Whether no one signed: the signature only seals (`CS_ADHOC`).
     ///
-    /// # Proved
+    /// <details><summary>Proved</summary>
     ///
     /// - `result ≡ defined.is_ad_hoc self`
+    ///
+    /// </details>
     pub fn is_ad_hoc(self) -> bool {
         self.has_flag(0x2)
     }
 
     /// Whether a linker signed (`CS_LINKER_SIGNED`).
     ///
-    /// # Proved
+    /// <details><summary>Proved</summary>
     ///
     /// - `result ≡ defined.is_linker_signed self`
+    ///
+    /// </details>
     pub fn is_linker_signed(self) -> bool {
         self.has_flag(0x20000)
     }
 
     /// Whether the program is to run hardened (`CS_RUNTIME`).
     ///
-    /// # Proved
+    /// <details><summary>Proved</summary>
     ///
     /// - `result ≡ defined.has_hardened_runtime self`
+    ///
+    /// </details>
     pub fn has_hardened_runtime(self) -> bool {
         self.has_flag(0x10000)
     }
 
     /// Whether the signature itself requires that libraries are validated (`CS_REQUIRE_LV`).
     ///
-    /// # Proved
+    /// <details><summary>Proved</summary>
     ///
     /// - `result ≡ defined.has_library_validation self`
+    ///
+    /// </details>
     pub fn has_library_validation(self) -> bool {
         self.has_flag(0x2000)
     }
@@ -132,9 +146,11 @@ impl Kind {
 
 /// Returns the CMS message of a signature.
 ///
-/// # Proved
+/// <details><summary>Proved</summary>
 ///
 /// - `result ≡ defined.cms_of (signed_view signed)`
+///
+/// </details>
 pub fn cms_of(signed: &SignedBytes<'_>) -> Cms {
     Cms::of(signed.signature.cms())
 }

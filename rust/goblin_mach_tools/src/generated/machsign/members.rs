@@ -3,10 +3,8 @@
 #![forbid(unsafe_code)]
 
 use crate::generated::mach_cli::{JsonString, Outcome, print_array, print_bytes};
+use crate::generated::machsign::agreement::AgreementObject;
 use crate::generated::machsign::blobs::OtherBlobs;
-use crate::generated::machsign::entitlements::agreement::{
-    Agreement, AgreementObject, agreement_in,
-};
 use crate::generated::machsign::faults::write_faults;
 use crate::generated::machsign::form::Form;
 use crate::generated::machsign::full_hash::print_hash_of;
@@ -19,18 +17,19 @@ use crate::shim::io;
 use crate::shim::io::Write;
 use core::fmt;
 use core::fmt::{Display, Formatter};
-use goblin_mach::generated::mach::segment::Segment;
-use goblin_mach::generated::mach::{Error, MachO, Result, describe};
-use goblin_mach::generated::mach_signature::{
-    CodeDirectory, ExecutableSegment, RuntimeFields, SignedBytes,
-};
+use goblin_mach::segment::Segment;
+use goblin_mach::signature::entitlements::{Agreement, agreement_in};
+use goblin_mach::signature::{CodeDirectory, ExecutableSegment, RuntimeFields, SignedBytes};
+use goblin_mach::{Error, MachO, Result, describe};
 
 /// Writes the members of an image: of the blobs and the faults of its signature together the first `left`. Returns whether it has
 /// a signature without a fault and all were written, and how many are left.
 ///
-/// # Proved
+/// <details><summary>Proved</summary>
 ///
 /// - if `Ok(outcome)`: `defined.WritesSignatureMembers left (segments_view image) (image_signed (bytes_view image) (commands_view image) (segments_view image)) outcome.whole outcome.left (O.contents out.old) (O.contents out.new)`
+///
+/// </details>
 pub fn write_members<O: Write>(image: &MachO<'_>, left: usize, out: &mut O) -> io::Result<Outcome> {
     write!(out, "\"kind\":\"image\",\"signature\":")?;
     match signed_image(image) {
@@ -270,11 +269,13 @@ fn write_team<O: Write>(directory: &CodeDirectory<'_>, out: &mut O) -> io::Resul
 
 /// Writes a name that may be there.
 ///
-/// # Proved
+/// <details><summary>Proved</summary>
 ///
 /// - if `Ok`: `Appends (O.contents out.old) (O.contents out.new) (json_name (read_as (option_map (λ text. text)) name.entry))`
+///
+/// </details>
 pub fn write_name<O: Write>(
-    name: goblin_mach::generated::mach_base::Result<Option<&str>>,
+    name: goblin_mach::Result<Option<&str>>,
     out: &mut O,
 ) -> io::Result<()> {
     match name {

@@ -10,6 +10,7 @@
 
 use crate::shim::rt::HostRuntime;
 
+mod agreement;
 mod arguments;
 mod blobs;
 mod block;
@@ -20,12 +21,8 @@ mod full_hash;
 mod json;
 mod kind;
 mod members;
-mod page;
 mod print;
-mod requirement;
 mod requirement_lines;
-mod requirement_print;
-mod requirement_text;
 mod signature_view;
 mod signed;
 mod special;

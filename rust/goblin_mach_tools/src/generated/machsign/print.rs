@@ -3,9 +3,9 @@
 #![forbid(unsafe_code)]
 
 use crate::generated::mach_cli::{Outcome, print_cut, print_rows};
+use crate::generated::machsign::agreement::print_agreement;
 use crate::generated::machsign::blobs::OtherBlobs;
 use crate::generated::machsign::block::print_directory;
-use crate::generated::machsign::entitlements::agreement::{agreement_in, print_agreement};
 use crate::generated::machsign::faults::write_faults;
 use crate::generated::machsign::form::Form;
 use crate::generated::machsign::kind::{Cms, Kind, cms_of};
@@ -13,17 +13,20 @@ use crate::generated::machsign::requirement_lines::print_requirements;
 use crate::generated::machsign::signed::{has_sound_parts, signed_image};
 use crate::shim::io;
 use crate::shim::io::Write;
-use goblin_mach::generated::mach::segment::Segment;
-use goblin_mach::generated::mach::{Error, MachO, describe};
-use goblin_mach::generated::mach_signature::{CodeDirectory, SignedBytes};
+use goblin_mach::segment::Segment;
+use goblin_mach::signature::entitlements::agreement_in;
+use goblin_mach::signature::{CodeDirectory, SignedBytes};
+use goblin_mach::{Error, MachO, describe};
 
 /// Prints the lines of an image's signature: of its blobs and its faults together the first `left`, and if there are more, a line
 /// that says that `limit` are printed. Returns whether the image has a signature without a fault and all lines were printed, and
 /// how many are left.
 ///
-/// # Proved
+/// <details><summary>Proved</summary>
 ///
 /// - if `Ok(outcome)`: `defined.WritesSignature limit left (segments_view image) (image_signed (bytes_view image) (commands_view image) (segments_view image)) outcome.whole outcome.left (O.contents out.old) (O.contents out.new)`
+///
+/// </details>
 pub fn print_signature<O: Write>(
     image: &MachO<'_>,
     limit: usize,
@@ -98,7 +101,7 @@ fn print_each_directory<O: Write>(signed: &SignedBytes<'_>, out: &mut O) -> io::
 // Prints the lines of a directory, if it can be read.
 fn print_found<O: Write>(
     signed: &SignedBytes<'_>,
-    found: &(u32, goblin_mach::generated::mach::Result<CodeDirectory<'_>>),
+    found: &(u32, goblin_mach::Result<CodeDirectory<'_>>),
     out: &mut O,
 ) -> io::Result<()> {
     match &found.1 {

@@ -5,7 +5,7 @@
 use crate::generated::mach_cli::{ImageView, Outcome, ShowFailure};
 use crate::generated::machsign::print::print_signature;
 use crate::shim::io::Write;
-use goblin_mach::generated::mach::MachO;
+use goblin_mach::MachO;
 
 /// The lines of the signature of an image. The limit is that of its blobs and its faults together.
 #[derive(Clone, Copy)]

@@ -2,26 +2,28 @@
 //! The signature of an image, with the bytes of the image.
 #![forbid(unsafe_code)]
 
-use crate::generated::machsign::entitlements::agreement::{agreement_in, is_agreed};
-use crate::generated::machsign::requirement_lines::has_readable_requirements;
-use goblin_mach::generated::mach::{MachO, Result};
-use goblin_mach::generated::mach_signature::image::{image_plist, signature_place};
-use goblin_mach::generated::mach_signature::{SignedBytes, code_signature};
+use goblin_mach::signature::image::{image_plist, signature_place};
+use goblin_mach::signature::{SignedBytes, code_signature};
+use goblin_mach::{MachO, Result};
 
 /// Whether the entitlements of a signature say the same, if it has them in XML and in DER, and its requirements can be read.
 ///
-/// # Proved
+/// <details><summary>Proved</summary>
 ///
 /// - `result ≡ has_sound_parts (signed_view signed)`
+///
+/// </details>
 pub fn has_sound_parts(signed: &SignedBytes<'_>) -> bool {
-    is_agreed(agreement_in(&signed.signature)) && has_readable_requirements(&signed.signature)
+    signed.signature.entitlements_agree() && signed.signature.has_readable_requirements()
 }
 
 /// Returns the signature of an image, if it has one, with the bytes of the image.
 ///
-/// # Proved
+/// <details><summary>Proved</summary>
 ///
 /// - `Reads (option_map signed_view) result (image_signed (bytes_view image) (commands_view image) (segments_view image))`
+///
+/// </details>
 pub fn signed_image<'a>(image: &MachO<'a>) -> Result<Option<SignedBytes<'a>>> {
     let Some((dataoff, datasize)) = signature_place(image.load_commands.as_slice()) else {
         return Ok(None);

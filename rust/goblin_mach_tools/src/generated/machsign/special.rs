@@ -8,8 +8,8 @@ use crate::shim::io;
 use crate::shim::io::Write;
 use core::fmt;
 use core::fmt::{Display, Formatter};
-use goblin_mach::generated::mach_base::Result;
-use goblin_mach::generated::mach_signature::{
+use goblin_mach::Result;
+use goblin_mach::signature::{
     CodeDirectory, SignedBytes, SlotName, SpecialFault, component, is_unsealing,
 };
 
@@ -153,10 +153,12 @@ pub struct SpecialSlots<'a> {
 impl<'a> SpecialSlots<'a> {
     /// Returns the slots of an image's directory.
     ///
-    /// # Proved
+    /// <details><summary>Proved</summary>
     ///
     /// - *slots*: `slots_yet result ≡ defined.slots_in form (signed_view signed) (directory_view directory)`
     /// - *form*: `result.form ≡ form`
+    ///
+    /// </details>
     pub fn of(signed: &SignedBytes<'a>, directory: &CodeDirectory<'a>, form: Form) -> Self {
         SpecialSlots {
             signed: *signed,

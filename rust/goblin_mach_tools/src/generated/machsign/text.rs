@@ -4,7 +4,7 @@
 
 use core::fmt;
 use core::fmt::{Display, Formatter};
-use goblin_mach::generated::mach_signature::{DirectoryHead, HashType, SlotName};
+use goblin_mach::signature::{DirectoryHead, HashType, SlotName};
 
 // The name of a kind of hash.
 #[derive(Clone, Copy)]

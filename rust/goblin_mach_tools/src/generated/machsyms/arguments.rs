@@ -145,9 +145,11 @@ impl OwnOptions for SymbolOptions {
 
 /// Returns what is selected of a file: all symbols in table order, unless a letter says otherwise.
 ///
-/// # Proved
+/// <details><summary>Proved</summary>
 ///
 /// - `result ≡ defined.selected_of letters is_raw file.entry`
+///
+/// </details>
 pub fn selected_of<'a>(letters: Option<Letters>, is_raw: bool, file: &'a str) -> Request<'a> {
     match letters {
         Some(letters) => letters.request(is_raw, file),
@@ -160,9 +162,11 @@ pub fn selected_of<'a>(letters: Option<Letters>, is_raw: bool, file: &'a str) ->
 
 /// Whether each line has the name of its file before it.
 ///
-/// # Proved
+/// <details><summary>Proved</summary>
 ///
 /// - `result ≡ defined.names_files letters`
+///
+/// </details>
 pub fn names_files(letters: Option<Letters>) -> bool {
     match letters {
         Some(letters) => letters.has_file,

@@ -7,7 +7,7 @@ use crate::generated::machsyms::arguments::{Letters, selected_of};
 use crate::generated::machsyms::members::write_members;
 use crate::generated::machsyms::symbol_view::keys_of_image;
 use crate::shim::io::Write;
-use goblin_mach::generated::mach::MachO;
+use goblin_mach::MachO;
 
 /// The objects of the symbols that letters select, in the selected order. The form of lines and the name of the file before them
 /// don't affect it.

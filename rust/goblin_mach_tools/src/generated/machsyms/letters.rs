@@ -2,21 +2,21 @@
 //! The letters that `nm` prints for what a symbol is.
 #![forbid(unsafe_code)]
 
-use crate::shim::TryGrow;
 use alloc::vec::Vec;
+use goblin_mach::internals::shim::TryGrow;
 
-use crate::shim::AllocError;
-use goblin_mach::generated::mach::MachO;
-use goblin_mach::generated::mach::segment::{Section, SectionData, Segment};
-use goblin_mach::generated::mach::symbols::{
-    MAX_SECT, N_ABS, N_EXT, N_INDR, N_SECT, N_UNDF, Nlist,
-};
+use goblin_mach::AllocError;
+use goblin_mach::MachO;
+use goblin_mach::segment::{Section, SectionData, Segment};
+use goblin_mach::symbols::{MAX_SECT, N_ABS, N_EXT, N_INDR, N_SECT, N_UNDF, Nlist};
 
 /// Returns the sections of all segments of the image in order, as many as a symbol can name; `None` is one that can't be read.
 ///
-/// # Proved
+/// <details><summary>Proved</summary>
 ///
 /// - if `Ok(v)`: `v.items ≡ named_sections (segments_view image)`
+///
+/// </details>
 pub fn named_sections(image: &MachO<'_>) -> Result<Vec<Option<Section>>, AllocError> {
     sections_held(image.segments.as_slice())
 }
@@ -45,9 +45,7 @@ fn add_sections(
 }
 
 // Returns a section, if it can be read.
-fn item_section(
-    item: goblin_mach::generated::mach::Result<(Section, SectionData<'_>)>,
-) -> Option<Section> {
+fn item_section(item: goblin_mach::Result<(Section, SectionData<'_>)>) -> Option<Section> {
     match item {
         Ok((section, _)) => Some(section),
         Err(_) => None,
@@ -56,9 +54,11 @@ fn item_section(
 
 /// Returns a letter for each section.
 ///
-/// # Proved
+/// <details><summary>Proved</summary>
 ///
 /// - if `Ok(v)`: `v.items ≡ map letter_of sections`
+///
+/// </details>
 pub fn section_letters(sections: &[Option<Section>]) -> Result<Vec<char>, AllocError> {
     let mut letters = Vec::new();
     for section in sections {
@@ -77,9 +77,11 @@ fn letter_of(section: &Option<Section>) -> char {
 
 /// Returns the section with a number, counted from 1, if it is among these and can be read.
 ///
-/// # Proved
+/// <details><summary>Proved</summary>
 ///
 /// - `section_option_view result ≡ section_by sections number`
+///
+/// </details>
 pub fn section_by(number: usize, sections: &[Option<Section>]) -> Option<&Section> {
     match number.checked_sub(1) {
         Some(index) => match sections.get(index) {
@@ -109,7 +111,7 @@ fn is_called(section: &Section, segment: &str, name: &str) -> bool {
 }
 
 // Whether a name is this one.
-fn is_name(name: goblin_mach::generated::mach::Result<&str>, wanted: &str) -> bool {
+fn is_name(name: goblin_mach::Result<&str>, wanted: &str) -> bool {
     match name {
         Ok(text) => text == wanted,
         Err(_) => false,
@@ -118,9 +120,11 @@ fn is_name(name: goblin_mach::generated::mach::Result<&str>, wanted: &str) -> bo
 
 /// Returns the letter of a symbol, given the letters of the image's sections.
 ///
-/// # Proved
+/// <details><summary>Proved</summary>
 ///
 /// - `result ≡ symbol_letter sections symbol`
+///
+/// </details>
 pub fn symbol_letter(symbol: &Nlist, sections: &[char]) -> char {
     let letter = type_letter(symbol, sections);
     if symbol.n_type & N_EXT == 0 {

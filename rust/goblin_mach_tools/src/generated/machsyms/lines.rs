@@ -10,7 +10,7 @@ use crate::generated::machsyms::setting::Setting;
 use crate::generated::machsyms::text::SymbolText;
 use crate::shim::io;
 use crate::shim::io::Write;
-use goblin_mach::generated::mach::symbols::Symbols;
+use goblin_mach::symbols::Symbols;
 
 /// The lines of a table's selected symbols, from one on.
 pub struct SymbolLines<'c, 's, 'k, 'b, 'a> {
@@ -23,10 +23,12 @@ pub struct SymbolLines<'c, 's, 'k, 'b, 'a> {
 impl<'c, 's, 'k, 'b, 'a> SymbolLines<'c, 's, 'k, 'b, 'a> {
     /// Returns the lines of a table, in table order or by the keys; `past` more symbols begin past the end of the bytes.
     ///
-    /// # Proved
+    /// <details><summary>Proved</summary>
     ///
     /// - *lines*: `lines_left result ≡ selected_lines request.entry (setting_view setting) (gone_over request.entry.sorting keys (table_of table))`
     /// - *past*: `lines_past result ≡ past`
+    ///
+    /// </details>
     pub fn of(
         request: Request<'s>,
         setting: &'c Setting<'b, 'a>,
@@ -46,9 +48,7 @@ impl<'c, 's, 'k, 'b, 'a> SymbolLines<'c, 's, 'k, 'b, 'a> {
 impl<'c, 's, 'k, 'b, 'a> Listing for SymbolLines<'c, 's, 'k, 'b, 'a> {
     type Row = SymbolText<'c, 's, 'b, 'a>;
 
-    fn next_row(
-        &mut self,
-    ) -> Option<goblin_mach::generated::mach::Result<SymbolText<'c, 's, 'b, 'a>>> {
+    fn next_row(&mut self) -> Option<goblin_mach::Result<SymbolText<'c, 's, 'b, 'a>>> {
         let (request, setting) = (self.request, self.setting);
         match self.symbols.take_next()? {
             Ok((name, symbol)) => Some(Ok(SymbolText {

@@ -9,7 +9,7 @@ use crate::shim::io;
 use crate::shim::io::Write;
 use core::fmt;
 use core::fmt::{Display, Formatter};
-use goblin_mach::generated::mach::symbols::{Nlist, SymbolIterator, Symbols};
+use goblin_mach::symbols::{Nlist, SymbolIterator, Symbols};
 
 // The symbols of a table by their keys, from one on.
 #[derive(Clone, Copy)]
@@ -21,7 +21,7 @@ struct KeyedSymbols<'k, 'a> {
 
 impl<'a> KeyedSymbols<'_, 'a> {
     // Returns the next symbol.
-    fn take_next(&mut self) -> Option<goblin_mach::generated::mach::Result<(&'a str, Nlist)>> {
+    fn take_next(&mut self) -> Option<goblin_mach::Result<(&'a str, Nlist)>> {
         let index = self.index;
         match self.keys.get(index) {
             Some(key) => {
@@ -53,7 +53,7 @@ impl<'k, 'a> Source<'k, 'a> {
     }
 
     // Returns the next symbol.
-    fn take_next(&mut self) -> Option<goblin_mach::generated::mach::Result<(&'a str, Nlist)>> {
+    fn take_next(&mut self) -> Option<goblin_mach::Result<(&'a str, Nlist)>> {
         match self {
             Source::Table(symbols) => symbols.next(),
             Source::Keys(symbols) => symbols.take_next(),
@@ -85,9 +85,7 @@ impl Display for SymbolRow<'_> {
 }
 
 // Returns a symbol with its name, or its error.
-fn row_of<'a>(
-    answer: goblin_mach::generated::mach::Result<(&'a str, Nlist)>,
-) -> goblin_mach::generated::mach::Result<SymbolRow<'a>> {
+fn row_of<'a>(answer: goblin_mach::Result<(&'a str, Nlist)>) -> goblin_mach::Result<SymbolRow<'a>> {
     match answer {
         Ok((name, symbol)) => Ok(SymbolRow { name, symbol }),
         Err(error) => Err(error),
@@ -103,9 +101,11 @@ pub struct RequestedSymbols<'s, 'k, 'a> {
 impl<'s, 'k, 'a> RequestedSymbols<'s, 'k, 'a> {
     /// Returns the symbols of a table, in table order or by the keys.
     ///
-    /// # Proved
+    /// <details><summary>Proved</summary>
     ///
     /// - `selected_left result ≡ filter (takes request.entry) (gone_over request.entry.sorting keys (table_of table))`
+    ///
+    /// </details>
     pub fn of(request: Request<'s>, keys: &'k [SortKey<'a>], table: &'k Symbols<'a>) -> Self {
         RequestedSymbols {
             request,
@@ -115,10 +115,12 @@ impl<'s, 'k, 'a> RequestedSymbols<'s, 'k, 'a> {
 
     /// Returns the next selected symbol.
     ///
-    /// # Proved
+    /// <details><summary>Proved</summary>
     ///
     /// - `YieldsFirstBy symbol_read selected_left self.old result self.new`
-    pub fn take_next(&mut self) -> Option<goblin_mach::generated::mach::Result<(&'a str, Nlist)>> {
+    ///
+    /// </details>
+    pub fn take_next(&mut self) -> Option<goblin_mach::Result<(&'a str, Nlist)>> {
         while let Some(answer) = self.source.take_next() {
             if self.request.takes(&answer) {
                 return Some(answer);
@@ -131,7 +133,7 @@ impl<'s, 'k, 'a> RequestedSymbols<'s, 'k, 'a> {
 impl<'a> Listing for RequestedSymbols<'_, '_, 'a> {
     type Row = SymbolRow<'a>;
 
-    fn next_row(&mut self) -> Option<goblin_mach::generated::mach::Result<SymbolRow<'a>>> {
+    fn next_row(&mut self) -> Option<goblin_mach::Result<SymbolRow<'a>>> {
         match self.take_next() {
             Some(answer) => Some(row_of(answer)),
             None => None,

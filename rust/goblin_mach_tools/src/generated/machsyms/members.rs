@@ -8,15 +8,17 @@ use crate::generated::machsyms::order::SortKey;
 use crate::generated::machsyms::selection::Request;
 use crate::shim::io;
 use crate::shim::io::Write;
-use goblin_mach::generated::mach::symbols::Symbols;
+use goblin_mach::symbols::Symbols;
 
 /// Writes the members of an image with the symbols of its table, if it has one. They have exactly one object for each selected
 /// symbol, also for one that can't be read, in table order or by the keys: the first `left`; whether there are more; and how many
 /// begin past the end. Returns whether all were written and can be read, and how many more may be.
 ///
-/// # Proved
+/// <details><summary>Proved</summary>
 ///
 /// - if `Ok(outcome)`: `WritesSymbolMembers left (symbol_members request (symbols_over (gone_over request.sorting keys) (option_map table_of table))) (past_the_end (option_map table_of table)) outcome.whole outcome.left (O.contents out.old) (O.contents out.new)`
+///
+/// </details>
 pub fn write_members<'a, O: Write>(
     request: &Request<'_>,
     keys: &[SortKey<'a>],

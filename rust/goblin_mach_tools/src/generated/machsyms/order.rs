@@ -2,13 +2,13 @@
 //! The order of an image's symbols.
 #![forbid(unsafe_code)]
 
-use crate::shim::{TryGrow, TrySort};
 use alloc::vec::Vec;
+use goblin_mach::internals::shim::{TryGrow, TrySort};
 
 use crate::generated::machsyms::selection::{SortedBy, Sorting, is_elsewhere};
-use crate::shim::AllocError;
 use core::cmp::Reverse;
-use goblin_mach::generated::mach::symbols::{Nlist, Symbols};
+use goblin_mach::AllocError;
+use goblin_mach::symbols::{Nlist, Symbols};
 
 // The rank of a symbol: of two symbols the first difference decides.
 type Rank<'a> = (u8, u64, &'a str, u64);
@@ -25,7 +25,7 @@ pub struct SortKey<'a> {
 fn key_of<'a>(
     by: SortedBy,
     index: usize,
-    answer: goblin_mach::generated::mach::Result<(&'a str, Nlist)>,
+    answer: goblin_mach::Result<(&'a str, Nlist)>,
 ) -> SortKey<'a> {
     let Ok((name, symbol)) = answer else {
         let rank = (2, 0, "", 0);
@@ -60,9 +60,11 @@ fn sort_keys(keys: &mut Vec<SortKey<'_>>, is_reversed: bool) -> Result<(), Alloc
 
 /// Returns the keys of a table's symbols, in the selected order.
 ///
-/// # Proved
+/// <details><summary>Proved</summary>
 ///
 /// - if `Ok(v)`: `AreKeysInOrder sorting (table_of table) v.items`
+///
+/// </details>
 pub fn keys_in_order<'a>(
     sorting: Sorting,
     table: &Symbols<'a>,

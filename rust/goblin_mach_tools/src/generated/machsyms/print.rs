@@ -10,16 +10,18 @@ use crate::generated::machsyms::lines::SymbolLines;
 use crate::generated::machsyms::order::SortKey;
 use crate::generated::machsyms::selection::Request;
 use crate::generated::machsyms::setting::Setting;
-use crate::shim::AllocError;
 use crate::shim::io;
 use crate::shim::io::Write;
-use goblin_mach::generated::mach::symbols::Symbols;
+use goblin_mach::AllocError;
+use goblin_mach::symbols::Symbols;
 
 /// Returns the word before the error of a symbol that can't be read.
 ///
-/// # Proved
+/// <details><summary>Proved</summary>
 ///
 /// - if `Ok(word)`: `string_bytes word ≡ unreadable_word request`
+///
+/// </details>
 pub fn unreadable_word(request: &Request<'_>) -> Result<String, AllocError> {
     let file = FileText {
         file: request.file,
@@ -35,9 +37,11 @@ pub fn unreadable_word(request: &Request<'_>) -> Result<String, AllocError> {
 /// records begin past the end. Returns whether there are none of these and all were printed and can be read, and how many lines
 /// are left.
 ///
-/// # Proved
+/// <details><summary>Proved</summary>
 ///
 /// - if `Ok(outcome)`: `WritesFirstLines word limit left (selected_lines request (setting_view setting) (symbols_over (gone_over request.sorting keys) (option_map table_of table))) (codes "symbols") (past_the_end (option_map table_of table)) outcome.whole outcome.left (O.contents out.old) (O.contents out.new)`
+///
+/// </details>
 pub fn print_symbols<O: Write>(
     request: &Request<'_>,
     setting: &Setting<'_, '_>,

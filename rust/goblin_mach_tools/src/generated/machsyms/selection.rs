@@ -2,7 +2,7 @@
 //! Which symbols are selected, in which order, and in which form.
 #![forbid(unsafe_code)]
 
-use goblin_mach::generated::mach::symbols::{N_EXT, N_UNDF, Nlist};
+use goblin_mach::symbols::{N_EXT, N_UNDF, Nlist};
 
 /// What symbols are sorted by.
 #[derive(Clone, Copy)]
@@ -69,10 +69,12 @@ impl Request<'_> {
 
     /// Whether a symbol is selected. One that can't be read always is.
     ///
-    /// # Proved
+    /// <details><summary>Proved</summary>
     ///
     /// - `result ≡ takes self (symbol_read answer)`
-    pub fn takes(&self, answer: &goblin_mach::generated::mach::Result<(&str, Nlist)>) -> bool {
+    ///
+    /// </details>
+    pub fn takes(&self, answer: &goblin_mach::Result<(&str, Nlist)>) -> bool {
         let Ok((_, symbol)) = answer else {
             return true;
         };
@@ -85,9 +87,11 @@ impl Request<'_> {
 
 /// Whether another image defines a symbol: it is external, has the type N_UNDF, and no value.
 ///
-/// # Proved
+/// <details><summary>Proved</summary>
 ///
 /// - `result ≡ is_elsewhere symbol`
+///
+/// </details>
 pub fn is_elsewhere(symbol: &Nlist) -> bool {
     !symbol.is_stab()
         && symbol.n_type & N_EXT != 0

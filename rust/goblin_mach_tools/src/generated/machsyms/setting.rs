@@ -5,9 +5,9 @@
 use crate::generated::machsyms::letters::section_by;
 use crate::generated::machsyms::nm::descriptions::SymbolWords;
 use crate::generated::machsyms::nm::origin::origin_of;
-use goblin_mach::generated::mach::MachO;
-use goblin_mach::generated::mach::segment::Section;
-use goblin_mach::generated::mach::symbols::Nlist;
+use goblin_mach::MachO;
+use goblin_mach::segment::Section;
+use goblin_mach::symbols::Nlist;
 
 /// What the lines of symbols need of their image.
 pub struct Setting<'b, 'a> {
@@ -21,9 +21,11 @@ pub struct Setting<'b, 'a> {
 impl<'b, 'a> Setting<'b, 'a> {
     /// Returns the setting of an image with these sections and their letters.
     ///
-    /// # Proved
+    /// <details><summary>Proved</summary>
     ///
     /// - if `sections ≡ named_sections (segments_view image)`, if `letters ≡ letters_of (segments_view image)`, `setting_view result ≡ setting_of image.is_64 (facts_view image)`
+    ///
+    /// </details>
     pub fn new(image: &'b MachO<'a>, sections: &'b [Option<Section>], letters: &'b [char]) -> Self {
         Setting {
             letters,
@@ -34,9 +36,11 @@ impl<'b, 'a> Setting<'b, 'a> {
 
     /// Returns the words for a symbol of this name, with names as they are or escaped.
     ///
-    /// # Proved
+    /// <details><summary>Proved</summary>
     ///
     /// - `words_shown result ≡ symbol_described is_raw (setting_view self) name symbol`
+    ///
+    /// </details>
     pub fn words<'c>(&'c self, is_raw: bool, name: &'c str, symbol: &'c Nlist) -> SymbolWords<'c> {
         SymbolWords {
             symbol,

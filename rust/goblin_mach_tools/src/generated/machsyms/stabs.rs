@@ -2,7 +2,7 @@
 //! The names that `nm` prints for debugging entries.
 #![forbid(unsafe_code)]
 
-use goblin_mach::generated::mach::symbols::{
+use goblin_mach::symbols::{
     N_AST, N_BCOMM, N_BINCL, N_BNSYM, N_ECOML, N_ECOMM, N_EINCL, N_ENSYM, N_ENTRY, N_EXCL, N_FNAME,
     N_FUN, N_GSYM, N_LBRAC, N_LCSYM, N_LENG, N_LSYM, N_OLEVEL, N_OPT, N_OSO, N_PARAMS, N_PC,
     N_PSYM, N_RBRAC, N_RSYM, N_SLINE, N_SO, N_SOL, N_SSYM, N_STSYM, N_VERSION,
@@ -10,9 +10,11 @@ use goblin_mach::generated::mach::symbols::{
 
 /// Returns the name of a type of debugging entry, if it has one.
 ///
-/// # Proved
+/// <details><summary>Proved</summary>
 ///
 /// - `option_map (λ name. name) result ≡ stab_name n_type`
+///
+/// </details>
 pub fn stab_name(n_type: u8) -> Option<&'static str> {
     Some(match n_type {
         N_GSYM => "GSYM",

@@ -11,10 +11,10 @@ use crate::generated::machsyms::order::{SortKey, keys_in_order};
 use crate::generated::machsyms::print::{print_symbols, unreadable_word};
 use crate::generated::machsyms::selection::Sorting;
 use crate::generated::machsyms::setting::Setting;
-use crate::shim::AllocError;
 use crate::shim::io::Write;
-use goblin_mach::generated::mach::MachO;
-use goblin_mach::generated::mach::symbols::Symbols;
+use goblin_mach::AllocError;
+use goblin_mach::MachO;
+use goblin_mach::symbols::Symbols;
 
 /// The lines of the symbols that letters select.
 #[derive(Clone, Copy)]
@@ -53,9 +53,11 @@ impl ImageView for SymbolLinesOf {
 
 /// Returns the keys of a table's symbols in the selected order, if there is a table; none if the symbols stay in table order.
 ///
-/// # Proved
+/// <details><summary>Proved</summary>
 ///
 /// - if `Ok(v)`: `AreImageKeys sorting (option_map table_of table) v.items`
+///
+/// </details>
 pub fn keys_of_image<'a>(
     sorting: Option<Sorting>,
     table: &Option<Symbols<'a>>,

@@ -9,7 +9,7 @@ use crate::generated::machsyms::setting::Setting;
 use crate::generated::machsyms::stabs::stab_name;
 use core::fmt;
 use core::fmt::{Display, Formatter};
-use goblin_mach::generated::mach::symbols::Nlist;
+use goblin_mach::symbols::Nlist;
 
 /// A symbol as it is printed, in the selected form.
 pub struct SymbolText<'c, 's, 'b, 'a> {

@@ -17,7 +17,7 @@ returns-clause-items c = λ x over.
       by_opcodes = by_opcodes;
       fixups = fixup_rows_left it.fixups;
       opcodes = c.opcode_cursor.ensures.items x over.opcodes;
-      chains = c.cursor.ensures (record { chained = x.chained; segments = x.binds.segments }) over.fixups;
+      chains = c.cursor.ensures.items (record { chained = x.chained; segments = x.binds.segments }) over.fixups;
       are = ap (λ (l : List (Result Binding Fault)). upto_fault (by_opcodes ++ l))
           (same_chains x.chained x.binds it.fixups it.segments.now it.base (texts it.libs.now) over.fixups over.libs over.segments over.base);
     }
@@ -25,6 +25,6 @@ returns-clause-items c = λ x over.
 pub returns-clause-placed : goal.returns-clause-placed
 returns-clause-placed c = λ x over.
     let it = c.args.self.now in
-    let chains = c.cursor.ensures (record { chained = x.chained; segments = x.binds.segments }) over.fixups in
+    let chains = c.cursor.ensures.items (record { chained = x.chained; segments = x.binds.segments }) over.fixups in
     whole x _ it.opcodes it.fixups _ _ _ _ over.fixups over.libs over.segments over.base over.chains_at (c.opcode_cursor.ensures.items x over.opcodes)
     (c.opcode_cursor.ensures.sites x over.opcodes) chains

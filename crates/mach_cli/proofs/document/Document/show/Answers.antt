@@ -14,7 +14,7 @@ pub returns-in-Ok-Fat : goal.returns-in-Ok-Fat
 returns-in-Ok-Fat g c =
     let arm = c.in-Ok-Fat in
     let held = rw (arm.is, arm.field-0-is) at c.open.ensures.held in
-    c.show_fat.ensures c.args.bytes.now held.0 (subst (IsFatTable c.args.bytes.now held.0) (sym c.as_slice.ensures.value) held.1) held.2
+    c.show_fat.ensures held.0 (subst (IsFatTable c.args.bytes.now held.0) (sym c.as_slice.ensures.value) held.1) held.2
 
 pub returns-in-Err : goal.returns-in-Err
 returns-in-Err g c =

@@ -3,37 +3,24 @@ use Rattle.std.proofs.Math.Bool.{and-true}
 use Rattle.std.specs.Prelude.{true, false, ◌&&◌}
 use Rattle.mach_base.proofs.Written.{Appends-none, Appends-both}
 use Rattle.goblin_mach.specs.Items.{ItemView}
-use Rattle.goblin_mach.specs.ItemsLeft.{input_item_read, input_items_left}
+use Rattle.goblin_mach.specs.ItemsLeft.{input_item_read}
 use Rattle.mach_cli.specs.Names.{names_text}
+use Rattle.mach_cli.specs.Selected.{within_left}
 use Rattle.mach_cli.specs.Shown.{ShowsItems, both, nothing, separated}
-use Rattle.mach_cli.proofs.Showing.{Follows, item_passed, item_shown, items_shown}
+use Rattle.mach_cli.proofs.Showing.{Follows, item_shown, items_shown}
 use Rattle.mach_cli.proofs.document.Document.show_items.Goals as goal
 
 pub items-init : goal.items-init
 items-init g c =
     let d = c.args.self.now in
     let file = d.names.file.now in
-    let same = ap input_items_left c.into_iter-item-iterator.ensures.into_iter_gives in (
+    let same = ap within_left c.into_iter-item-iterator.ensures.into_iter_gives in (
       nothing d.limit,
       refl,
       refl,
       λ later more. subst (λ (xs : List ItemView). ShowsItems g.K.Sink.texts (names_text d.names.program.now file) file
-          (g.V.ImageView.lines d.view.now file d.limit) d.cpu true d.limit xs later) same more,
+          (g.V.ImageView.lines d.view.now file d.limit) c.args.bytes.now true d.limit xs later) same more,
       record { text = Appends-none _; message = Appends-none _ },
-    )
-
-pub items-preserved-then-not-is_for : goal.items-preserved-then-not-is_for
-items-preserved-then-not-is_for g c =
-    let d = c.args.self.now in
-    let file = d.names.file.now in
-    let before = c.items.invariant in (
-      before.0,
-      before.1,
-      before.2,
-      item_passed g.K.Sink.texts (names_text d.names.program.now file) file (g.V.ImageView.lines d.view.now file d.limit) d.cpu d.limit
-          (input_items_left c.args.images) c.items.is_first c.items.left (input_items_left c.items.item-iterator) (input_item_read c.in-Some.item)
-          (input_items_left c.next.new.self) before.0 c.in-Some.ensures.steps before.3 (sym c.is_for.ensures ∙ c.if-not-is_for.true),
-      before.4,
     )
 
 pub items-preserved : goal.items-preserved
@@ -43,18 +30,18 @@ items-preserved g c =
     let file = d.names.file.now in
     let names = names_text d.names.program.now file in
     let lines = g.V.ImageView.lines d.view.now file d.limit in
-    let all = input_items_left c.args.images in
-    let rest = input_items_left c.next.new.self in
+    let all = within_left c.args.items in
+    let rest = within_left c.next.new.self in
     let before = c.items.invariant in
     let one = c.in_ok-outcome.ensures in
     let last = separated k c.items.is_first one.0 in
-    let follows = item_shown k names file lines d.cpu d.limit all c.items.is_first c.items.left (input_items_left c.items.item-iterator)
-    (input_item_read c.in-Some.item) rest before.0 one.0 c.in-Some.ensures.steps before.3 (sym c.is_for.ensures ∙ c.if-not-is_for.false) one.1
+    let follows = item_shown k names file lines c.args.bytes.now d.limit all c.items.is_first c.items.left (within_left c.items.item-iterator)
+    (input_item_read c.in-Some.item) rest before.0 one.0 c.in-Some.ensures.steps before.3 one.1
     in (
       both before.0 last,
       ap (λ first. first && one.0.whole) before.1 ∙ ap (λ second. c.items.whole && second) one.2,
       one.3,
-      subst (λ (left : ℕ). Follows k names file lines d.cpu d.limit all false left rest (both before.0 last)) one.3 follows,
+      subst (λ (left : ℕ). Follows k names file lines c.args.bytes.now d.limit all false left rest (both before.0 last)) one.3 follows,
       record {
         text = Appends-both _ _ _ before.0.text last.text before.4.text (Appends-both _ _ _ _ one.0.text c.in_ok-separate.ensures one.4.text);
         message = Appends-both _ _ _ before.0.message one.0.message before.4.message one.4.message;
@@ -67,8 +54,8 @@ returns g c =
     let file = d.names.file.now in
     let before = c.items.invariant in (
       both before.0 (nothing c.items.left),
-      items_shown g.K.Sink.texts (names_text d.names.program.now file) file (g.V.ImageView.lines d.view.now file d.limit) d.cpu d.limit
-          (input_items_left c.args.images) c.items.is_first c.items.left (input_items_left c.items.item-iterator) before.0 c.in-None.ensures.steps.0 before.3,
+      items_shown g.K.Sink.texts (names_text d.names.program.now file) file (g.V.ImageView.lines d.view.now file d.limit) c.args.bytes.now d.limit
+          (within_left c.args.items) c.items.is_first c.items.left (within_left c.items.item-iterator) before.0 c.in-None.ensures.steps.0 before.3,
       and-true before.0.whole ∙ before.1,
       record {
         text = Appends-both _ _ _ before.0.text [] before.4.text (Appends-none _);

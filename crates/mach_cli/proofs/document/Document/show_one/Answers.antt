@@ -32,7 +32,7 @@ returns g c = λ bytes opened.
       one_image one.0 (taken_of d.cpu bytes _ true opened (sym c.takes.ensures ∙ c.if-not-takes.false)) one.1,
       one.2,
       record {
-        text = three _ _ _ _ k.file_front one.0.text (k.file_end (codes "image") file) c.in_ok-begin_file.ensures one.4.text c.in_ok-end_file.ensures;
+        text = three _ _ _ _ (k.file_front 0) one.0.text (k.file_end false (codes "image") file) c.in_ok-begin_file.ensures one.4.text c.in_ok-end_file.ensures;
         message = one.4.message;
       },
     )

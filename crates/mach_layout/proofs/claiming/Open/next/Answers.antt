@@ -6,4 +6,4 @@ use Rattle.mach_layout.proofs.claiming.Open.next.Goals as goal
 pub returns : goal.returns
 returns c =
     table_next (laid_of c.args.layout.now) c.args.self.now c.in_ok-self.field-0 c.in_ok-claim.claim c.in_default.is c.in_default-take_section.ensures.more
-    c.in_ok-self.was (sym c.table_claim.ensures ∙ c.in_ok-claim.was)
+    c.in_ok-self.was (sym c.table_claim.ensures.value ∙ c.in_ok-claim.was)

@@ -11,5 +11,5 @@ invariant-loop-command g l =
       reported : l.faults.items ++ commands_again before (map command_of (drop l.command-index l.commands))
           ≡ l.fn.faults.items ++ commands_again [] (map command_of l.commands);
       firsts : AreFirsts l.firsts before;
-      len : length l.firsts ≡ 22;
+      len : length l.firsts ≡ 25;
     }

@@ -12,7 +12,7 @@ use Rattle.machinfo.proofs.Facts.{command_rows, command_rows_alone, starts_are, 
 use Rattle.machinfo.proofs.Facts.{data_rows, option_rows, tool_rows, note_rows, provider_rows, library_rows}
 use Rattle.machinfo.proofs.Facts.{part_rows, rebase_rows, weak_rows}
 use Rattle.machinfo.specs.Parts.{part_rows_left, part_rows_past}
-use Rattle.machinfo.specs.Security.{findings_left}
+use Rattle.mach_audit.specs.Security.{findings_left}
 use Rattle.machinfo.proofs.Verdicts.{verdict_rows}
 use Rattle.machinfo.proofs.list.ImageList.of.Goals as goal
 

@@ -1,8 +1,8 @@
 use Rattle.std.proofs.Common.{sym, subst}
 use Rattle.std.specs.Fmt.{HasWritten}
 use Rattle.machresolve.specs.Lines.{place_text}
-use Rattle.machresolve.specs.ResolveViews.{place_view_of}
-use Rattle.machresolve.specs.declared.follow.NamePlace.{NamePlace}
+use Rattle.mach_resolve.specs.ResolveViews.{place_view_of}
+use Rattle.mach_resolve.specs.declared.follow.NamePlace.{NamePlace}
 use Rattle.machresolve.proofs.Printed.{gap_text}
 use Rattle.machresolve.proofs.lines.PlaceTextDisplay.fmt.Goals as goal
 

@@ -56,6 +56,8 @@ impl<'a, R: ArchRecord> Iterator for ArchIterator<'a, R> {
     }
 }
 
+impl<'a, R: ArchRecord> core::iter::FusedIterator for ArchIterator<'a, R> {}
+
 impl<'a, R: ArchRecord> ExactSizeIterator for ArchIterator<'a, R> {
     /// Returns the number of records left.
     fn len(&self) -> usize {

@@ -9,6 +9,7 @@ use core::fmt;
 use core::fmt::{Debug, Formatter};
 
 /// An entry of a fat file.
+#[derive(Clone)]
 pub enum SingleArch<'a> {
     /// An image.
     MachO(MachO<'a>),
@@ -20,14 +21,14 @@ impl<'a> SingleArch<'a> {
     /// Opens the entry in these bytes. An image is opened strictly.
     pub(crate) fn open(bytes: &'a [u8]) -> Result<SingleArch<'a>> {
         let Some(front) = take_hint_bytes(bytes) else {
-            return Err(Error::Malformed("an entry has 16 bytes or more"));
+            return Err(Error::Malformed("an entry is shorter than 16 bytes"));
         };
         match peek_bytes(front)? {
             Hint::Archive => Ok(SingleArch::Archive(bytes)),
             Hint::Mach(_) => Ok(SingleArch::MachO(MachO::parse(bytes, 0)?)),
-            Hint::MachFat(_) | Hint::Unknown(_) => {
-                Err(Error::Malformed("an entry is an image or an archive"))
-            }
+            Hint::MachFat(_) | Hint::Unknown(_) => Err(Error::Malformed(
+                "an entry is neither an image nor an archive",
+            )),
         }
     }
 }

@@ -15,6 +15,7 @@ use core::fmt::{Debug, Formatter};
 use core::marker::PhantomData;
 
 /// A fat file with records of type `R`: images and archives for several cpus.
+#[derive(Clone)]
 pub struct FatTable<'a, R> {
     /// The number of entries that the header states.
     pub narches: usize,
@@ -37,9 +38,11 @@ impl<'a, R: ArchRecord> FatTable<'a, R> {
     /// Returns the fat file in these bytes, which must be at least 8. Its magic is not tested. It keeps the allocator for
     /// the images that it opens.
     ///
-    /// # Proved
+    /// <details><summary>Proved</summary>
     ///
     /// - `Reads file_view result (fat_file_in bytes)`
+    ///
+    /// </details>
     pub fn new(bytes: &'a [u8]) -> Result<FatTable<'a, R>> {
         let header = FatHeader::parse(bytes)?;
         Ok(FatTable {
@@ -51,28 +54,34 @@ impl<'a, R: ArchRecord> FatTable<'a, R> {
 
     /// Returns the bytes of the file.
     ///
-    /// # Proved
+    /// <details><summary>Proved</summary>
     ///
     /// - `result ≡ (file_view self).bytes`
+    ///
+    /// </details>
     pub fn bytes(&self) -> &'a [u8] {
         self.bytes
     }
 
     /// Returns the records of all entries in order, each one or its error.
     ///
-    /// # Proved
+    /// <details><summary>Proved</summary>
     ///
     /// - *items*: `archs_left_in R.arch_form result ≡ archs_in R.arch_form (file_view self)`
     /// - *bounded*: `length (archs_left_in R.arch_form result) < 2 ^ 64`
+    ///
+    /// </details>
     pub fn iter_arches(&self) -> ArchIterator<'a, R> {
         ArchIterator::new(self.bytes, self.narches)
     }
 
     /// Finds the first record of a cpu. Returns None if there is none, or the error of an unreadable record before it.
     ///
-    /// # Proved
+    /// <details><summary>Proved</summary>
     ///
     /// - `Reads (λ found. found) result (first_arch_of_cpu R.arch_form cputype (archs_in R.arch_form (file_view self)))`
+    ///
+    /// </details>
     pub fn find_cputype(&self, cputype: u32) -> Result<Option<R>> {
         for arch in self.iter_arches() {
             let arch = arch?;
@@ -88,9 +97,11 @@ impl<'a, R: ArchRecord> FatTable<'a, R> {
     /// Opens the entry at an index. An image is opened strictly. The error is `Malformed` if there is no such entry, or if
     /// it is neither an archive nor an image.
     ///
-    /// # Proved
+    /// <details><summary>Proved</summary>
     ///
     /// - `OpensEntry (arch_entry_in R.arch_form (file_view self) index) result`
+    ///
+    /// </details>
     pub fn get(&self, index: usize) -> Result<SingleArch<'a>> {
         if index >= self.narches {
             return Err(Error::Malformed("no entry has this index"));
@@ -99,34 +110,31 @@ impl<'a, R: ArchRecord> FatTable<'a, R> {
         SingleArch::open(arch.entry_slice(self.bytes))
     }
 
+    crate::shim::inner! {
     /// Opens the first entry for which `f` returns true. `f` is given each record, or the error of reading it, in order.
-    /// Returns None if there is none. The closure states the type of that error, an `Error` or one that is made from it, as
-    /// in `|found: Result<FatArch>| ..`.
-    ///
-    /// # Proved
-    ///
-    /// Callers make sure of: `MaySelect R.arch_form E.from_gives (F.pre f) (file_view self)`.
-    ///
-    /// - *found*: if `Some(answer)`: there is `i : ℕ` with: `IsFirstTaken R.arch_form E.from_gives (F.post f) (file_view self) i × OpensEntry (arch_entry_in R.arch_form (file_view self) i) answer`
-    /// - *none*: if `None`: `NoneTaken R.arch_form E.from_gives (F.post f) (file_view self)`
-    pub fn find_with<E: From<Error>, F: Fn(core::result::Result<R, E>) -> bool>(
-        &self,
-        f: F,
-    ) -> Option<Result<SingleArch<'a>>> {
-        for index in 0..self.narches {
-            if f(about::<R, E>(self.bytes, index)) {
-                return Some(self.get(index));
+        /// Returns None if there is none. The closure states the type of that error, an `Error` or one that is made from it, as
+        /// in `|found: Result<FatArch>| ..`.
+        fn find_with<E: From<Error>, F: Fn(core::result::Result<R, E>) -> bool>(
+            &self,
+            f: F,
+        ) -> Option<Result<SingleArch<'a>>> {
+            for index in 0..self.narches {
+                if f(about::<R, E>(self.bytes, index)) {
+                    return Some(self.get(index));
+                }
             }
+            None
         }
-        None
     }
 
     /// Returns the records of all entries, in order. The error is `BufferTooShort` if there are more entries than the bytes
     /// could hold, else that of the first unreadable record.
     ///
-    /// # Proved
+    /// <details><summary>Proved</summary>
     ///
     /// - `Gives (λ v. v.items) result (arch_table_in R.arch_form (file_view self))`
+    ///
+    /// </details>
     pub fn arches(&self) -> Result<Vec<R>> {
         if !has_room_for::<R>(self.bytes, self.narches) {
             return Err(Error::BufferTooShort(self.narches, "arches"));
@@ -159,6 +167,13 @@ pub struct EntryIterator<'a, 'b, R> {
     index: usize,
 }
 
+impl<'a, 'b, R> core::fmt::Debug for EntryIterator<'a, 'b, R> {
+    /// Prints the name of the type.
+    fn fmt(&self, f: &mut core::fmt::Formatter<'_>) -> core::fmt::Result {
+        f.debug_struct("EntryIterator").finish_non_exhaustive()
+    }
+}
+
 /// The entries of a fat file.
 pub type SingleArchIterator<'a, 'b> = EntryIterator<'a, 'b, FatArch>;
 
@@ -183,6 +198,8 @@ impl<'a, 'b, R: ArchRecord> Iterator for EntryIterator<'a, 'b, R> {
         (left, Some(left))
     }
 }
+
+impl<'a, 'b, R: ArchRecord> core::iter::FusedIterator for EntryIterator<'a, 'b, R> {}
 
 impl<'a, 'b, R: ArchRecord> ExactSizeIterator for EntryIterator<'a, 'b, R> {
     /// Returns the number of entries left.

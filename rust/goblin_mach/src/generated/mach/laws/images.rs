@@ -9,10 +9,12 @@ use crate::generated::mach_parts::magic::parse_magic_and_ctx;
 /// Writes a new header of a context and reads its magic again: the result is that context. It fails only if the bytes are
 /// too short for the header.
 ///
-/// # Proved
+/// <details><summary>Proved</summary>
 ///
 /// - *recognised*: if `Ok(found)`: `found ≡ Some ctx`
 /// - *refused*: if `Err(e)`: `room_at (header_size ctx.container) bytes.old 0 ≡ Err (fault_of e)`
+///
+/// </details>
 pub fn new_header_recognised(ctx: Ctx, bytes: &mut [u8]) -> Result<Option<Ctx>> {
     Header::new(ctx).try_into_ctx(bytes, ctx)?;
     let (_, found) = parse_magic_and_ctx(bytes, 0)?;

@@ -17,9 +17,11 @@ use crate::generated::mach_layout::{
 /// command, in order. The image must have been opened at the first of its bytes. A part of no bytes claims a range of length
 /// 0. It allocates nothing.
 ///
-/// # Proved
+/// <details><summary>Proved</summary>
 ///
 /// - `claims_left result ≡ claims_of (laid_view image)`
+///
+/// </details>
 pub fn claims<'a, 'b>(image: &'b MachO<'a>) -> ClaimIterator<'a, 'b> {
     layout_of(image).claims()
 }
@@ -41,10 +43,12 @@ fn add_all_symbols(
 /// bytes. They are in the order of the rules; those of one rule are in the order of the commands, or, for two things that
 /// share a range, in that of the addresses or places. The only error is out of memory.
 ///
-/// # Proved
+/// <details><summary>Proved</summary>
 ///
 /// - *listed*: if `Ok(v)`: `AreLayoutFaults (laid_view image) (AreListFaults (facts_view image)) v.items`
 /// - *only*: the result is `Ok`, unless memory is refused
+///
+/// </details>
 pub fn layout_faults(image: &MachO<'_>) -> Result<Vec<LayoutFault>> {
     let layout = layout_of(image);
     let mut faults = Vec::new();

@@ -31,10 +31,12 @@ fn is_start_fault_among(starts: FunctionStartIterator<'_>) -> bool {
 /// Adds the faults of an image's lists: of its bindings and its rebases by opcodes, of its weak binds, and of its function
 /// starts. Each list that has a fault adds one.
 ///
-/// # Proved
+/// <details><summary>Proved</summary>
 ///
 /// - *reported*: if `Ok`: there is `more : List listed.LayoutFault` with: `AreListFaults (facts_view image) more × (faults.new.items ≡ faults.old.items ++ more)`
 /// - *only*: the result is `Ok`, unless memory is refused
+///
+/// </details>
 pub fn list_faults(faults: &mut Vec<LayoutFault>, image: &MachO<'_>) -> Result<()> {
     let layout = layout_of(image);
     let binds = opcodes_fault(&layout, Rule::Binds, Part::Binds);

@@ -14,46 +14,64 @@ use crate::generated::mach_dyld::imports::BindInterpreter;
 impl<'a> MachO<'a> {
     /// Returns the bytes in which the image was opened. The offsets in its records refer to them.
     ///
-    /// # Proved
+    /// <details><summary>Proved</summary>
     ///
     /// - `result ≡ bytes_view self`
+    ///
+    /// </details>
     pub fn bytes(&self) -> &'a [u8] {
         self.bytes
     }
 
     /// Returns the width and the byte order in which its records are read.
     ///
-    /// # Proved
+    /// <details><summary>Proved</summary>
     ///
     /// - `result ≡ ctx_view self`
+    ///
+    /// </details>
     pub fn ctx(&self) -> Ctx {
         self.ctx
     }
 
     /// Returns the address of the image's first byte in memory, before sliding: the `vmaddr` of the first segment named
-    /// `__TEXT` that the image holds, or 0 if there is none. Offsets of chained fixups are counted from it.
+    /// `__TEXT` that the image holds, or 0 if there is none. The address of an export is base plus offset, if the symbol isn't
+    /// absolute (`export_address`). Offsets of chained fixups and of function starts are counted from it.
     ///
-    /// # Proved
+    /// ```
+    /// # let bytes = std::fs::read("tests/data/b.macho")?;
+    /// # let image = goblin_mach::MachO::parse(&bytes, 0)?;
+    /// println!("the image is meant for {:#x}", image.base());
+    /// # Ok::<(), Box<dyn std::error::Error>>(())
+    /// ```
+    ///
+    /// <details><summary>Proved</summary>
     ///
     /// - `result ≡ base_view self`
+    ///
+    /// </details>
     pub fn base(&self) -> u64 {
         base_of(self.segments.as_slice())
     }
 
     /// Returns the export trie that the image holds, if a command names one.
     ///
-    /// # Proved
+    /// <details><summary>Proved</summary>
     ///
     /// - `option_map (λ trie. trie) result ≡ trie_view self`
+    ///
+    /// </details>
     pub fn export_trie(&self) -> Option<&ExportTrie<'a>> {
         self.export_trie.as_ref()
     }
 
     /// Returns the ranges of the binds that the image holds, if a command names any.
     ///
-    /// # Proved
+    /// <details><summary>Proved</summary>
     ///
     /// - `option_map (λ binds. binds) result ≡ binds_view self`
+    ///
+    /// </details>
     pub fn binds(&self) -> Option<&BindInterpreter<'a>> {
         self.bind_interpreter.as_ref()
     }
@@ -61,9 +79,11 @@ impl<'a> MachO<'a> {
     /// Returns the place and the size of the data of the chained fixups: those of the last `LC_DYLD_CHAINED_FIXUPS` among
     /// the load commands that the image holds, if there is one.
     ///
-    /// # Proved
+    /// <details><summary>Proved</summary>
     ///
     /// - `result ≡ chained_place_in (commands_view self)`
+    ///
+    /// </details>
     pub fn chained_place(&self) -> Option<(u32, u32)> {
         chained_place(self.load_commands.as_slice())
     }
@@ -72,9 +92,11 @@ impl<'a> MachO<'a> {
     /// the load commands that it holds, if there is one. Opening an image tests nothing of them. Fails if their header can't
     /// be read, or has an unknown version or format.
     ///
-    /// # Proved
+    /// <details><summary>Proved</summary>
     ///
     /// - `Reads chained_option_view result (chained_view self)`
+    ///
+    /// </details>
     pub fn chained_fixups(&self) -> Result<Option<ChainedFixups<'a>>> {
         chained_fixups(self.bytes, self.ctx.le, self.load_commands.as_slice())
     }
@@ -83,9 +105,21 @@ impl<'a> MachO<'a> {
     /// along the chains. The first fault is the last item. There are none if no command names any. If their header can't be
     /// read, its error is the only item. It allocates nothing.
     ///
-    /// # Proved
+    /// ```
+    /// # let bytes = std::fs::read("tests/data/chains.macho")?;
+    /// # let image = goblin_mach::MachO::parse(&bytes, 0)?;
+    /// for fixup in image.fixups() {
+    ///     let fixup = fixup?;
+    ///     println!("{:#x} {:?}", fixup.address, fixup.kind);
+    /// }
+    /// # Ok::<(), Box<dyn std::error::Error>>(())
+    /// ```
+    ///
+    /// <details><summary>Proved</summary>
     ///
     /// - `AreImageFixups (chained_view self) (segments_view self) (image_fixups_left result)`
+    ///
+    /// </details>
     pub fn fixups<'b>(&'b self) -> FixupIterator<'a, 'b> {
         let found = match self.chained_fixups() {
             Ok(found) => found,
@@ -101,9 +135,11 @@ impl<'a> MachO<'a> {
     /// segments that it holds: those of the non-lazy stream, then those of the lazy stream. The first fault is the last
     /// item. There are none if no command names binds. It allocates nothing.
     ///
-    /// # Proved
+    /// <details><summary>Proved</summary>
     ///
     /// - `AreOpcodeBindings (binds_view self) (pointer_size (ctx_view self).container) (texts self.libs.items) (segments_view self) (dyld.opcode_bindings_left result)`
+    ///
+    /// </details>
     pub fn opcode_bindings<'b>(&'b self) -> OpcodeBindingIterator<'a, 'b> {
         let Some(binds) = &self.bind_interpreter else {
             return OpcodeBindingIterator::default();
@@ -129,9 +165,27 @@ impl<'a> MachO<'a> {
     /// item. If the header of the chained fixups can't be read, that error comes instead of their bindings. It allocates
     /// nothing.
     ///
-    /// # Proved
+    /// ```
+    /// # let bytes = std::fs::read("tests/data/chains.macho")?;
+    /// # let image = goblin_mach::MachO::parse(&bytes, 0)?;
+    /// use goblin_mach::Provider;
+    ///
+    /// for binding in image.bindings() {
+    ///     let binding = binding?;
+    ///     let from = match binding.provider {
+    ///         Provider::Library { name, .. } => name,
+    ///         _ => "no library by name",
+    ///     };
+    ///     println!("{:#x} {} {from}", binding.address, binding.name);
+    /// }
+    /// # Ok::<(), Box<dyn std::error::Error>>(())
+    /// ```
+    ///
+    /// <details><summary>Proved</summary>
     ///
     /// - `AreImageBindings (binds_view self) (chained_view self) (pointer_size (ctx_view self).container) (texts self.libs.items) (segments_view self) (bindings_left result)`
+    ///
+    /// </details>
     pub fn bindings<'b>(&'b self) -> BindingIterator<'a, 'b> {
         BindingIterator::over(self.opcode_bindings(), self.chain_bindings())
     }

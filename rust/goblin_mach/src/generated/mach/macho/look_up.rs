@@ -12,9 +12,20 @@ impl<'a> MachO<'a> {
     /// name, and the way it is loaded. In lossy mode a library whose name can't be read is left out, and those after it move
     /// down, as in `libs`. It allocates nothing.
     ///
-    /// # Proved
+    /// ```
+    /// # let bytes = std::fs::read("tests/data/b.macho")?;
+    /// # let image = goblin_mach::MachO::parse(&bytes, 0)?;
+    /// for library in image.libraries() {
+    ///     println!("{} {:?}", library.name, library.kind);
+    /// }
+    /// # Ok::<(), Box<dyn std::error::Error>>(())
+    /// ```
+    ///
+    /// <details><summary>Proved</summary>
     ///
     /// - `libraries_left result ≡ libraries_in (ctx_view self).le (bytes_view self) (commands_view self)`
+    ///
+    /// </details>
     pub fn libraries<'b>(&'b self) -> LibraryIterator<'a, 'b> {
         LibraryIterator::new(self.bytes, self.ctx.le, self.load_commands.as_slice())
     }
@@ -24,17 +35,40 @@ impl<'a> MachO<'a> {
     /// may return Ok although the trie has no list; the result then holds by the paths of the trie. Each error except
     /// `Error::Memory` is a fault on that way, and so a fault of the trie. It allocates only where `ExportTrie::find` does.
     ///
-    /// # Proved
+    /// ```
+    /// # let bytes = std::fs::read("tests/data/b.macho")?;
+    /// # let image = goblin_mach::MachO::parse(&bytes, 0)?;
+    /// if let Some(info) = image.find_export("_main")? {
+    ///     println!("{:?}", image.export_address(&info));
+    /// }
+    /// # Ok::<(), Box<dyn std::error::Error>>(())
+    /// ```
+    ///
+    /// <details><summary>Proved</summary>
     ///
     /// - *occurs*: if `Ok(o)`: `IsAnswerInImage (trie_view self) (texts self.libs.items) name (option_map info_of o)`
     /// - *listed*: for each `list : List Entry`, if `ListsImageExports (trie_view self) (texts self.libs.items) list`, if `Ok(o)`: `IsFirstOf name list (option_map info_of o)`
     /// - *only*: for each `list : List Entry`, if `ListsImageExports (trie_view self) (texts self.libs.items) list`, the result is `Ok`, unless memory is refused
     /// - *refused*: if `Err(e)`: `ErrorMeets (ImageExportsFault (trie_view self) (texts self.libs.items)) e`
     /// - *on way*: if `Err(e)`: `ErrorMeets (FaultOnWay (trie_there (trie_or_empty (trie_view self)) (texts self.libs.items)) (trie_or_empty (trie_view self)).from name) e`
+    ///
+    /// </details>
     pub fn find_export(&self, name: &str) -> Result<Option<ExportInfo<'a>>> {
         match &self.export_trie {
             Some(trie) => trie.find(self.libs.as_slice(), name),
             None => Ok(None),
         }
+    }
+
+    /// Returns the address of an export of the image, before sliding: base plus offset, and of an absolute symbol its number. A
+    /// re-export has none. It goes over the segments: for many exports call `base` once, and `ExportInfo::address` for each.
+    ///
+    /// <details><summary>Proved</summary>
+    ///
+    /// - `result ≡ export_address (base_view self) (info_of info)`
+    ///
+    /// </details>
+    pub fn export_address(&self, info: &ExportInfo<'_>) -> Option<u64> {
+        info.address(self.base())
     }
 }

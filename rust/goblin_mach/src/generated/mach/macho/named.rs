@@ -3,11 +3,12 @@
 #![forbid(unsafe_code)]
 
 use crate::generated::mach::macho::MachO;
+use crate::generated::mach::macho::named_symbols::NamedSymbols;
 use crate::generated::mach_base::{Result, read_text};
 use crate::generated::mach_parts::segment::{
     NumberedSection, NumberedSections, ReadableSections, Segment,
 };
-use crate::generated::mach_parts::symbols::{Nlist, Symbols};
+use crate::generated::mach_parts::symbols::{Nlist, SymbolIterator};
 
 // Whether what was read is this name.
 fn reads_as(found: Result<&str>, name: &str) -> bool {
@@ -24,25 +25,22 @@ fn is_section(found: &NumberedSection, segment: &str, section: &str) -> bool {
         && reads_as(read_text(&record.sectname, 0), section)
 }
 
-// Returns the first symbol of a table that can be read and has this name, with its number.
-fn named(table: &Symbols<'_>, name: &str) -> Option<(usize, Nlist)> {
-    for (index, item) in table.in_bounds().iter().enumerate() {
-        let Ok((found, symbol)) = item else {
-            continue;
-        };
-        if found == name {
-            return Some((index, symbol));
-        }
-    }
-    None
-}
-
 impl<'a> MachO<'a> {
     /// Returns the first segment with this name, of the segments that the image holds, if there is one.
     ///
-    /// # Proved
+    /// ```
+    /// # let bytes = std::fs::read("tests/data/b.macho")?;
+    /// # let image = goblin_mach::MachO::parse(&bytes, 0)?;
+    /// let text = image.segment_named("__TEXT").expect("a segment of code");
+    /// println!("{:#x} {} bytes", text.vmaddr, text.data.len());
+    /// # Ok::<(), Box<dyn std::error::Error>>(())
+    /// ```
+    ///
+    /// <details><summary>Proved</summary>
     ///
     /// - `option_map (λ s. segment_view s) result ≡ segment_of_name name (segments_view self)`
+    ///
+    /// </details>
     pub fn segment_named<'b>(&'b self, name: &str) -> Option<&'b Segment<'a>> {
         for segment in self.segments.as_slice() {
             if reads_as(segment.name(), name) {
@@ -55,9 +53,21 @@ impl<'a> MachO<'a> {
     /// Returns the sections of the segments that the image holds, each with the number of its segment and its number there. An
     /// unreadable section is its error. There are as many items as the segments claim.
     ///
-    /// # Proved
+    /// ```
+    /// # let bytes = std::fs::read("tests/data/b.macho")?;
+    /// # let image = goblin_mach::MachO::parse(&bytes, 0)?;
+    /// for section in image.sections() {
+    ///     let section = section?;
+    ///     println!("{} {:#x}", section.name()?, section.section.addr);
+    /// }
+    /// # Ok::<(), Box<dyn std::error::Error>>(())
+    /// ```
+    ///
+    /// <details><summary>Proved</summary>
     ///
     /// - `numbered_left result ≡ numbered_sections (segments_view self)`
+    ///
+    /// </details>
     pub fn sections<'b>(&'b self) -> NumberedSections<'a, 'b> {
         NumberedSections::new(self.segments.as_slice())
     }
@@ -66,9 +76,20 @@ impl<'a> MachO<'a> {
     /// that aren't in the bytes are skipped. In an object file, a section's own name of its segment isn't that of the segment
     /// that holds it.
     ///
-    /// # Proved
+    /// ```
+    /// # let bytes = std::fs::read("tests/data/b.macho")?;
+    /// # let image = goblin_mach::MachO::parse(&bytes, 0)?;
+    /// if let Some(section) = image.section_named("__TEXT", "__text") {
+    ///     println!("{} bytes", image.section_data(&section)?.len());
+    /// }
+    /// # Ok::<(), Box<dyn std::error::Error>>(())
+    /// ```
+    ///
+    /// <details><summary>Proved</summary>
     ///
     /// - `result ≡ section_of_name segment section (segments_view self)`
+    ///
+    /// </details>
     pub fn section_named(&self, segment: &str, section: &str) -> Option<NumberedSection> {
         for found in ReadableSections::new(self.segments.as_slice()) {
             if is_section(&found, segment, section) {
@@ -78,13 +99,44 @@ impl<'a> MachO<'a> {
         None
     }
 
-    /// Returns the first symbol with this name, of the table that the image holds, and its number in the table, if there is one.
-    /// Symbols that can't be read are skipped.
+    /// Returns all symbols with this name, of the table that the image holds, each with its number in the table, in their
+    /// order. Debugging entries are among them. Symbols that can't be read are skipped. It allocates nothing.
     ///
-    /// # Proved
+    /// <details><summary>Proved</summary>
     ///
-    /// - `IsSymbolNamed (symbols_within (symbol_table_view self)) name result`
+    /// - `named_left result ≡ symbols_of_name name 0 (symbols_within (symbol_table_view self))`
+    ///
+    /// </details>
+    pub fn symbols_named<'b>(&self, name: &'b str) -> NamedSymbols<'a, 'b> {
+        match &self.symbols {
+            Some(table) => NamedSymbols::new(table.in_bounds().iter(), name),
+            None => NamedSymbols::new(SymbolIterator::default(), name),
+        }
+    }
+
+    /// Returns the first symbol with this name that is no debugging entry, of the table that the image holds, and its number in
+    /// the table. There is none exactly if no symbol that can be read is such a one.
+    ///
+    /// ```
+    /// # let bytes = std::fs::read("tests/data/b.macho")?;
+    /// # let image = goblin_mach::MachO::parse(&bytes, 0)?;
+    /// if let Some((index, nlist)) = image.symbol_named("_main") {
+    ///     println!("symbol {index} at {:#x}", nlist.n_value);
+    /// }
+    /// # Ok::<(), Box<dyn std::error::Error>>(())
+    /// ```
+    ///
+    /// <details><summary>Proved</summary>
+    ///
+    /// - `result ≡ symbol_of_name name (symbols_within (symbol_table_view self))`
+    ///
+    /// </details>
     pub fn symbol_named(&self, name: &str) -> Option<(usize, Nlist)> {
-        named(self.symbols.as_ref()?, name)
+        for (index, symbol) in self.symbols_named(name) {
+            if !symbol.is_stab() {
+                return Some((index, symbol));
+            }
+        }
+        None
     }
 }

@@ -3,13 +3,15 @@
 #![forbid(unsafe_code)]
 
 use crate::generated::mach::macho::MachO;
+use crate::generated::mach_base::{KeptText, Result};
 use crate::generated::mach_load::FunctionStartIterator;
 use crate::generated::mach_parts::segment::{NumberedSection, Segment};
 use crate::generated::mach_parts::symbols::{N_SECT, Nlist, Symbols};
 use crate::generated::mach_records::Section64;
 
 /// The symbol at or below an address that is nearest to it.
-#[derive(Clone, Debug)]
+#[derive(Clone, Debug, Eq, Hash, PartialEq)]
+#[cfg_attr(not(feature = "internals"), non_exhaustive)]
 pub struct SymbolAt<'a> {
     /// Its number in the table, from 0.
     pub index: usize,
@@ -22,7 +24,7 @@ pub struct SymbolAt<'a> {
 }
 
 /// The addresses of a function, before sliding.
-#[derive(Clone, Copy, Debug)]
+#[derive(Clone, Copy, Debug, Eq, Hash, PartialEq)]
 pub struct Function {
     /// The address of its first byte.
     pub start: u64,
@@ -59,11 +61,24 @@ fn is_nearer(found: &Option<SymbolAt<'_>>, distance: u64) -> bool {
     }
 }
 
-// Returns the symbol of a section that is nearest to an address, of those at or below it. Of several the last counts.
-fn nearest<'a>(table: &Symbols<'a>, section: usize, address: u64) -> Option<SymbolAt<'a>> {
+// Returns the name at a place if names are read, and else an empty one.
+fn name_if<'a>(is_named: bool, names: &mut KeptText<'a>, place: usize) -> Result<&'a str> {
+    if is_named { names.read(place) } else { Ok("") }
+}
+
+// Returns the symbol of a section that is nearest to an address, of those at or below it. Of several the last counts. Without
+// `is_named` no name is read. With it a symbol's name is read only if the symbol is as near as all before it whose names can be
+// read, and symbols whose names can't be read are skipped.
+fn nearest_of<'a>(
+    table: &Symbols<'a>,
+    is_named: bool,
+    section: usize,
+    address: u64,
+) -> Option<SymbolAt<'a>> {
+    let mut names = KeptText::new(table.bytes());
     let mut best: Option<SymbolAt<'a>> = None;
-    for (index, item) in table.in_bounds().iter().enumerate() {
-        let Ok((name, symbol)) = item else {
+    for index in 0..table.len() {
+        let Ok(symbol) = table.record(index) else {
             continue;
         };
         let Some(distance) = distance_above(&symbol, section, address) else {
@@ -72,6 +87,9 @@ fn nearest<'a>(table: &Symbols<'a>, section: usize, address: u64) -> Option<Symb
         if is_nearer(&best, distance) {
             continue;
         }
+        let Ok(name) = name_if(is_named, &mut names, table.name_place(&symbol)) else {
+            continue;
+        };
         best = Some(SymbolAt {
             index,
             name,
@@ -80,6 +98,17 @@ fn nearest<'a>(table: &Symbols<'a>, section: usize, address: u64) -> Option<Symb
         });
     }
     best
+}
+
+// Returns the symbol of a section that is nearest to an address, of those at or below it that can be read. Of several the last
+// counts. It goes over the records, and reads one name. Only if that can't be read it goes over them again with their names.
+fn nearest<'a>(table: &Symbols<'a>, section: usize, address: u64) -> Option<SymbolAt<'a>> {
+    let table = table.in_bounds();
+    let found = nearest_of(&table, false, section, address)?;
+    match table.get(found.index) {
+        Ok((name, _)) => Some(SymbolAt { name, ..found }),
+        Err(_) => nearest_of(&table, true, section, address),
+    }
 }
 
 // Returns the greatest start at or below an address, if there is one, and the next start after the address, at most `limit`.
@@ -121,9 +150,20 @@ impl<'a> MachO<'a> {
     /// section that holds it, the one of the greatest value. Of several with this value the last of the table counts, so that an
     /// external symbol counts before a local one. Debugging entries and symbols that can't be read are skipped.
     ///
-    /// # Proved
+    /// ```
+    /// # let bytes = std::fs::read("tests/data/b.macho")?;
+    /// # let image = goblin_mach::MachO::parse(&bytes, 0)?;
+    /// if let Some(found) = image.symbol_at(image.base() + image.entry) {
+    ///     println!("{} and {:#x}", found.name, found.distance);
+    /// }
+    /// # Ok::<(), Box<dyn std::error::Error>>(())
+    /// ```
+    ///
+    /// <details><summary>Proved</summary>
     ///
     /// - `IsSymbolAt (segments_view self) (symbols_within (symbol_table_view self)) (section_holding (segments_view self) address) address result`
+    ///
+    /// </details>
     pub fn symbol_at(&self, address: u64) -> Option<SymbolAt<'a>> {
         let section = self.section_at(address)?;
         let table = self.symbols.as_ref()?;
@@ -136,9 +176,20 @@ impl<'a> MachO<'a> {
     /// before. There is none if no section holds the address or no function begins in it at or below the address. Starts after
     /// the first that can't be read don't count.
     ///
-    /// # Proved
+    /// ```
+    /// # let bytes = std::fs::read("tests/data/b.macho")?;
+    /// # let image = goblin_mach::MachO::parse(&bytes, 0)?;
+    /// if let Some(function) = image.function_at(image.base() + image.entry) {
+    ///     println!("{:#x} to {:#x}", function.start, function.end);
+    /// }
+    /// # Ok::<(), Box<dyn std::error::Error>>(())
+    /// ```
+    ///
+    /// <details><summary>Proved</summary>
     ///
     /// - for each `items : List (Result ℕ Fault)`, if `AreStartsAt (bytes_view self) (starts_place_in (commands_view self)) (base_view self) items`, `IsFunctionAt items (section_holding (segments_view self) address) address result`
+    ///
+    /// </details>
     pub fn function_at(&self, address: u64) -> Option<Function> {
         let found = self.section_at(address)?;
         function_in(self.function_starts(), &found.section, address)

@@ -20,9 +20,19 @@ impl<'a> MachO<'a> {
     /// counts from the image's first byte, also in a fat file. Bytes of a segment past its size in memory don't count. There is
     /// no address if no segment holds the offset, or if the address has more than 64 bits.
     ///
-    /// # Proved
+    /// ```
+    /// # let bytes = std::fs::read("tests/data/b.macho")?;
+    /// # let image = goblin_mach::MachO::parse(&bytes, 0)?;
+    /// let text = image.segment_named("__TEXT").expect("a segment of code");
+    /// assert_eq!(image.address_of_offset(text.fileoff), Some(text.vmaddr));
+    /// # Ok::<(), Box<dyn std::error::Error>>(())
+    /// ```
+    ///
+    /// <details><summary>Proved</summary>
     ///
     /// - `result ≡ address_at_offset (segments_view self) offset`
+    ///
+    /// </details>
     pub fn address_of_offset(&self, offset: u64) -> Option<u64> {
         for segment in self.segments.as_slice() {
             if is_among(segment.fileoff, mapped_size(segment), offset) {
@@ -36,9 +46,19 @@ impl<'a> MachO<'a> {
     /// file. The offset counts from the image's first byte, also in a fat file. There is none if no such segment holds the
     /// address, or if the offset has more than 64 bits.
     ///
-    /// # Proved
+    /// ```
+    /// # let bytes = std::fs::read("tests/data/b.macho")?;
+    /// # let image = goblin_mach::MachO::parse(&bytes, 0)?;
+    /// let text = image.segment_named("__TEXT").expect("a segment of code");
+    /// assert_eq!(image.offset_of_address(text.vmaddr), Some(text.fileoff));
+    /// # Ok::<(), Box<dyn std::error::Error>>(())
+    /// ```
+    ///
+    /// <details><summary>Proved</summary>
     ///
     /// - `result ≡ offset_at_address (segments_view self) address`
+    ///
+    /// </details>
     pub fn offset_of_address(&self, address: u64) -> Option<u64> {
         for segment in self.segments.as_slice() {
             if is_among(segment.vmaddr, mapped_size(segment), address) {

@@ -22,9 +22,20 @@ impl<'a> MachO<'a> {
 
     /// Returns the UUID of the image: that of the first `LC_UUID` among the load commands that it holds, as dyld.
     ///
-    /// # Proved
+    /// ```
+    /// # let bytes = std::fs::read("tests/data/b.macho")?;
+    /// # let image = goblin_mach::MachO::parse(&bytes, 0)?;
+    /// if let Some(uuid) = image.uuid() {
+    ///     println!("{:032x}", u128::from_be_bytes(uuid));
+    /// }
+    /// # Ok::<(), Box<dyn std::error::Error>>(())
+    /// ```
+    ///
+    /// <details><summary>Proved</summary>
     ///
     /// - `result ≡ uuid_in (commands_view self)`
+    ///
+    /// </details>
     pub fn uuid(&self) -> Option<[u8; 16]> {
         first_said(Uuids, self.load_commands.as_slice())
     }
@@ -34,9 +45,11 @@ impl<'a> MachO<'a> {
     /// `_WATCHOS` of an image for x86 or x86-64 mean the simulators of these systems. `build_tools` has the tools. It
     /// allocates nothing.
     ///
-    /// # Proved
+    /// <details><summary>Proved</summary>
     ///
     /// - `said_left (λ s. build_version_said s.cputype) result ≡ build_versions_in self.header.cputype (commands_view self)`
+    ///
+    /// </details>
     pub fn build_versions<'b>(&'b self) -> BuildVersionIterator<'b> {
         SubjectIterator::new(
             BuildVersions {
@@ -48,9 +61,20 @@ impl<'a> MachO<'a> {
 
     /// Returns the first of the systems that the image was built for, in the order of `build_versions`.
     ///
-    /// # Proved
+    /// ```
+    /// # let bytes = std::fs::read("tests/data/b.macho")?;
+    /// # let image = goblin_mach::MachO::parse(&bytes, 0)?;
+    /// if let Some(built) = image.build_version() {
+    ///     println!("platform {} from {}.{} on", built.platform, built.minos >> 16, built.minos >> 8 & 0xff);
+    /// }
+    /// # Ok::<(), Box<dyn std::error::Error>>(())
+    /// ```
+    ///
+    /// <details><summary>Proved</summary>
     ///
     /// - `result ≡ first_of (build_versions_in self.header.cputype (commands_view self))`
+    ///
+    /// </details>
     pub fn build_version(&self) -> Option<BuildVersion> {
         self.build_versions().next()
     }
@@ -58,9 +82,11 @@ impl<'a> MachO<'a> {
     /// Returns the version of the image's sources, A.B.C.D.E in 24, 10, 10, 10 and 10 bits: that of the first
     /// `LC_SOURCE_VERSION` among the load commands that it holds.
     ///
-    /// # Proved
+    /// <details><summary>Proved</summary>
     ///
     /// - `result ≡ source_version_in (commands_view self)`
+    ///
+    /// </details>
     pub fn source_version(&self) -> Option<u64> {
         first_said(SourceVersions, self.load_commands.as_slice())
     }
@@ -68,9 +94,19 @@ impl<'a> MachO<'a> {
     /// Returns which bytes of the image are encrypted: those of the first `LC_ENCRYPTION_INFO` or `LC_ENCRYPTION_INFO_64`
     /// among the load commands that it holds, as dyld. It doesn't test whether they are in the bytes.
     ///
-    /// # Proved
+    /// ```
+    /// # let bytes = std::fs::read("tests/data/b.macho")?;
+    /// # let image = goblin_mach::MachO::parse(&bytes, 0)?;
+    /// let is_encrypted = image.encryption().is_some_and(|part| part.id != 0);
+    /// println!("{is_encrypted}");
+    /// # Ok::<(), Box<dyn std::error::Error>>(())
+    /// ```
+    ///
+    /// <details><summary>Proved</summary>
     ///
     /// - `result ≡ encryption_in (commands_view self)`
+    ///
+    /// </details>
     pub fn encryption(&self) -> Option<Encryption> {
         first_said(Encryptions, self.load_commands.as_slice())
     }
@@ -78,9 +114,11 @@ impl<'a> MachO<'a> {
     /// Returns the name of the dynamic linker that the image requires: that of the first `LC_LOAD_DYLINKER` among the load
     /// commands that it holds, as the kernel, or the error of this name.
     ///
-    /// # Proved
+    /// <details><summary>Proved</summary>
     ///
     /// - `option_map said_text result ≡ dylinker_in (bytes_view self) (commands_view self)`
+    ///
+    /// </details>
     pub fn dylinker(&self) -> Option<Result<&'a str>> {
         first_said(
             Dylinkers {
@@ -93,9 +131,11 @@ impl<'a> MachO<'a> {
     /// Returns the settings for the dynamic linker in the `LC_DYLD_ENVIRONMENT` commands that the image holds, in their
     /// order, each as `NAME=value`. A setting that can't be read is its error. It allocates nothing.
     ///
-    /// # Proved
+    /// <details><summary>Proved</summary>
     ///
     /// - `said_left (λ s. dyld_setting_said s.source.bytes) result ≡ dyld_environment_in (bytes_view self) (commands_view self)`
+    ///
+    /// </details>
     pub fn dyld_environment<'b>(&'b self) -> DyldEnvironmentIterator<'a, 'b> {
         SubjectIterator::new(
             DyldSettings {
@@ -109,9 +149,11 @@ impl<'a> MachO<'a> {
     /// image holds, in their order. An entry whose name can't be read is its error. `parse` opens an entry at its offset. It
     /// allocates nothing.
     ///
-    /// # Proved
+    /// <details><summary>Proved</summary>
     ///
     /// - `said_left (λ s. fileset_entry_said s.source.bytes) result ≡ fileset_entries_in (bytes_view self) (commands_view self)`
+    ///
+    /// </details>
     pub fn fileset_entries<'b>(&'b self) -> FilesetEntryIterator<'a, 'b> {
         SubjectIterator::new(
             FilesetEntries {

@@ -5,6 +5,7 @@
 
 use crate::generated::mach::fixups::last_readable;
 use crate::generated::mach::macho::MachO;
+use crate::generated::mach::macho::nearest::section_number;
 use crate::generated::mach::readings::Subject;
 use crate::generated::mach_base::{Ctx, Result};
 use crate::generated::mach_load::{CommandVariant, LoadCommand};
@@ -75,9 +76,11 @@ impl<'a> MachO<'a> {
     /// Returns the indirect symbols of the image, one after the other: those of the last `LC_DYSYMTAB` among the load
     /// commands that it holds; none if no command places any. An item that can't be read is its error.
     ///
-    /// # Proved
+    /// <details><summary>Proved</summary>
     ///
     /// - `indirect_left result ≡ indirect_symbols_in (indirect_table_view self)`
+    ///
+    /// </details>
     pub fn indirect_symbols(&self) -> IndirectSymbolIterator<'a> {
         match self.indirect_table() {
             Some(table) => table.iter(),
@@ -92,9 +95,20 @@ impl<'a> MachO<'a> {
     /// An error takes the place of one slot that can't be read. One error takes the place of a section that can't be read,
     /// or of the rest of a section from the first slot on that has no address or no entry.
     ///
-    /// # Proved
+    /// ```
+    /// # let bytes = std::fs::read("tests/data/b.macho")?;
+    /// # let image = goblin_mach::MachO::parse(&bytes, 0)?;
+    /// for slot in image.symbol_slots() {
+    ///     println!("{:?}", slot?);
+    /// }
+    /// # Ok::<(), Box<dyn std::error::Error>>(())
+    /// ```
+    ///
+    /// <details><summary>Proved</summary>
     ///
     /// - `slots_left result ≡ image_slots (ctx_view self) (indirect_table_view self) (symbol_table_view self) (segments_view self)`
+    ///
+    /// </details>
     pub fn symbol_slots<'b>(&'b self) -> SlotIterator<'a, 'b> {
         let Some(indirect) = self.indirect_table() else {
             return SlotIterator::default();
@@ -110,9 +124,11 @@ impl<'a> MachO<'a> {
     /// Returns the stub or pointer in which an address lies, if there is one: that of the first section that has slots and
     /// holds the address. Fails if a slot of that section has no size, or if this slot has no entry or no symbol.
     ///
-    /// # Proved
+    /// <details><summary>Proved</summary>
     ///
     /// - `Reads (option_map slot_view) result (image_slot_at (ctx_view self) (indirect_table_view self) (symbol_table_view self) (segments_view self) address)`
+    ///
+    /// </details>
     pub fn symbol_slot_at(&self, address: u64) -> Result<Option<SymbolSlot<'a>>> {
         let Some(indirect) = self.indirect_table() else {
             return Ok(None);
@@ -129,9 +145,11 @@ impl<'a> MachO<'a> {
     /// returns None if there is no such record: the image doesn't use the two-level namespace, or the symbol is a debugging
     /// one, defined or common. Fails if the ordinal is past the last library.
     ///
-    /// # Proved
+    /// <details><summary>Proved</summary>
     ///
     /// - `option_map provider_read result ≡ symbol_provider_of self.header.flags (texts self.libs.items) symbol`
+    ///
+    /// </details>
     pub fn symbol_provider(&self, symbol: &Nlist) -> Option<Result<Provider<'a>>> {
         if !has_library(self.header.flags, symbol) {
             return None;
@@ -143,9 +161,19 @@ impl<'a> MachO<'a> {
     /// Returns the first section, of the segments that the image holds, in which an address lies, if there is one. Sections
     /// that aren't in the bytes are skipped.
     ///
-    /// # Proved
+    /// ```
+    /// # let bytes = std::fs::read("tests/data/b.macho")?;
+    /// # let image = goblin_mach::MachO::parse(&bytes, 0)?;
+    /// let found = image.section_named("__TEXT", "__text").expect("a section of code");
+    /// assert_eq!(image.section_at(found.section.addr), Some(found));
+    /// # Ok::<(), Box<dyn std::error::Error>>(())
+    /// ```
+    ///
+    /// <details><summary>Proved</summary>
     ///
     /// - `result ≡ section_holding (segments_view self) address`
+    ///
+    /// </details>
     pub fn section_at(&self, address: u64) -> Option<NumberedSection> {
         section_holding(self.segments.as_slice(), address)
     }
@@ -153,10 +181,23 @@ impl<'a> MachO<'a> {
     /// Returns the section that a symbol's `n_sect` names, of the segments that the image holds, if there is one. Fails if
     /// it isn't in the bytes.
     ///
-    /// # Proved
+    /// <details><summary>Proved</summary>
     ///
     /// - `Reads (λ found. found) result (section_by_number (segments_view self) n_sect)`
+    ///
+    /// </details>
     pub fn section_of(&self, n_sect: usize) -> Result<Option<NumberedSection>> {
         section_of(self.segments.as_slice(), n_sect)
+    }
+
+    /// Returns the number by which symbols name a section of the image (`n_sect`): counted from 1 over all segments.
+    ///
+    /// <details><summary>Proved</summary>
+    ///
+    /// - `result ≡ section_number (segments_view self) section`
+    ///
+    /// </details>
+    pub fn section_number(&self, section: &NumberedSection) -> usize {
+        section_number(self.segments.as_slice(), section)
     }
 }

@@ -12,9 +12,11 @@ impl<'a> MachO<'a> {
     /// Returns the rebases of the image's opcodes one at a time, over the segments that it holds. The first fault is the
     /// last item. There are none if no command names opcodes. It allocates nothing.
     ///
-    /// # Proved
+    /// <details><summary>Proved</summary>
     ///
     /// - `AreRebasesByOpcodes (rebase_stream_in (bytes_view self) (commands_view self)) (ctx_view self).le (pointer_size (ctx_view self).container) (segments_view self) (opcode_rebases_left result)`
+    ///
+    /// </details>
     pub fn opcode_rebases<'b>(&'b self) -> OpcodeRebaseIterator<'a, 'b> {
         let subject = RebaseStreams { bytes: self.bytes };
         let Some(stream) = last_readable(&subject, self.load_commands.as_slice()) else {
@@ -26,9 +28,21 @@ impl<'a> MachO<'a> {
     /// Returns what dyld rebases in the image, one rebase at a time, over the segments that it holds: the rebases of its
     /// opcodes, then those among the fixups of its chains. The first fault is the last item. It allocates nothing.
     ///
-    /// # Proved
+    /// ```
+    /// # let bytes = std::fs::read("tests/data/chains.macho")?;
+    /// # let image = goblin_mach::MachO::parse(&bytes, 0)?;
+    /// for rebase in image.rebases() {
+    ///     let rebase = rebase?;
+    ///     println!("{:#x} {:?}", rebase.address, rebase.target);
+    /// }
+    /// # Ok::<(), Box<dyn std::error::Error>>(())
+    /// ```
+    ///
+    /// <details><summary>Proved</summary>
     ///
     /// - `AreImageRebases (rebase_stream_in (bytes_view self) (commands_view self)) (chained_view self) (ctx_view self).le (pointer_size (ctx_view self).container) (segments_view self) (rebases_left result)`
+    ///
+    /// </details>
     pub fn rebases<'b>(&'b self) -> RebaseIterator<'a, 'b> {
         RebaseIterator::over(self.opcode_rebases(), self.fixups())
     }
@@ -37,9 +51,18 @@ impl<'a> MachO<'a> {
     /// and not weakly, and the places that take the definition that all images share. The first fault is the last item.
     /// There are none if no command names any. It allocates nothing.
     ///
-    /// # Proved
+    /// ```
+    /// # let bytes = std::fs::read("tests/data/b.macho")?;
+    /// # let image = goblin_mach::MachO::parse(&bytes, 0)?;
+    /// println!("{} weak binds", image.weak_binds().count());
+    /// # Ok::<(), Box<dyn std::error::Error>>(())
+    /// ```
+    ///
+    /// <details><summary>Proved</summary>
     ///
     /// - `AreImageWeakBinds (weak_stream_in (bytes_view self) (commands_view self)) (pointer_size (ctx_view self).container) (segments_view self) (weak_binds_left result)`
+    ///
+    /// </details>
     pub fn weak_binds<'b>(&'b self) -> WeakBindIterator<'a, 'b> {
         let subject = WeakBindStreams { bytes: self.bytes };
         let Some(stream) = last_readable(&subject, self.load_commands.as_slice()) else {

@@ -15,9 +15,20 @@ impl<'a> MachO<'a> {
     /// last `LC_FUNCTION_STARTS` among the load commands that it holds places, and counted from `base`. The first fault is
     /// the last item. There are none if no command places any. It allocates nothing.
     ///
-    /// # Proved
+    /// ```
+    /// # let bytes = std::fs::read("tests/data/b.macho")?;
+    /// # let image = goblin_mach::MachO::parse(&bytes, 0)?;
+    /// for start in image.function_starts() {
+    ///     println!("{:#x}", image.base() + start?);
+    /// }
+    /// # Ok::<(), Box<dyn std::error::Error>>(())
+    /// ```
+    ///
+    /// <details><summary>Proved</summary>
     ///
     /// - `AreStartsAt (bytes_view self) (starts_place_in (commands_view self)) (base_view self) (starts_left result)`
+    ///
+    /// </details>
     pub fn function_starts(&self) -> FunctionStartIterator<'a> {
         let Some(command) = last_readable(&StartPlaces, self.load_commands.as_slice()) else {
             return FunctionStartIterator::default();
@@ -28,9 +39,20 @@ impl<'a> MachO<'a> {
     /// Returns the entries of the data-in-code table that the last `LC_DATA_IN_CODE` among the load commands that the image
     /// holds places; none if there is no such command. It allocates nothing.
     ///
-    /// # Proved
+    /// ```
+    /// # let bytes = std::fs::read("tests/data/b.macho")?;
+    /// # let image = goblin_mach::MachO::parse(&bytes, 0)?;
+    /// for entry in image.data_in_code() {
+    ///     println!("{:?}", entry?);
+    /// }
+    /// # Ok::<(), Box<dyn std::error::Error>>(())
+    /// ```
+    ///
+    /// <details><summary>Proved</summary>
     ///
     /// - `data_in_code_left result ≡ data_in_code_there (ctx_view self).le (bytes_view self) (data_place_in (commands_view self))`
+    ///
+    /// </details>
     pub fn data_in_code(&self) -> DataInCodeIterator<'a> {
         let Some(command) = last_readable(&DataPlaces, self.load_commands.as_slice()) else {
             return DataInCodeIterator::default();
@@ -41,9 +63,11 @@ impl<'a> MachO<'a> {
     /// Returns the options for the linker in the load commands that the image holds, each with the number of its command.
     /// The first fault is the last item. It allocates nothing.
     ///
-    /// # Proved
+    /// <details><summary>Proved</summary>
     ///
     /// - `options_left result ≡ linker_options_in (bytes_view self) (commands_view self)`
+    ///
+    /// </details>
     pub fn linker_options<'b>(&'b self) -> LinkerOptionIterator<'a, 'b> {
         LinkerOptionIterator::new(self.bytes, self.load_commands.as_slice())
     }
@@ -51,18 +75,22 @@ impl<'a> MachO<'a> {
     /// Returns the tools that the image was built with, by the load commands that it holds, each with the number of its
     /// command. The first fault is the last item. It allocates nothing.
     ///
-    /// # Proved
+    /// <details><summary>Proved</summary>
     ///
     /// - `build_tools_left result ≡ build_tools_in (ctx_view self).le (bytes_view self) (commands_view self)`
+    ///
+    /// </details>
     pub fn build_tools<'b>(&'b self) -> BuildToolIterator<'a, 'b> {
         BuildToolIterator::new(self.bytes, self.load_commands.as_slice(), self.ctx.le)
     }
 
     /// Returns the notes of the load commands that the image holds. A note that can't be read is its error. It allocates nothing.
     ///
-    /// # Proved
+    /// <details><summary>Proved</summary>
     ///
     /// - `notes_left result ≡ notes_of_commands (bytes_view self) (commands_view self)`
+    ///
+    /// </details>
     pub fn notes<'b>(&'b self) -> NoteIterator<'a, 'b> {
         NoteIterator::new(self.bytes, self.load_commands.as_slice())
     }

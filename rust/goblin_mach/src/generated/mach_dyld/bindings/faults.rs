@@ -12,10 +12,12 @@ use crate::generated::mach_parts::segment::Segment;
 
 /// Returns the segment with a number.
 ///
-/// # Proved
+/// <details><summary>Proved</summary>
 ///
 /// - *some*: if `Some(s)`: `slice_get (map segment_view segments) number ≡ Some (segment_view s)`
 /// - *none*: if `None`: `slice_get (map segment_view segments) number ≡ None`
+///
+/// </details>
 pub fn segment_at<'a, 'b>(segments: &'b [Segment<'a>], number: u8) -> Option<&'b Segment<'a>> {
     segments.get(usize::from(number))
 }
@@ -32,12 +34,14 @@ fn highest_offset(pointer: u8, segment: &Segment<'_>) -> Option<u64> {
 /// Whether each of `count` binds lies in a segment with its whole pointer. The first is at an offset, and each next one a
 /// stride further, modulo 2^64.
 ///
-/// # Proved
+/// <details><summary>Proved</summary>
 ///
 /// Callers make sure of: `0 < count`.
 ///
 /// - *yes*: if `result ≡ true`, for each `j : ℕ`, if `j < count`, there is `s : ℕ × ℕ` with: `(spot_of pointer (map segment_view segments) number (offset_at offset stride j) ≡ Ok s)`
 /// - *no*: if `result ≡ false`, there is `j : ℕ` with: `(j < count) × (spot_of pointer (map segment_view segments) number (offset_at offset stride j) ≡ Err malformed)`
+///
+/// </details>
 pub fn all_lie(
     pointer: u8,
     segments: &[Segment<'_>],
@@ -85,20 +89,24 @@ impl OpcodeBindingIterator<'_, '_> {
     /// Whether a fault occurs among the bindings that are left. It allocates nothing and takes bounded time for each
     /// instruction. So its time is linear in the bytes of the streams, however many bindings there are.
     ///
-    /// # Proved
+    /// <details><summary>Proved</summary>
     ///
     /// - `result ≡ has_fault (opcode_bindings_left self.entry)`
+    ///
+    /// </details>
     pub fn has_fault(self) -> bool {
         self.has_fault_counted(&mut Steps::new())
     }
 
     /// Like `has_fault`, and adds the number of instructions read to `steps`: at most one more than can be read.
     ///
-    /// # Proved
+    /// <details><summary>Proved</summary>
     ///
     /// - *fault*: `result ≡ has_fault (opcode_bindings_left self.entry)`
     /// - *bounded*: `steps.new ≤ steps.old + binding_reads_left self.entry + 1`
     /// - *kept*: `steps.old ≤ steps.new`
+    ///
+    /// </details>
     pub fn has_fault_counted(self, steps: &mut Steps) -> bool {
         self.stream.has_fault_counted(steps)
     }

@@ -15,6 +15,8 @@ use crate::generated::mach_parts::segment::Segment;
 /// reading on from them returns items, an error or None.
 #[derive(Clone, Copy, Debug)]
 #[repr(C)]
+#[derive(Eq, Hash, PartialEq)]
+#[cfg_attr(not(feature = "internals"), non_exhaustive)]
 pub struct BindCursor {
     /// The start of the stream that is read.
     pub from: usize,
@@ -57,7 +59,8 @@ pub struct BindCursor {
 }
 
 /// An import, with the place of its name in the bytes and the number of its library.
-#[derive(Debug)]
+#[derive(Debug, Clone, Eq, Hash, PartialEq)]
+#[cfg_attr(not(feature = "internals"), non_exhaustive)]
 pub struct PlacedImport<'a> {
     /// The import.
     pub import: Import<'a>,
@@ -68,7 +71,8 @@ pub struct PlacedImport<'a> {
 }
 
 /// A binding, with the place of its name in the bytes.
-#[derive(Clone, Copy, Debug)]
+#[derive(Clone, Copy, Debug, Eq, Hash, PartialEq)]
+#[cfg_attr(not(feature = "internals"), non_exhaustive)]
 pub struct PlacedBinding<'a> {
     /// The binding.
     pub binding: Binding<'a>,
@@ -203,11 +207,13 @@ impl<'a> BindInterpreter<'a> {
 
     /// Returns the imports after a cursor of such an iterator.
     ///
-    /// # Proved
+    /// <details><summary>Proved</summary>
     ///
     /// - *items*: `imports_left result ≡ imports_after (input_in self (pointer_size ctx.container) (texts libs) (map segment_view segments)) self.lazy cursor`
     /// - *over*: `IsOverImports (input_in self (pointer_size ctx.container) (texts libs) (map segment_view segments)) self.lazy result`
     /// - *sites*: `import_sites_left result ≡ import_sites_after (input_in self (pointer_size ctx.container) (texts libs) (map segment_view segments)) self.lazy cursor`
+    ///
+    /// </details>
     pub fn imports_from<'b>(
         &self,
         libs: &'b [&'a str],
@@ -222,11 +228,13 @@ impl<'a> BindInterpreter<'a> {
 
     /// Returns the bindings after a cursor of such an iterator.
     ///
-    /// # Proved
+    /// <details><summary>Proved</summary>
     ///
     /// - *items*: `opcode_bindings_left result ≡ opcode_bindings_after (input_in self (pointer_size ctx.container) (texts libs) (map segment_view segments)) self.lazy cursor`
     /// - *over*: `IsOverBindings (input_in self (pointer_size ctx.container) (texts libs) (map segment_view segments)) self.lazy result`
     /// - *sites*: `binding_sites_left result ≡ binding_sites_after (input_in self (pointer_size ctx.container) (texts libs) (map segment_view segments)) self.lazy cursor`
+    ///
+    /// </details>
     pub fn bindings_from<'b>(
         &self,
         libs: &'b [&'a str],
@@ -241,11 +249,13 @@ impl<'a> BindInterpreter<'a> {
 
     /// Returns the cursor of an iterator at the start, over imports or over bindings.
     ///
-    /// # Proved
+    /// <details><summary>Proved</summary>
     ///
     /// - *state*: `state_in self.bytes result ≡ start_of self.non_lazy`
     /// - *more*: `extra_in result ≡ first_extra false`
     /// - *library*: `result.library ≡ 0`
+    ///
+    /// </details>
     pub fn cursor(&self) -> BindCursor {
         State::start(self.from, self.upto, false)
             .cursor(self.bytes, <BindingSettings as BindRules<'_>>::first(false))
@@ -255,10 +265,12 @@ impl<'a> BindInterpreter<'a> {
 impl<'a> BindIterator<'a, '_> {
     /// Returns a cursor of the imports that are left.
     ///
-    /// # Proved
+    /// <details><summary>Proved</summary>
     ///
     /// - *items*: for each `x : Input`, `lazy : Range`, if `IsOverImports x lazy self`, `imports_after x lazy result ≡ imports_left self`
     /// - *sites*: for each `x : Input`, `lazy : Range`, if `IsOverImports x lazy self`, `import_sites_after x lazy result ≡ import_sites_left self`
+    ///
+    /// </details>
     pub fn cursor(&self) -> BindCursor {
         self.stream.state.cursor(
             self.stream.source.bytes,
@@ -268,7 +280,7 @@ impl<'a> BindIterator<'a, '_> {
 
     /// Returns the next import with its places, or the fault that ends the iterator.
     ///
-    /// # Proved
+    /// <details><summary>Proved</summary>
     ///
     /// - *items*: `YieldsFirstBy placed_read imports_left self.old result self.new`
     /// - *end*: if `None`: `HasEndedImports self.new`
@@ -276,6 +288,8 @@ impl<'a> BindIterator<'a, '_> {
     /// - *over*: for each `x : Input`, `lazy : Range`, if `IsOverImports x lazy self.old`, `IsOverImports x lazy self.new`
     /// - *placed*: for each `x : Input`, `lazy : Range`, if `IsOverImports x lazy self.old`, if `Some(item)`: `IfOk item (IsPlaced x)`
     /// - *site*: if `Some(item)`: `IfOk item (λ p. import_sites_left self.old ≡ site_of p ∷ import_sites_left self.new)`
+    ///
+    /// </details>
     #[inline(always)]
     pub fn next_placed(&mut self) -> Option<Result<PlacedImport<'a>>> {
         match self.stream.next_item() {
@@ -293,10 +307,12 @@ impl<'a> BindIterator<'a, '_> {
 impl<'a> OpcodeBindingIterator<'a, '_> {
     /// Returns a cursor of the bindings that are left.
     ///
-    /// # Proved
+    /// <details><summary>Proved</summary>
     ///
     /// - *items*: for each `x : Input`, `lazy : Range`, if `IsOverBindings x lazy self`, `opcode_bindings_after x lazy result ≡ opcode_bindings_left self`
     /// - *sites*: for each `x : Input`, `lazy : Range`, if `IsOverBindings x lazy self`, `binding_sites_after x lazy result ≡ binding_sites_left self`
+    ///
+    /// </details>
     pub fn cursor(&self) -> BindCursor {
         self.stream
             .state
@@ -305,7 +321,7 @@ impl<'a> OpcodeBindingIterator<'a, '_> {
 
     /// Returns the next binding with the place of its name, or the fault that ends the iterator.
     ///
-    /// # Proved
+    /// <details><summary>Proved</summary>
     ///
     /// - *items*: `YieldsFirstBy placed_binding_read opcode_bindings_left self.old result self.new`
     /// - *end*: if `None`: `HasEndedOpcodeBindings self.new`
@@ -313,6 +329,8 @@ impl<'a> OpcodeBindingIterator<'a, '_> {
     /// - *over*: for each `x : Input`, `lazy : Range`, if `IsOverBindings x lazy self.old`, `IsOverBindings x lazy self.new`
     /// - *placed*: for each `x : Input`, `lazy : Range`, if `IsOverBindings x lazy self.old`, if `Some(item)`: `IfOk item (λ p. TextIsAt x.bytes p.name_place p.binding.name)`
     /// - *site*: if `Some(item)`: `IfOk item (λ p. (library : ℕ) × (binding_sites_left self.old ≡ record { name_place = p.name_place; library = library } ∷ binding_sites_left self.new))`
+    ///
+    /// </details>
     #[inline(always)]
     pub fn next_placed(&mut self) -> Option<Result<PlacedBinding<'a>>> {
         match self.stream.next_item() {

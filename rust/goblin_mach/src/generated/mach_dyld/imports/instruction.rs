@@ -7,12 +7,14 @@ use crate::generated::mach_dyld::bind_opcodes::*;
 
 /// Returns the opcode byte at a place, if there is one. This is the one read that is counted.
 ///
-/// # Proved
+/// <details><summary>Proved</summary>
 ///
 /// - *value*: if `None`: `byte_at bytes place ≡ Err (bad_offset place)`; if `Some(byte)`: `byte_at bytes place ≡ Ok byte`
 /// - *within*: if `Some(byte)`: `place + 1 ≤ length bytes`
 /// - *past*: if `None`: `length bytes ≤ place`
 /// - *reads*: `steps.new ≡ steps.old + 1`
+///
+/// </details>
 #[inline(always)]
 pub fn opcode_byte(bytes: &[u8], place: usize, steps: &mut Steps) -> Option<u8> {
     steps.tick();
@@ -24,9 +26,11 @@ pub fn opcode_byte(bytes: &[u8], place: usize, steps: &mut Steps) -> Option<u8> 
 
 /// Returns the SLEB128 number at a place and the place after it, if `sleb` finds one. Out of line: few streams hold any.
 ///
-/// # Proved
+/// <details><summary>Proved</summary>
 ///
 /// - if `None`: `IsErr (sleb_at bytes place)`; if `Some(found)`: `sleb_at bytes place ≡ Ok found`
+///
+/// </details>
 #[cold]
 #[inline(never)]
 pub fn rare_sleb(bytes: &[u8], place: usize) -> Option<(i64, usize)> {
@@ -62,11 +66,13 @@ fn test_operands(bytes: &[u8], pointer: u8, opcode: Opcode, imm: u8, place: usiz
 
 /// Returns why the instruction at a place can't be read. `byte` is its opcode byte, if the place lies in the bytes.
 ///
-/// # Proved
+/// <details><summary>Proved</summary>
 ///
 /// Callers make sure of: `IsErr (instruction_at pointer bytes place)`; if `place < length bytes`, `byte_at bytes place ≡ Ok byte`.
 ///
 /// - `instruction_at pointer bytes place ≡ Err (fault_of result)`
+///
+/// </details>
 #[cold]
 #[inline(never)]
 pub fn instruction_error(bytes: &[u8], pointer: u8, place: usize, byte: u8) -> Error {

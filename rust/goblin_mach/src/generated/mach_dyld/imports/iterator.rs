@@ -12,8 +12,16 @@ use crate::generated::mach_dyld::imports::state::State;
 use crate::generated::mach_dyld::imports::stream::{BindRules, Stream};
 
 /// The settings of imports beyond those in `Settings`: none.
-#[derive(Clone, Copy)]
+#[derive(Clone, Copy, Eq, Hash, PartialEq)]
+#[cfg_attr(not(feature = "internals"), non_exhaustive)]
 pub struct ImportSettings;
+
+impl core::fmt::Debug for ImportSettings {
+    /// Prints the name of the type.
+    fn fmt(&self, f: &mut core::fmt::Formatter<'_>) -> core::fmt::Result {
+        f.debug_struct("ImportSettings").finish_non_exhaustive()
+    }
+}
 
 impl<'a> BindRules<'a> for ImportSettings {
     type Item = Import<'a>;
@@ -56,17 +64,25 @@ impl<'a> BindRules<'a> for ImportSettings {
     }
 }
 
-/// An iterator over imports: those of the non-lazy stream, then those of the lazy stream. The first fault is its last item.
-/// It allocates nothing.
+/// An iterator over the imports of bind opcodes only: those of the non-lazy stream, then those of the lazy stream. Chains of
+/// fixups bind too: `MachO::bindings` has what dyld binds. The first fault is its last item. It allocates nothing.
+#[derive(Clone)]
 pub struct BindIterator<'a, 'b> {
     pub(crate) stream: Stream<'a, 'b, ImportSettings>,
+}
+
+impl<'a, 'b> core::fmt::Debug for BindIterator<'a, 'b> {
+    /// Prints the name of the type.
+    fn fmt(&self, f: &mut core::fmt::Formatter<'_>) -> core::fmt::Result {
+        f.debug_struct("BindIterator").finish_non_exhaustive()
+    }
 }
 
 impl<'a> BindIterator<'a, '_> {
     /// Returns the next import. Adds the number of opcodes read to `steps`: in all, at most one more than the opcodes that
     /// are left, and that one only at a fault.
     ///
-    /// # Proved
+    /// <details><summary>Proved</summary>
     ///
     /// - *items*: `YieldsFirstBy import_read imports_left self.old result self.new`
     /// - *end*: if `None`: `HasEndedImports self.new`
@@ -76,6 +92,8 @@ impl<'a> BindIterator<'a, '_> {
     /// - *bounded*: if `Some(item)`: `OnErr item (steps.new ≤ steps.old + reads_left self.old + 1)`
     /// - *kept*: `steps.old ≤ steps.new`
     /// - *over*: for each `x : Input`, `lazy : Range`, if `IsOverImports x lazy self.old`, `IsOverImports x lazy self.new`
+    ///
+    /// </details>
     #[inline(always)]
     pub fn next_counted(&mut self, steps: &mut Steps) -> Option<Result<Import<'a>>> {
         self.stream.next_counted(steps)
@@ -90,6 +108,8 @@ impl<'a, 'b> Iterator for BindIterator<'a, 'b> {
         self.next_counted(&mut Steps::new())
     }
 }
+
+impl<'a, 'b> core::iter::FusedIterator for BindIterator<'a, 'b> {}
 
 impl<'a, 'b> Default for BindIterator<'a, 'b> {
     /// Returns an iterator without imports.

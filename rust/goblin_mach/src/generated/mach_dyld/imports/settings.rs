@@ -3,7 +3,8 @@
 #![forbid(unsafe_code)]
 
 /// The settings that the next bind has.
-#[derive(Clone, Copy)]
+#[derive(Clone, Copy, Eq, Hash, PartialEq)]
+#[cfg_attr(not(feature = "internals"), non_exhaustive)]
 pub struct Settings<'a> {
     pub name: &'a str,
     /// The place of the name in the bytes, or the last place of 64 bits if no name was set.
@@ -17,14 +18,23 @@ pub struct Settings<'a> {
     pub is_lazy: bool,
 }
 
+impl<'a> core::fmt::Debug for Settings<'a> {
+    /// Prints the name of the type.
+    fn fmt(&self, f: &mut core::fmt::Formatter<'_>) -> core::fmt::Result {
+        f.debug_struct("Settings").finish_non_exhaustive()
+    }
+}
+
 impl<'a> Settings<'a> {
     /// Returns the settings at the start of a stream.
     ///
-    /// # Proved
+    /// <details><summary>Proved</summary>
     ///
     /// - *fresh*: `bind_of result ≡ fresh is_lazy sequence`
     /// - *unnamed*: `IsUnnamed result`
     /// - *site*: `site_in result ≡ no_site`
+    ///
+    /// </details>
     #[inline(always)]
     pub fn fresh(is_lazy: bool, sequence: u64) -> Self {
         Settings {
@@ -42,12 +52,14 @@ impl<'a> Settings<'a> {
 
     /// Resets the settings after a DONE that ends `sequence` bytes after the range's start.
     ///
-    /// # Proved
+    /// <details><summary>Proved</summary>
     ///
     /// - *cleared*: `bind_of self.new ≡ fresh self.old.is_lazy sequence`
     /// - *same*: `self.new.is_lazy ≡ self.old.is_lazy`
     /// - *unnamed*: `IsUnnamed self.new`
     /// - *site*: `site_in self.new ≡ no_site`
+    ///
+    /// </details>
     #[inline(always)]
     pub fn clear(&mut self, sequence: u64) {
         *self = Settings::fresh(self.is_lazy, sequence);
@@ -55,13 +67,15 @@ impl<'a> Settings<'a> {
 
     /// Advances the offset in the segment.
     ///
-    /// # Proved
+    /// <details><summary>Proved</summary>
     ///
     /// - *moved*: `bind_of self.new ≡ moved by (bind_of self.old)`
     /// - *same*: `self.new.is_lazy ≡ self.old.is_lazy`
     /// - *name*: `self.new.name ≡ self.old.name`
     /// - *place*: `self.new.name_place ≡ self.old.name_place`
     /// - *site*: `site_in self.new ≡ site_in self.old`
+    ///
+    /// </details>
     #[inline(always)]
     pub fn advance(&mut self, by: u64) {
         self.offset = self.offset.wrapping_add(by);

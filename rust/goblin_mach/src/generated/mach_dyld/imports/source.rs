@@ -10,12 +10,20 @@ use crate::generated::mach_parts::segment::Segment;
 
 /// The data that the binds of an image are read from.
 #[derive(Clone, Copy)]
+#[cfg_attr(not(feature = "internals"), non_exhaustive)]
 pub struct Source<'a, 'b> {
     pub bytes: &'a [u8],
     pub libs: &'b [&'a str],
     pub segments: &'b [Segment<'a>],
     /// The number of bytes in a pointer.
     pub pointer: u8,
+}
+
+impl<'a, 'b> core::fmt::Debug for Source<'a, 'b> {
+    /// Prints the name of the type.
+    fn fmt(&self, f: &mut core::fmt::Formatter<'_>) -> core::fmt::Result {
+        f.debug_struct("Source").finish_non_exhaustive()
+    }
 }
 
 // The library and the place that a bind names.
@@ -45,9 +53,11 @@ impl<'a> Source<'a, '_> {
 
     /// Returns the import of a bind with these settings, if it has one.
     ///
-    /// # Proved
+    /// <details><summary>Proved</summary>
     ///
     /// - if `None`: `import_of (input_of self) (bind_of settings) ≡ Err malformed`; if `Some(i)`: `import_of (input_of self) (bind_of settings) ≡ Ok (bind_import_view i)`
+    ///
+    /// </details>
     #[inline(always)]
     pub fn import(&self, settings: &Settings<'a>) -> Option<Import<'a>> {
         let target = self.target(settings.library, settings.segment, settings.offset)?;
@@ -66,21 +76,23 @@ impl<'a> Source<'a, '_> {
 
     /// Returns why a bind with these settings has no import.
     ///
-    /// # Proved
+    /// <details><summary>Proved</summary>
     ///
     /// - `fault_of result ≡ malformed`
+    ///
+    /// </details>
     #[cold]
     #[inline(never)]
     pub fn bind_error(&self, settings: &Settings<'a>) -> Error {
         if self.libs.get(settings.library as usize).is_none() {
-            return Error::Malformed("a bind's library is one of the list");
+            return Error::Malformed("a bind's library is past the list of libraries");
         }
         let Some(segment) = self.segments.get(usize::from(settings.segment)) else {
-            return Error::Malformed("a bind's segment is one of the list");
+            return Error::Malformed("a bind's segment is past the list of segments");
         };
         if !segment.holds(settings.offset) {
-            return Error::Malformed("a bind lies inside its segment");
+            return Error::Malformed("a bind is outside its segment");
         }
-        Error::Malformed("an import's place has at most 64 bits")
+        Error::Malformed("an import's place does not fit in 64 bits")
     }
 }

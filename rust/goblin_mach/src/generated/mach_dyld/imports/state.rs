@@ -8,7 +8,8 @@ use crate::generated::mach_dyld::imports::instruction::rare_sleb;
 use crate::generated::mach_dyld::imports::settings::Settings;
 
 /// The state of a reader of one stream.
-#[derive(Clone, Copy)]
+#[derive(Clone, Copy, Eq, Hash, PartialEq)]
+#[cfg_attr(not(feature = "internals"), non_exhaustive)]
 pub struct State<'a> {
     pub from: usize,
     pub upto: usize,
@@ -20,15 +21,24 @@ pub struct State<'a> {
     pub ended: bool,
 }
 
+impl<'a> core::fmt::Debug for State<'a> {
+    /// Prints the name of the type.
+    fn fmt(&self, f: &mut core::fmt::Formatter<'_>) -> core::fmt::Result {
+        f.debug_struct("State").finish_non_exhaustive()
+    }
+}
+
 impl<'a> State<'a> {
     /// Returns the state at the start of a range.
     ///
-    /// # Proved
+    /// <details><summary>Proved</summary>
     ///
     /// - *state*: `state_of result ≡ start_of (record { from = from; upto = upto; is_lazy = is_lazy })`
     /// - *on*: `result.ended ≡ false`
     /// - *unnamed*: `IsUnnamed result.settings`
     /// - *site*: `site_in result.settings ≡ no_site`
+    ///
+    /// </details>
     pub fn start(from: usize, upto: usize, is_lazy: bool) -> Self {
         State {
             from,
@@ -41,109 +51,89 @@ impl<'a> State<'a> {
         }
     }
 
+    crate::shim::inner! {
     /// Reads the operands of an opcode with its immediate, which begin at a place, and sets the settings and the binds of
-    /// the instruction. Returns None if they can't be read. A pointer has `pointer` bytes.
-    ///
-    /// # Proved
-    ///
-    /// Callers make sure of: `self.old.count ≡ 0`; `place ≤ length bytes`.
-    ///
-    /// - *value*: if `None`: `IsErr (row_at pointer bytes opcode imm place)`; if `Some(_)`: `executed_by pointer (row_at pointer bytes opcode imm place) (state_of self.old) ≡ Ok (state_of self.new)`
-    /// - *place*: if `None`: `self.new.place ≡ self.old.place`
-    /// - *count*: if `None`: `self.new.count ≡ 0`
-    /// - *upto*: `self.new.upto ≡ self.old.upto`
-    /// - *from*: `self.new.from ≡ self.old.from`
-    /// - *ended*: `self.new.ended ≡ self.old.ended`
-    /// - *is lazy*: `self.new.settings.is_lazy ≡ self.old.settings.is_lazy`
-    /// - *named*: if `NameIsSet bytes self.old.settings`, `NameIsSet bytes self.new.settings`
-    /// - *site*: if `Some(_)`: `site_by place (row_at pointer bytes opcode imm place) (site_in self.old.settings) ≡ Ok (site_in self.new.settings)`
-    #[inline(always)]
-    pub fn execute(
-        &mut self,
-        bytes: &'a [u8],
-        pointer: u8,
-        opcode: Opcode,
-        imm: u8,
-        place: usize,
-    ) -> Option<()> {
-        self.stride = 0;
-        let after = match opcode {
-            BIND_OPCODE_DONE => {
-                self.settings.clear(place.saturating_sub(self.from) as u64);
-                place
-            }
-            BIND_OPCODE_SET_DYLIB_ORDINAL_IMM => {
-                self.settings.library = u64::from(imm);
-                place
-            }
-            BIND_OPCODE_SET_DYLIB_ORDINAL_ULEB => {
-                let (library, after) = quick_uleb(bytes, place)?;
-                self.settings.library = library;
-                after
-            }
-            BIND_OPCODE_SET_SYMBOL_TRAILING_FLAGS_IMM => {
-                let name = quick_text(bytes, place)?;
-                self.settings.name = name;
-                self.settings.name_place = place;
-                self.settings.flags = imm;
-                place + name.len() + 1
-            }
-            BIND_OPCODE_SET_ADDEND_SLEB => {
-                let (addend, after) = rare_sleb(bytes, place)?;
-                self.settings.addend = addend;
-                after
-            }
-            BIND_OPCODE_SET_SEGMENT_AND_OFFSET_ULEB => {
-                let (offset, after) = quick_uleb(bytes, place)?;
-                self.settings.segment = imm;
-                self.settings.offset = offset;
-                after
-            }
-            BIND_OPCODE_ADD_ADDR_ULEB => {
-                let (by, after) = quick_uleb(bytes, place)?;
-                self.settings.advance(by);
-                after
-            }
-            BIND_OPCODE_DO_BIND => {
-                self.make(1, 0, pointer);
-                place
-            }
-            BIND_OPCODE_DO_BIND_ADD_ADDR_ULEB => {
-                let (skip, after) = quick_uleb(bytes, place)?;
-                self.make(1, skip, pointer);
-                after
-            }
-            BIND_OPCODE_DO_BIND_ADD_ADDR_IMM_SCALED => {
-                self.make(1, u64::from(imm) * u64::from(pointer), pointer);
-                place
-            }
-            BIND_OPCODE_DO_BIND_ULEB_TIMES_SKIPPING_ULEB => {
-                let (count, next) = quick_uleb(bytes, place)?;
-                let (skip, after) = quick_uleb(bytes, next)?;
-                self.make(count, skip, pointer);
-                after
-            }
-            _ => place,
-        };
-        self.place = after;
-        Some(())
+        /// the instruction. Returns None if they can't be read. A pointer has `pointer` bytes.
+        #[inline(always)]
+        fn execute(
+            &mut self,
+            bytes: &'a [u8],
+            pointer: u8,
+            opcode: Opcode,
+            imm: u8,
+            place: usize,
+        ) -> Option<()> {
+            self.stride = 0;
+            let after = match opcode {
+                BIND_OPCODE_DONE => {
+                    self.settings.clear(place.saturating_sub(self.from) as u64);
+                    place
+                }
+                BIND_OPCODE_SET_DYLIB_ORDINAL_IMM => {
+                    self.settings.library = u64::from(imm);
+                    place
+                }
+                BIND_OPCODE_SET_DYLIB_ORDINAL_ULEB => {
+                    let (library, after) = quick_uleb(bytes, place)?;
+                    self.settings.library = library;
+                    after
+                }
+                BIND_OPCODE_SET_SYMBOL_TRAILING_FLAGS_IMM => {
+                    let name = quick_text(bytes, place)?;
+                    self.settings.name = name;
+                    self.settings.name_place = place;
+                    self.settings.flags = imm;
+                    place + name.len() + 1
+                }
+                BIND_OPCODE_SET_ADDEND_SLEB => {
+                    let (addend, after) = rare_sleb(bytes, place)?;
+                    self.settings.addend = addend;
+                    after
+                }
+                BIND_OPCODE_SET_SEGMENT_AND_OFFSET_ULEB => {
+                    let (offset, after) = quick_uleb(bytes, place)?;
+                    self.settings.segment = imm;
+                    self.settings.offset = offset;
+                    after
+                }
+                BIND_OPCODE_ADD_ADDR_ULEB => {
+                    let (by, after) = quick_uleb(bytes, place)?;
+                    self.settings.advance(by);
+                    after
+                }
+                BIND_OPCODE_DO_BIND => {
+                    self.make(1, 0, pointer);
+                    place
+                }
+                BIND_OPCODE_DO_BIND_ADD_ADDR_ULEB => {
+                    let (skip, after) = quick_uleb(bytes, place)?;
+                    self.make(1, skip, pointer);
+                    after
+                }
+                BIND_OPCODE_DO_BIND_ADD_ADDR_IMM_SCALED => {
+                    self.make(1, u64::from(imm) * u64::from(pointer), pointer);
+                    place
+                }
+                BIND_OPCODE_DO_BIND_ULEB_TIMES_SKIPPING_ULEB => {
+                    let (count, next) = quick_uleb(bytes, place)?;
+                    let (skip, after) = quick_uleb(bytes, next)?;
+                    self.make(count, skip, pointer);
+                    after
+                }
+                _ => place,
+            };
+            self.place = after;
+            Some(())
+        }
     }
 
+    crate::shim::inner! {
     /// Moves to a place and sets nothing.
-    ///
-    /// # Proved
-    ///
-    /// Callers make sure of: `self.old.count ≡ 0`.
-    ///
-    /// - *state*: for each `pointer : ℕ`, `executed pointer nothing to (state_of self.old) ≡ state_of self.new`
-    /// - *upto*: `self.new.upto ≡ self.old.upto`
-    /// - *from*: `self.new.from ≡ self.old.from`
-    /// - *ended*: `self.new.ended ≡ self.old.ended`
-    /// - *settings*: `self.new.settings ≡ self.old.settings`
-    #[inline(always)]
-    pub fn go_to(&mut self, to: usize) {
-        self.stride = 0;
-        self.place = to;
+        #[inline(always)]
+        fn go_to(&mut self, to: usize) {
+            self.stride = 0;
+            self.place = to;
+        }
     }
 
     // Sets `count` binds; after each, the offset advances by the skip and a pointer.

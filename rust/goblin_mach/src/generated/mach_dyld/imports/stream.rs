@@ -17,21 +17,25 @@ pub trait BindRules<'a>: Copy {
 
     /// Returns the settings at the start of a range.
     ///
-    /// # Proved
+    /// <details><summary>Proved</summary>
     ///
     /// - `result ≡ rules.first is_lazy`
+    ///
+    /// </details>
     fn first(is_lazy: bool) -> Self;
 
     /// Changes the settings as an instruction does, by its opcode byte.
     ///
-    /// # Proved
+    /// <details><summary>Proved</summary>
     ///
     /// - `self.new ≡ rules.set byte self.old`
+    ///
+    /// </details>
     fn set(&mut self, byte: u8);
 
     /// Executes the next instruction, by its opcode byte. Returns None if it can't be read. A pointer has `pointer` bytes.
     ///
-    /// # Proved
+    /// <details><summary>Proved</summary>
     ///
     /// Callers make sure of: `state.old.count ≡ 0`; `byte_at bytes state.old.place ≡ Ok byte`; `state.old.place + 1 ≤ length bytes`; `state.old.place < state.old.upto`.
     ///
@@ -44,39 +48,58 @@ pub trait BindRules<'a>: Copy {
     /// - *is lazy*: `state.new.settings.is_lazy ≡ state.old.settings.is_lazy`
     /// - *named*: if `NameIsSet bytes state.old.settings`, `NameIsSet bytes state.new.settings`
     /// - *site*: if `Some(_)`: `site_by (state.old.place + 1) (rules.read (range_of state.old) pointer bytes state.old.place) (site_in state.old.settings) ≡ Ok (site_in state.new.settings)`
+    ///
+    /// </details>
     fn execute(state: &mut State<'a>, bytes: &'a [u8], pointer: u8, byte: u8) -> Option<()>;
 
     /// Returns the item that the bind with these settings makes, if any.
     ///
-    /// # Proved
+    /// <details><summary>Proved</summary>
     ///
     /// - if `None`: `rules.makes (input_of source) (bind_of settings) self ≡ Err malformed`; if `Some(i)`: `rules.makes (input_of source) (bind_of settings) self ≡ Ok (seen i)`
+    ///
+    /// </details>
     fn make(self, source: &Source<'a, '_>, settings: &Settings<'a>) -> Option<Self::Item>;
 
     /// Returns why the instruction at the state's place can't be read. `byte` is its opcode byte, if the place lies in the bytes.
     ///
-    /// # Proved
+    /// <details><summary>Proved</summary>
     ///
     /// Callers make sure of: `IsErr (rules.read (range_of state) pointer bytes state.place)`; if `state.place < length bytes`, `byte_at bytes state.place ≡ Ok byte`.
     ///
     /// - `rules.read (range_of state) pointer bytes state.place ≡ Err (fault result)`
+    ///
+    /// </details>
     fn unreadable(state: &State<'a>, bytes: &[u8], pointer: u8, byte: u8) -> Self::Why;
 
     /// Returns why a bind with these settings makes no item.
     ///
-    /// # Proved
+    /// <details><summary>Proved</summary>
     ///
     /// - `fault result ≡ malformed`
+    ///
+    /// </details>
     fn refusal(self, source: &Source<'a, '_>, settings: &Settings<'a>) -> Self::Why;
 }
 
 /// Why no item comes: the next instruction, whose opcode byte this is if there is one, can't be read; or the next bind makes no item.
+#[derive(Clone, Eq, Hash, PartialEq)]
+#[cfg_attr(not(feature = "internals"), non_exhaustive)]
 pub enum Stop {
     Instruction(u8),
     Bind,
 }
 
+impl core::fmt::Debug for Stop {
+    /// Prints the name of the type.
+    fn fmt(&self, f: &mut core::fmt::Formatter<'_>) -> core::fmt::Result {
+        f.debug_struct("Stop").finish_non_exhaustive()
+    }
+}
+
 /// The rest of two streams. It allocates nothing.
+#[derive(Clone)]
+#[cfg_attr(not(feature = "internals"), non_exhaustive)]
 pub struct Stream<'a, 'b, M> {
     pub source: Source<'a, 'b>,
     pub lazy_from: usize,
@@ -86,12 +109,21 @@ pub struct Stream<'a, 'b, M> {
     pub more: M,
 }
 
+impl<'a, 'b, M> core::fmt::Debug for Stream<'a, 'b, M> {
+    /// Prints the name of the type.
+    fn fmt(&self, f: &mut core::fmt::Formatter<'_>) -> core::fmt::Result {
+        f.debug_struct("Stream").finish_non_exhaustive()
+    }
+}
+
 impl<'a, 'b, M: BindRules<'a>> Stream<'a, 'b, M> {
     /// Returns two streams that have ended.
     ///
-    /// # Proved
+    /// <details><summary>Proved</summary>
     ///
     /// - `items_left M.rules result ≡ []`
+    ///
+    /// </details>
     pub fn none(more: M) -> Self {
         Stream {
             source: Source {
@@ -112,10 +144,12 @@ impl<'a, 'b, M: BindRules<'a>> Stream<'a, 'b, M> {
 
     /// Returns one stream alone, from its start, with these further settings. It is read as the later one of two.
     ///
-    /// # Proved
+    /// <details><summary>Proved</summary>
     ///
     /// - *items*: `items_left M.rules result ≡ items_of M.rules (input_of source.entry) (last_range from upto) more (start_of (last_range from upto))`
     /// - *reads*: `opcodes_left M.rules result ≡ reads_of M.rules (input_of source.entry) (last_range from upto) (start_of (last_range from upto))`
+    ///
+    /// </details>
     pub fn alone(source: Source<'a, 'b>, from: usize, upto: usize, more: M) -> Self {
         Stream {
             source,
@@ -126,26 +160,16 @@ impl<'a, 'b, M: BindRules<'a>> Stream<'a, 'b, M> {
         }
     }
 
+    crate::shim::inner! {
     /// Returns the item of the next bind, if it makes one, and moves past that bind.
-    ///
-    /// # Proved
-    ///
-    /// Callers make sure of: `0 < self.old.state.count`; `self.old.state.ended ≡ false`.
-    ///
-    /// - *items*: if `Some(i)`: `items_left M.rules self.old ≡ Ok (M.seen i) ∷ items_left M.rules self.new`
-    /// - *reads*: `opcodes_left M.rules self.new ≡ opcodes_left M.rules self.old`
-    /// - *on*: `self.new.state.ended ≡ false`
-    /// - *none*: if `None`: `(items_left M.rules self.old ≡ items_left M.rules self.new) × MakesNothing M.rules self.new`
-    /// - *keeps*: `Keeps self.old self.new`
-    /// - *bound*: if `Some(i)`: `IsMadeBy M.rules self.new (M.seen i)`
-    /// - *site*: if `Some(_)`: `sites_left M.rules self.old ≡ site_in self.new.state.settings ∷ sites_left M.rules self.new`
-    #[inline(always)]
-    pub fn bind(&mut self) -> Option<M::Item> {
-        let item = self.more.make(&self.source, &self.state.settings)?;
-        self.state.count -= 1;
-        let stride = self.state.stride;
-        self.state.settings.advance(stride);
-        Some(item)
+        #[inline(always)]
+        fn bind(&mut self) -> Option<M::Item> {
+            let item = self.more.make(&self.source, &self.state.settings)?;
+            self.state.count -= 1;
+            let stride = self.state.stride;
+            self.state.settings.advance(stride);
+            Some(item)
+        }
     }
 
     // Reads the next instruction. The error is its opcode byte, if there is one.
@@ -170,59 +194,39 @@ impl<'a, 'b, M: BindRules<'a>> Stream<'a, 'b, M> {
         self.more = M::first(true);
     }
 
+    crate::shim::inner! {
     /// Reads on to the next bind. Returns false if both streams are at their end, and an error at an instruction that can't
-    /// be read: its opcode byte, if there is one.
-    ///
-    /// # Proved
-    ///
-    /// Callers make sure of: `self.old.state.ended ≡ false`.
-    ///
-    /// - *items*: `items_left M.rules self.old ≡ items_left M.rules self.new`
-    /// - *reads*: if `Ok`: `steps.new + opcodes_left M.rules self.new ≡ steps.old + opcodes_left M.rules self.old`
-    /// - *bounded*: if `Err`: `steps.new ≤ steps.old + opcodes_left M.rules self.old + 1`
-    /// - *kept*: `steps.old ≤ steps.new`
-    /// - *on*: `self.new.state.ended ≡ false`
-    /// - *there*: if `Ok(there)`: if `there ≡ true`, `0 < self.new.state.count`
-    /// - *end*: if `Ok(there)`: if `there ≡ false`, `IsAtEnd self.new`
-    /// - *err*: if `Err(e)`: `IsNextUnreadable M.rules self.new e`
-    /// - *keeps*: `Keeps self.old self.new`
-    /// - *sites*: if `Ok`: `sites_left M.rules self.old ≡ sites_left M.rules self.new`
-    #[inline(always)]
-    pub fn arrive(&mut self, steps: &mut Steps) -> core::result::Result<bool, u8> {
-        while self.state.count == 0 {
-            if self.state.place < self.state.upto {
-                self.read(steps)?;
-            } else if self.state.settings.is_lazy {
-                return Ok(false);
-            } else {
-                self.go_over();
+        /// be read: its opcode byte, if there is one.
+        #[inline(always)]
+        fn arrive(&mut self, steps: &mut Steps) -> core::result::Result<bool, u8> {
+            while self.state.count == 0 {
+                if self.state.place < self.state.upto {
+                    self.read(steps)?;
+                } else if self.state.settings.is_lazy {
+                    return Ok(false);
+                } else {
+                    self.go_over();
+                }
             }
+            Ok(true)
         }
-        Ok(true)
     }
 
+    crate::shim::inner! {
     /// Ends the streams.
-    ///
-    /// # Proved
-    ///
-    /// Callers make sure of: `IsAtEnd self.old`.
-    ///
-    /// - *ended*: `self.new.state.ended ≡ true`
-    /// - *before*: `items_left M.rules self.old ≡ []`
-    /// - *items*: `items_left M.rules self.new ≡ []`
-    /// - *reads before*: `opcodes_left M.rules self.old ≡ 0`
-    /// - *reads*: `opcodes_left M.rules self.new ≡ 0`
-    /// - *keeps*: `Keeps self.old self.new`
-    #[inline(always)]
-    pub fn finish(&mut self) {
-        self.state.ended = true;
+        #[inline(always)]
+        fn finish(&mut self) {
+            self.state.ended = true;
+        }
     }
 
     /// Returns the number of items to reserve room for: the last one, and those that its instruction still makes.
     ///
-    /// # Proved
+    /// <details><summary>Proved</summary>
     ///
     /// - `result ≡ min (self.state.count + 1) (2 ^ 64 - 1)`
+    ///
+    /// </details>
     #[inline(always)]
     pub fn room(&self) -> usize {
         (self.state.count as usize).saturating_add(1)
@@ -230,7 +234,7 @@ impl<'a, 'b, M: BindRules<'a>> Stream<'a, 'b, M> {
 
     /// Returns the next item, or why there is none, and counts the opcodes read. At a stop the streams have not ended yet.
     ///
-    /// # Proved
+    /// <details><summary>Proved</summary>
     ///
     /// - *item*: if `Some(item)`: `IfOk item (λ i. items_left M.rules self.old ≡ Ok (M.seen i) ∷ items_left M.rules self.new)`
     /// - *stop*: if `Some(item)`: `IfErr item (λ s. (items_left M.rules self.old ≡ items_left M.rules self.new) × StopsFor M.rules self.new s)`
@@ -243,6 +247,8 @@ impl<'a, 'b, M: BindRules<'a>> Stream<'a, 'b, M> {
     /// - *keeps*: `Keeps self.old self.new`
     /// - *bound*: if `Some(item)`: `IfOk item (λ i. IsMadeBy M.rules self.new (M.seen i))`
     /// - *site*: if `Some(item)`: `OnOk item (sites_left M.rules self.old ≡ site_in self.new.state.settings ∷ sites_left M.rules self.new)`
+    ///
+    /// </details>
     #[inline(always)]
     pub fn step(&mut self, steps: &mut Steps) -> Option<core::result::Result<M::Item, Stop>> {
         if self.state.ended {
@@ -286,26 +292,20 @@ impl<'a, 'b, M: BindRules<'a>> Stream<'a, 'b, M> {
         }
     }
 
+    crate::shim::inner! {
     /// Ends the streams at a stop, and returns the error.
-    ///
-    /// # Proved
-    ///
-    /// Callers make sure of: `StopsFor M.rules self.old stop`.
-    ///
-    /// - *fails*: `Fails M.rules self.old self.new (M.fault result)`
-    /// - *ended*: `self.new.state.ended ≡ true`
-    /// - *keeps*: `Keeps self.old self.new`
-    #[inline(always)]
-    pub fn end_at(&mut self, stop: Stop) -> M::Why {
-        let error = self.copied().error(stop);
-        self.state.ended = true;
-        error
+        #[inline(always)]
+        fn end_at(&mut self, stop: Stop) -> M::Why {
+            let error = self.copied().error(stop);
+            self.state.ended = true;
+            error
+        }
     }
 
     /// Returns the next item, or the fault that ends them. Adds the number of opcodes read to `steps`: in all, at most one
     /// more than can be read, and that one only at a fault.
     ///
-    /// # Proved
+    /// <details><summary>Proved</summary>
     ///
     /// - *items*: `YieldsFirstBy (item_read M.seen M.fault) (items_left M.rules) self.old result self.new`
     /// - *end*: if `None`: `HasEnded M.rules self.new`
@@ -317,6 +317,8 @@ impl<'a, 'b, M: BindRules<'a>> Stream<'a, 'b, M> {
     /// - *keeps*: `Keeps self.old self.new`
     /// - *bound*: if `Some(item)`: `IfOk item (λ i. IsMadeBy M.rules self.new (M.seen i))`
     /// - *site*: if `Some(item)`: `OnOk item (sites_left M.rules self.old ≡ site_in self.new.state.settings ∷ sites_left M.rules self.new)`
+    ///
+    /// </details>
     #[inline(always)]
     pub fn next_counted(
         &mut self,
@@ -331,7 +333,7 @@ impl<'a, 'b, M: BindRules<'a>> Stream<'a, 'b, M> {
 
     /// Returns the next item, or the fault that ends them.
     ///
-    /// # Proved
+    /// <details><summary>Proved</summary>
     ///
     /// - *items*: `YieldsFirstBy (item_read M.seen M.fault) (items_left M.rules) self.old result self.new`
     /// - *end*: if `None`: `HasEnded M.rules self.new`
@@ -339,6 +341,8 @@ impl<'a, 'b, M: BindRules<'a>> Stream<'a, 'b, M> {
     /// - *keeps*: `Keeps self.old self.new`
     /// - *bound*: if `Some(item)`: `IfOk item (λ i. IsMadeBy M.rules self.new (M.seen i))`
     /// - *site*: if `Some(item)`: `OnOk item (sites_left M.rules self.old ≡ site_in self.new.state.settings ∷ sites_left M.rules self.new)`
+    ///
+    /// </details>
     #[inline(always)]
     pub fn next_item(&mut self) -> Option<core::result::Result<M::Item, M::Why>> {
         self.next_counted(&mut Steps::new())

@@ -2,6 +2,8 @@
 //! Numbers in a segment's memory: its data, followed by zeros.
 #![forbid(unsafe_code)]
 
+use crate::shim::ReadsNumbers;
+
 use crate::generated::mach_base::{Endian, array_at};
 
 // Returns the eight bytes at a place of a segment whose data end before the eighth. Zeros follow the data.
@@ -34,11 +36,13 @@ fn padded_number(le: Endian, width: u8, bytes: &[u8], offset: u64) -> u64 {
 
 /// Returns the number of `width` bytes, 4 or 8, at a place of a segment with these data. Zeros follow the data.
 ///
-/// # Proved
+/// <details><summary>Proved</summary>
 ///
 /// Callers make sure of: `(width ≡ 4) ⊎ (width ≡ 8)`.
 ///
 /// - `result ≡ defined.memory_number le width bytes offset`
+///
+/// </details>
 #[inline(always)]
 pub fn memory_number(le: Endian, width: u8, bytes: &[u8], offset: u64) -> u64 {
     if bytes.len() < 8 || offset > (bytes.len() - 8) as u64 {

@@ -10,6 +10,8 @@ use crate::generated::mach_dyld::rebases::{Rebase, RebaseKind, Rebasing};
 use crate::generated::mach_parts::segment::Segment;
 
 /// A rebase that was checked, with the data of its segment.
+#[derive(Clone, Eq, PartialEq)]
+#[cfg_attr(not(feature = "internals"), non_exhaustive)]
 pub struct Turn<'a> {
     /// The segment's data.
     pub bytes: &'a [u8],
@@ -23,6 +25,13 @@ pub struct Turn<'a> {
     /// Whether eight bytes are corrected rather than four.
     pub is_wide: bool,
     pub le: Endian,
+}
+
+impl<'a> core::fmt::Debug for Turn<'a> {
+    /// Prints the name of the type.
+    fn fmt(&self, f: &mut core::fmt::Formatter<'_>) -> core::fmt::Result {
+        f.debug_struct("Turn").finish_non_exhaustive()
+    }
 }
 
 impl Turn<'_> {
@@ -49,20 +58,31 @@ impl Turn<'_> {
 }
 
 /// A run of rebases.
+#[derive(Clone, Eq, PartialEq)]
+#[cfg_attr(not(feature = "internals"), non_exhaustive)]
 pub struct Run<'a> {
     pub left: u64,
     pub turn: Turn<'a>,
 }
 
+impl<'a> core::fmt::Debug for Run<'a> {
+    /// Prints the name of the type.
+    fn fmt(&self, f: &mut core::fmt::Formatter<'_>) -> core::fmt::Result {
+        f.debug_struct("Run").finish_non_exhaustive()
+    }
+}
+
 /// Returns the highest offset at which a segment holds a pointer whose address fits into 64 bits; None if the segment is
 /// smaller than a pointer.
 ///
-/// # Proved
+/// <details><summary>Proved</summary>
 ///
 /// - *some*: if `Some(h)`: `h ≡ highest_rebase pointer (segment_view segment)`
 /// - *large*: if `Some(h)`: `pointer ≤ segment.vmsize`
 /// - *small*: if `Some(h)`: `segment.vmaddr < 2 ^ 64`
 /// - *none*: if `None`: `segment.vmsize < pointer`
+///
+/// </details>
 #[inline(always)]
 pub fn highest_offset(pointer: u8, segment: &Segment<'_>) -> Option<u64> {
     let room = segment.vmsize.checked_sub(u64::from(pointer))?;
@@ -92,9 +112,11 @@ fn few_turns(room: u64, stride: u64, count: u64) -> u64 {
 impl<'a> Run<'a> {
     /// Returns a run of no rebases.
     ///
-    /// # Proved
+    /// <details><summary>Proved</summary>
     ///
     /// - `run_left result ≡ []`
+    ///
+    /// </details>
     pub fn none() -> Self {
         Run {
             left: 0,
@@ -111,57 +133,46 @@ impl<'a> Run<'a> {
         }
     }
 
+    crate::shim::inner! {
     /// Returns what the last instruction still makes, up to where the offsets leave the segment; None if the first is no rebase.
-    ///
-    /// # Proved
-    ///
-    /// Callers make sure of: `0 < stream.state.count`.
-    ///
-    /// - *some*: if `Some(run)`: `0 < run.left`
-    /// - *within*: if `Some(run)`: `run.left ≤ stream.state.count`
-    /// - *made*: if `Some(run)`: `first_made rebase_rules stream run.left ≡ run_left run`
-    /// - *none*: if `None`: `rebase_rules.makes (input_of stream.source) (bind_of stream.state.settings) stream.more ≡ Err malformed`
-    #[inline(always)]
-    pub fn of(stream: &Stream<'a, '_, Rebasing>) -> Option<Self> {
-        let (rebasing, state) = (&stream.more, &stream.state);
-        if !rebasing.has_segment {
-            return None;
+        #[inline(always)]
+        fn of(stream: &Stream<'a, '_, Rebasing>) -> Option<Self> {
+            let (rebasing, state) = (&stream.more, &stream.state);
+            if !rebasing.has_segment {
+                return None;
+            }
+            let kind = RebaseKind::of(rebasing.kind)?;
+            let pointer = stream.source.pointer;
+            let number = state.settings.segment;
+            let segment = segment_at(stream.source.segments, number)?;
+            let highest = highest_offset(pointer, segment)?;
+            let offset = state.settings.offset;
+            if offset > highest {
+                return None;
+            }
+            let turn = Turn {
+                bytes: segment.data,
+                offset,
+                address: segment.vmaddr.wrapping_add(offset),
+                stride: state.stride,
+                segment: u32::from(number),
+                kind,
+                is_wide: kind.width(pointer) == 8,
+                le: rebasing.le,
+            };
+            let left = turns_upto(highest, offset, state.stride, state.count);
+            Some(Run { left, turn })
         }
-        let kind = RebaseKind::of(rebasing.kind)?;
-        let pointer = stream.source.pointer;
-        let number = state.settings.segment;
-        let segment = segment_at(stream.source.segments, number)?;
-        let highest = highest_offset(pointer, segment)?;
-        let offset = state.settings.offset;
-        if offset > highest {
-            return None;
-        }
-        let turn = Turn {
-            bytes: segment.bytes,
-            offset,
-            address: segment.vmaddr.wrapping_add(offset),
-            stride: state.stride,
-            segment: u32::from(number),
-            kind,
-            is_wide: kind.width(pointer) == 8,
-            le: rebasing.le,
-        };
-        let left = turns_upto(highest, offset, state.stride, state.count);
-        Some(Run { left, turn })
     }
 
+    crate::shim::inner! {
     /// Removes the first rebase and returns it.
-    ///
-    /// # Proved
-    ///
-    /// Callers make sure of: `0 < self.old.left`.
-    ///
-    /// - `run_left self.old ≡ Ok (rebase_view result) ∷ run_left self.new`
-    #[inline(always)]
-    pub fn next(&mut self) -> Rebase {
-        let rebase = self.turn.rebase();
-        self.turn.advance();
-        self.left -= 1;
-        rebase
+        #[inline(always)]
+        fn next(&mut self) -> Rebase {
+            let rebase = self.turn.rebase();
+            self.turn.advance();
+            self.left -= 1;
+            rebase
+        }
     }
 }

@@ -24,6 +24,7 @@ const OVER: usize = 2;
 /// its calls are given. Whatever the numbers are, a call reads and writes nothing else.
 #[derive(Clone, Copy, Debug)]
 #[repr(C)]
+#[cfg_attr(not(feature = "internals"), non_exhaustive)]
 pub struct TrieCursor {
     /// 0 if the root comes next, 1 on the way; any other number means that nothing comes.
     pub phase: usize,
@@ -40,6 +41,8 @@ pub struct TrieCursor {
 }
 
 /// What a walk returns next.
+#[derive(Clone, Eq, Hash, PartialEq)]
+#[cfg_attr(not(feature = "internals"), non_exhaustive)]
 pub enum NextExport<'a> {
     /// The meaning of the export whose name is that of the cursor.
     Export(ExportInfo<'a>),
@@ -51,6 +54,13 @@ pub enum NextExport<'a> {
     NameTooLong(usize),
     /// More nodes are open than the stack has room for. The walk is unchanged.
     StackTooShort,
+}
+
+impl<'a> core::fmt::Debug for NextExport<'a> {
+    /// Prints the name of the type.
+    fn fmt(&self, f: &mut core::fmt::Formatter<'_>) -> core::fmt::Result {
+        f.debug_struct("NextExport").finish_non_exhaustive()
+    }
 }
 
 // Reads the node at a start: its own export, if it has one, and its branches.
@@ -105,7 +115,7 @@ impl TrieCursor {
                 self.top = *below;
                 None
             }
-            None => Some(self.refuse(Error::Malformed("an open node is one of the stack"))),
+            None => Some(self.refuse(Error::Malformed("an open node is past the stack"))),
         }
     }
 
@@ -211,7 +221,7 @@ impl TrieCursor {
             return self.close(stack);
         }
         let Some((branch, after)) = quick_branch(source.bytes, source.from, self.top.place) else {
-            return Some(self.refuse(Error::Malformed("a branch of an open node can be read")));
+            return Some(self.refuse(Error::Malformed("a branch of an open node can't be read")));
         };
         let rest = Open {
             left: self.top.left - 1,
@@ -225,9 +235,11 @@ impl TrieCursor {
 impl<'a> ExportTrie<'a> {
     /// Returns a cursor at the start of the trie.
     ///
-    /// # Proved
+    /// <details><summary>Proved</summary>
     ///
     /// - for each `libs : List (List ℕ)`, `name : List ℕ`, `stack : List Open`, `HasGivenTo self libs result name stack []`
+    ///
+    /// </details>
     pub fn cursor(&self) -> TrieCursor {
         let phase = if self.from < self.upto { AT_ROOT } else { OVER };
         TrieCursor {
@@ -251,7 +263,7 @@ impl<'a> ExportTrie<'a> {
     /// longer ones that begin with the same contents. It doesn't mark visited nodes. So it notices that two paths lead to
     /// one node only after it has visited more nodes than the range has places.
     ///
-    /// # Proved
+    /// <details><summary>Proved</summary>
     ///
     /// - *gives*: for each `found : List Entry`, if `HasGivenTo self (texts libs) cursor.old name.old stack.old found`, `NextGives self (texts libs) found result cursor.new name.new stack.new`
     /// - *leads*: for each `found : List Entry`, if `HasGivenTo self (texts libs) cursor.old name.old stack.old found`, `IsLedTo self (texts libs) found result cursor.new name.new`
@@ -262,6 +274,8 @@ impl<'a> ExportTrie<'a> {
     /// - *over*: if `1 < cursor.old.phase`, `(result ≡ next.End) × IsAsBefore cursor.old cursor.new name.old name.new stack.old stack.new`
     /// - *name len*: `length name.new ≡ length name.old`
     /// - *stack len*: `length stack.new ≡ length stack.old`
+    ///
+    /// </details>
     #[inline(always)]
     pub fn next_export(
         &self,
@@ -277,10 +291,12 @@ impl<'a> ExportTrie<'a> {
             upto: self.upto,
         };
         if cursor.phase <= ON_THE_WAY && cursor.depth > stack.len() {
-            return cursor.refuse(Error::Malformed("the open nodes are those of the stack"));
+            return cursor.refuse(Error::Malformed(
+                "there are more open nodes than the stack has",
+            ));
         }
         if cursor.phase <= ON_THE_WAY && cursor.visits_left > self.upto - self.from {
-            return cursor.refuse(Error::Malformed("a node is visited once"));
+            return cursor.refuse(Error::Malformed("there are more visits left than nodes"));
         }
         while cursor.phase <= ON_THE_WAY {
             if let Some(given) = cursor.turn(&source, name, stack) {
@@ -291,10 +307,12 @@ impl<'a> ExportTrie<'a> {
     }
     /// Returns, for a re-export that a cursor returned last, the ordinal of its library and the place of its name there.
     ///
-    /// # Proved
+    /// <details><summary>Proved</summary>
     ///
     /// - *reported*: for each `libs : List (List ℕ)`, `lib : List ℕ`, `name : Option (List ℕ)`, `flags : ℕ`, if `IsOwnAt self.bytes libs self.from cursor.node (reexport lib name flags)`, `IsReexportAt self.bytes libs lib name result`
     /// - *node*: if `Some(found)`: `place_at self.bytes cursor.node ≡ Ok found`
+    ///
+    /// </details>
     pub fn reexport_place(&self, cursor: &TrieCursor) -> Option<(u64, usize)> {
         match read_place(self.bytes, cursor.node) {
             Ok(found) => Some(found),

@@ -21,7 +21,8 @@ use crate::generated::mach_dyld::trie::walk::{Source, is_barren, visit};
 use crate::shim::AllocError;
 
 /// Which branches of a node match the rest of a name.
-#[derive(Clone, Copy, Debug)]
+#[derive(Clone, Copy, Debug, Eq, Hash, PartialEq)]
+#[cfg_attr(not(feature = "internals"), non_exhaustive)]
 pub enum Branching {
     Nowhere,
     /// One child matches, by a label of `len` bytes.
@@ -33,6 +34,8 @@ pub enum Branching {
 }
 
 /// What a node has for the rest of a name.
+#[derive(Clone, Eq, Hash, PartialEq)]
+#[cfg_attr(not(feature = "internals"), non_exhaustive)]
 pub enum Outcome<'a> {
     /// Its own export is the one searched for.
     Found(ExportInfo<'a>),
@@ -44,8 +47,16 @@ pub enum Outcome<'a> {
     Open(BranchRun),
 }
 
+impl<'a> core::fmt::Debug for Outcome<'a> {
+    /// Prints the name of the type.
+    fn fmt(&self, f: &mut core::fmt::Formatter<'_>) -> core::fmt::Result {
+        f.debug_struct("Outcome").finish_non_exhaustive()
+    }
+}
+
 /// Branches that are still to be tried, and where their labels begin in the name.
-#[derive(Clone, Copy, Debug)]
+#[derive(Clone, Copy, Debug, Eq, Hash, PartialEq)]
+#[cfg_attr(not(feature = "internals"), non_exhaustive)]
 pub struct Choice {
     pub branches: BranchRun,
     pub at: usize,
@@ -341,13 +352,15 @@ impl<'a> ExportTrie<'a> {
     /// branches of a node both spell a prefix of the rest of the name, or if a branch that does leads to a node that doesn't
     /// lie after its parent.
     ///
-    /// # Proved
+    /// <details><summary>Proved</summary>
     ///
     /// - *occurs*: if `Ok(o)`: `IsAnswerFor (trie_there self (texts libs)) self.from name (option_map info_of o)`
     /// - *listed*: for each `list : List Entry`, if `ListsExports self (texts libs) list`, if `Ok(o)`: `IsFirstOf name list (option_map info_of o)`
     /// - *only*: for each `list : List Entry`, if `ListsExports self (texts libs) list`, the result is `Ok`, unless memory is refused
     /// - *refused*: if `Err(e)`: `ErrorMeets (ExportsFault self (texts libs)) e`
     /// - *on way*: if `Err(e)`: `ErrorMeets (FaultOnWay (trie_there self (texts libs)) self.from name) e`
+    ///
+    /// </details>
     pub fn find(&self, libs: &[&'a str], name: &str) -> Result<Option<ExportInfo<'a>>> {
         self.find_counted(libs, name, &mut Steps::new())
     }
@@ -355,7 +368,7 @@ impl<'a> ExportTrie<'a> {
     /// Like `find`, and adds the number of nodes visited to `steps`: at most the number of different nodes to which paths
     /// lead, and twice that number if a fault occurs.
     ///
-    /// # Proved
+    /// <details><summary>Proved</summary>
     ///
     /// - *occurs*: if `Ok(o)`: `IsAnswerFor (trie_there self (texts libs)) self.from name (option_map info_of o)`
     /// - *listed*: for each `list : List Entry`, if `ListsExports self (texts libs) list`, if `Ok(o)`: `IsFirstOf name list (option_map info_of o)`
@@ -364,6 +377,8 @@ impl<'a> ExportTrie<'a> {
     /// - *on way*: if `Err(e)`: `ErrorMeets (FaultOnWay (trie_there self (texts libs)) self.from name) e`
     /// - *visits*: `LookUpVisits (trie_there self (texts libs)) self.from name steps.old steps.new`
     /// - *few visits*: `steps.new ≤ steps.old + 2 * (self.upto - self.from)`
+    ///
+    /// </details>
     pub fn find_counted(
         &self,
         libs: &[&'a str],

@@ -8,43 +8,45 @@ use alloc::vec::Vec;
 use crate::shim::AllocError;
 
 /// The set of marked places: place p is bit p % 64 of word p / 64.
+#[derive(Clone)]
 pub struct Marks {
     words: Vec<u64>,
     len: usize,
 }
 
+impl core::fmt::Debug for Marks {
+    /// Prints the name of the type.
+    fn fmt(&self, f: &mut core::fmt::Formatter<'_>) -> core::fmt::Result {
+        f.debug_struct("Marks").finish_non_exhaustive()
+    }
+}
+
 impl Marks {
     /// Returns marks for `len` places, none of which is marked.
     ///
-    /// # Proved
+    /// <details><summary>Proved</summary>
     ///
     /// - if `Ok(m)`: `m ≡ replicate len false`
+    ///
+    /// </details>
     pub fn new(len: usize) -> Result<Self, AllocError> {
         let words = try_vec(0, len.div_ceil(64))?;
         Ok(Marks { words, len })
     }
 
+    crate::shim::inner! {
     /// Whether a place is marked.
-    ///
-    /// # Proved
-    ///
-    /// Callers make sure of: `at < length self`.
-    ///
-    /// - `result ≡ get_or self at false`
-    #[inline(always)]
-    pub fn is_marked(&self, at: usize) -> bool {
-        self.words[at / 64] & (1 << (at % 64)) != 0
+        #[inline(always)]
+        fn is_marked(&self, at: usize) -> bool {
+            self.words[at / 64] & (1 << (at % 64)) != 0
+        }
     }
 
+    crate::shim::inner! {
     /// Marks one place.
-    ///
-    /// # Proved
-    ///
-    /// Callers make sure of: `at < length self.old`.
-    ///
-    /// - `self.new ≡ set self.old at true`
-    #[inline(always)]
-    pub fn mark(&mut self, at: usize) {
-        self.words[at / 64] |= 1 << (at % 64);
+        #[inline(always)]
+        fn mark(&mut self, at: usize) {
+            self.words[at / 64] |= 1 << (at % 64);
+        }
     }
 }

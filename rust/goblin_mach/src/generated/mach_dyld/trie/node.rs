@@ -10,14 +10,16 @@ use crate::generated::mach_dyld::export_info::{
 use crate::generated::mach_dyld::trie::walk::Source;
 
 /// A label, and the place where the child begins.
-#[derive(Clone, Copy, Debug)]
+#[derive(Clone, Copy, Debug, Eq, Hash, PartialEq)]
+#[cfg_attr(not(feature = "internals"), non_exhaustive)]
 pub struct Branch<'a> {
     pub label: &'a str,
     pub start: usize,
 }
 
 /// Branches that can be read and follow each other: their number, and the place of the first.
-#[derive(Clone, Copy, Debug)]
+#[derive(Clone, Copy, Debug, Eq, Hash, PartialEq)]
+#[cfg_attr(not(feature = "internals"), non_exhaustive)]
 pub struct BranchRun {
     pub left: usize,
     pub place: usize,
@@ -25,7 +27,8 @@ pub struct BranchRun {
 
 /// Branches that can be read, with the first one decoded. A walk takes that branch at once, so its label is read only once.
 /// That is why a walk has a reader of its own, beside `read_after` for the cursor and the look-up.
-#[derive(Clone, Copy, Debug)]
+#[derive(Clone, Copy, Debug, Eq, Hash, PartialEq)]
+#[cfg_attr(not(feature = "internals"), non_exhaustive)]
 pub struct Branches<'a> {
     pub first: Branch<'a>,
     pub following: BranchRun,
@@ -40,9 +43,11 @@ fn rare_number(bytes: &[u8], place: usize) -> Result<(u64, usize)> {
 
 /// Returns the number at a place, and the place after it.
 ///
-/// # Proved
+/// <details><summary>Proved</summary>
 ///
 /// - `Reads (λ found. found) result (uleb_at bytes place)`
+///
+/// </details>
 #[inline(always)]
 pub fn number(bytes: &[u8], place: usize) -> Result<(u64, usize)> {
     match quick_uleb(bytes, place) {
@@ -56,7 +61,9 @@ pub fn number(bytes: &[u8], place: usize) -> Result<(u64, usize)> {
 fn sum(place: usize, n: u64) -> Result<usize> {
     match place.checked_add(n as usize) {
         Some(sum) => Ok(sum),
-        None => Err(Error::Malformed("a place in a trie has at most 64 bits")),
+        None => Err(Error::Malformed(
+            "a place in a trie does not fit in 64 bits",
+        )),
     }
 }
 
@@ -131,10 +138,12 @@ fn quick_branches(bytes: &[u8], from: usize, count: usize, place: usize) -> Opti
 
 /// Returns the number of branches of a list, and the place of the first. The number is at most that of the bytes.
 ///
-/// # Proved
+/// <details><summary>Proved</summary>
 ///
 /// - *value*: `Reads (λ run. (run.left, run.place)) result (count_at bytes place)`
 /// - *few*: if `Ok(run)`: `run.left ≤ length bytes`
+///
+/// </details>
 #[inline(always)]
 pub fn read_count(bytes: &[u8], place: usize) -> Result<BranchRun> {
     let (count, place) = number(bytes, place)?;
@@ -147,13 +156,15 @@ pub fn read_count(bytes: &[u8], place: usize) -> Result<BranchRun> {
 
 /// Reads the branches of a list and decodes the first. If the result is Ok, all of them can be read.
 ///
-/// # Proved
+/// <details><summary>Proved</summary>
 ///
 /// Callers make sure of: `0 < list.left`.
 ///
 /// - *value*: `Reads (λ b. branches_in bytes from (Some b)) result (branches_at bytes from list.left list.place)`
 /// - *readable*: if `Ok(b)`: `IsReadable bytes from b.following`
 /// - *count*: if `Ok(b)`: `b.following.left + 1 ≡ list.left`
+///
+/// </details>
 #[inline(always)]
 pub fn read_branches(bytes: &[u8], from: usize, list: BranchRun) -> Result<Branches<'_>> {
     match quick_branches(bytes, from, list.left, list.place) {
@@ -164,11 +175,13 @@ pub fn read_branches(bytes: &[u8], from: usize, list: BranchRun) -> Result<Branc
 
 /// Reads the count and returns the branches after it. If the result is Ok, all of them can be read.
 ///
-/// # Proved
+/// <details><summary>Proved</summary>
 ///
 /// - *value*: `Reads (branches_of bytes from) result (children_at bytes from place)`
 /// - *readable*: if `Ok(x)`: `IsReadable bytes from x`
 /// - *few*: if `Ok(b)`: `b.left ≤ length bytes`
+///
+/// </details>
 #[inline(always)]
 pub fn read_run(bytes: &[u8], from: usize, place: usize) -> Result<BranchRun> {
     let (count, place) = number(bytes, place)?;
@@ -184,9 +197,11 @@ pub fn read_run(bytes: &[u8], from: usize, place: usize) -> Result<BranchRun> {
 
 /// Reads a node's own export of `size` bytes, and returns it with the place of the branches after it.
 ///
-/// # Proved
+/// <details><summary>Proved</summary>
 ///
 /// - `Reads (λ own. (info_of own.0, own.1)) result (own_at bytes (texts libs) size place)`
+///
+/// </details>
 pub fn read_own<'a>(
     bytes: &'a [u8],
     libs: &[&'a str],
@@ -207,9 +222,11 @@ fn is_plain(flags: u64) -> bool {
 
 /// Reads a regular own export of `size` bytes: returns its address, its flags, and the place of the branches after it.
 ///
-/// # Proved
+/// <details><summary>Proved</summary>
 ///
 /// - if `Some(own)`: for each `libs : List (List ℕ)`, `own_at bytes libs size place ≡ Ok (regular own.0 own.1, own.2)`
+///
+/// </details>
 #[inline(always)]
 pub fn quick_own(bytes: &[u8], size: u64, place: usize) -> Option<(u64, u64, usize)> {
     let (flags, rest) = quick_uleb(bytes, place)?;
@@ -236,9 +253,11 @@ fn rare_own<'a>(
 
 /// Returns an own export of `size` bytes, and the place of the branches.
 ///
-/// # Proved
+/// <details><summary>Proved</summary>
 ///
 /// - `Reads (λ own. (info_of own.0, own.1)) result (own_in source size place)`
+///
+/// </details>
 #[inline(always)]
 pub fn own_export<'a>(
     source: &Source<'a, '_>,
@@ -253,11 +272,13 @@ pub fn own_export<'a>(
 
 /// Reads a node after its size: its own export, if it has one, and its branches.
 ///
-/// # Proved
+/// <details><summary>Proved</summary>
 ///
 /// - *node*: `Reads (node_of source.bytes source.from) result (node_after source size place)`
 /// - *readable*: if `Ok(read)`: `IsReadable source.bytes source.from read.1`
 /// - *few*: if `Ok(read)`: `read.1.left ≤ length source.bytes`
+///
+/// </details>
 #[inline(always)]
 pub fn read_after<'a>(
     source: &Source<'a, '_>,
@@ -274,11 +295,13 @@ pub fn read_after<'a>(
 
 /// Reads again a branch that was tested, and returns it with the place after it.
 ///
-/// # Proved
+/// <details><summary>Proved</summary>
 ///
 /// Callers make sure of: `IsOk (branch_at bytes from place)`.
 ///
 /// - `branch_at bytes from place ≡ Ok (branch_of result.0, result.1)`
+///
+/// </details>
 #[inline(always)]
 pub fn read_again(bytes: &[u8], from: usize, place: usize) -> (Branch<'_>, usize) {
     match quick_branch(bytes, from, place) {

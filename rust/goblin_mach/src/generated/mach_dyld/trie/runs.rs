@@ -16,8 +16,16 @@ use crate::shim::AllocError;
 
 /// For each place of some bytes, a number of branches that lead nowhere and follow each other from there; for no place until
 /// the first such list is recorded.
+#[derive(Clone)]
 pub struct Runs {
     known: Vec<u32>,
+}
+
+impl core::fmt::Debug for Runs {
+    /// Prints the name of the type.
+    fn fmt(&self, f: &mut core::fmt::Formatter<'_>) -> core::fmt::Result {
+        f.debug_struct("Runs").finish_non_exhaustive()
+    }
 }
 
 // What follows a place, as far as the backward scan knows it.
@@ -51,7 +59,7 @@ impl Tail {
                 after: after_label(source, place),
             };
         }
-        if self.low - place <= 4 && str::from_utf8(&source.bytes[place..self.low]).is_ok() {
+        if self.low - place <= 4 && core::str::from_utf8(&source.bytes[place..self.low]).is_ok() {
             return Tail { low: place, ..self };
         }
         self
@@ -61,9 +69,11 @@ impl Tail {
 impl Runs {
     /// Returns the state in which nothing is known.
     ///
-    /// # Proved
+    /// <details><summary>Proved</summary>
     ///
     /// - `result ≡ []`
+    ///
+    /// </details>
     pub fn new() -> Self {
         Runs { known: Vec::new() }
     }
@@ -80,9 +90,11 @@ impl Runs {
 
     /// Whether all branches of the run are known to lead nowhere.
     ///
-    /// # Proved
+    /// <details><summary>Proved</summary>
     ///
     /// - `result ≡ nat_le run.left (get_or self run.place 0)`
+    ///
+    /// </details>
     #[inline(always)]
     pub fn know(&self, run: BranchRun) -> bool {
         run.left <= self.at(run.place)
@@ -127,21 +139,14 @@ impl Runs {
         Ok(())
     }
 
+    crate::shim::inner! {
     /// Records branches that lead nowhere. The first time, it scans all places of the trie.
-    ///
-    /// # Proved
-    ///
-    /// Callers make sure of: `AreBarren source self.old`; `HaveRoom source self.old`; `is_barren source.upto (branches_at source.bytes source.from run.left run.place) ≡ true`; `run.left ≤ length source.bytes`.
-    ///
-    /// - *barren*: if `Ok`: `AreBarren source self.new`
-    /// - *room*: if `Ok`: `HaveRoom source self.new`
-    /// - *kept*: if `Ok`: `AreKept self.old self.new`
-    /// - *learned*: if `Ok`: if `length source.bytes < 2 ^ 32`, `run.left ≤ get_or self.new run.place 0`
-    #[cold]
-    #[inline(never)]
-    pub fn learn(&mut self, source: &Source<'_, '_>, run: BranchRun) -> Result<(), AllocError> {
-        self.fill(source)?;
-        self.raise(run.place, run.left);
-        Ok(())
+        #[cold]
+        #[inline(never)]
+        fn learn(&mut self, source: &Source<'_, '_>, run: BranchRun) -> Result<(), AllocError> {
+            self.fill(source)?;
+            self.raise(run.place, run.left);
+            Ok(())
+        }
     }
 }

@@ -16,7 +16,8 @@ use crate::generated::mach_dyld::trie::runs::Runs;
 use crate::shim::AllocError;
 
 /// The data that exports are read from: bytes, the libraries of the image, and the range of the trie.
-#[derive(Clone, Copy, Debug)]
+#[derive(Clone, Copy, Debug, Eq, Hash, PartialEq)]
+#[cfg_attr(not(feature = "internals"), non_exhaustive)]
 pub struct Source<'a, 'b> {
     pub bytes: &'a [u8],
     pub libs: &'b [&'a str],
@@ -27,6 +28,8 @@ pub struct Source<'a, 'b> {
 /// An open node of an export trie.
 #[derive(Clone, Copy, Debug)]
 #[repr(C)]
+#[derive(Eq, Hash, PartialEq)]
+#[cfg_attr(not(feature = "internals"), non_exhaustive)]
 pub struct Open {
     /// The number of its branches that are left.
     pub left: usize,
@@ -125,6 +128,7 @@ fn keep_below(stack: &mut Vec<Open>, top: Open) -> core::result::Result<(), Allo
 
 /// A walk of a trie in progress. Its memory is one bit for each byte of the trie, a stack of the open nodes and one name;
 /// and four bytes for each byte of the trie from the first list on whose branches all lead nowhere.
+#[derive(Clone)]
 pub struct Walker<'a, 'b> {
     pub(crate) source: Source<'a, 'b>,
     /// The starts that were met.
@@ -140,6 +144,13 @@ pub struct Walker<'a, 'b> {
     /// The branch that comes next.
     pub(crate) next: Branch<'a>,
     pub(crate) over: bool,
+}
+
+impl<'a, 'b> core::fmt::Debug for Walker<'a, 'b> {
+    /// Prints the name of the type.
+    fn fmt(&self, f: &mut core::fmt::Formatter<'_>) -> core::fmt::Result {
+        f.debug_struct("Walker").finish_non_exhaustive()
+    }
 }
 
 impl<'a, 'b> Walker<'a, 'b> {
@@ -250,7 +261,7 @@ fn push_export<'a>(
 
 /// Returns the exports of a trie, depth first, or a fault that occurs in it.
 ///
-/// # Proved
+/// <details><summary>Proved</summary>
 ///
 /// - *tree*: if `Ok`: `IsTree (source_trie source) source.from`
 /// - *listed*: if `Ok(v)`: `Lists (source_trie source) source.from [] (entries v.items)`
@@ -258,6 +269,8 @@ fn push_export<'a>(
 /// - *visits*: `Visits (source_trie source) source.from steps.old steps.new result`
 /// - *few visits*: `steps.new ≤ steps.old + (source.upto - source.from)`
 /// - *refused*: if `Err(e)`: `ErrorMeets (fault_in source) e`
+///
+/// </details>
 pub fn list_all<'a>(source: &Source<'a, '_>, steps: &mut Steps) -> Result<Vec<Export<'a>>> {
     let mut walk = Walker::start(source)?;
     let mut found = Vec::new();

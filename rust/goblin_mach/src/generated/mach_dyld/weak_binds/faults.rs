@@ -37,20 +37,24 @@ impl WeakBindIterator<'_, '_> {
     /// Whether a fault occurs among the rows that are left. It allocates nothing and takes bounded time for each opcode. So
     /// its time is linear in the bytes of the stream, however many rows there are.
     ///
-    /// # Proved
+    /// <details><summary>Proved</summary>
     ///
     /// - `result ≡ has_fault (weak_binds_left self.entry)`
+    ///
+    /// </details>
     pub fn has_fault(self) -> bool {
         self.has_fault_counted(&mut Steps::new())
     }
 
     /// Like `has_fault`, and adds the number of opcodes read to `steps`: at most one more than can be read.
     ///
-    /// # Proved
+    /// <details><summary>Proved</summary>
     ///
     /// - *fault*: `result ≡ has_fault (weak_binds_left self.entry)`
     /// - *bounded*: `steps.new ≤ steps.old + weak_reads_left self.entry + 1`
     /// - *kept*: `steps.old ≤ steps.new`
+    ///
+    /// </details>
     pub fn has_fault_counted(self, steps: &mut Steps) -> bool {
         self.stream.has_fault_counted(steps)
     }

@@ -9,9 +9,22 @@ use crate::generated::mach_base::Result;
 use crate::generated::mach_layout::commands::{command_owner, number_of};
 use crate::generated::mach_layout::fault::{LayoutFault, Owner, Rule};
 use crate::generated::mach_load::{CommandVariant, LoadCommand};
+use crate::generated::mach_records::{
+    LC_ATOM_INFO, LC_FUNCTION_VARIANT_FIXUPS, LC_FUNCTION_VARIANTS,
+};
 
 // The number of sets.
-const SETS: usize = 22;
+const SETS: usize = 25;
+
+// Returns the number of the set of a command that goblin's table lacks, by the command's number.
+fn newer_set(cmd: u32) -> Option<usize> {
+    match cmd {
+        LC_ATOM_INFO => Some(22),
+        LC_FUNCTION_VARIANTS => Some(23),
+        LC_FUNCTION_VARIANT_FIXUPS => Some(24),
+        _ => None,
+    }
+}
 
 // Returns the number of a command's set, if it belongs to one.
 fn set_of(command: &CommandVariant) -> Option<usize> {
@@ -65,8 +78,8 @@ fn set_of(command: &CommandVariant) -> Option<usize> {
         | CommandVariant::Rpath(_)
         | CommandVariant::ReexportDylib(_)
         | CommandVariant::LoadUpwardDylib(_)
-        | CommandVariant::FilesetEntry(_)
-        | CommandVariant::Unimplemented(_) => None,
+        | CommandVariant::FilesetEntry(_) => None,
+        CommandVariant::Unimplemented(c) => newer_set(c.cmd),
     }
 }
 
@@ -83,10 +96,12 @@ fn once_more(command: &LoadCommand, first: Owner) -> LayoutFault {
 
 /// Adds a fault for each command with an earlier one of its set.
 ///
-/// # Proved
+/// <details><summary>Proved</summary>
 ///
 /// - *reported*: if `Ok`: `faults.new.items ≡ faults.old.items ++ defined.commands_again [] (map command_of commands)`
 /// - *only*: the result is `Ok`, unless memory is refused
+///
+/// </details>
 pub fn report_again(faults: &mut Vec<LayoutFault>, commands: &[LoadCommand]) -> Result<()> {
     let mut firsts: [Option<Owner>; SETS] = [None; SETS];
     for command in commands {

@@ -7,15 +7,17 @@ use crate::generated::mach_load::CommandVariant;
 use crate::generated::mach_records::{
     BuildVersionCommand, DyldInfoCommand, DylibCommand, DylinkerCommand, DysymtabCommand,
     EncryptionInfoCommand32, EncryptionInfoCommand64, EntryPointCommand, FilesetEntryCommand,
-    FvmfileCommand, FvmlibCommand, LinkeditDataCommand, LinkerOptionCommand, LoadCommandHeader,
-    NoteCommand, PrebindCksumCommand, PreboundDylibCommand, RoutinesCommand32, RoutinesCommand64,
-    RpathCommand, SegmentCommand32, SegmentCommand64, SourceVersionCommand, SubClientCommand,
+    FvmfileCommand, FvmlibCommand, LC_ATOM_INFO, LC_FUNCTION_VARIANT_FIXUPS, LC_FUNCTION_VARIANTS,
+    LC_TARGET_TRIPLE, LinkeditDataCommand, LinkerOptionCommand, LoadCommandHeader, NoteCommand,
+    PrebindCksumCommand, PreboundDylibCommand, RoutinesCommand32, RoutinesCommand64, RpathCommand,
+    SegmentCommand32, SegmentCommand64, SourceVersionCommand, SubClientCommand,
     SubFrameworkCommand, SubLibraryCommand, SubUmbrellaCommand, SymsegCommand, SymtabCommand,
-    TwolevelHintsCommand, UuidCommand, VersionMinCommand,
+    TargetTripleCommand, TwolevelHintsCommand, UuidCommand, VersionMinCommand,
 };
 
 /// The number of bytes in the struct of a command.
-#[derive(Clone, Copy, Debug, PartialEq)]
+#[derive(Clone, Copy, Debug, PartialEq, Eq, Hash)]
+#[cfg_attr(not(feature = "internals"), non_exhaustive)]
 pub enum StructSize {
     /// Nothing follows it.
     Exactly(usize),
@@ -23,11 +25,24 @@ pub enum StructSize {
     AtLeast(usize),
 }
 
+// Returns the same as `struct_size` for a number that goblin's table lacks.
+fn newer_size(cmd: u32) -> StructSize {
+    match cmd {
+        LC_ATOM_INFO | LC_FUNCTION_VARIANTS | LC_FUNCTION_VARIANT_FIXUPS => {
+            StructSize::Exactly(LinkeditDataCommand::SIZE)
+        }
+        LC_TARGET_TRIPLE => StructSize::AtLeast(TargetTripleCommand::SIZE),
+        _ => StructSize::AtLeast(LoadCommandHeader::SIZE),
+    }
+}
+
 /// Returns the number of bytes in the struct of a command, and whether other items may follow it.
 ///
-/// # Proved
+/// <details><summary>Proved</summary>
 ///
-/// - `result ≡ defined.struct_size (kind_in command)`
+/// - `result ≡ defined.struct_size (kind_in command) (number_among (variant_values command) 0)`
+///
+/// </details>
 pub fn struct_size(command: &CommandVariant) -> StructSize {
     match command {
         CommandVariant::Segment32(_) => StructSize::AtLeast(SegmentCommand32::SIZE),
@@ -85,7 +100,7 @@ pub fn struct_size(command: &CommandVariant) -> StructSize {
         CommandVariant::Thread(_)
         | CommandVariant::Unixthread(_)
         | CommandVariant::Ident(_)
-        | CommandVariant::Prepage(_)
-        | CommandVariant::Unimplemented(_) => StructSize::AtLeast(LoadCommandHeader::SIZE),
+        | CommandVariant::Prepage(_) => StructSize::AtLeast(LoadCommandHeader::SIZE),
+        CommandVariant::Unimplemented(c) => newer_size(c.cmd),
     }
 }

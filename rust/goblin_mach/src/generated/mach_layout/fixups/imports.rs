@@ -2,10 +2,10 @@
 //! The imports of chained fixups.
 #![forbid(unsafe_code)]
 
+use crate::shim::ReadsNumbers;
 use alloc::vec::Vec;
 
 use crate::generated::mach_base::{Endian, Result, bytes_at, read_u32};
-use crate::generated::mach_chained::ChainedFixupsHeader;
 use crate::generated::mach_layout::fault::{LayoutFault, Owner, Part, Rule};
 use crate::generated::mach_layout::fixups::{FixupData, Front, import_bytes};
 use crate::generated::mach_layout::layout::Layout;
@@ -13,12 +13,21 @@ use crate::generated::mach_layout::rules::{
     Judges, Numbers, RuleOutcome, measured, owner_at, report_over, sound,
 };
 use crate::generated::mach_layout::symbols::{library_count, texts_end};
+use crate::generated::mach_records::ChainedFixupsHeader;
 
 /// The library and the place of the name in an import's record.
-#[derive(Clone, Copy)]
+#[derive(Clone, Copy, Eq, Hash, PartialEq)]
+#[cfg_attr(not(feature = "internals"), non_exhaustive)]
 pub struct ImportRow {
     pub library: u64,
     pub name: u32,
+}
+
+impl core::fmt::Debug for ImportRow {
+    /// Prints the name of the type.
+    fn fmt(&self, f: &mut core::fmt::Formatter<'_>) -> core::fmt::Result {
+        f.debug_struct("ImportRow").finish_non_exhaustive()
+    }
 }
 
 // Returns what the number of an import means, in a format.
@@ -83,7 +92,8 @@ fn import_names_end(chained: &FixupData<'_>, header: &ChainedFixupsHeader) -> u6
 }
 
 /// What the checks of the imports of chained fixups use.
-#[derive(Clone, Copy)]
+#[derive(Clone, Copy, Eq, PartialEq)]
+#[cfg_attr(not(feature = "internals"), non_exhaustive)]
 pub struct Imports<'a> {
     pub chained: FixupData<'a>,
     pub header: ChainedFixupsHeader,
@@ -91,6 +101,13 @@ pub struct Imports<'a> {
     pub libraries: u64,
     /// The place where the names end.
     pub names_end: u64,
+}
+
+impl<'a> core::fmt::Debug for Imports<'a> {
+    /// Prints the name of the type.
+    fn fmt(&self, f: &mut core::fmt::Formatter<'_>) -> core::fmt::Result {
+        f.debug_struct("Imports").finish_non_exhaustive()
+    }
 }
 
 impl Judges<u32> for Imports<'_> {
@@ -119,10 +136,12 @@ impl Judges<u32> for Imports<'_> {
 
 /// Adds the faults of imports.
 ///
-/// # Proved
+/// <details><summary>Proved</summary>
 ///
 /// - *reported*: if `Ok`: `faults.new.items ≡ faults.old.items ++ defined.import_faults (laid_of layout) (data_view chained) front`
 /// - *only*: the result is `Ok`, unless memory is refused
+///
+/// </details>
 pub fn import_faults(
     faults: &mut Vec<LayoutFault>,
     layout: &Layout<'_, '_>,

@@ -6,12 +6,12 @@ use crate::shim::TryGrow;
 use alloc::vec::Vec;
 
 use crate::generated::mach_base::{Record, Result, read_u32};
-use crate::generated::mach_chained::ChainedStartsInSegment;
 use crate::generated::mach_layout::fault::{LayoutFault, Rule};
 use crate::generated::mach_layout::fixups::{FixupData, Front};
 use crate::generated::mach_layout::layout::Layout;
 use crate::generated::mach_layout::placed_sections::PlacedSegment;
 use crate::generated::mach_layout::rules::{RuleOutcome, measured, reported, sound};
+use crate::generated::mach_records::ChainedStartsInSegment;
 
 // Checks the pages and the pointers of some starts.
 fn page_outcome(
@@ -125,9 +125,11 @@ fn is_text(segment: &PlacedSegment) -> bool {
 
 /// Returns the address from which offsets of segments are counted: that of the first segment named `__TEXT`.
 ///
-/// # Proved
+/// <details><summary>Proved</summary>
 ///
 /// - `result ≡ defined.text_address (laid_of layout)`
+///
+/// </details>
 pub fn text_address(layout: &Layout<'_, '_>) -> u64 {
     for segment in layout.segments() {
         if is_text(&segment) {
@@ -139,10 +141,12 @@ pub fn text_address(layout: &Layout<'_, '_>) -> u64 {
 
 /// Adds the faults of the starts, in order.
 ///
-/// # Proved
+/// <details><summary>Proved</summary>
 ///
 /// - *reported*: if `Ok`: `faults.new.items ≡ faults.old.items ++ defined.starts_faults (laid_of layout) (data_view chained) front`
 /// - *only*: the result is `Ok`, unless memory is refused
+///
+/// </details>
 pub fn starts_faults(
     faults: &mut Vec<LayoutFault>,
     layout: &Layout<'_, '_>,

@@ -8,11 +8,13 @@ use crate::generated::mach_load::{CommandVariant, LoadCommand};
 
 /// Returns how many of `count` records of a size, from a place on, lie in the bytes.
 ///
-/// # Proved
+/// <details><summary>Proved</summary>
 ///
 /// Callers make sure of: `0 < size`.
 ///
 /// - `result ≡ defined.whole_records bytes start size count`
+///
+/// </details>
 pub fn whole_records(bytes: &[u8], start: u32, size: usize, count: u32) -> u32 {
     let room = bytes.len().saturating_sub(start as usize) / size;
     (count as usize).min(room) as u32
@@ -20,10 +22,12 @@ pub fn whole_records(bytes: &[u8], start: u32, size: usize, count: u32) -> u32 {
 
 /// Returns the place where the last text among some strings ends: after their last zero byte, or 0 if they have none.
 ///
-/// # Proved
+/// <details><summary>Proved</summary>
 ///
 /// - *value*: `result ≡ defined.texts_end strings`
 /// - *within*: `result ≤ length strings`
+///
+/// </details>
 pub fn texts_end(strings: &[u8]) -> usize {
     let mut end = strings.len();
     while end > 0 && strings[end - 1] != 0 {
@@ -42,9 +46,11 @@ fn nsects_in(command: &LoadCommand) -> u64 {
 
 /// Returns the number of sections that the segments state; at most the last number of 64 bits.
 ///
-/// # Proved
+/// <details><summary>Proved</summary>
 ///
 /// - `result ≡ defined.section_count (laid_of layout)`
+///
+/// </details>
 pub fn section_count(layout: &Layout<'_, '_>) -> u64 {
     let mut count = 0u64;
     for command in layout.commands {
@@ -67,9 +73,11 @@ fn is_library(command: &LoadCommand) -> bool {
 
 /// Returns the number of libraries that the commands load.
 ///
-/// # Proved
+/// <details><summary>Proved</summary>
 ///
 /// - `result ≡ defined.library_count (laid_of layout)`
+///
+/// </details>
 pub fn library_count(layout: &Layout<'_, '_>) -> u64 {
     let mut count = 0u64;
     for command in layout.commands {

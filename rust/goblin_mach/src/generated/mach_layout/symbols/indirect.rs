@@ -31,9 +31,11 @@ const INDIRECT_SYMBOL_LOCAL_OR_ABS: u32 = 0xc000_0000;
 
 /// Returns the three ranges of symbols.
 ///
-/// # Proved
+/// <details><summary>Proved</summary>
 ///
 /// - `result ≡ defined.ranges_of command`
+///
+/// </details>
 pub fn ranges_of(command: &DysymtabCommand) -> [SymbolRange; 3] {
     [
         SymbolRange {
@@ -56,9 +58,11 @@ pub fn ranges_of(command: &DysymtabCommand) -> [SymbolRange; 3] {
 
 /// Whether a range that isn't empty ends past the table.
 ///
-/// # Proved
+/// <details><summary>Proved</summary>
 ///
 /// - `result ≡ defined.is_range_out nsyms range`
+///
+/// </details>
 pub fn is_range_out(nsyms: u32, range: &SymbolRange) -> bool {
     let end = u64::from(range.first) + u64::from(range.count);
     range.count > 0 && end > u64::from(nsyms)
@@ -85,10 +89,12 @@ impl Judges<SymbolRange> for Ranges {
 
 /// Adds the faults of the ranges of symbols.
 ///
-/// # Proved
+/// <details><summary>Proved</summary>
 ///
 /// - *reported*: if `Ok`: `faults.new.items ≡ faults.old.items ++ defined.symbol_range_faults table dynamic`
 /// - *only*: the result is `Ok`, unless memory is refused
+///
+/// </details>
 pub fn symbol_range_faults(
     faults: &mut Vec<LayoutFault>,
     table: Option<PlacedSymtab>,
@@ -208,10 +214,12 @@ impl Judges<PlacedSection> for Indirect<'_> {
 
 /// Adds the faults of indirect symbols, and of the sections that have some.
 ///
-/// # Proved
+/// <details><summary>Proved</summary>
 ///
 /// - *reported*: if `Ok`: `faults.new.items ≡ faults.old.items ++ defined.indirect_faults (laid_of layout) symbols dynamic`
 /// - *only*: the result is `Ok`, unless memory is refused
+///
+/// </details>
 pub fn indirect_faults(
     faults: &mut Vec<LayoutFault>,
     layout: &Layout<'_, '_>,

@@ -66,10 +66,12 @@ fn range_kind(
 
 /// Adds the faults of the kinds of symbols: for each range, that of the first symbol that isn't of its kind.
 ///
-/// # Proved
+/// <details><summary>Proved</summary>
 ///
 /// - *reported*: if `Ok`: `faults.new.items ≡ faults.old.items ++ defined.symbol_kind_faults (laid_of layout) table dynamic`
 /// - *only*: the result is `Ok`, unless memory is refused
+///
+/// </details>
 pub fn symbol_kind_faults(
     faults: &mut Vec<LayoutFault>,
     layout: &Layout<'_, '_>,
@@ -128,10 +130,12 @@ fn range_order(nsyms: u32, table: &PlacedDysymtab) -> Option<LayoutFault> {
 
 /// Adds the fault of the order of the ranges of symbols.
 ///
-/// # Proved
+/// <details><summary>Proved</summary>
 ///
 /// - *reported*: if `Ok`: `faults.new.items ≡ faults.old.items ++ defined.symbol_order_faults table dynamic`
 /// - *only*: the result is `Ok`, unless memory is refused
+///
+/// </details>
 pub fn symbol_order_faults(
     faults: &mut Vec<LayoutFault>,
     table: Option<PlacedSymtab>,

@@ -76,15 +76,15 @@ impl<'a> TryFromCtx<'a, Ctx> for Header {
     /// Reads the header at the start of at least 32 bytes. This also holds for a 32-bit image, whose header has 28.
     fn try_from_ctx(bytes: &'a [u8], ctx: Ctx) -> Result<(Header, usize)> {
         if bytes.len() < SIZEOF_HEADER_64 {
-            return Err(Error::Malformed("a header is 32 bytes"));
+            return Err(Error::Malformed("the file ends in its header"));
         }
         match ctx.container {
             Container::Little => Ok((
-                Header::from(Header32::load(bytes, ctx.le)),
+                Header::from(Header32::load(bytes, ctx.le, crate::shim::Inner(()))),
                 SIZEOF_HEADER_32,
             )),
             Container::Big => Ok((
-                Header::from(Header64::load(bytes, ctx.le)),
+                Header::from(Header64::load(bytes, ctx.le, crate::shim::Inner(()))),
                 SIZEOF_HEADER_64,
             )),
         }

@@ -124,9 +124,11 @@ pub const MH_GPU_DYLIB: u32 = 0xe;
 
 /// Returns the name of exactly one flag, or `UNKNOWN FLAG`.
 ///
-/// # Proved
+/// <details><summary>Proved</summary>
 ///
 /// - `result ≡ flag_name flag`
+///
+/// </details>
 pub fn flag_to_str(flag: u32) -> &'static str {
     match flag {
         MH_NOUNDEFS => "MH_NOUNDEFS",
@@ -161,9 +163,11 @@ pub fn flag_to_str(flag: u32) -> &'static str {
 
 /// Returns the name of a file type without its prefix, or `UNKNOWN FILETYPE`.
 ///
-/// # Proved
+/// <details><summary>Proved</summary>
 ///
 /// - `result ≡ filetype_name filetype`
+///
+/// </details>
 pub fn filetype_to_str(filetype: u32) -> &'static str {
     match filetype {
         MH_OBJECT => "OBJECT",

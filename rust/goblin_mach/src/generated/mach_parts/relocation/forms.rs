@@ -2,6 +2,8 @@
 //! The two forms of relocations, by CPU and byte order.
 #![forbid(unsafe_code)]
 
+use crate::shim::ToUnsigned;
+
 use crate::generated::mach_base::Endian;
 use crate::generated::mach_parts::relocation::RelocationInfo;
 use crate::generated::mach_records::cputype::{
@@ -9,7 +11,8 @@ use crate::generated::mach_records::cputype::{
 };
 
 /// A relocation, decoded for its CPU and byte order.
-#[derive(Clone, Copy, Debug, PartialEq)]
+#[derive(Clone, Copy, Debug, PartialEq, Eq, Hash)]
+#[cfg_attr(not(feature = "internals"), non_exhaustive)]
 pub enum Relocation {
     /// A place that is corrected by a symbol or a section (struct relocation_info).
     Plain {
@@ -87,15 +90,17 @@ fn scattered(word: u32, value: u32) -> Relocation {
 impl RelocationInfo {
     // Returns the number of the first four bytes.
     fn address_word(self) -> u32 {
-        self.r_address.cast_unsigned()
+        self.r_address.to_unsigned()
     }
 
     /// Decodes the relocation for a CPU and a byte order. It is scattered if the highest bit of `r_address` is set, except on x86_64, arm64
     /// and arm64_32, which have no scattered relocations. In a big-endian image the bits of a plain one are counted from the highest.
     ///
-    /// # Proved
+    /// <details><summary>Proved</summary>
     ///
     /// - `result ≡ relocation_form cputype le self`
+    ///
+    /// </details>
     pub fn read_as(self, cputype: CpuType, le: Endian) -> Relocation {
         let word = self.address_word();
         if scatters(cputype) && has_bit(word, 31) {

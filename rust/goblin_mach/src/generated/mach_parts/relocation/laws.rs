@@ -6,9 +6,11 @@ use crate::generated::mach_parts::relocation::RelocationInfo;
 
 /// The five parts of `r_info`, each at its own bits, add up to `r_info`.
 ///
-/// # Proved
+/// <details><summary>Proved</summary>
 ///
 /// - `result ≡ r.r_info`
+///
+/// </details>
 pub fn bits_together(r: RelocationInfo) -> u32 {
     r.r_symbolnum() as u32
         + u32::from(r.r_pcrel()) * (1 << 24)

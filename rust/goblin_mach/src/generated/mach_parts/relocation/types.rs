@@ -195,9 +195,11 @@ fn arm64_name(reloc: RelocType) -> &'static str {
 /// Returns the name of a relocation's type for a CPU: `UNKNOWN` if the CPU
 /// has no such type, and `BAD_CPUTYPE` if the types of the CPU are not known.
 ///
-/// # Proved
+/// <details><summary>Proved</summary>
 ///
 /// - `result ≡ relocation_name reloc cputype`
+///
+/// </details>
 pub fn reloc_to_str(reloc: RelocType, cputype: CpuType) -> &'static str {
     match cputype {
         CPU_TYPE_ARM64 | CPU_TYPE_ARM64_32 => arm64_name(reloc),

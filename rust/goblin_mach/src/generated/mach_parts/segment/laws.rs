@@ -8,11 +8,13 @@ use crate::generated::mach_parts::segment::Section;
 /// Writes a section at the start of some bytes and reads it back. In a 64-bit context it is the same; in
 /// a 32-bit context its address and size keep their low 32 bits. On an error the bytes are unchanged.
 ///
-/// # Proved
+/// <details><summary>Proved</summary>
 ///
 /// - *again*: `Reads (λ s. s) result (read_back ctx section bytes.old)`
 /// - *written*: if `Ok`: `IsWritten bytes.old bytes.new 0 (section_bytes ctx.container ctx.le section)`
 /// - *refused*: if `Err`: `bytes.new ≡ bytes.old`
+///
+/// </details>
 pub fn section_written_and_read(section: Section, bytes: &mut [u8], ctx: Ctx) -> Result<Section> {
     section.try_into_ctx(bytes, ctx)?;
     let (again, _) = Section::try_from_ctx(bytes, ctx)?;

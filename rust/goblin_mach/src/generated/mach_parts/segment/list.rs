@@ -12,7 +12,7 @@ use core::slice::Iter;
 /// The segments of an image, in order: a list of `S`, which is `Segment<'a>`.
 // `S` is a parameter because of `get_mut`. The value of a list after an
 // element was lent can be proved only if the element's type names no lifetime.
-#[derive(Debug)]
+#[derive(Debug, Clone)]
 pub struct Segments<S> {
     segments: Vec<S>,
 }
@@ -20,9 +20,11 @@ pub struct Segments<S> {
 impl<S> Segments<S> {
     /// Returns the segment at an index for changes in place, if there is one. The others are unchanged.
     ///
-    /// # Proved
+    /// <details><summary>Proved</summary>
     ///
     /// - *lent*: `option_copied_mut result ≡ slice_get (segments_in self.old) index`
+    ///
+    /// </details>
     pub fn get_mut(&mut self, index: usize) -> Option<&mut S> {
         self.segments.get_mut(index)
     }
@@ -31,9 +33,11 @@ impl<S> Segments<S> {
 impl<'a> Segments<Segment<'a>> {
     /// Builds an empty list. The context has no effect.
     ///
-    /// # Proved
+    /// <details><summary>Proved</summary>
     ///
     /// - `segments_in result ≡ []`
+    ///
+    /// </details>
     pub fn new(_ctx: Ctx) -> Self {
         Segments {
             segments: Vec::new(),
@@ -42,11 +46,13 @@ impl<'a> Segments<Segment<'a>> {
 
     /// Appends a segment. If memory runs out, the segment is dropped and the list is unchanged.
     ///
-    /// # Proved
+    /// <details><summary>Proved</summary>
     ///
     /// - *ok*: if `Ok`: `segments_in self.new ≡ segments_in self.old ++ segment.entry ∷ []`
     /// - *only*: the result is `Ok`, unless memory is refused
     /// - *refused*: if `Err`: `segments_in self.new ≡ segments_in self.old`
+    ///
+    /// </details>
     pub fn push(&mut self, segment: Segment<'a>) -> Result<()> {
         self.segments.try_push(segment)?;
         Ok(())
@@ -54,28 +60,34 @@ impl<'a> Segments<Segment<'a>> {
 
     /// Returns the segments as a slice.
     ///
-    /// # Proved
+    /// <details><summary>Proved</summary>
     ///
     /// - `result ≡ segments_in self`
+    ///
+    /// </details>
     pub fn as_slice(&self) -> &[Segment<'a>] {
         self.segments.as_slice()
     }
 
     /// Returns an iterator over the segments.
     ///
-    /// # Proved
+    /// <details><summary>Proved</summary>
     ///
     /// - *items*: `iter_rest result ≡ segments_in self`
     /// - *runs*: `IterYieldsInOrder Segment`
+    ///
+    /// </details>
     pub fn iter(&self) -> Iter<'_, Segment<'a>> {
         self.segments.as_slice().iter()
     }
 
     /// Returns an iterator over the segments' section iterators.
     ///
-    /// # Proved
+    /// <details><summary>Proved</summary>
     ///
     /// - `sections_in result ≡ map (λ s. sections_of (segment_view s)) (segments_in self)`
+    ///
+    /// </details>
     pub fn sections(&self) -> SegmentSections<'_, 'a> {
         SegmentSections {
             segments: self.iter(),
@@ -105,6 +117,13 @@ pub struct SegmentSections<'b, 'a> {
     segments: Iter<'b, Segment<'a>>,
 }
 
+impl<'b, 'a> core::fmt::Debug for SegmentSections<'b, 'a> {
+    /// Prints the name of the type.
+    fn fmt(&self, f: &mut core::fmt::Formatter<'_>) -> core::fmt::Result {
+        f.debug_struct("SegmentSections").finish_non_exhaustive()
+    }
+}
+
 impl<'b, 'a> Iterator for SegmentSections<'b, 'a> {
     type Item = SectionIterator<'a>;
 
@@ -113,3 +132,5 @@ impl<'b, 'a> Iterator for SegmentSections<'b, 'a> {
         Some(segment.into_iter())
     }
 }
+
+impl<'b, 'a> core::iter::FusedIterator for SegmentSections<'b, 'a> {}

@@ -8,7 +8,8 @@ use crate::generated::mach_parts::segment::sections::place_of;
 use crate::generated::mach_records::{Section32, Section64};
 
 /// A section in its 64-bit form, with its position among the sections of an image.
-#[derive(Clone, Copy, Debug)]
+#[derive(Clone, Copy, Debug, Eq, Hash, PartialEq)]
+#[cfg_attr(not(feature = "internals"), non_exhaustive)]
 pub struct NumberedSection {
     /// The number of its segment, from 0.
     pub segment: usize,
@@ -21,9 +22,11 @@ pub struct NumberedSection {
 impl NumberedSection {
     /// Whether an address lies within the section.
     ///
-    /// # Proved
+    /// <details><summary>Proved</summary>
     ///
     /// - `result ≡ holds_address address self`
+    ///
+    /// </details>
     pub fn holds(&self, address: u64) -> bool {
         let section = &self.section;
         section.addr <= address && address - section.addr < section.size
@@ -32,9 +35,11 @@ impl NumberedSection {
 
 /// Converts a section of a 32-bit image to the 64-bit form.
 ///
-/// # Proved
+/// <details><summary>Proved</summary>
 ///
 /// - `result ≡ wider_section s`
+///
+/// </details>
 pub fn widen_section(s: &Section32) -> Section64 {
     Section64 {
         sectname: s.sectname,
@@ -54,9 +59,11 @@ pub fn widen_section(s: &Section32) -> Section64 {
 
 /// Reads the section at `place`, in its 64-bit form.
 ///
-/// # Proved
+/// <details><summary>Proved</summary>
 ///
 /// - `Reads (λ s. s) result (section_record_at ctx.container ctx.le bytes place)`
+///
+/// </details>
 pub fn section_at(bytes: &[u8], ctx: Ctx, place: usize) -> Result<Section64> {
     match ctx.container {
         Container::Little => Ok(widen_section(&Section32::read(bytes, place, ctx.le)?)),
@@ -68,9 +75,11 @@ impl Segment<'_> {
     /// Reads section `number` of this segment, which is number `segment`
     /// itself. Whether `number` is below the segment's count is not tested.
     ///
-    /// # Proved
+    /// <details><summary>Proved</summary>
     ///
     /// - `Reads (λ n. n) result (numbered_section segment (segment_view self) number)`
+    ///
+    /// </details>
     pub fn numbered(&self, segment: usize, number: u32) -> Result<NumberedSection> {
         let place = place_of(self.ctx, self.offset, number);
         let section = section_at(self.file, self.ctx, place)?;
@@ -92,12 +101,21 @@ pub struct NumberedSections<'a, 'b> {
     number: u32,
 }
 
+impl<'a, 'b> core::fmt::Debug for NumberedSections<'a, 'b> {
+    /// Prints the name of the type.
+    fn fmt(&self, f: &mut core::fmt::Formatter<'_>) -> core::fmt::Result {
+        f.debug_struct("NumberedSections").finish_non_exhaustive()
+    }
+}
+
 impl<'a, 'b> NumberedSections<'a, 'b> {
     /// Builds an iterator over the sections of these segments.
     ///
-    /// # Proved
+    /// <details><summary>Proved</summary>
     ///
     /// - `numbered_left result ≡ numbered_sections (map segment_view segments)`
+    ///
+    /// </details>
     pub fn new(segments: &'b [Segment<'a>]) -> Self {
         NumberedSections {
             segments,
@@ -127,6 +145,8 @@ impl<'a, 'b> Iterator for NumberedSections<'a, 'b> {
     }
 }
 
+impl<'a, 'b> core::iter::FusedIterator for NumberedSections<'a, 'b> {}
+
 // Reads section `number` of an image, counted from 0 over all segments.
 // It is the error of that read if the section does not lie in the bytes.
 fn counted_section(segments: &[Segment<'_>], number: usize) -> Option<Result<NumberedSection>> {
@@ -144,9 +164,11 @@ fn counted_section(segments: &[Segment<'_>], number: usize) -> Option<Result<Num
 /// Reads the section that a symbol's `n_sect` names, if there is one. Sections
 /// are counted from 1 over all segments. Fails if it does not lie in the bytes.
 ///
-/// # Proved
+/// <details><summary>Proved</summary>
 ///
 /// - `Reads (λ found. found) result (section_by_number (map segment_view segments) n_sect)`
+///
+/// </details>
 pub fn section_of(segments: &[Segment<'_>], n_sect: usize) -> Result<Option<NumberedSection>> {
     if n_sect == 0 {
         return Ok(None);

@@ -16,12 +16,21 @@ pub struct ReadableSections<'a, 'b> {
     number: u32,
 }
 
+impl<'a, 'b> core::fmt::Debug for ReadableSections<'a, 'b> {
+    /// Prints the name of the type.
+    fn fmt(&self, f: &mut core::fmt::Formatter<'_>) -> core::fmt::Result {
+        f.debug_struct("ReadableSections").finish_non_exhaustive()
+    }
+}
+
 impl<'a, 'b> ReadableSections<'a, 'b> {
     /// Builds an iterator over the sections of these segments.
     ///
-    /// # Proved
+    /// <details><summary>Proved</summary>
     ///
     /// - `readable_left result ≡ readable_sections (map segment_view segments)`
+    ///
+    /// </details>
     pub fn new(segments: &'b [Segment<'a>]) -> Self {
         ReadableSections {
             segments,
@@ -58,11 +67,15 @@ impl<'a, 'b> Iterator for ReadableSections<'a, 'b> {
     }
 }
 
+impl<'a, 'b> core::iter::FusedIterator for ReadableSections<'a, 'b> {}
+
 /// Finds the first section that holds an address, among those in their segment's command and in the bytes.
 ///
-/// # Proved
+/// <details><summary>Proved</summary>
 ///
 /// - `result ≡ section_holding (map segment_view segments) address`
+///
+/// </details>
 pub fn section_holding(segments: &[Segment<'_>], address: u64) -> Option<NumberedSection> {
     for section in ReadableSections::new(segments) {
         if section.holds(address) {

@@ -16,6 +16,13 @@ pub struct RelocationIterator<'a> {
     le: Endian,
 }
 
+impl<'a> core::fmt::Debug for RelocationIterator<'a> {
+    /// Prints the name of the type.
+    fn fmt(&self, f: &mut core::fmt::Formatter<'_>) -> core::fmt::Result {
+        f.debug_struct("RelocationIterator").finish_non_exhaustive()
+    }
+}
+
 impl<'a> RelocationIterator<'a> {
     // Builds an iterator over `count` relocations from `reloff` on.
     pub(crate) fn new(bytes: &'a [u8], reloff: u32, count: u32, le: Endian) -> Self {
@@ -30,9 +37,11 @@ impl<'a> RelocationIterator<'a> {
 
     /// Returns the same iterator restricted to the relocations whose record begins within the bytes. No byte of any later relocation can be read.
     ///
-    /// # Proved
+    /// <details><summary>Proved</summary>
     ///
     /// - `relocations_left result ≡ items_in_bounds (relocations_left self)`
+    ///
+    /// </details>
     pub fn in_bounds(&self) -> Self {
         let in_bounds = records_in_bounds(self.bytes, self.reloff as usize, SIZEOF_RELOCATION_INFO);
         RelocationIterator {
@@ -60,6 +69,8 @@ impl<'a> Iterator for RelocationIterator<'a> {
         (left, Some(left))
     }
 }
+
+impl<'a> core::iter::FusedIterator for RelocationIterator<'a> {}
 
 impl<'a> ExactSizeIterator for RelocationIterator<'a> {
     /// Returns the number of items left.

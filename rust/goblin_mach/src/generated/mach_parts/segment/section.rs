@@ -16,7 +16,7 @@ use crate::generated::mach_records::{Section32, Section64};
 pub type SectionData<'a> = &'a [u8];
 
 /// A part of a segment, for images of either width (struct section, struct section_64).
-#[derive(Debug)]
+#[derive(Clone, Eq, Hash, PartialEq)]
 pub struct Section {
     /// The name, padded with zeros.
     pub sectname: [u8; 16],
@@ -38,30 +38,48 @@ pub struct Section {
     pub flags: u32,
 }
 
+crate::shim::shown!(Section {
+    sectname: Text,
+    segname: Text,
+    addr: Hex,
+    size: Hex,
+    offset: Hex,
+    align: Hex,
+    reloff: Hex,
+    nreloc: Hex,
+    flags: Hex
+});
+
 impl Section {
     /// Returns the section's name: the text with which `sectname` begins.
     ///
-    /// # Proved
+    /// <details><summary>Proved</summary>
     ///
     /// - `Reads (λ name. name) result (text_at self.sectname 0)`
+    ///
+    /// </details>
     pub fn name(&self) -> Result<&str> {
         read_text(&self.sectname, 0)
     }
 
     /// Returns the name of the section's segment: the text with which `segname` begins.
     ///
-    /// # Proved
+    /// <details><summary>Proved</summary>
     ///
     /// - `Reads (λ name. name) result (text_at self.segname 0)`
+    ///
+    /// </details>
     pub fn segname(&self) -> Result<&str> {
         read_text(&self.segname, 0)
     }
 
     /// Returns an iterator over the section's relocations in the bytes of the file.
     ///
-    /// # Proved
+    /// <details><summary>Proved</summary>
     ///
     /// - `relocations_left result ≡ relocations_at ctx.le bytes self.reloff self.nreloc`
+    ///
+    /// </details>
     pub fn iter_relocations<'b>(&self, bytes: &'b [u8], ctx: Ctx) -> RelocationIterator<'b> {
         RelocationIterator::new(bytes, self.reloff, self.nreloc, ctx.le)
     }

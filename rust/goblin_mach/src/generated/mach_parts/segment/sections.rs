@@ -20,11 +20,20 @@ pub struct SectionIterator<'a> {
     ctx: Ctx,
 }
 
+impl<'a> core::fmt::Debug for SectionIterator<'a> {
+    /// Prints the name of the type.
+    fn fmt(&self, f: &mut core::fmt::Formatter<'_>) -> core::fmt::Result {
+        f.debug_struct("SectionIterator").finish_non_exhaustive()
+    }
+}
+
 /// Returns the place of section `number` of the command at `offset`.
 ///
-/// # Proved
+/// <details><summary>Proved</summary>
 ///
 /// - `result ≡ section_place ctx.container offset number`
+///
+/// </details>
 pub fn place_of(ctx: Ctx, offset: usize, number: u32) -> usize {
     let following = command_len(ctx.container) + number as usize * Section::size_with(&ctx);
     offset.saturating_add(following)
@@ -32,9 +41,11 @@ pub fn place_of(ctx: Ctx, offset: usize, number: u32) -> usize {
 
 /// Returns how many of `nsects` sections have their record in their segment's command of `cmdsize` bytes.
 ///
-/// # Proved
+/// <details><summary>Proved</summary>
 ///
 /// - `result ≡ own_sections width cmdsize nsects`
+///
+/// </details>
 pub fn own_sections(width: Container, cmdsize: u32, nsects: u32) -> u32 {
     let (head, each) = match width {
         Container::Little => (SIZEOF_SEGMENT_COMMAND_32, SIZEOF_SECTION_32),
@@ -65,9 +76,11 @@ impl<'a> SectionIterator<'a> {
 
     /// Returns the same iterator restricted to the sections whose record begins within the bytes. No byte of any later section can be read.
     ///
-    /// # Proved
+    /// <details><summary>Proved</summary>
     ///
     /// - `sections_left result ≡ items_in_bounds (sections_left self)`
+    ///
+    /// </details>
     pub fn in_bounds(&self) -> Self {
         let first = place_of(self.ctx, self.offset, 0);
         let in_bounds = records_in_bounds(self.bytes, first, Section::size_with(&self.ctx));
@@ -96,6 +109,8 @@ impl<'a> Iterator for SectionIterator<'a> {
         (left, Some(left))
     }
 }
+
+impl<'a> core::iter::FusedIterator for SectionIterator<'a> {}
 
 impl<'a> ExactSizeIterator for SectionIterator<'a> {
     /// Returns the number of items left.

@@ -18,7 +18,8 @@ const S_LAZY_DYLIB_SYMBOL_POINTERS: u32 = 0x10;
 const S_THREAD_LOCAL_VARIABLE_POINTERS: u32 = 0x14;
 
 /// The kind of a slot.
-#[derive(Clone, Copy, Debug)]
+#[derive(Clone, Copy, Debug, Eq, Hash, PartialEq)]
+#[cfg_attr(not(feature = "internals"), non_exhaustive)]
 pub enum SlotKind {
     /// A pointer that is bound at load time.
     Pointer,
@@ -35,9 +36,11 @@ pub enum SlotKind {
 impl SlotKind {
     /// Returns the kind of the slots in a section with these flags, if it has slots.
     ///
-    /// # Proved
+    /// <details><summary>Proved</summary>
     ///
     /// - `result ≡ slot_kind flags`
+    ///
+    /// </details>
     pub fn of(flags: u32) -> Option<SlotKind> {
         match flags & SECTION_TYPE {
             S_NON_LAZY_SYMBOL_POINTERS => Some(SlotKind::Pointer),
@@ -59,7 +62,8 @@ impl SlotKind {
 }
 
 /// The slots of a section, one after another, as many as it has room for.
-#[derive(Clone, Copy, Debug)]
+#[derive(Clone, Copy, Debug, Eq, Hash, PartialEq)]
+#[cfg_attr(not(feature = "internals"), non_exhaustive)]
 pub struct SlotRun {
     /// The number of the section's segment, from 0.
     pub segment: usize,
@@ -81,7 +85,7 @@ impl SlotRun {
     fn of_kind(ctx: Ctx, n: &NumberedSection, kind: SlotKind) -> Result<SlotRun> {
         let len = kind.len(ctx, &n.section);
         if len == 0 {
-            return Err(Error::Malformed("a stub has a size"));
+            return Err(Error::Malformed("the size of a stub is 0"));
         }
         Ok(SlotRun {
             segment: n.segment,
@@ -96,9 +100,11 @@ impl SlotRun {
 
     /// Returns the slots of a section, if it has any. Fails if their size is 0.
     ///
-    /// # Proved
+    /// <details><summary>Proved</summary>
     ///
     /// - `Reads (λ r. r) result (run_of ctx.container n)`
+    ///
+    /// </details>
     pub fn of(ctx: Ctx, n: &NumberedSection) -> Result<Option<SlotRun>> {
         let Some(kind) = SlotKind::of(n.section.flags) else {
             return Ok(None);
@@ -112,9 +118,11 @@ impl SlotRun {
 
     /// Returns the address of slot `j`, if it fits 64 bits.
     ///
-    /// # Proved
+    /// <details><summary>Proved</summary>
     ///
     /// - `result ≡ (if nat_lt (self.address + j * self.len) (2 ^ 64) then Some (self.address + j * self.len) else None)`
+    ///
+    /// </details>
     #[inline(always)]
     pub fn address_of(&self, j: u64) -> Option<u64> {
         let before = j.checked_mul(self.len)?;
@@ -123,9 +131,11 @@ impl SlotRun {
 
     /// Returns the number of slot `j`'s entry, if it is below `count`.
     ///
-    /// # Proved
+    /// <details><summary>Proved</summary>
     ///
     /// - `result ≡ (if nat_lt (self.first + j) count then Some (self.first + j) else None)`
+    ///
+    /// </details>
     #[inline(always)]
     pub fn entry_of(&self, j: u64, count: u32) -> Option<u32> {
         let number = u64::from(self.first).checked_add(j)?;

@@ -45,9 +45,11 @@ fn slot_in<'a>(
 /// Finds the stub or pointer that holds an address, in the first section that has slots and holds the
 /// address. Fails if that section's slots have the size 0, or if the slot has no entry or no symbol.
 ///
-/// # Proved
+/// <details><summary>Proved</summary>
 ///
 /// - `Reads (option_map slot_view) result (slot_of_address (slot_tables_of source.entry) (map segment_view segments) address)`
+///
+/// </details>
 pub fn symbol_slot_at<'a>(
     source: SlotSource<'a, '_>,
     segments: &[Segment<'a>],

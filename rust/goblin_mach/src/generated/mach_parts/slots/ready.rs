@@ -7,7 +7,8 @@ use crate::generated::mach_parts::slot::SlotEntry;
 use crate::generated::mach_parts::slots::kind::{SlotKind, SlotRun};
 
 /// Slots that lie one after another, and whose entries are in the table and in the bytes.
-#[derive(Clone, Copy)]
+#[derive(Clone, Copy, Eq, Hash, PartialEq)]
+#[cfg_attr(not(feature = "internals"), non_exhaustive)]
 pub struct ReadySlots<'a> {
     pub run: SlotRun,
     /// The bytes of their entries.
@@ -15,6 +16,13 @@ pub struct ReadySlots<'a> {
     /// The number of the first slot's entry, and the slot's address.
     pub index: u32,
     pub address: u64,
+}
+
+impl<'a> core::fmt::Debug for ReadySlots<'a> {
+    /// Prints the name of the type.
+    fn fmt(&self, f: &mut core::fmt::Formatter<'_>) -> core::fmt::Result {
+        f.debug_struct("ReadySlots").finish_non_exhaustive()
+    }
 }
 
 // Returns a number of slots whose addresses, and the address after them, fit 64 bits.
@@ -36,9 +44,11 @@ fn count_ready(run: &SlotRun, count: u32, room: usize) -> u64 {
 impl<'a> ReadySlots<'a> {
     /// Returns no slots.
     ///
-    /// # Proved
+    /// <details><summary>Proved</summary>
     ///
     /// - `ready_count result ≡ 0`
+    ///
+    /// </details>
     pub fn none() -> Self {
         ReadySlots {
             run: SlotRun {
@@ -58,10 +68,12 @@ impl<'a> ReadySlots<'a> {
 
     /// Returns such slots of a section, from the first on.
     ///
-    /// # Proved
+    /// <details><summary>Proved</summary>
     ///
     /// - *within*: `ready_count result ≤ run.count`
     /// - *slots*: for each `t : SlotTables`, if `t.indirect ≡ indirect_table_of table`, `ready_left t result ++ slots_from t run (run.count - ready_count result) (ready_count result) ≡ slots_from t run run.count 0`
+    ///
+    /// </details>
     pub fn of(run: &SlotRun, table: &IndirectSymbols<'a>) -> Self {
         let Some(entries) = table.entries_from(run.first) else {
             return ReadySlots::none();
@@ -77,20 +89,24 @@ impl<'a> ReadySlots<'a> {
 
     /// Returns how many there are.
     ///
-    /// # Proved
+    /// <details><summary>Proved</summary>
     ///
     /// - `result ≡ ready_count self`
+    ///
+    /// </details>
     pub fn len(&self) -> u64 {
         self.entries.len() as u64 / 4
     }
 
     /// Returns the first slot's entry.
     ///
-    /// # Proved
+    /// <details><summary>Proved</summary>
     ///
     /// - *none*: if `None`: `ready_count self ≡ 0`
     /// - *some*: if `Some(_)`: `0 < ready_count self`
     /// - *entry*: if `Some(e)`: `e ≡ ready_entry (indirect_table_of table) self.entries self.address self.index`
+    ///
+    /// </details>
     #[inline(always)]
     pub fn first(&self, table: &IndirectSymbols<'a>) -> Option<SlotEntry> {
         if self.entries.len() < 4 {
@@ -103,21 +119,13 @@ impl<'a> ReadySlots<'a> {
         })
     }
 
+    crate::shim::inner! {
     /// Goes on to the slot after the first.
-    ///
-    /// # Proved
-    ///
-    /// Callers make sure of: `0 < ready_count self.old`.
-    ///
-    /// - *count*: `ready_count self.old ≡ suc (ready_count self.new)`
-    /// - *entries*: `self.new.entries ≡ drop 4 self.old.entries`
-    /// - *address*: `self.new.address ≡ (self.old.address + self.old.run.len) % 2 ^ 64`
-    /// - *index*: `self.new.index ≡ (self.old.index + 1) % 2 ^ 32`
-    /// - *run*: `self.new.run ≡ self.old.run`
-    #[inline(always)]
-    pub fn pass(&mut self) {
-        self.entries = &self.entries[4..];
-        self.address = self.address.wrapping_add(self.run.len);
-        self.index = self.index.wrapping_add(1);
+        #[inline(always)]
+        fn pass(&mut self) {
+            self.entries = &self.entries[4..];
+            self.address = self.address.wrapping_add(self.run.len);
+            self.index = self.index.wrapping_add(1);
+        }
     }
 }

@@ -10,6 +10,7 @@ use crate::generated::mach_parts::symbols::{CopiedSymbols, Symbols};
 
 /// The tables from which slots are read: the indirect symbol table and the symbols, if there are any. `ctx` has the width of a pointer.
 #[derive(Clone, Copy)]
+#[cfg_attr(not(feature = "internals"), non_exhaustive)]
 pub struct SlotSource<'a, 'b> {
     /// The indirect symbol table.
     pub indirect: IndirectSymbols<'a>,
@@ -17,6 +18,13 @@ pub struct SlotSource<'a, 'b> {
     pub symbols: Option<&'b Symbols<'a>>,
     /// The width and the byte order.
     pub ctx: Ctx,
+}
+
+impl<'a, 'b> core::fmt::Debug for SlotSource<'a, 'b> {
+    /// Prints the name of the type.
+    fn fmt(&self, f: &mut core::fmt::Formatter<'_>) -> core::fmt::Result {
+        f.debug_struct("SlotSource").finish_non_exhaustive()
+    }
 }
 
 impl<'a, 'b> SlotSource<'a, 'b> {
@@ -35,10 +43,18 @@ impl<'a, 'b> SlotSource<'a, 'b> {
 
 /// The tables from which slots are read, with the symbols by value.
 #[derive(Clone, Copy)]
+#[cfg_attr(not(feature = "internals"), non_exhaustive)]
 pub struct HeldSource<'a> {
     pub indirect: IndirectSymbols<'a>,
     pub symbols: Option<CopiedSymbols<'a>>,
     pub ctx: Ctx,
+}
+
+impl<'a> core::fmt::Debug for HeldSource<'a> {
+    /// Prints the name of the type.
+    fn fmt(&self, f: &mut core::fmt::Formatter<'_>) -> core::fmt::Result {
+        f.debug_struct("HeldSource").finish_non_exhaustive()
+    }
 }
 
 impl<'a> HeldSource<'a> {
@@ -46,11 +62,11 @@ impl<'a> HeldSource<'a> {
     #[inline(always)]
     pub(crate) fn entry(&self, run: &SlotRun, j: u64) -> Result<SlotEntry> {
         let Some(address) = run.address_of(j) else {
-            return Err(Error::Malformed("a slot's address has 64 bits"));
+            return Err(Error::Malformed("a slot's address does not fit in 64 bits"));
         };
         let Some(index) = run.entry_of(j, self.indirect.len()) else {
             return Err(Error::Malformed(
-                "a slot's entry is in the table of indirect symbols",
+                "a slot's entry is past the table of indirect symbols",
             ));
         };
         let says = self.indirect.get(index)?;
@@ -71,7 +87,9 @@ impl<'a> HeldSource<'a> {
                     Err(e) => Err(e),
                 }
             }
-            _ => Err(Error::Malformed("an indirect symbol is one of the table")),
+            _ => Err(Error::Malformed(
+                "an indirect symbol is past the table of symbols",
+            )),
         }
     }
 

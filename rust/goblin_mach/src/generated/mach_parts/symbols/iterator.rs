@@ -63,6 +63,13 @@ pub struct SymbolIterator<'a> {
     index: usize,
 }
 
+impl<'a> core::fmt::Debug for SymbolIterator<'a> {
+    /// Prints the name of the type.
+    fn fmt(&self, f: &mut core::fmt::Formatter<'_>) -> core::fmt::Result {
+        f.debug_struct("SymbolIterator").finish_non_exhaustive()
+    }
+}
+
 impl<'a> SymbolIterator<'a> {
     // Builds an iterator over all symbols of a table.
     pub(super) fn new(table: Table<'a>) -> Self {
@@ -119,6 +126,8 @@ impl<'a> Iterator for SymbolIterator<'a> {
         (left, Some(left))
     }
 }
+
+impl<'a> core::iter::FusedIterator for SymbolIterator<'a> {}
 
 impl<'a> ExactSizeIterator for SymbolIterator<'a> {
     /// Returns the number of items left.

@@ -6,9 +6,11 @@ use crate::generated::mach_parts::symbols::Symbols;
 
 /// Counts the symbols. There are as many items as the table claims, including unreadable ones.
 ///
-/// # Proved
+/// <details><summary>Proved</summary>
 ///
 /// - `result ≡ length (symbols_of (table_of symbols))`
+///
+/// </details>
 pub fn symbols_counted(symbols: &Symbols<'_>) -> usize {
     symbols.iter().count()
 }

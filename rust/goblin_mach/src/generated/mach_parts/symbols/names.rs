@@ -175,9 +175,11 @@ pub const N_WEAK_DEF: u16 = 0x80;
 
 /// Returns the name of a symbol's type, or `UNKNOWN_N_TYPE`.
 ///
-/// # Proved
+/// <details><summary>Proved</summary>
 ///
 /// - `result ≡ type_name n_type`
+///
+/// </details>
 pub fn n_type_to_str(n_type: u8) -> &'static str {
     match n_type {
         N_UNDF => "N_UNDF",

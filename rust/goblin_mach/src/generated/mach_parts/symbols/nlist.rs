@@ -2,6 +2,8 @@
 //! The record of a symbol (`mach-o/nlist.h`).
 #![forbid(unsafe_code)]
 
+use crate::shim::ReadsNumbers;
+
 use crate::generated::mach_base::{
     Container, Ctx, Endian, Error, IntoCtx, Record, RecordBytes, Result, SizeWith, TryFromCtx,
     TryIntoCtx, low_bits,
@@ -17,7 +19,7 @@ pub const SIZEOF_NLIST_32: usize = 12;
 pub const SIZEOF_NLIST_64: usize = 16;
 
 /// The record of a symbol in a 32-bit image (struct nlist).
-#[derive(Clone, Copy, Debug)]
+#[derive(Clone, Copy, Eq, Hash, PartialEq)]
 pub struct Nlist32 {
     /// The offset of its name in the string table.
     pub n_strx: u32,
@@ -31,10 +33,18 @@ pub struct Nlist32 {
     pub n_value: u32,
 }
 
+crate::shim::shown!(Nlist32 {
+    n_strx: Hex,
+    n_type: Hex,
+    n_sect: Hex,
+    n_desc: Hex,
+    n_value: Hex
+});
+
 impl Record for Nlist32 {
     const SIZE: usize = SIZEOF_NLIST_32;
 
-    fn load(bytes: &[u8], le: Endian) -> Self {
+    fn load(bytes: &[u8], le: Endian, _: crate::shim::Inner) -> Self {
         Nlist32 {
             n_strx: le.u32_at(bytes, 0),
             n_type: le.u8_at(bytes, 4),
@@ -55,7 +65,7 @@ impl Record for Nlist32 {
 }
 
 /// The record of a symbol in a 64-bit image (struct nlist_64).
-#[derive(Clone, Copy, Debug)]
+#[derive(Clone, Copy, Eq, Hash, PartialEq)]
 pub struct Nlist64 {
     /// The offset of its name in the string table.
     pub n_strx: u32,
@@ -69,10 +79,18 @@ pub struct Nlist64 {
     pub n_value: u64,
 }
 
+crate::shim::shown!(Nlist64 {
+    n_strx: Hex,
+    n_type: Hex,
+    n_sect: Hex,
+    n_desc: Hex,
+    n_value: Hex
+});
+
 impl Record for Nlist64 {
     const SIZE: usize = SIZEOF_NLIST_64;
 
-    fn load(bytes: &[u8], le: Endian) -> Self {
+    fn load(bytes: &[u8], le: Endian, _: crate::shim::Inner) -> Self {
         Nlist64 {
             n_strx: le.u32_at(bytes, 0),
             n_type: le.u8_at(bytes, 4),
@@ -93,7 +111,7 @@ impl Record for Nlist64 {
 }
 
 /// The record of a symbol, for images of either width.
-#[derive(Clone, Debug)]
+#[derive(Clone, Eq, Hash, PartialEq)]
 pub struct Nlist {
     /// The offset of its name in the string table.
     pub n_strx: usize,
@@ -107,57 +125,77 @@ pub struct Nlist {
     pub n_value: u64,
 }
 
+crate::shim::shown!(Nlist {
+    n_strx: Hex,
+    n_type: Hex,
+    n_sect: Hex,
+    n_desc: Hex,
+    n_value: Hex
+});
+
 impl Nlist {
     /// Returns its type: the bits of `N_TYPE`.
     ///
-    /// # Proved
+    /// <details><summary>Proved</summary>
     ///
     /// - `result ≡ type_of self.n_type`
+    ///
+    /// </details>
     pub fn get_type(&self) -> u8 {
         self.n_type & N_TYPE
     }
 
     /// Returns the name of its type, or `UNKNOWN_N_TYPE`.
     ///
-    /// # Proved
+    /// <details><summary>Proved</summary>
     ///
     /// - `result ≡ type_name (type_of self.n_type)`
+    ///
+    /// </details>
     pub fn type_str(&self) -> &'static str {
         n_type_to_str(self.get_type())
     }
 
     /// Whether it is visible outside the image.
     ///
-    /// # Proved
+    /// <details><summary>Proved</summary>
     ///
     /// - the result is `true` exactly if `IsGlobal self`
+    ///
+    /// </details>
     pub fn is_global(&self) -> bool {
         self.n_type & N_EXT != 0
     }
 
     /// Whether it is a weak reference or a weak definition.
     ///
-    /// # Proved
+    /// <details><summary>Proved</summary>
     ///
     /// - the result is `true` exactly if `IsWeakSymbol self`
+    ///
+    /// </details>
     pub fn is_weak(&self) -> bool {
         self.n_desc & (N_WEAK_REF | N_WEAK_DEF) != 0
     }
 
     /// Whether it is undefined: it is in no section and of type `N_UNDF`. Another image defines it.
     ///
-    /// # Proved
+    /// <details><summary>Proved</summary>
     ///
     /// - the result is `true` exactly if `IsUndefined self`
+    ///
+    /// </details>
     pub fn is_undefined(&self) -> bool {
         self.n_sect == 0 && self.get_type() == N_UNDF
     }
 
     /// Whether it is a debugging entry.
     ///
-    /// # Proved
+    /// <details><summary>Proved</summary>
     ///
     /// - the result is `true` exactly if `IsStab self`
+    ///
+    /// </details>
     pub fn is_stab(&self) -> bool {
         self.n_type & N_STAB != 0
     }

@@ -3,11 +3,11 @@
 #![forbid(unsafe_code)]
 
 use crate::generated::mach_cli::address::FoundAt;
-use crate::generated::mach_cli::json::text::JsonString;
+use crate::generated::mach_cli::json::text::{StringOrNull, name_in_field};
 use core::fmt;
 use core::fmt::{Display, Formatter};
-use goblin_mach::generated::mach::segment::NumberedSection;
-use goblin_mach::generated::mach::{Function, read_text};
+use goblin_mach::Function;
+use goblin_mach::segment::NumberedSection;
 
 /// The object of an address, with its name as a member.
 #[derive(Clone, Copy)]
@@ -56,8 +56,8 @@ impl Display for HolderMembers {
         let Some(holder) = &self.0 else {
             return f.write_str("\"section\":null,\"segment\":null");
         };
-        let section = StringOrNull(name_in(&holder.section.sectname));
-        let segment = StringOrNull(name_in(&holder.section.segname));
+        let section = StringOrNull(name_in_field(&holder.section.sectname));
+        let segment = StringOrNull(name_in_field(&holder.section.segname));
         write!(f, "\"section\":{section},\"segment\":{segment}")
     }
 }
@@ -72,30 +72,6 @@ impl Display for NumberOrNull {
             Some(number) => write!(f, "{number}"),
             None => f.write_str("null"),
         }
-    }
-}
-
-// A text as a string, `null` if there is none.
-#[derive(Clone, Copy)]
-struct StringOrNull<'a>(Option<&'a str>);
-
-impl Display for StringOrNull<'_> {
-    fn fmt(&self, f: &mut Formatter<'_>) -> fmt::Result {
-        match self.0 {
-            Some(text) => {
-                let text = JsonString(text);
-                write!(f, "{text}")
-            }
-            None => f.write_str("null"),
-        }
-    }
-}
-
-// Returns the name with which bytes begin, if it can be read.
-fn name_in(bytes: &[u8]) -> Option<&str> {
-    match read_text(bytes, 0) {
-        Ok(name) => Some(name),
-        Err(_) => None,
     }
 }
 

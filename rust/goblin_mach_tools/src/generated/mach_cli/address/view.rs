@@ -9,7 +9,7 @@ use crate::generated::mach_cli::failure::ShowFailure;
 use crate::generated::mach_cli::image_view::{ImageView, Outcome};
 use crate::generated::mach_cli::name_text::file_if;
 use crate::shim::io::Write;
-use goblin_mach::generated::mach::MachO;
+use goblin_mach::MachO;
 
 // Returns the outcome of showing what an image has at an address: it is whole if a section holds the address.
 fn outcome_of(found: &FoundAt<'_>, left: usize) -> Outcome {

@@ -6,13 +6,15 @@ use crate::generated::mach_cli::image_view::Outcome;
 use crate::generated::mach_cli::listing::{ListProgress, Listing};
 use crate::shim::io;
 use crate::shim::io::Write;
-use goblin_mach::generated::mach::describe;
+use goblin_mach::describe;
 
 /// Writes an array as a member of this name, with a comma after it: exactly an object for each of the first rows of a list, up to a limit.
 ///
-/// # Proved
+/// <details><summary>Proved</summary>
 ///
 /// - if `Ok(x)`: `WritesMember name limit (L.left list.old) (O.contents out.old) (O.contents out.new) x`
+///
+/// </details>
 pub fn print_member<L: Listing, O: Write>(
     name: &str,
     list: &mut L,
@@ -27,9 +29,11 @@ pub fn print_member<L: Listing, O: Write>(
 
 /// Writes an empty array as a member of this name, with a comma after it: the array of a list that isn't printed.
 ///
-/// # Proved
+/// <details><summary>Proved</summary>
 ///
 /// - if `Ok(x)`: `WritesMember name limit [] (O.contents out.old) (O.contents out.new) x`
+///
+/// </details>
 pub fn print_empty<O: Write>(name: &str, limit: usize, out: &mut O) -> io::Result<ListProgress> {
     write!(out, "\"{name}\":")?;
     write!(out, "[]")?;
@@ -43,9 +47,11 @@ pub fn print_empty<O: Write>(name: &str, limit: usize, out: &mut O) -> io::Resul
 
 /// Writes what follows the members of an image's lists, and returns their outcome.
 ///
-/// # Proved
+/// <details><summary>Proved</summary>
 ///
 /// - if `Ok(outcome)`: `(outcome.whole ≡ (reported.whole && not reported.more)) × (outcome.left ≡ reported.left) × Appends (O.contents out.old) (O.contents out.new) (lists_end reported.more)`
+///
+/// </details>
 pub fn print_end<O: Write>(reported: ListProgress, out: &mut O) -> io::Result<Outcome> {
     let more = reported.more;
     write!(out, "\"kind\":\"image\",\"limit_met\":{more}")?;
@@ -58,9 +64,11 @@ pub fn print_end<O: Write>(reported: ListProgress, out: &mut O) -> io::Result<Ou
 /// Writes what follows the members of an image's lists, with how many more items they claim past the end of the bytes, and
 /// returns their outcome.
 ///
-/// # Proved
+/// <details><summary>Proved</summary>
 ///
 /// - if `Ok(outcome)`: `(outcome.whole ≡ ((reported.whole && not reported.more) && (past == 0))) × (outcome.left ≡ reported.left) × Appends (O.contents out.old) (O.contents out.new) (lists_end_past reported.more past)`
+///
+/// </details>
 pub fn print_end_past<O: Write>(
     reported: ListProgress,
     past: usize,
@@ -77,9 +85,11 @@ pub fn print_end_past<O: Write>(
 /// Writes an array: exactly an object for each of the first rows of a list, up to a limit, in order. For a row that can't be read
 /// the object gives the reason.
 ///
-/// # Proved
+/// <details><summary>Proved</summary>
 ///
 /// - if `Ok(x)`: `WritesArray limit (L.left list.old) (O.contents out.old) (O.contents out.new) x`
+///
+/// </details>
 pub fn print_array<L: Listing, O: Write>(
     list: &mut L,
     limit: usize,
@@ -121,7 +131,7 @@ fn print_objects<L: Listing, O: Write>(
 
 // Writes the object of a row, after a comma unless it is the first, and returns whether the row could be read.
 fn print_object<L: Listing, O: Write>(
-    answer: &goblin_mach::generated::mach::Result<L::Row>,
+    answer: &goblin_mach::Result<L::Row>,
     is_first: bool,
     out: &mut O,
 ) -> io::Result<bool> {
@@ -142,18 +152,22 @@ fn print_object<L: Listing, O: Write>(
 
 /// Returns the separator before the next element.
 ///
-/// # Proved
+/// <details><summary>Proved</summary>
 ///
 /// - `result ≡ comma_before is_first`
+///
+/// </details>
 pub fn comma_before(is_first: bool) -> &'static str {
     if is_first { "" } else { "," }
 }
 
 /// Returns the state after two lists, given the state after each; the second started with what the first left.
 ///
-/// # Proved
+/// <details><summary>Proved</summary>
 ///
 /// - `(result.left ≡ next.left) × (result.whole ≡ (first.whole && next.whole)) × (result.more ≡ (first.more || next.more))`
+///
+/// </details>
 pub fn then(first: ListProgress, next: ListProgress) -> ListProgress {
     ListProgress {
         left: next.left,

@@ -5,6 +5,7 @@
 use crate::generated::mach_cli::escaped::{Style, write_escaped};
 use core::fmt;
 use core::fmt::{Display, Formatter};
+use goblin_mach::read_text;
 
 /// A text as a string, with its quotation marks.
 #[derive(Clone, Copy)]
@@ -25,4 +26,51 @@ impl Display for Inner<'_> {
     fn fmt(&self, f: &mut Formatter<'_>) -> fmt::Result {
         write_escaped(f, Style::Json, self.0)
     }
+}
+
+/// A text as a string, `null` if there is none.
+#[derive(Clone, Copy)]
+pub struct StringOrNull<'a>(pub Option<&'a str>);
+
+impl Display for StringOrNull<'_> {
+    fn fmt(&self, f: &mut Formatter<'_>) -> fmt::Result {
+        match self.0 {
+            Some(text) => {
+                let text = JsonString(text);
+                write!(f, "{text}")
+            }
+            None => f.write_str("null"),
+        }
+    }
+}
+
+/// Returns a text, if there is one that is not empty.
+///
+/// <details><summary>Proved</summary>
+///
+/// - `text_in result ≡ if_not_empty (text_in text.entry)`
+///
+/// </details>
+pub fn if_not_empty<'a>(text: Option<&'a str>) -> Option<&'a str> {
+    let text = text?;
+    if text.is_empty() { None } else { Some(text) }
+}
+
+// Returns the name with which a field begins, if it can be read.
+fn text_of(field: &[u8]) -> Option<&str> {
+    match read_text(field, 0) {
+        Ok(name) => Some(name),
+        Err(_) => None,
+    }
+}
+
+/// Returns the name in a field of sixteen bytes, if it is text and not empty.
+///
+/// <details><summary>Proved</summary>
+///
+/// - `text_in result ≡ name_in_field field`
+///
+/// </details>
+pub fn name_in_field(field: &[u8]) -> Option<&str> {
+    if_not_empty(text_of(field))
 }

@@ -4,8 +4,8 @@
 
 use core::fmt;
 use core::fmt::{Display, Formatter};
-use goblin_mach::generated::mach::Content;
-use goblin_mach::generated::mach_archive::Member;
+use goblin_mach::Content;
+use goblin_mach::archive::Member;
 
 // The entry of a fat file that holds a part, if there is one.
 #[derive(Clone, Copy)]

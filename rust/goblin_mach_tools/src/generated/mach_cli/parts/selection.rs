@@ -3,14 +3,16 @@
 #![forbid(unsafe_code)]
 
 use crate::generated::mach_cli::cpu::Cpu;
-use crate::generated::mach_cli::parts::parts_of;
-use goblin_mach::generated::mach::ItemPlace;
+use crate::generated::mach_cli::parts::Parts;
+use goblin_mach::{InputItem, ItemPlace};
 
 /// Whether a part is selected by the cpu of its entry. If it has no entry, its image decides.
 ///
-/// # Proved
+/// <details><summary>Proved</summary>
 ///
 /// - `result ≡ is_part_for cpu place`
+///
+/// </details>
 pub fn is_for(cpu: Cpu, place: &ItemPlace) -> bool {
     match place.cpu {
         Some(entry) => cpu.takes(entry.cputype, entry.cpusubtype),
@@ -18,14 +20,16 @@ pub fn is_for(cpu: Cpu, place: &ItemPlace) -> bool {
     }
 }
 
-/// Whether a file has parts, and none of them is selected.
+/// Whether there are parts, and none of them is selected.
 ///
-/// # Proved
+/// <details><summary>Proved</summary>
 ///
-/// - `result ≡ are_missed cpu (parts_in bytes)`
-pub fn is_missed(cpu: Cpu, bytes: &[u8]) -> bool {
+/// - `result ≡ are_missed cpu (parts_left parts.entry)`
+///
+/// </details>
+pub fn is_missed(cpu: Cpu, parts: Parts<'_>) -> bool {
     let mut is_any = false;
-    for part in parts_of(bytes) {
+    for part in parts {
         if is_for(cpu, &part.place) {
             return false;
         }
@@ -33,3 +37,73 @@ pub fn is_missed(cpu: Cpu, bytes: &[u8]) -> bool {
     }
     is_any
 }
+
+/// Whether more parts are selected than a limit allows.
+///
+/// <details><summary>Proved</summary>
+///
+/// - `result ≡ are_more limit cpu (parts_left parts.entry)`
+///
+/// </details>
+pub fn are_more(limit: usize, cpu: Cpu, parts: Parts<'_>) -> bool {
+    let mut room = limit;
+    for part in parts {
+        if !is_for(cpu, &part.place) {
+            continue;
+        }
+        let Some(rest) = room.checked_sub(1) else {
+            return true;
+        };
+        room = rest;
+    }
+    false
+}
+
+/// The parts that are selected by the cpu of their entry, no more of them than a limit.
+#[derive(Clone, Copy)]
+pub struct SelectedParts<'a> {
+    cpu: Cpu,
+    // How many more may be given.
+    room: usize,
+    parts: Parts<'a>,
+}
+
+impl<'a> SelectedParts<'a> {
+    /// Returns the first of these parts that are selected.
+    ///
+    /// <details><summary>Proved</summary>
+    ///
+    /// - `within_left result ≡ parts_within limit cpu (parts_left parts.entry)`
+    ///
+    /// </details>
+    pub fn of(limit: usize, cpu: Cpu, parts: Parts<'a>) -> Self {
+        SelectedParts {
+            cpu,
+            room: limit,
+            parts,
+        }
+    }
+
+    // Returns the next part that is selected, whatever the limit.
+    fn next_selected(&mut self) -> Option<InputItem<'a>> {
+        while let Some(part) = self.parts.next() {
+            if is_for(self.cpu, &part.place) {
+                return Some(part);
+            }
+        }
+        None
+    }
+}
+
+impl<'a> Iterator for SelectedParts<'a> {
+    type Item = InputItem<'a>;
+
+    fn next(&mut self) -> Option<InputItem<'a>> {
+        let room = self.room.checked_sub(1)?;
+        let part = self.next_selected()?;
+        self.room = room;
+        Some(part)
+    }
+}
+
+impl<'a> core::iter::FusedIterator for SelectedParts<'a> {}

@@ -6,9 +6,9 @@ use crate::shim::format_in;
 use alloc::string::String;
 
 use crate::generated::mach_cli::parts::name::PartName;
-use crate::shim::AllocError;
-use goblin_mach::generated::mach::{Content, InputItem};
-use goblin_mach::generated::mach_base::Result;
+use goblin_mach::AllocError;
+use goblin_mach::Result;
+use goblin_mach::{Content, InputItem};
 
 /// What is shown of a part.
 pub enum ShownPart<'a> {
@@ -37,9 +37,11 @@ fn name_of(
 /// Returns what is shown of a part of a file of this name: the file itself, or a part with its own name. The error says why the
 /// part can't be read, or that memory ran out.
 ///
-/// # Proved
+/// <details><summary>Proved</summary>
 ///
 /// - `let x = input_item_read part.entry in Gives shown_part_view result (shown_in file x.place.entry x.content)`
+///
+/// </details>
 pub fn shown_part<'a>(file: &str, part: InputItem<'a>) -> Result<ShownPart<'a>> {
     let entry = part.place.entry;
     match part.content? {

@@ -2,16 +2,16 @@
 //! Faults as JSON has them: objects of four strings. Their texts are made of fixed words and numbers, and need no escapes.
 #![forbid(unsafe_code)]
 
-use crate::generated::mach_cli::comma_before;
+use crate::generated::mach_cli::{Refusal, comma_before};
 use crate::generated::machaudit::report::Finding;
 use crate::generated::machaudit::signature_text::message_of;
 use crate::shim::io;
 use crate::shim::io::Write;
 use core::fmt;
 use core::fmt::{Display, Formatter};
-use goblin_mach::generated::mach::{Error, describe};
-use goblin_mach::generated::mach_layout::{Evidence, LayoutFault};
-use goblin_mach::generated::mach_signature::{SignatureFault, SlotName};
+use goblin_mach::describe;
+use goblin_mach::layout::{Evidence, LayoutFault};
+use goblin_mach::signature::{SignatureFault, SlotName};
 
 /// A fault as JSON has it.
 pub trait FaultObject {
@@ -19,16 +19,12 @@ pub trait FaultObject {
     fn write_object<O: Write>(&self, part: &str, out: &mut O) -> io::Result<()>;
 }
 
-/// The error for which a part can't be read at all.
-#[derive(Clone, Copy)]
-pub struct Refusal<'a>(pub &'a Error);
-
 impl FaultObject for Refusal<'_> {
+    // Writes why a part can't be read at all.
     fn write_object<O: Write>(&self, part: &str, out: &mut O) -> io::Result<()> {
-        let words = describe(self.0);
         write!(
             out,
-            "{{\"kind\":\"unreadable\",\"owner\":\"{part}\",\"place\":\"\",\"words\":\"{words}\"}}"
+            "{{\"kind\":\"unreadable\",\"owner\":\"{part}\",\"place\":\"\",\"words\":\"{self}\"}}"
         )
     }
 }

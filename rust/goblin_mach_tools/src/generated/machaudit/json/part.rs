@@ -2,15 +2,17 @@
 //! The parts of an image or of a fat file's table as JSON has them.
 #![forbid(unsafe_code)]
 
-use crate::generated::machaudit::json::fault::{FaultObject, Refusal, write_next};
+use crate::generated::mach_cli::Refusal;
+use crate::generated::machaudit::json::fault::{FaultObject, write_next};
 use crate::generated::machaudit::layout_text::Counts;
 use crate::generated::machaudit::report::{
     Finding, PartReport, Parts, Records, SignaturePart, SignatureReport,
 };
 use crate::shim::io;
 use crate::shim::io::Write;
-use goblin_mach::generated::mach_layout::LayoutFault;
-use goblin_mach::generated::mach_signature::SignatureFault;
+use goblin_mach::describe;
+use goblin_mach::layout::LayoutFault;
+use goblin_mach::signature::SignatureFault;
 
 /// What of a part isn't among its reported faults.
 #[derive(Clone, Copy)]
@@ -137,7 +139,8 @@ fn write_signature<O: Write>(signature: &SignatureReport, out: &mut O) -> io::Re
         SignatureReport::Unsigned => Ok(()),
         SignatureReport::Unreadable(error) => {
             write!(out, ",")?;
-            write_part("signature", &[Refusal(error)], Unreported::NOTHING, out)
+            let refusal = Refusal::Fault(describe(error));
+            write_part("signature", &[refusal], Unreported::NOTHING, out)
         }
         SignatureReport::Signed(part) => write_signed(part, out),
     }

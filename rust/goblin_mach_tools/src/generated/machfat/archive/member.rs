@@ -7,8 +7,8 @@ use crate::generated::machfat::archive::{print_name_end, print_refused};
 use crate::shim::io;
 use core::fmt;
 use core::fmt::{Display, Formatter, Write};
-use goblin_mach::generated::mach_archive::{Archive, Member};
-use goblin_mach::generated::mach_base::{Result, describe};
+use goblin_mach::archive::{Archive, Member};
+use goblin_mach::{Result, describe};
 
 // A number of a header, if its field has one.
 #[derive(Clone, Copy)]
@@ -117,9 +117,11 @@ fn print_answer<O: io::Write>(
 /// Prints a line for each of an archive's members, in order, up to the first fault, and for that fault, no more than `left`.
 /// Returns whether none of them has a fault, how many lines are left, and whether there are more.
 ///
-/// # Proved
+/// <details><summary>Proved</summary>
 ///
 /// - if `Ok(t)`: `WritesAs (AreMemberLines (archive_of archive) left) t (O.contents out.old) (O.contents out.new)`
+///
+/// </details>
 pub fn print_members<O: io::Write>(
     archive: &Archive<'_>,
     left: usize,

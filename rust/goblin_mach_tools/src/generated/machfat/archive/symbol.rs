@@ -7,8 +7,8 @@ use crate::generated::machfat::archive::{print_name_end, print_refused};
 use crate::shim::io;
 use core::fmt;
 use core::fmt::{Display, Formatter, Write};
-use goblin_mach::generated::mach_archive::{Archive, ArchiveSymbol, ArchiveSymbols};
-use goblin_mach::generated::mach_base::{Error, Result, ScrollError, describe};
+use goblin_mach::archive::{Archive, ArchiveSymbol, ArchiveSymbols};
+use goblin_mach::{Error, Result, ScrollError, describe};
 
 // The offset that a symbol refers to.
 #[derive(Clone, Copy)]
@@ -22,11 +22,11 @@ impl Display for PlaceText {
 
 // Returns a symbol's name as a text.
 fn name_of<'a>(name: &'a [u8]) -> Result<&'a str> {
-    match str::from_utf8(name) {
+    match core::str::from_utf8(name) {
         Ok(text) => Ok(text),
         Err(_) => Err(Error::Scroll(ScrollError::BadInput {
             size: name.len(),
-            msg: "a symbol's name is UTF-8",
+            msg: "a symbol's name is not UTF-8",
         })),
     }
 }
@@ -115,9 +115,11 @@ fn print_items<O: io::Write>(
 /// nothing, if the archive has no index; or a line with the error of the index. Returns whether no line has a fault, how many
 /// lines are left, and whether there are more.
 ///
-/// # Proved
+/// <details><summary>Proved</summary>
 ///
 /// - if `Ok(t)`: `WritesAs (AreIndexLines (archive_of archive) left) t (O.contents out.old) (O.contents out.new)`
+///
+/// </details>
 pub fn print_symbols<O: io::Write>(
     archive: &Archive<'_>,
     left: usize,

@@ -6,9 +6,9 @@ use crate::generated::mach_cli::NameText;
 use crate::generated::machsyms::nm::origin::{Origin, OriginText};
 use core::fmt;
 use core::fmt::{Display, Formatter};
-use goblin_mach::generated::mach_base::Result;
-use goblin_mach::generated::mach_parts::segment::Section;
-use goblin_mach::generated::mach_parts::symbols::{
+use goblin_mach::Result;
+use goblin_mach::segment::Section;
+use goblin_mach::symbols::{
     N_ABS, N_EXT, N_INDR, N_NO_DEAD_STRIP, N_PEXT, N_SECT, N_UNDF, N_WEAK_DEF, N_WEAK_REF, Nlist,
     REFERENCED_DYNAMICALLY,
 };

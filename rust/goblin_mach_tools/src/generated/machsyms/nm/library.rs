@@ -104,9 +104,11 @@ fn guessed_name(path: &str) -> &str {
 /// Returns the short name of a library by its path: `libSystem` for `/usr/lib/libSystem.B.dylib`, `Foo` for
 /// `/F/Foo.framework/Versions/A/Foo`. It is the whole path if nothing is guessed.
 ///
-/// # Proved
+/// <details><summary>Proved</summary>
 ///
 /// - `result ≡ defined.short_library_name path`
+///
+/// </details>
 pub fn short_name(path: &str) -> &str {
     or_if_empty(guessed_name(path), path)
 }

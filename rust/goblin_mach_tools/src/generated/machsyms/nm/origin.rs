@@ -6,9 +6,9 @@ use crate::generated::mach_cli::NameText;
 use crate::generated::machsyms::nm::library::short_name;
 use core::fmt;
 use core::fmt::{Display, Formatter};
-use goblin_mach::generated::mach_base::Result;
-use goblin_mach::generated::mach_parts::binding::Provider;
-use goblin_mach::generated::mach_parts::symbols::Nlist;
+use goblin_mach::Provider;
+use goblin_mach::Result;
+use goblin_mach::symbols::Nlist;
 
 /// The library that provides a symbol, as far as it is recorded.
 #[derive(Clone, Copy)]
@@ -27,9 +27,11 @@ pub enum Origin<'a> {
 
 /// Returns the origin of a symbol with this provider, if the linker recorded one.
 ///
-/// # Proved
+/// <details><summary>Proved</summary>
 ///
 /// - for each `is_raw : Bool`, `origin_text is_raw result ≡ origin_words is_raw symbol.n_desc (option_map (read_as provider_view) provider.entry)`
+///
+/// </details>
 pub fn origin_of<'a>(symbol: &Nlist, provider: Option<Result<Provider<'a>>>) -> Origin<'a> {
     match provider {
         None => Origin::Unsaid,

@@ -1,0 +1,14 @@
+pub mod Places
+pub mod Walks
+pub mod Steps
+pub mod Weak
+pub mod Cpus
+pub mod Opening
+pub mod Opened
+pub mod Notes
+pub mod Noting
+pub mod Pushed
+pub mod Found
+pub mod KeptValues
+pub mod KeptFiles
+pub mod Firsts

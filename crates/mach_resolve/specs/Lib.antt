@@ -1,0 +1,13 @@
+pub mod Files
+pub mod Following
+pub mod Follow
+pub mod Special
+pub mod Answers
+pub mod Note
+pub mod Cpu
+pub mod Given
+pub mod Failures
+pub mod ResolveViews
+pub mod Kept
+pub mod Opened
+pub mod Resolved

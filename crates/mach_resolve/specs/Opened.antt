@@ -1,0 +1,6 @@
+-- The view of a file as it was given.
+use Rattle.mach_resolve.specs.Given as given
+use Rattle.mach_resolve.specs.declared.inputs.Given.{Given}
+
+abbrev pub given_view : Given → given.GivenFile
+given_view g = record { path = g.path.now; bytes = g.bytes.now }

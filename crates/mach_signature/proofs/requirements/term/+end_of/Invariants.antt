@@ -1,0 +1,4 @@
+use Rattle.mach_signature.proofs.requirements.term.+end_of.Given as goal
+
+abbrev pub decreases-end_of : goal.decreases-end_of
+decreases-end_of l = l.depth

@@ -1,8 +1,0 @@
-use Rattle.std.proofs.Common.{take}
-use Rattle.std.specs.Prelude.{All}
-use Rattle.machresolve.specs.Files.{Lacks}
-use Rattle.machresolve.specs.ResolveViews.{input_views}
-use Rattle.machresolve.proofs.file.Files.first_having.Given as goal
-
-abbrev pub invariant-loop-place : goal.invariant-loop-place
-invariant-loop-place g l = All (Lacks (input_views l.self) l.name) (take l.place-index l.places)

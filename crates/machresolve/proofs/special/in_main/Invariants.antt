@@ -1,7 +1,0 @@
-use Rattle.std.proofs.Common.{take}
-use Rattle.std.specs.Prelude.{All, IsFalse}
-use Rattle.machresolve.specs.ResolveViews.{input_views}
-use Rattle.machresolve.proofs.special.in_main.Given as goal
-
-abbrev pub invariant-loop-file : goal.invariant-loop-file
-invariant-loop-file g l = All (λ f. IsFalse f.is_main) (take l.file-index (input_views l.files))

@@ -1,4 +1,0 @@
-use Rattle.machsign.proofs.entitlements.compare.+count.Given as goal
-
-abbrev pub decreases-count : goal.decreases-count
-decreases-count l = l.steps

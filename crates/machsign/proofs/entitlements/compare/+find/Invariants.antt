@@ -1,4 +1,0 @@
-use Rattle.machsign.proofs.entitlements.compare.+find.Given as goal
-
-abbrev pub decreases-find : goal.decreases-find
-decreases-find l = l.steps

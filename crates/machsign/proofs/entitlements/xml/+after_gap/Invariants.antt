@@ -1,4 +1,0 @@
-use Rattle.machsign.proofs.entitlements.xml.+after_gap.Given as goal
-
-abbrev pub decreases-after_gap : goal.decreases-after_gap
-decreases-after_gap l = l.most

@@ -1,0 +1,18 @@
+#compdef machfixups
+
+_arguments \
+    '--rebases[print the rebases]' \
+    '--binds[print the binds]' \
+    '--weak[print the weak binds of the opcodes]' \
+    '--chains[print the chained fixups]' \
+    '--json[print one JSON object per file]' \
+    '--limit[print at most N lines per file]:N: ' \
+    '--names[also read the files listed in FILE, one name per line]:FILE:_files' \
+    '-0[names in the --names list end with NUL]' \
+    '--arch[show only images for this cpu]:NAME: ' \
+    '--cputype[show only images with this cputype]:0xN: ' \
+    '--color[colour what is at fault, auto, always or never]:WHEN: ' \
+    '(- *)-h[print the usage]' \
+    '(- *)--help[print the usage]' \
+    '(- *)--version[print the name and version]' \
+    '*:file:_files'

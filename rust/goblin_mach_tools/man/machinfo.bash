@@ -1,0 +1,16 @@
+_machinfo() {
+    local word=${COMP_WORDS[COMP_CWORD]}
+    case ${COMP_WORDS[COMP_CWORD - 1]} in --at|--limit|--arch|--cputype|--color) return ;; esac
+    case $word in
+    -*) mapfile -t COMPREPLY < <(compgen -W "--at --json --limit --names -0 --arch --cputype --color -h --help --version" -- "$word") ;;
+    *)
+        if [ "$COMP_CWORD" = 1 ]; then
+            mapfile -t COMPREPLY < <(compgen -W "at commands starts slots indirect data options tools notes providers libraries rebases weak segments sections uuid rpaths entrypoint header security exports imports" -- "$word")
+            return
+        fi
+        compopt -o filenames
+        mapfile -t COMPREPLY < <(compgen -f -- "$word")
+        ;;
+    esac
+}
+complete -F _machinfo machinfo

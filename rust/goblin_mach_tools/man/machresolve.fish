@@ -1,0 +1,7 @@
+complete -c machresolve -l arch -x -d 'of a fat program use only the first entry for this cpu'
+complete -c machresolve -l cputype -x -d 'of a fat program use only the first entry with this cputype'
+complete -c machresolve -l limit -x -d 'print at most N bindings of the program'
+complete -c machresolve -l color -x -d 'colour what is at fault, auto, always or never'
+complete -c machresolve -s h -d 'print the usage'
+complete -c machresolve -l help -d 'print the usage'
+complete -c machresolve -l version -d 'print the name and version'
