@@ -84,6 +84,7 @@ fn byte_in(bytes: &[u8], at: usize) -> u8
 
 // Returns how many of the first bytes are one character that is escaped.
 #[tactic(auto, unfolding(crate::specs::Escapes::escape_len))]
+#[inline(always)]
 fn escape_len(style: Style, bytes: &[u8]) -> usize
     ensures { result ≡ escape_len style bytes.now }
 {
@@ -106,6 +107,7 @@ fn is_quoted(style: Style, byte: u8) -> bool
 
 // Returns how many bytes the first character has, if it is hidden.
 #[tactic(auto, unfolding(crate::specs::Escapes::hidden_len))]
+#[inline(always)]
 fn hidden_len(bytes: &[u8]) -> usize
     ensures { result ≡ hidden_len bytes.now }
 {
@@ -114,10 +116,18 @@ fn hidden_len(bytes: &[u8]) -> usize
         if first < 0x20 || first == 0x7f { 1 } else { 0 }
     } else if first < 0xc2 {
         0
-    } else if hides_two(first, byte_in(bytes, 1)) {
-        2
-    } else if hides_three(first, byte_in(bytes, 1), byte_in(bytes, 2)) {
-        3
+    } else if first < 0xe0 {
+        if hides_two(first, byte_in(bytes, 1)) {
+            2
+        } else {
+            0
+        }
+    } else if first < 0xf0 {
+        if hides_three(first, byte_in(bytes, 1), byte_in(bytes, 2)) {
+            3
+        } else {
+            0
+        }
     } else if hides_four(
         first,
         byte_in(bytes, 1),
