@@ -1,6 +1,6 @@
 """A second reader of Mach-O files, which confirms the answers of the vectors.
 
-It follows the pages docs/FORMAT-*.md alone, and shares no code with the library. `answer(vector)` is the answer to a vector.
+It follows the pages docs/FORMAT-*.md alone, and for `security` docs/PROGRAMS.md. It shares no code with the library. `answer(vector)` is the answer to a vector.
 """
 
 from . import chains, entitlements, files, hardened, image, layout, names, opcodes, requirements, signature, tables, trie
