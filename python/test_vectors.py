@@ -69,6 +69,7 @@ class Vectors(unittest.TestCase):
             ("error too-short 9 records", "error too-short"),
             ("member (bad-input 3) header 0x8", "member (short) header 0x8"),
             ("fault blob slot 0x0 index 0 found 0x0 limit 0x0 error too-big 8 4", "fault blob slot 0x0 index 0 found 0x0 limit 0x0 error short"),
+            ("verdict cms (too-big 9 4)", "verdict cms unknown"),
             ('id "error too-big (malformed 1)"', 'id "error too-big (malformed 1)"'),
         ]:
             self.assertEqual(plain(wanted), told)

@@ -3,7 +3,9 @@
 import re
 
 import goblin_mach
-from goblin_mach import Archive, FatEntry, FatPart, FileType, HeaderFlags, Image, LoadCommand, Platform, Refused, Relocation, Stab, SymbolType, _memory
+from goblin_mach import (REQUIREMENTS, Archive, FatEntry, FatPart, FileType, HeaderFlags, Image, LoadCommand, Platform, Refused, Relocation, Stab, SymbolType,
+                         _memory)
+from goblin_mach.signature import requirement_of
 
 MODES = {"strict": goblin_mach.STRICT, "lossy": goblin_mach.LOSSY}
 LEFT_OUT = {"mach", "input", "images"}
@@ -15,10 +17,13 @@ LEFT_OUT = {"mach", "input", "images"}
 ERRORS = {"malformed": "malformed", "bad magic": "bad-magic", "out of the bytes, or no text": "short", "too many": "too-short"}
 CALLED = {"malformed": "malformed", "bad-magic": "bad-magic", "bad-offset": "short", "too-big": "short", "bad-input": "short", "too-short": "too-short"}
 ERROR = re.compile(rf"(\berror |\()({'|'.join(CALLED)})[^)]*")
+UNKNOWN = re.compile(r"(verdict \S+) \(.*\)")
 
 
 def plain(line):
-    """Returns a wanted line, with errors of the kinds that the package has."""
+    """Returns a wanted line, with errors of the kinds that the package has. It doesn't say why a verdict is unknown."""
+    if UNKNOWN.fullmatch(line):
+        return UNKNOWN.sub(r"\1 unknown", line)
     parts = line.split('"')
     parts[::2] = [ERROR.sub(lambda found: found[1] + CALLED[found[2]], part) for part in parts[::2]]
     return '"'.join(parts)
@@ -288,6 +293,44 @@ def as_signed(image):
     return "yes" if found is not None and found.is_as_signed() else "no"
 
 
+def requirement_line(name, text):
+    return f"requirement {name} {text}" if text else "none"
+
+
+def said_requirement(image, number):
+    """Returns the line of the requirement of a type, also if another one can't be read."""
+    try:
+        return requirement_line(REQUIREMENTS[number - 1], requirement_of(image._live(), image._pointer, number))
+    except Refused as refused:
+        return why(refused)
+
+
+def requirement(image, vector):
+    """Returns the requirements of the types. The property `requirements` must have the same, unless it is refused."""
+    names = [REQUIREMENTS[number - 1] for number, in vector.numbers]
+    lines = [said_requirement(image, number) for number, in vector.numbers]
+    try:
+        texts = image.signature.requirements if image.signature else {}
+    except Refused:
+        return lines
+    return lines if lines == [requirement_line(name, texts.get(name)) for name in names] else [*lines, "the property differs"]
+
+
+def entitlements(image):
+    """Yields whether those in XML and in DER say the same, and those in XML."""
+    it = image.signature
+    yield f"entitlements {hyphened(it.entitlements_agreement.lower()) if it else 'none'}"
+    xml = it and it.entitlements or b""
+    yield from (f"xml {quoted(xml[at:at + 64])}" for at in range(0, len(xml), 64))
+    if it and "entitlements" in it.errors:
+        yield f"xml ({ERRORS[it.errors['entitlements']]})"
+
+
+def security(image):
+    words = {True: "yes", False: "no", None: "unknown"}
+    return [f"verdict {name} {words[holds]}" for name, holds in image.security().items()]
+
+
 # ---- names of numbers; None if the package has a name and the library hasn't
 
 def known(number, prefix=""):
@@ -364,7 +407,11 @@ LISTS_OF_IMAGES = {
     "fixups": lambda image: each(image.fixups(), fixup),
     "layout": lambda image: each(image.layout_faults(), layout_fault),
     "signature-faults": signature_faults,
+    "entitlements": entitlements,
+    "security": security,
 }
+LISTS_WITH_QUESTIONS = {"walk": walk, "requirement": requirement}
+"""Those of an image that get the vector, too."""
 LISTS_OF_FILES = {
     "entries": lambda data: each(goblin_mach.fat_entries(data), entry),
     "container": lambda data: each(goblin_mach.container_faults(data), layout_fault),
@@ -425,8 +472,8 @@ def answer(vector):
             line = SINGLES_OF_FILES[call](data, vector)
             return None if line is None else [line]
         image = Image(data, vector.offset, MODES[vector.mode])
-        if call == "walk":
-            return ended(walk(image, vector))
+        if call in LISTS_WITH_QUESTIONS:
+            return ended(LISTS_WITH_QUESTIONS[call](image, vector))
         return ended(LISTS_OF_IMAGES[call](image)) if call in LISTS_OF_IMAGES else [SINGLES_OF_IMAGES[call](image, vector)]
     except Refused as refused:
         return [why(refused)]

@@ -72,6 +72,7 @@ class Parser(unittest.TestCase):
             ("\nvector w", "7: no call"),
             ("\nvector w\ncall machs", "8: unknown call 'machs'"),
             ("\nvector w\ncall find", "7: no name"),
+            ("\nvector w\ncall requirement", "7: no number"),
             ("\nvector w\ncall cpu-names\nnumber 1", "9: not 2 numbers"),
         ):
             with self.subTest(lines), self.assertRaises(form.Fault) as raised:

@@ -1,15 +1,9 @@
 /* drive FILE.. answers the vectors of the files by the C library, and compares. README.md says what vectors are. For each vector it prints the first line
    of the answer that differs. Then it prints how many vectors are as expected, and which calls were left out since C has none. The status is 1 if a
    vector differs, and 2 if a file can't be read as vectors. */
-#include "lists.h"
+#include "signed.h"
 
 /* ---- answers that are no lists */
-
-/* Says why a call was refused; if it wasn't, says these words. */
-static void say_or_error(asked *a, uint32_t code, const char *none) {
-    if (code) say_error(a, code);
-    else say(a, none);
-}
 
 static void answer_header(asked *a) {
     const gm_image *i = &a->image;
@@ -178,37 +172,6 @@ static void answer_section_of(asked *a) {
     say_section(a, code, &found);
 }
 
-/* Puts why a text of the signature isn't there: an error, or none. Returns whether it isn't there. */
-static bool is_missing(asked *a, size_t at, uint32_t code) {
-    if (code) PUT("(%s)", error_of(code));
-    else if (!at) PUT("none");
-    return code || !at;
-}
-
-static void answer_signature(asked *a) {
-    gm_signature s;
-    uint32_t code = gm_code_signature(IMAGE_OF, &s, NULL, NULL);
-    if (code || !s.is_signed) {
-        say_or_error(a, code, "unsigned");
-        return;
-    }
-    PUT("signature ");
-    if (!is_missing(a, s.identifier, s.identifier_code)) put_text(a, s.identifier, s.identifier_len);
-    PUT(" team ");
-    if (!is_missing(a, s.team, s.team_code)) put_text(a, s.team, s.team_len);
-    PUT(" version 0x%" PRIx32 " flags 0x%" PRIx32 " hash %" PRIu32 " limit %" PRIu64, s.version, s.flags, s.hash_type, s.limit);
-    PUT(" pages %" PRIu64 " page-size %" PRIu32 " entitlements ", s.pages, s.page_size);
-    if (!is_missing(a, s.entitlements, s.entitlements_code)) PUT("%zu", s.entitlements_len);
-    PUT(" cdhash ");
-    put_pairs(a, s.cdhash, sizeof s.cdhash);
-    end_line(a);
-}
-
-static void answer_as_signed(asked *a) {
-    uint32_t as_signed = 0, code = gm_is_as_signed(IMAGE_OF, &as_signed, NULL, NULL);
-    say_or_error(a, code, as_signed ? "yes" : "no");
-}
-
 static void answer_archive_kind(asked *a) {
     static const char *const kinds[] = {"none", "gnu", "bsd", "thin"};
     uint32_t kind = 0, code = gm_archive_kind(FILE_OF, &kind, NULL);
@@ -301,6 +264,7 @@ static const struct { const char *call; answer_call *answer; bool is_of_image; }
     {"header", answer_header, true}, {"exports", answer_exports, true}, {"walk", answer_walk, true}, {"find", answer_find, true},
     {"imports", answer_imports, true}, {"slot-at", answer_slot_at, true}, {"section-at", answer_section_at, true},
     {"section-of", answer_section_of, true}, {"signature", answer_signature, true}, {"as-signed", answer_as_signed, true},
+    {"requirement", answer_requirement, true}, {"entitlements", answer_entitlements, true}, {"security", answer_security, true},
     {"archive-kind", answer_archive_kind, false}, {"archive-find", answer_archive_find, false}, {"member-named", answer_member_named, false},
     {"write-fat", answer_write_fat, false},
 };

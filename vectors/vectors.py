@@ -11,11 +11,11 @@ CALLS = {
     **dict.fromkeys("header commands segments sections relocations symbols libraries run-paths ids function-starts data-in-code".split()),
     **dict.fromkeys("indirect-symbols linker-options build-tools notes slots providers exports walk imports iter-imports bindings".split()),
     **dict.fromkeys("weak-binds rebases fixups mach input entries images archive-kind members archive-symbols layout container".split()),
-    **dict.fromkeys("signature signature-faults as-signed".split()),
+    **dict.fromkeys("signature signature-faults as-signed entitlements security".split()),
     **dict.fromkeys("find archive-find member-named".split(), "name"),
     **dict.fromkeys("slot-at section-at".split(), "address"),
     **dict.fromkeys("section-of write-fat command-names file-type-names header-flag-names platform-names".split(), "number"),
-    **dict.fromkeys("symbol-type-names cpu-names relocation-names".split(), "number"),
+    **dict.fromkeys("symbol-type-names cpu-names relocation-names requirement".split(), "number"),
 }
 OF_TWO_NUMBERS = {"cpu-names", "relocation-names"}
 NUMBER = re.compile("[0-9]+|0x[0-9a-fA-F]+")

@@ -1,13 +1,14 @@
 """A second reader of Mach-O files, which confirms the answers of the vectors.
 
-It follows the pages docs/FORMAT-*.md alone, and shares no code with the library. `answer(vector)` is the answer to a vector.
+It follows the pages docs/FORMAT-*.md alone, and for `security` docs/PROGRAMS.md. It shares no code with the library. `answer(vector)` is the answer to a vector.
 """
 
-from . import chains, files, image, layout, names, opcodes, signature, tables, trie
+from . import chains, entitlements, files, hardened, image, layout, names, opcodes, requirements, signature, tables, trie
 from .reading import MOST_WORK, Fault, GaveUp, Work, limited
 
 # Calls that get an opened image and the vector. Those of LISTS give the lines of a list, and those of SINGLES give a line.
-LISTS = {**image.LISTS, **tables.LISTS, **trie.LISTS, **opcodes.LISTS, **chains.LISTS, **signature.LISTS, **layout.LISTS}
+LISTS = {**image.LISTS, **tables.LISTS, **trie.LISTS, **opcodes.LISTS, **chains.LISTS, **signature.LISTS, **layout.LISTS, **requirements.LISTS,
+         **entitlements.LISTS, **hardened.LISTS}
 SINGLES = {**tables.SINGLES, **trie.SINGLES, **signature.SINGLES}
 # The same for calls that get the bytes of a file and the vector.
 FILE_LISTS = {**files.LISTS, **names.LISTS}

@@ -21,19 +21,11 @@ HASHES = {1: (hashlib.sha1, 20, 0), 2: (hashlib.sha256, 32, 2), 3: (hashlib.sha2
 FIELDS = ((0x20500, 96), (0x20400, 88), (0x20300, 64), (0x20200, 52), (0x20100, 48), (0, 44))
 
 
-class Signature:
-    """A signature: its bytes, and the slot and the offset of each blob."""
+class Index:
+    """Blobs with an index: its bytes, and the slot and the offset of each blob."""
 
-    def __init__(self, data):
-        magic, length, count = (number(read(data, 0, 12), at, 4, ">") for at in (0, 4, 8))
-        if magic != SIGNATURE_MAGIC:
-            raise bad_magic(magic)
-        require(length >= 12)
-        if length > len(data):
-            raise too_big(length, len(data))
-        if 12 + 8 * count > length:
-            raise too_short(count, "blobs")
-        self.data = memoryview(data)[:length]
+    def __init__(self, data, count):
+        self.data = memoryview(data)
         self.index = [tuple(number(data, 12 + 8 * blob + at, 4, ">") for at in (0, 4)) for blob in range(count)]
 
     def blob(self, offset):
@@ -50,6 +42,21 @@ class Signature:
     def blob_of(self, slot):
         """Reads the first blob of a slot; None if there is none."""
         return self.blob(self.first_offsets[slot]) if slot in self.first_offsets else None
+
+
+class Signature(Index):
+    """A signature: its blobs, and its code directories."""
+
+    def __init__(self, data):
+        magic, length, count = (number(read(data, 0, 12), at, 4, ">") for at in (0, 4, 8))
+        if magic != SIGNATURE_MAGIC:
+            raise bad_magic(magic)
+        require(length >= 12)
+        if length > len(data):
+            raise too_big(length, len(data))
+        if 12 + 8 * count > length:
+            raise too_short(count, "blobs")
+        super().__init__(memoryview(data)[:length], count)
 
     def directories(self):
         """Gives the slot and the directory, or its fault, for each directory in the order of the index."""

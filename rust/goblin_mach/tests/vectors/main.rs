@@ -171,6 +171,7 @@ fn what_the_format_does_not_allow() {
         ("\nimage i\n\nimage i", "12: a second image 'i'"),
         ("\nvector w", "10: no call"),
         ("\nvector w\ncall find", "10: no name"),
+        ("\nvector w\ncall requirement", "10: no number"),
         ("\nvector w\ncall cpu-names\nnumber 1", "12: not 2 numbers"),
     ] {
         let found = differences(&format!("call mach\n{line}\n"));

@@ -4,12 +4,12 @@ use super::archives;
 #[cfg(feature = "layout")]
 use super::judged;
 use super::lines::{Lines, error};
-#[cfg(feature = "signature")]
-use super::signed;
 use super::vector::Vector;
 #[cfg(feature = "write")]
 use super::written;
 use super::{dyld, files, image, names};
+#[cfg(feature = "signature")]
+use super::{said, signed};
 use goblin_mach::{MachO, Result};
 
 enum Call {
@@ -84,6 +84,9 @@ const OF_FEATURES: &[&str] = &[
     "signature",
     "signature-faults",
     "as-signed",
+    "requirement",
+    "entitlements",
+    "security",
 ];
 
 fn call_of_feature(name: &str) -> Option<Call> {
@@ -114,6 +117,12 @@ fn call_of_feature(name: &str) -> Option<Call> {
         "signature-faults" => Call::Image(signed::faults),
         #[cfg(feature = "signature")]
         "as-signed" => Call::Image(signed::as_signed),
+        #[cfg(feature = "signature")]
+        "requirement" => Call::LookUp(said::requirement),
+        #[cfg(feature = "signature")]
+        "entitlements" => Call::Image(said::entitlements),
+        #[cfg(feature = "signature")]
+        "security" => Call::Image(said::security),
         _ if OF_FEATURES.contains(&name) => Call::LeftOut,
         _ => return None,
     })

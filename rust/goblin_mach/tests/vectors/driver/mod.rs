@@ -14,6 +14,8 @@ mod lines;
 mod names;
 mod outcome;
 #[cfg(feature = "signature")]
+mod said;
+#[cfg(feature = "signature")]
 mod signed;
 pub mod vector;
 #[cfg(feature = "write")]
