@@ -29,14 +29,14 @@ class Answer(Item, NamedTuple("Answer", [
     ("is_settled", bool),
 ])):
     """The answer for a `binding`. `place` is "found" if a file has its name: `file` is the number of the file, 0 for the program, and `address`
-    counts from its start, or is absolute. Else `place` says why not, as one of `PLACES`. If `is_weak`, the name may be missing. If
-    `is_settled`, it is found, or may be missing."""
+    counts from its start, or if `is_absolute` from 0. Else `place` says why not, as one of `PLACES`. If `is_weak`, the name may be missing.
+    If `is_settled`, it is found, or may be missing."""
 
     __slots__ = ()
 
 
 class UnusedFile(Item, NamedTuple("UnusedFile", [("file", int), ("why", str), ("cputype", Optional[int])])):
-    """A library that isn't used, by its number from 1 on. `why` is "given before", which its name was, or "nothing for the cpu" `cputype`."""
+    """A library that isn't used. `file` is its number, from 1 on. `why` is "given before", which its name was, or "nothing for the cpu" `cputype`."""
 
     __slots__ = ()
 

@@ -79,7 +79,7 @@ unused_rows_left it = map unused_row (map note_view_of (drop it.next it.notes.no
 
 -- The start of one array has rows for the answers, and that of the other for the notes. The numbers say how many each has, how many
 -- notes there are, whether there are more bindings, and whether all answers are settled.
-pub record Writes (answers : List Answer) (notes : List Note) (more : Bool) (old new : List gm_answer) (unused_old unused_new : List gm_unused_file)
+pub record WritesAnswers (answers : List Answer) (notes : List Note) (more : Bool) (old new : List gm_answer) (unused_old unused_new : List gm_unused_file)
     (r : gm_resolution) : Type 0 where
   pub rows : Fills (map answer_row answers) old new r.answers
   pub unused : Fills (map unused_row notes) unused_old unused_new r.unused
@@ -104,7 +104,7 @@ pub record WritesResolved (bytes : List ℕ) (files : List gm_given_file) (old n
   pub notes : List Note
   pub more : Bool
   pub has : HasResolved (length old) bytes files answers notes more
-  pub writes : Writes answers notes more old new unused_old unused_new r
+  pub writes : WritesAnswers answers notes more old new unused_old unused_new r
 
 -- A fault with the number of its file: of a part, or of what is resolved. It is malformed to give no file.
 pub data RefusesGiven (limit : ℕ) (bytes : List ℕ) (files : List gm_given_file) : ℕ → Fault → Type 0 where

@@ -6,7 +6,7 @@ ghost use Rattle.mach_resolve.specs.ResolveViews.{answer_view, note_view_of, pla
 ghost use Rattle.goblin_mach_c.specs.Codes.{IsRefusalCode};
 ghost use Rattle.goblin_mach_c.specs.ResolveRows.{answer_row, found_address, found_file, is_found_absolute, place_number, refused_in, unused_row};
 ghost use Rattle.goblin_mach_c.specs.ResolveRows.{answer_rows_left, unused_rows_left};
-ghost use Rattle.goblin_mach_c.specs.ResolveRows.{HasResolved, IsFailureCode, RefusesGiven, Writes, WritesResolved};
+ghost use Rattle.goblin_mach_c.specs.ResolveRows.{HasResolved, IsFailureCode, RefusesGiven, WritesAnswers, WritesResolved};
 
 use crate::bindings::numbers_of;
 use crate::errors::{GM_OK, gm_error, refuse};
@@ -212,7 +212,7 @@ fn write<A: Allocator>(
     out: &mut [gm_answer],
     unused: &mut [gm_unused_file],
 ) -> gm_resolution
-    ensures { Writes (map answer_view resolved.now.answers.items) (map note_view_of resolved.now.notes.items) resolved.now.more
+    ensures { WritesAnswers (map answer_view resolved.now.answers.items) (map note_view_of resolved.now.notes.items) resolved.now.more
         out.old out.new unused.old unused.new result }
 {
     let answers = resolved.answers.as_slice();
