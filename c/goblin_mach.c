@@ -240,6 +240,11 @@ uint32_t gm_requirement_text(const uint8_t *bytes, uint64_t len, const gm_image 
                              const gm_memory *memory, gm_error *error)
     WITH_MEMORY(gmr_requirement_text(BYTES, len, image, type, AT(out), cap, needed, TOLD))
 
+uint32_t gmr_resolve(const uint8_t *, uint64_t, const gm_given_file *, uint64_t, gm_answer *, uint64_t, gm_unused_file *, uint64_t, gm_resolution *, gm_error *);
+uint32_t gm_resolve(const uint8_t *bytes, uint64_t len, const gm_given_file *files, uint64_t count, gm_answer *out, uint64_t cap, gm_unused_file *unused,
+                    uint64_t unused_cap, gm_resolution *found, const gm_memory *memory, gm_error *error)
+    WITH_MEMORY(gmr_resolve(BYTES, len, AT((gm_given_file *)files), count, AT(out), cap, AT(unused), unused_cap, found, TOLD))
+
 void gmr_symbol_provider(const gm_image *, const gm_symbol *, gm_provider *);
 void gm_symbol_provider(const gm_image *image, const gm_symbol *symbol, gm_provider *found) { gmr_symbol_provider(image, symbol, found); }
 

@@ -277,10 +277,24 @@ static uint64_t write_fat(const given *g) {
     return found;
 }
 
+/* Resolves the file with itself, as all the libraries that one call takes here: under its own name, and under other paths. */
+static uint64_t resolve(const given *g) {
+    static gm_answer rows[ROWS];
+    gm_given_file files[4] = {{0, g->len, 0, 0}};
+    gm_unused_file unused[4];
+    gm_resolution r = {0};
+    uint64_t found = 0;
+    gm_error e;
+    for (uint64_t k = 1; k < 4; k++) files[k] = (gm_given_file){0, g->len, 0, g->len < k ? g->len : k};
+    for (uint64_t count = 1; goes_on() && count <= 4; count++)
+        if (!gm_resolve(g->bytes, g->len, files, count, rows, ROWS, unused, 4, &r, NULL, &e)) found += r.answers + r.unused;
+    return found;
+}
+
 #define CALL(name) {#name, name}
 static const struct { const char *name; uint64_t (*call)(const given *); } all[] = {
     CALL(entries), CALL(container), CALL(open_all), CALL(entries64), CALL(members), CALL(archive_symbols), CALL(archive_find), CALL(write_fat), CALL(image_for),
-    CALL(commands), CALL(segments), CALL(sections), CALL(relocations), CALL(symbols), CALL(libraries),
+    CALL(resolve), CALL(commands), CALL(segments), CALL(sections), CALL(relocations), CALL(symbols), CALL(libraries),
     CALL(run_paths), CALL(ids), CALL(data_in_code), CALL(indirect_symbols), CALL(linker_options), CALL(build_tools), CALL(notes), CALL(find), CALL(exports),
     CALL(tree), CALL(fixups), CALL(opcode_imports), CALL(bindings), CALL(weak_binds), CALL(rebases), CALL(function_starts), CALL(slots), CALL(slot_at),
     CALL(layout), CALL(signature), CALL(signature_faults), CALL(security), CALL(requirements), CALL(all_sections), CALL(build_versions), CALL(dyld_environment), CALL(fileset_entries),
@@ -298,7 +312,7 @@ static int read_file(const char *name, given *g) {
 
 /* Makes call k on a file. Returns whether the image opens, if the call is one on images. */
 static int make(uint64_t k, given *g, uint64_t *found, gm_error *e) {
-    int refused = k >= 9 && gm_open(g->bytes, g->len, 0, GM_STRICT, NULL, &g->image, e) && gm_open(g->bytes, g->len, 0, GM_LOSSY, NULL, &g->image, e);
+    int refused = k >= 10 && gm_open(g->bytes, g->len, 0, GM_STRICT, NULL, &g->image, e) && gm_open(g->bytes, g->len, 0, GM_LOSSY, NULL, &g->image, e);
     calls = 0;
     begun = time(NULL);
     if (!refused) *found = all[k].call(g);

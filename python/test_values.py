@@ -72,7 +72,7 @@ class Json(unittest.TestCase):
                 self.assertEqual(json.loads(image.json())["arch"], image.arch)
         kinds = {name for name, item in vars(goblin_mach).items() if isinstance(item, type) and issubclass(item, Item)}
         self.assertEqual(kinds - met, {"FatEntry", "Member", "ArchiveSymbol", "Owner", "NumberedSection", "SymbolProvider", "Relocation",
-                                       "SignatureFault", "Item", "Encryption", "FoundSymbol", "Function"})
+                                       "SignatureFault", "Item", "Encryption", "FoundSymbol", "Function", "Answer", "UnusedFile"})
 
     def test_names_and_bytes(self):
         one = goblin_mach.Image(made.with_symbols(b"_b\xff"))

@@ -713,6 +713,45 @@ typedef struct gm_verdict {
 uint32_t gm_security(const uint8_t *bytes, uint64_t len, const gm_image *image, uint64_t first, gm_verdict *out, uint64_t cap, uint64_t *count,
                      const gm_memory *memory, gm_error *error);
 
+/* ---- a program and its libraries, resolved: which of these files has each bound name, and at which address. All files are parts of one buffer: one
+   is `len` bytes from `offset` on. Its path is `path_len` bytes at bytes + path, and UTF-8. It is the file's name if the file has none of its own. */
+typedef struct gm_given_file { uint64_t offset, len, path, path_len; } gm_given_file;
+
+/* Where a name is, or why it has no place. FOUND: in a file. LEADS_BACK: re-exports lead back to a name that was looked up before. NO_LIBRARY: its
+   library isn't among the files. MISSING: neither its library nor what that re-exports has the name. NOT_GIVEN: the same, but one of them re-exports
+   a library that isn't among the files. NOT_FOUND: any file may have it, and none has. NO_MAIN: the main program must have it, and no file is one. */
+enum { GM_PLACE_FOUND, GM_PLACE_LEADS_BACK, GM_PLACE_NO_LIBRARY, GM_PLACE_MISSING, GM_PLACE_NOT_GIVEN, GM_PLACE_NOT_FOUND, GM_PLACE_NO_MAIN };
+
+/* the answer for a binding */
+typedef struct gm_answer {
+    uint64_t address;           /* of the name in its file: relative to the start of the file, or absolute; 0 if it isn't found */
+    uint64_t file;              /* the number of the file in which it is found: 0 is the program, 1 the first library; 0 if it isn't found */
+    uint64_t library;           /* the ordinal of the library that provides the name, 0 for other providers */
+    uint32_t provider, place;   /* provider: as of a gm_binding; place: GM_PLACE_FOUND and the like */
+    uint32_t is_absolute, is_weak, is_settled; /* 0 or 1; is_weak: the name may be missing; is_settled: it is found, or may be missing */
+    uint32_t reserved;
+} gm_answer;
+
+/* a file that isn't used: one with its name was given before it, or it has nothing for the program's cpu, which then is `cputype` */
+typedef struct gm_unused_file { uint64_t file; uint32_t why, cputype; } gm_unused_file;
+enum { GM_UNUSED_GIVEN_BEFORE, GM_UNUSED_NOTHING_FOR_CPU };
+
+/* What was written: how many answers, and how many files that aren't used; and how many of these there are. */
+typedef struct gm_resolution {
+    uint64_t answers, unused, all_unused;
+    uint64_t file;              /* of a refused call the number of the file that was refused, else 0 */
+    uint32_t more, is_settled;  /* 0 or 1: whether the program has more bindings, and whether all answers are settled */
+} gm_resolution;
+
+/* Writes the answers for the first bindings of a program, in the order of gm_bindings, as many as there are and fit. The first of the `count` files is
+   the program, which is an image. The others are libraries: an image, or a fat file, of which the first entry for the program's cpu is used. Writes
+   those that aren't used to `unused`, as many as there are and fit. It allocates memory while it runs. It is refused with the code of a fault of
+   opening a file, of one of these bindings, or of the exports on the way of a name. It is refused with GM_SHORT if a part isn't in the bytes, and
+   with GM_MALFORMED if there is no file, or a path isn't UTF-8. A refused call leaves both arrays unchanged, and of *found it writes `file`, with
+   0 for the rest. */
+uint32_t gm_resolve(const uint8_t *bytes, uint64_t len, const gm_given_file *files, uint64_t count, gm_answer *out, uint64_t cap, gm_unused_file *unused,
+                    uint64_t unused_cap, gm_resolution *found, const gm_memory *memory, gm_error *error);
+
 /* ---- a name as a text for C: a copy of it in `out` that fits on a line, as the programs print it, and ends with a zero byte. A backslash is \\,
    and each byte of a character that shows nothing (of control, of the direction of text and the like), and of what isn't UTF-8 is \xNN. Zero bytes at
    the end of a name are left out. Returns the bytes that the whole text needs, with its zero byte. If `cap` is less, the text is cut before an escape or a
@@ -1202,6 +1241,16 @@ GM_FIELD(gm_export_room, names_cap, 56, 8);
 GM_SIZE(gm_export_room, 64);
 #endif
 /* ---- layout: written by c/constants.py */
+GM_FIELD(gm_answer, address, 0, 8);
+GM_FIELD(gm_answer, file, 8, 8);
+GM_FIELD(gm_answer, library, 16, 8);
+GM_FIELD(gm_answer, provider, 24, 4);
+GM_FIELD(gm_answer, place, 28, 4);
+GM_FIELD(gm_answer, is_absolute, 32, 4);
+GM_FIELD(gm_answer, is_weak, 36, 4);
+GM_FIELD(gm_answer, is_settled, 40, 4);
+GM_FIELD(gm_answer, reserved, 44, 4);
+GM_SIZE(gm_answer, 48);
 GM_FIELD(gm_archive_member, date, 0, 8);
 GM_FIELD(gm_archive_member, uid, 8, 8);
 GM_FIELD(gm_archive_member, gid, 16, 8);
@@ -1375,6 +1424,11 @@ GM_FIELD(gm_function_start, address, 0, 8);
 GM_FIELD(gm_function_start, code, 8, 4);
 GM_FIELD(gm_function_start, reserved, 12, 4);
 GM_SIZE(gm_function_start, 16);
+GM_FIELD(gm_given_file, offset, 0, 8);
+GM_FIELD(gm_given_file, len, 8, 8);
+GM_FIELD(gm_given_file, path, 16, 8);
+GM_FIELD(gm_given_file, path_len, 24, 8);
+GM_SIZE(gm_given_file, 32);
 GM_FIELD(gm_id, name, 0, 8);
 GM_FIELD(gm_id, name_len, 8, 8);
 GM_SIZE(gm_id, 16);
@@ -1494,6 +1548,13 @@ GM_FIELD(gm_relocation, address, 0, 4);
 GM_FIELD(gm_relocation, info, 4, 4);
 GM_FIELD(gm_relocation, code, 8, 4);
 GM_SIZE(gm_relocation, 12);
+GM_FIELD(gm_resolution, answers, 0, 8);
+GM_FIELD(gm_resolution, unused, 8, 8);
+GM_FIELD(gm_resolution, all_unused, 16, 8);
+GM_FIELD(gm_resolution, file, 24, 8);
+GM_FIELD(gm_resolution, more, 32, 4);
+GM_FIELD(gm_resolution, is_settled, 36, 4);
+GM_SIZE(gm_resolution, 40);
 GM_FIELD(gm_run_path, path, 0, 8);
 GM_FIELD(gm_run_path, path_len, 8, 8);
 GM_SIZE(gm_run_path, 16);
@@ -1573,6 +1634,10 @@ GM_FIELD(gm_symbol, desc, 36, 2);
 GM_FIELD(gm_symbol, n_type, 38, 1);
 GM_FIELD(gm_symbol, reserved, 39, 1);
 GM_SIZE(gm_symbol, 40);
+GM_FIELD(gm_unused_file, file, 0, 8);
+GM_FIELD(gm_unused_file, why, 8, 4);
+GM_FIELD(gm_unused_file, cputype, 12, 4);
+GM_SIZE(gm_unused_file, 16);
 GM_FIELD(gm_verdict, verdict, 0, 4);
 GM_FIELD(gm_verdict, holds, 4, 4);
 GM_FIELD(gm_verdict, code, 8, 4);
@@ -1657,6 +1722,15 @@ GM_IS(GM_REQUIREMENT_GUEST, 2);
 GM_IS(GM_REQUIREMENT_DESIGNATED, 3);
 GM_IS(GM_REQUIREMENT_LIBRARY, 4);
 GM_IS(GM_REQUIREMENT_PLUGIN, 5);
+GM_IS(GM_PLACE_FOUND, 0);
+GM_IS(GM_PLACE_LEADS_BACK, 1);
+GM_IS(GM_PLACE_NO_LIBRARY, 2);
+GM_IS(GM_PLACE_MISSING, 3);
+GM_IS(GM_PLACE_NOT_GIVEN, 4);
+GM_IS(GM_PLACE_NOT_FOUND, 5);
+GM_IS(GM_PLACE_NO_MAIN, 6);
+GM_IS(GM_UNUSED_GIVEN_BEFORE, 0);
+GM_IS(GM_UNUSED_NOTHING_FOR_CPU, 1);
 GM_IS(GM_SIGNATURE_BLOB, 1);
 GM_IS(GM_SIGNATURE_MAGIC, 2);
 GM_IS(GM_SIGNATURE_DIRECTORY, 3);

@@ -35,6 +35,7 @@ from .items import (
     SymbolProvider, SymbolSlot,
 )
 from .pointers import Binding, Fixup, Import, Rebase, WeakBind
+from .resolution import PLACES, Answer, FileRefused, Resolution, UnusedFile, resolve
 from .signature import AGREEMENTS, REQUIREMENTS, Signature, SignatureFault
 from .symbol_map import SymbolMap
 from .symbol_enums import (
@@ -55,7 +56,7 @@ __all__ = [
     "FunctionStart", "DataInCode", "IndirectSymbol", "SymbolSlot", "SymbolProvider", "NumberedSection", "LinkerOption", "BuildTool", "Note",
     "Item", "BuildVersion", "CommandText", "Encryption", "FilesetEntry", "FoundSymbol", "Function", "SymbolMap",
     "Mode", "STRICT", "LOSSY", "ErrorCode", "ERRORS", "NO_MEMORY", "BATCH", "FIXUPS", "PROVIDERS", "REBASES", "KINDS", "INDIRECT", "SLOTS", "EXPORTS",
-    "AGREEMENTS",
+    "AGREEMENTS", "resolve", "Resolution", "Answer", "UnusedFile", "FileRefused", "PLACES",
     "REQUIREMENTS",
     "CpuType", "CpuSubtype", "CPU_SUBTYPES", "X86Subtype", "X86_64Subtype", "ArmSubtype", "Arm64Subtype", "Arm64_32Subtype", "PowerPcSubtype",
     "FileType", "HeaderFlags", "LoadCommand", "Protection", "SegmentFlags", "SectionType", "SectionAttributes", "Platform", "Tool", "DataKind",

@@ -65,6 +65,8 @@ def _prototypes() -> Dict[str, Tuple[Any, List[Any]]]:
         "gm_fat_entries": (c_uint64, [*held, *by_number]),
         "gm_fat_entries64": (c_uint64, [*held, *by_number]),
         "gm_write_fat": (c_uint32, [*held, POINTER(s.gm_fat_part), c_uint64, c_uint32, c_void_p, c_uint64, count, c_void_p, error]),
+        "gm_resolve": (c_uint32, [*held, POINTER(s.gm_given_file), c_uint64, c_void_p, c_uint64, c_void_p, c_uint64, POINTER(s.gm_resolution), c_void_p,
+                                  error]),
         "gm_archive_kind": (c_uint32, [*held, POINTER(c_uint32), error]),
         "gm_archive_members": (c_uint64, [*held, *by_number]),
         "gm_archive_symbols": (c_uint64, [*held, *by_number]),

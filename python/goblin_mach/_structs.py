@@ -46,6 +46,22 @@ class gm_fat_part(ctypes.Structure):
     _fields_ = _u64("offset len") + _u32("cputype cpusubtype align reserved")
 
 
+class gm_given_file(ctypes.Structure):
+    _fields_ = _u64("offset len path path_len")
+
+
+class gm_answer(ctypes.Structure):
+    _fields_ = _u64("address file library") + _u32("provider place is_absolute is_weak is_settled reserved")
+
+
+class gm_unused_file(ctypes.Structure):
+    _fields_ = _u64("file") + _u32("why cputype")
+
+
+class gm_resolution(ctypes.Structure):
+    _fields_ = _u64("answers unused all_unused file") + _u32("more is_settled")
+
+
 class gm_archive_member(ctypes.Structure):
     _fields_ = _u64("date uid gid mode header data data_len name name_len") + _u32("name_code code")
 

@@ -25,6 +25,7 @@ pub mod PlacedBindings
 pub mod BeginsThere
 pub mod FoundExports
 pub mod PartsWritten
+pub mod RefusedFiles
 pub mod ArchiveSaid
 pub mod NumberedVerdicts
 mod LibraryRows

@@ -41,3 +41,5 @@ pub mod RebaseRows
 pub mod RebasesAfter
 pub mod LayoutRows
 pub mod ArchiveRows
+pub mod GivenFiles
+pub mod ResolveRows

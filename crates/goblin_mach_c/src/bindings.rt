@@ -76,9 +76,9 @@ pub struct gm_binding_cursor {
     pub chains: gm_fixup_cursor,
 }
 
-// Returns the numbers of a provider.
+/// Returns the numbers of a provider.
 #[inline(always)]
-fn numbers_of(provider: Provider<'_>) -> (u32, u64)
+pub fn numbers_of(provider: Provider<'_>) -> (u32, u64)
     ensures provider { result.0 ≡ provider_number (provider_view provider.entry) }
     ensures ordinal { result.1 ≡ ordinal_number (provider_view provider.entry) }
 {

@@ -23,7 +23,8 @@ abbrev pub WeakSoFar : List File → List ℕ → ℕ → Option NamePlace → T
 WeakSoFar files name k None = All (λ f. DefinesNot f name) (take k files)
 WeakSoFar files name k (Some place) =
     All (NotStrong name) (take k files) × (i : ℕ) × (g : File) × (info : Info) × (address : ℕ)
-    × DefinesFirst files name (λ f. DefinesNot f name) i g info address × (place_view_of place ≡ follow.found g.name address (follow.is_absolute info))
+    × DefinesFirst files name (λ f. DefinesNot f name) i g info address
+    × (place_view_of place ≡ follow.found g.number g.name address (follow.is_absolute info))
 
 pub none_so_far : (files : List File) (name : List ℕ) → WeakSoFar files name 0 None
 none_so_far files name = All-nil (λ f. DefinesNot f name)

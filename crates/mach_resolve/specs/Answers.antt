@@ -44,7 +44,7 @@ AreAnswers files p bindings answers = AllZip (IsAnswer files p) bindings answers
 
 -- whether a place settles a binding, given whether the name may be missing
 abbrev pub settles : SymbolPlace → Bool → Bool
-settles (found file address is_absolute) is_weak = true
+settles (found number file address is_absolute) is_weak = true
 settles (leads_back library) is_weak = false
 settles (no_library library) is_weak = is_weak
 settles (missing library) is_weak = is_weak

@@ -13,7 +13,7 @@ pub record Symbol : Type 0 where
 
 -- the place of a name, or why it has none
 pub data SymbolPlace : Type 0 where
-  found : (file : List ℕ) (address : ℕ) (is_absolute : Bool) → SymbolPlace
+  found : (number : ℕ) (file : List ℕ) (address : ℕ) (is_absolute : Bool) → SymbolPlace
   leads_back : (library : List ℕ) → SymbolPlace
   no_library : (library : List ℕ) → SymbolPlace
   missing : (library : List ℕ) → SymbolPlace
@@ -74,7 +74,7 @@ nowhere library (Some gap) = not_given gap.from gap.to
 pub data IsEnd (files : List File) (s : Symbol) : SymbolPlace → Type 0 where
   absent : place_of_file files s.library ≡ None → IsEnd files s (no_library s.library)
   at : (following : Met) (g : File) (info : Info) (address : ℕ) → IsGiven files s following → HasFirst files s.name following.places g info
-      → address_of info ≡ Some address → IsEnd files s (found g.name address (is_absolute info))
+      → address_of info ≡ Some address → IsEnd files s (found g.number g.name address (is_absolute info))
   unlisted : (following : Met) → IsGiven files s following → NoneHas files s.name following.places → IsEnd files s (nowhere s.library following.gap)
 
 -- The place that a symbol leads to, after those that were met on the way: back, if it is one of them; or its end; or the place of

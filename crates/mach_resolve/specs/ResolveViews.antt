@@ -50,7 +50,7 @@ abbrev pub symbol_view_of : Symbol → follow.Symbol
 symbol_view_of s = record { library = s.library.now; name = s.name.now }
 
 abbrev pub place_view_of : NamePlace → follow.SymbolPlace
-place_view_of (Found file address is_absolute) = follow.found file.now address is_absolute
+place_view_of (Found number file address is_absolute) = follow.found number file.now address is_absolute
 place_view_of (LeadsBack library) = follow.leads_back library.now
 place_view_of (NoLibrary library) = follow.no_library library.now
 place_view_of (Missing library) = follow.missing library.now
@@ -62,7 +62,7 @@ place_view_of NoMain = follow.no_main
 abbrev pub LeadsToStep : files.File → Info → List ℕ → Step → Type 0
 LeadsToStep g info name (Leads next) = follow.LeadsTo info name (symbol_view_of next)
 LeadsToStep g info name (Ends place) =
-    (address : ℕ) × (follow.address_of info ≡ Some address) × (place_view_of place ≡ follow.found g.name address (follow.is_absolute info))
+    (address : ℕ) × (follow.address_of info ≡ Some address) × (place_view_of place ≡ follow.found g.number g.name address (follow.is_absolute info))
 
 -- one step further, or the end
 abbrev pub IsStep : List files.File → follow.Symbol → Step → Type 0
@@ -82,7 +82,7 @@ pub record IsDefinition (fs : List files.File) (i : ℕ) (name : List ℕ) (d : 
   pub address : ℕ
   pub listed : slice_get fs i ≡ Some file
   pub defines : special.Defines file name info address
-  pub place_is : place_view_of d.place ≡ follow.found file.name address (follow.is_absolute info)
+  pub place_is : place_view_of d.place ≡ follow.found file.number file.name address (follow.is_absolute info)
   pub weak : IsTrue d.is_weak ↔ special.IsWeakDefinition info
 
 -- the place of a definition, unless it is weak

@@ -10,7 +10,7 @@ use Rattle.mach_resolve.specs.Follow.{FollowsTo}
 pub data IsFlat (files : List File) (name : List ℕ) : SymbolPlace → Type 0 where
   nowhere : (all : Met) → IsAfterAll files all → NoneHas files name all.places → IsFlat files name not_found
   at : (all : Met) (g : File) (info : Info) (address : ℕ) → IsAfterAll files all → HasFirst files name all.places g info
-      → address_of info ≡ Some address → IsFlat files name (found g.name address (is_absolute info))
+      → address_of info ≡ Some address → IsFlat files name (found g.number g.name address (is_absolute info))
   further : (all : Met) (g : File) (info : Info) (t : Symbol) (p : SymbolPlace) → IsAfterAll files all → HasFirst files name all.places g info
       → LeadsTo info name t → FollowsTo files [] t p → IsFlat files name p
 
@@ -40,9 +40,9 @@ pub record DefinesFirst (files : List File) (name : List ℕ) (Before : File →
 -- The first definition that isn't weak, in the order of the files; if there is none, the first definition.
 pub data IsWeakLookup (files : List File) (name : List ℕ) : SymbolPlace → Type 0 where
   strong : (i : ℕ) (g : File) (info : Info) (address : ℕ) → DefinesFirst files name (NotStrong name) i g info address → (IsWeakDefinition info → ⊥)
-      → IsWeakLookup files name (found g.name address (is_absolute info))
+      → IsWeakLookup files name (found g.number g.name address (is_absolute info))
   weak : (i : ℕ) (g : File) (info : Info) (address : ℕ) → DefinesFirst files name (λ f. DefinesNot f name) i g info address
-      → All (NotStrong name) files → IsWeakLookup files name (found g.name address (is_absolute info))
+      → All (NotStrong name) files → IsWeakLookup files name (found g.number g.name address (is_absolute info))
   nowhere : All (λ f. DefinesNot f name) files → IsWeakLookup files name not_found
 
 -- the first file that is a main executable

@@ -32,6 +32,8 @@ pub struct Symbol<'a> {
 pub enum NamePlace<'a> {
     /// In a file, at this address: relative to the file's start, or absolute.
     Found {
+        /// The file's number: 0 for the program, 1 for the first library.
+        number: usize,
         /// The file's name.
         file: &'a str,
         /// The address.
@@ -100,9 +102,10 @@ pub fn lead<'a, A: Allocator>(file: &File<'a, A>, info: ExportInfo<'a>, name: &'
 
 // Returns the place at an address of a file.
 fn found<'a, A: Allocator>(file: &File<'a, A>, address: u64, flags: u64) -> NamePlace<'a>
-    ensures { place_view_of result ≡ found file.now.name.now address (bit_and flags 3 == 2) }
+    ensures { place_view_of result ≡ found file.now.number file.now.name.now address (bit_and flags 3 == 2) }
 {
     NamePlace::Found {
+        number: file.number,
         file: file.name,
         address,
         is_absolute: flags & EXPORT_SYMBOL_FLAGS_KIND_MASK == EXPORT_SYMBOL_FLAGS_KIND_ABSOLUTE,

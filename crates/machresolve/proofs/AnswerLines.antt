@@ -20,7 +20,7 @@ no_feed-found file address true = search (no_feeds, rules)
 no_feed-found file address false = search (no_feeds, rules)
 
 no_feed-place : (p : SymbolPlace) → has_no_feed (place_text p) ≡ true
-no_feed-place (found file address is_absolute) = no_feed-found file address is_absolute
+no_feed-place (found number file address is_absolute) = no_feed-found file address is_absolute
 no_feed-place (leads_back library) = search (no_feeds, rules)
 no_feed-place (no_library library) = search (no_feeds, rules)
 no_feed-place (missing library) = search (no_feeds, rules)
@@ -33,7 +33,7 @@ no_feed-weak true = refl
 no_feed-weak false = refl
 
 no_feed-front : (p : SymbolPlace) (is_weak : Bool) → has_no_feed (text_before_place p is_weak) ≡ true
-no_feed-front (found file address is_absolute) is_weak = refl
+no_feed-front (found number file address is_absolute) is_weak = refl
 no_feed-front (leads_back library) is_weak = refl
 no_feed-front (no_library library) is_weak = no_feed-weak is_weak
 no_feed-front (missing library) is_weak = no_feed-weak is_weak

@@ -30,7 +30,7 @@ found_text file address false = address_in_file_text address file
 found_text file address true = codes "absolute " ++ address_in_file_text address file
 
 abbrev pub place_text : SymbolPlace → List ℕ
-place_text (found file address is_absolute) = found_text file address is_absolute
+place_text (found number file address is_absolute) = found_text file address is_absolute
 place_text (leads_back library) = codes "leads back to " ++ escaped_text library
 place_text (no_library library) = codes "no library " ++ escaped_text library
 place_text (missing library) = codes "missing in " ++ escaped_text library
@@ -44,7 +44,7 @@ weak_text is_weak = if is_weak then codes "weak, " else []
 
 -- the words before the place, if the name may be missing
 abbrev pub text_before_place : SymbolPlace → Bool → List ℕ
-text_before_place (found file address is_absolute) is_weak = []
+text_before_place (found number file address is_absolute) is_weak = []
 text_before_place (leads_back library) is_weak = []
 text_before_place (no_library library) is_weak = weak_text is_weak
 text_before_place (missing library) is_weak = weak_text is_weak

@@ -48,6 +48,7 @@ impl<'a> Display for PlaceText<'a> {
                 file,
                 address,
                 is_absolute: false,
+                ..
             } => {
                 let file = Escaped(file);
                 write!(f, "0x{address:x} in {file}")

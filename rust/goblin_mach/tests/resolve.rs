@@ -53,6 +53,7 @@ fn place(place: NamePlace<'_>) -> String {
             file,
             address,
             is_absolute,
+            ..
         } => format!(
             "{}{address:#x} in {file}",
             if is_absolute { "absolute " } else { "" }

@@ -8,14 +8,16 @@ pub returns-in-Regular : goal.returns-in-Regular
 returns-in-Regular g c = (
   c.in-Regular.address,
   ap (λ i. follow.address_of (info_of i)) c.in-Regular.is,
-  c.found.ensures ∙ ap (follow.found c.args.file.now.name.now c.in-Regular.address) (sym (ap (λ i. follow.is_absolute (info_of i)) c.in-Regular.is)),
+  c.found.ensures
+      ∙ ap (follow.found c.args.file.now.number c.args.file.now.name.now c.in-Regular.address) (sym (ap (λ i. follow.is_absolute (info_of i)) c.in-Regular.is)),
 )
 
 pub returns-in-Stub : goal.returns-in-Stub
 returns-in-Stub g c = (
   c.from.result,
   ap (λ i. follow.address_of (info_of i)) c.in-Stub.is ∙ ap Some (sym c.from.ensures),
-  c.found-in-Stub.ensures ∙ ap (follow.found c.args.file.now.name.now c.from.result) (sym (ap (λ i. follow.is_absolute (info_of i)) c.in-Stub.is)),
+  c.found-in-Stub.ensures
+      ∙ ap (follow.found c.args.file.now.number c.args.file.now.name.now c.from.result) (sym (ap (λ i. follow.is_absolute (info_of i)) c.in-Stub.is)),
 )
 
 pub returns-in-Reexport : goal.returns-in-Reexport

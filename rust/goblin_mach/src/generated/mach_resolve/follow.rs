@@ -36,6 +36,8 @@ impl<'a> core::fmt::Debug for Symbol<'a> {
 pub enum NamePlace<'a> {
     /// In a file, at this address: relative to the file's start, or absolute.
     Found {
+        /// The file's number: 0 for the program, 1 for the first library.
+        number: usize,
         /// The file's name.
         file: &'a str,
         /// The address.
@@ -115,6 +117,7 @@ pub fn lead<'a>(file: &File<'a>, info: ExportInfo<'a>, name: &'a str) -> Step<'a
 // Returns the place at an address of a file.
 fn found<'a>(file: &File<'a>, address: u64, flags: u64) -> NamePlace<'a> {
     NamePlace::Found {
+        number: file.number,
         file: file.name,
         address,
         is_absolute: flags & EXPORT_SYMBOL_FLAGS_KIND_MASK == EXPORT_SYMBOL_FLAGS_KIND_ABSOLUTE,

@@ -46,9 +46,16 @@ pub struct gm_binding_cursor {
     pub chains: gm_fixup_cursor,
 }
 
-// Returns the numbers of a provider.
+/// Returns the numbers of a provider.
+///
+/// <details><summary>Proved</summary>
+///
+/// - *provider*: `result.0 ≡ provider_number (provider_view provider.entry)`
+/// - *ordinal*: `result.1 ≡ ordinal_number (provider_view provider.entry)`
+///
+/// </details>
 #[inline(always)]
-fn numbers_of(provider: Provider<'_>) -> (u32, u64) {
+pub fn numbers_of(provider: Provider<'_>) -> (u32, u64) {
     match provider {
         Provider::Library { ordinal, name: _ } => (0, ordinal),
         Provider::Itself => (1, 0),

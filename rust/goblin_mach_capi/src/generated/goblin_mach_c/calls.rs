@@ -26,6 +26,7 @@ pub use super::providers::gmr_symbol_provider;
 pub use super::rebases::gmr_rebases;
 pub use super::relocations::gmr_relocations;
 pub use super::requirements::gmr_requirement_text;
+pub use super::resolve::gmr_resolve;
 pub use super::run_paths::gmr_run_paths;
 pub use super::section_finds::{gmr_section_at, gmr_section_named, gmr_section_of};
 pub use super::section_list::gmr_all_sections;
@@ -81,6 +82,7 @@ macro_rules! calls {
         $with!(gmr_rebases(bytes: &[u8], image: &gm_image, cursor: &mut gm_rebase_cursor, out: &mut [gm_rebase], count: &mut usize, error: &mut gm_error) -> u32);
         $with!(gmr_relocations(bytes: &[u8], image: &gm_image, reloff: u32, nreloc: u32, first: usize, out: &mut [gm_relocation]) -> usize);
         $with!(gmr_requirement_text(bytes: &[u8], image: &gm_image, kind: u32, out: &mut [u8], needed: &mut usize, error: &mut gm_error) -> u32);
+        $with!(gmr_resolve(bytes: &[u8], files: &[gm_given_file], out: &mut [gm_answer], unused: &mut [gm_unused_file], found: &mut gm_resolution, error: &mut gm_error) -> u32);
         $with!(gmr_run_paths(bytes: &[u8], image: &gm_image, first: usize, out: &mut [gm_run_path]) -> usize);
         $with!(gmr_section_at(bytes: &[u8], image: &gm_image, address: u64, section: &mut gm_found_section, error: &mut gm_error) -> u32);
         $with!(gmr_section_named(bytes: &[u8], image: &gm_image, segment: &[u8], name: &[u8], section: &mut gm_found_section, error: &mut gm_error) -> u32);
