@@ -17,14 +17,19 @@ use Rattle.mach_base.proofs.Binds.{same_ok}
 use Rattle.mach_base.proofs.ItemLists.{length-items_from}
 use Rattle.mach_parts.specs.Symbols.{SymbolTable, symbol_at, symbol_record_at, symbols_of, table_in_bounds}
 use Rattle.mach_parts.specs.declared.symbols.nlist.Nlist.{Nlist}
+use Rattle.goblin_mach.specs.ImageSlots.{symbol_table_view}
 use Rattle.goblin_mach.specs.MappedSymbols.{AreSortedSymbols, IsLastUpTo, is_defined, is_defined_symbol, is_up_to, mapped_from, mapped_symbol}
 use Rattle.goblin_mach.specs.NamedParts.{symbols_within}
 use Rattle.goblin_mach.specs.NearestSymbol.{IsNearestIn, is_below}
+use Rattle.goblin_mach.specs.OpenImage.{IsLossyImage, commands_view}
+use Rattle.goblin_mach.specs.Subjects.{table_in}
+use Rattle.goblin_mach.specs.declared.macho.MachO.{MachO}
 use Rattle.goblin_mach.specs.declared.macho.nearest.SymbolAt.{SymbolAt}
 use Rattle.goblin_mach.specs.declared.symbol_map.MappedSymbol.{MappedSymbol}
-use Rattle.goblin_mach.proofs.MappedItems.{MappedKey, key_cmp, mapped_key, mapped_sorted}
+use Rattle.goblin_mach.proofs.ImageFacts.{one_image}
+use Rattle.goblin_mach.proofs.MappedItems.{key_cmp, mapped_key, mapped_sorted}
 use Rattle.goblin_mach.proofs.MappedNearest.{item_of_last, other_section, parts_of_item, up_to_is_partitioned}
-use Rattle.goblin_mach_c.specs.SymbolMaps.{IsOrderOf, defined_from, numbered_symbol, record_on_map}
+use Rattle.goblin_mach_c.specs.SymbolMaps.{IsOrderOf, IsSymbolMap, IsSymbolOrder, defined_from, numbered_symbol, record_on_map}
 
 -- ---- a symbol by its number is that of its item
 
@@ -153,6 +158,13 @@ within_table table t (Some x) is u at less =
     let many : length (symbols_of v) ≡ v.nsyms = length-items_from (symbol_at v) 0 v.nsyms in
     let same : u.nsyms ≡ v.nsyms = ap (λ (w : SymbolTable). w.nsyms) at in
     rw is (omega (arith, less, many, same))
+
+-- the map of the bytes is that of the table that is held
+pub order_of_image : {A : Type 0} (bytes : List ℕ) (o : ℕ) (m : MachO A) (order : List ℕ) → IsLossyImage bytes o m → IsSymbolMap bytes o order
+    → IsSymbolOrder (symbol_table_view m) order
+order_of_image bytes o m order p q =
+    subst (λ (table : Option SymbolTable). IsSymbolOrder table order) (sym p.fields.symbols)
+    (one_image bytes o (λ ctx cs. IsSymbolOrder (table_in ctx bytes cs) order) p.ctx (commands_view m) p.opens q)
 
 -- ---- how many they are
 

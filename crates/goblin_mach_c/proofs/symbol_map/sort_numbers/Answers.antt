@@ -1,5 +1,5 @@
 use Rattle.std.proofs.Common.{rules}
-use Rattle.std.proofs.lemmas.List.Sorted.{answers_always}
+use Rattle.std.proofs.lemmas.Fn.{always_returns_same}
 use Rattle.mach_parts.specs.SymbolViews.{table_of}
 use Rattle.goblin_mach_c.specs.SymbolMaps.{numbered_symbol}
 use Rattle.goblin_mach_c.proofs.OrderedSymbols.{sorted_order}
@@ -10,4 +10,4 @@ returns-clause-order c =
     let t = table_of c.args.table.now in
     sorted_order t c.args.numbers.now c.sort_unstable_by_key.new.self c.requires c.sort_unstable_by_key.ensures.permutation
     (c.sort_unstable_by_key.ensures.sorted (λ k. let m = numbered_symbol t k in (m.section, m.value, m.index))
-    (answers_always _ _ _ (λ f a r g h. search rules)))
+    (always_returns_same _ _ _ (λ a r f k. search rules)))

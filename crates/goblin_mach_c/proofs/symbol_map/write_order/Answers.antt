@@ -1,7 +1,7 @@
-use Rattle.std.proofs.Common.{◌≡◌, ◌≤◌, List, ap, arith, length, ℕ}
+use Rattle.std.proofs.Common.{List, ap, arith, length, ℕ}
 use Rattle.std.proofs.lemmas.List.{length-drop}
 use Rattle.mach_parts.specs.SymbolViews.{symbols_left}
-use Rattle.goblin_mach_c.specs.SymbolMaps.{defined_from, defined_left}
+use Rattle.goblin_mach_c.specs.SymbolMaps.{defined_from}
 use Rattle.goblin_mach_c.proofs.OrderedSymbols.{few_defined}
 use Rattle.goblin_mach_c.proofs.symbol_map.write_order.Goals as goal
 
