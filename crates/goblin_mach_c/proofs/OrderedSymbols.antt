@@ -50,7 +50,6 @@ module _ (t : SymbolTable) where
   abbrev N : ℕ → MappedSymbol
   N = numbered_symbol t
 
-
   mapped_item : (k : ℕ) (item : Result (List ℕ × Nlist) Fault) (rest : List (Result (List ℕ × Nlist) Fault)) → symbol_at t k ≡ item
       → map N (defined_from (k + 1) rest) ≡ mapped_from (k + 1) rest → map N (defined_from k (item ∷ rest)) ≡ mapped_from k (item ∷ rest)
   mapped_item k (Err f) rest e later = later
@@ -58,10 +57,10 @@ module _ (t : SymbolTable) where
       let m : MappedSymbol = record { section = found.1.n_sect; value = found.1.n_value; index = k } in
       let is : N k ≡ m = ap (record_on_map k) (record_of_item t k found e) in
       by_test (is_defined found.1) m is where
-    by_test : (b : Bool) (m : MappedSymbol) → N k ≡ m
-        → map N (cond b (k ∷ defined_from (k + 1) rest) (defined_from (k + 1) rest)) ≡ option_to_list (cond b (Some m) None) ++ mapped_from (k + 1) rest
-    by_test true m is = cc (is, later)
-    by_test false m is = later
+        by_test : (b : Bool) (m : MappedSymbol) → N k ≡ m
+            → map N (cond b (k ∷ defined_from (k + 1) rest) (defined_from (k + 1) rest)) ≡ option_to_list (cond b (Some m) None) ++ mapped_from (k + 1) rest
+        by_test true m is = cc (is, later)
+        by_test false m is = later
 
   -- the numbers of a table are those of its map, before it is sorted
   mapped_numbers : (k n : ℕ) → map N (defined_from k (items_from (symbol_at t) k n)) ≡ mapped_from k (items_from (symbol_at t) k n)
@@ -69,7 +68,6 @@ module _ (t : SymbolTable) where
   mapped_numbers k (suc n) = mapped_item k (symbol_at t k) (items_from (symbol_at t) (k + 1) n) refl (mapped_numbers (k + 1) n)
 
   -- ---- sorted
-
 
   sorted_map : (numbers : List ℕ) → IsSortedByKey (λ k. mapped_key (N k)) key_cmp numbers → IsSortedByKey mapped_key key_cmp (map N numbers)
   sorted_map numbers up k d low inside =
@@ -100,7 +98,7 @@ module _ (t : SymbolTable) where
         let long : length (map N order) ≡ length order = length-map order N in (
           λ k d low inside. ap (is_up_to n a) (get_or-map N order k 0 d (omega (arith, inside, most))) ∙ point.0 k 0 low inside,
           λ k d past inside. let within : k < length order = omega (arith, long, inside) in
-          ap (is_up_to n a) (get_or-map N order k 0 d within) ∙ point.1 k 0 past within,
+              ap (is_up_to n a) (get_or-map N order k 0 d within) ∙ point.1 k 0 past within,
         )
 
 -- ---- the symbol that a search finds

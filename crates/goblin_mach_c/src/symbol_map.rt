@@ -109,12 +109,7 @@ fn is_up_to(table: &Symbols<'_>, number: usize, section: usize, address: u64) ->
 }
 
 // Returns the number of the last symbol of a map up to an address of a section, if there is one.
-fn last_up_to(
-    table: &Symbols<'_>,
-    order: &[usize],
-    section: usize,
-    address: u64,
-) -> Option<usize>
+fn last_up_to(table: &Symbols<'_>, order: &[usize], section: usize, address: u64) -> Option<usize>
     ensures { let t = table_of table.now in AreSortedSymbols (map (numbered_symbol t) order.now)
         → IsLastUpTo (map (numbered_symbol t) order.now) section address (option_map (numbered_symbol t) result) }
 {
@@ -166,7 +161,12 @@ fn symbol_in_map<'a>(
 {
     let section = image.section_at(address)?;
     let table = image.symbols.as_ref()?;
-    nearest_in(&table.in_bounds(), order, image.section_number(&section), address)
+    nearest_in(
+        &table.in_bounds(),
+        order,
+        image.section_number(&section),
+        address,
+    )
 }
 
 /// Writes the symbol of an image at an address to `symbol`, as `gmr_symbol_at` does, by the numbers that `gmr_symbol_map` wrote.

@@ -17,5 +17,12 @@ overflow_add-count c =
     let items = symbols_left c.iter.result in
     let few = few_defined 0 items in
     let rest = ap (λ (numbers : List ℕ). length numbers) c.fill-written.ensures.rest in
-    omega (arith, few, rest, length-drop c.fill-written.result (defined_from 0 items), c.iter.ensures.bounded, c.count_rows.ensures,
-    c.fill-written.ensures.filled.count)
+    omega (
+      arith,
+      few,
+      rest,
+      length-drop c.fill-written.result (defined_from 0 items),
+      c.iter.ensures.bounded,
+      c.count_rows.ensures,
+      c.fill-written.ensures.filled.count,
+    )
