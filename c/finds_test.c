@@ -13,6 +13,7 @@ enum { MANY = 4096, LOOKED = 200 };
 typedef struct { const uint8_t *bytes; uint64_t len; gm_image image; } given;
 
 static uint64_t found_symbols, found_functions, said;
+static uint64_t order[MANY], mapped; /* the map of the symbols of the image */
 
 /* memory that is refused at one request, and counted */
 typedef struct { uint64_t asked, refused, held; } counted;
@@ -50,7 +51,46 @@ static void symbol_at(const given *g, const gm_symbol *symbols, uint64_t count, 
                            : !found.is_found || found.index != best || found.symbol.value != symbols[best].value || found.symbol.name != symbols[best].name
             || found.distance != address - symbols[best].value)
         DIE("another symbol at %" PRIx64, address);
+    memset(&none, 0x5a, sizeof none);
+    if (gm_symbol_in_map(OF, order, mapped, address, &none, NULL, &e) || memcmp(&found, &none, sizeof found))
+        DIE("another symbol of the map at %" PRIx64, address);
     found_symbols += found.is_found;
+}
+
+/* Checks the map of the symbols, and what is said of arrays that are too short, of numbers that are no map, and of memory that is refused. */
+static void symbol_map(const given *g, const gm_symbol *symbols, uint64_t count) {
+    uint64_t defined = 0, again = 7, few[MANY];
+    gm_found_symbol found;
+    gm_error e;
+    if (gm_symbol_map(OF, order, MANY, &mapped, NULL, &e) || mapped > count) DIE("no map: %s", e.text);
+    for (uint64_t i = 0; i < count; i++)
+        if (!symbols[i].code && (symbols[i].n_type & (GM_N_STAB | GM_N_TYPE)) == GM_N_SECT) few[defined++] = i;
+    if (mapped != defined) DIE("a map of %" PRIu64 " symbols, and not of %" PRIu64, mapped, defined);
+    for (uint64_t i = 1; i < mapped; i++) {
+        const gm_symbol *a = &symbols[order[i - 1]], *b = &symbols[order[i]];
+        if (a->section > b->section || (a->section == b->section && (a->value > b->value || (a->value == b->value && order[i - 1] >= order[i]))))
+            DIE("symbol %" PRIu64 " of the map", i);
+    }
+    if (gm_symbol_map(OF, NULL, 0, &again, NULL, &e) || again != defined) DIE("a map without an array");
+    for (uint64_t cap = mapped > 2 ? mapped - 2 : 0; cap < mapped; cap++) {
+        uint64_t out[MANY];
+        out[cap] = 7;
+        if (gm_symbol_map(OF, out, cap, &again, NULL, &e) || again != defined || memcmp(out, few, cap * sizeof *few) || out[cap] != 7)
+            DIE("a map that is cut");
+    }
+    few[0] = UINT64_MAX;
+    for (uint64_t i = 1; i < 8; i++) few[i] = i * UINT64_C(0x123456789abcdef) % (2 * count + 1);
+    for (uint64_t i = 0; i < count && i < LOOKED; i++)
+        if (gm_symbol_in_map(OF, few, 8, symbols[i].value, &found, NULL, &e) || (found.is_found ? found.index >= count : found.index)) DIE("a symbol of no map");
+    for (uint64_t k = 1, refused = 1; refused; k++) {
+        counted c = {0, k, 0}, d = {0, k, 0};
+        gm_memory m = {&c, take, give}, n = {&d, take, give};
+        again = 7;
+        memset(&found, 0x5a, sizeof found);
+        refused = gm_symbol_map(OF, few, 1, &again, &m, &e) == GM_NO_MEMORY;
+        if (refused != (gm_symbol_in_map(OF, order, mapped, 1, &found, &n, &e) == GM_NO_MEMORY) || c.held || d.held) DIE("a block was kept");
+        if (refused && (again != 7 || found.is_found != 0x5a5a5a5a)) DIE("a refusal wrote something of a map");
+    }
 }
 
 static void function_at(const given *g, const gm_function_start *starts, uint64_t count, uint64_t address) {
@@ -326,6 +366,7 @@ static void check(const uint8_t *bytes, uint64_t len) {
         if (gm_function_starts(OF, &at, starts, MANY, &start_count, NULL, &e)) DIE("no starts: %s", e.text);
         commands_say(g);
         symbols_named(g, symbols, symbol_count);
+        symbol_map(g, symbols, symbol_count);
         parts(g, symbols, symbol_count, starts, start_count);
         exports(g);
     }

@@ -1438,6 +1438,10 @@ static void damage(const uint8_t *bytes, uint64_t len) {
     gm_command_text path;
     uint64_t number;
     gm_symbol_at(bytes, len, &g.image, made_up(len), &one, NULL, &e);
+    uint64_t order[8];
+    for (uint64_t k = 0; k < 8; k++) order[k] = made_up(len);
+    gm_symbol_in_map(bytes, len, &g.image, order, 8, made_up(len), &one, NULL, &e);
+    gm_symbol_map(bytes, len, &g.image, order, chance() % 9, &number, NULL, &e);
     gm_symbol_named(bytes, len, &g.image, "_a", chance() % 3, &one, NULL, &e);
     gm_symbols_named(bytes, len, &g.image, "_a", chance() % 3, chance() % 2 ? 0 : made_up(len), &one, 1, &number, NULL, &e);
     gm_section_named(bytes, len, &g.image, "__TEXT", chance() % 7, "__text", chance() % 7, &section, NULL, &e);

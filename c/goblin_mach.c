@@ -216,6 +216,16 @@ uint32_t gm_symbol_named(const uint8_t *bytes, uint64_t len, const gm_image *ima
                          const gm_memory *memory, gm_error *error)
     WITH_MEMORY(gmr_symbol_named(BYTES, len, image, AT((char *)name), name_len, symbol, TOLD))
 
+uint32_t gmr_symbol_map(const uint8_t *, uint64_t, const gm_image *, uint64_t *, uint64_t, uint64_t *, gm_error *);
+uint32_t gm_symbol_map(const uint8_t *bytes, uint64_t len, const gm_image *image, uint64_t *order, uint64_t cap, uint64_t *count, const gm_memory *memory,
+                       gm_error *error)
+    WITH_MEMORY(gmr_symbol_map(BYTES, len, image, AT(order), cap, count, TOLD))
+
+uint32_t gmr_symbol_in_map(const uint8_t *, uint64_t, const gm_image *, const uint64_t *, uint64_t, uint64_t, gm_found_symbol *, gm_error *);
+uint32_t gm_symbol_in_map(const uint8_t *bytes, uint64_t len, const gm_image *image, const uint64_t *order, uint64_t count, uint64_t address,
+                          gm_found_symbol *symbol, const gm_memory *memory, gm_error *error)
+    WITH_MEMORY(gmr_symbol_in_map(BYTES, len, image, AT((uint64_t *)order), count, address, symbol, TOLD))
+
 uint32_t gmr_symbols_named(const uint8_t *, uint64_t, const gm_image *, const char *, uint64_t, uint64_t, gm_found_symbol *, uint64_t, uint64_t *, gm_error *);
 uint32_t gm_symbols_named(const uint8_t *bytes, uint64_t len, const gm_image *image, const char *name, uint64_t name_len, uint64_t first,
                           gm_found_symbol *out, uint64_t cap, uint64_t *count, const gm_memory *memory, gm_error *error)

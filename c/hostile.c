@@ -159,16 +159,20 @@ static uint64_t slot_at(const given *g) {
 /* Looks up parts and symbols, by names of some lengths, addresses and offsets. */
 static uint64_t parts_at(const given *g) {
     static char name[1 << 20];
+    static uint64_t order[1 << 20];
     gm_segment segment;
     gm_found_section section;
     gm_found_symbol symbol;
     gm_found_function function;
     gm_error e;
-    uint64_t found = 0, number;
+    uint64_t found = 0, number, mapped = 0;
     memset(name, 'a', sizeof name);
+    found += !gm_symbol_map(OF, order, 1 << 20, &mapped, NULL, &e) && mapped;
+    if (mapped > 1 << 20) mapped = 1 << 20;
     for (uint64_t k = 0; goes_on(); k++) {
         uint64_t address = k < 64 ? (uint64_t)1 << k : 8 * k, len = k < 20 ? (uint64_t)1 << k : 1;
         found += !gm_symbol_at(OF, address, &symbol, NULL, &e) && symbol.is_found;
+        found += !gm_symbol_in_map(OF, order, mapped, address, &symbol, NULL, &e) && symbol.is_found;
         found += !gm_function_at(OF, address, &function, NULL, &e) && function.is_found;
         found += !gm_symbol_named(OF, name, len, &symbol, NULL, &e) && symbol.is_found;
         found += !gm_symbols_named(OF, name, len, 0, &symbol, 1, &number, NULL, &e) && number;

@@ -381,7 +381,7 @@ uint32_t gm_section_named(const uint8_t *bytes, uint64_t len, const gm_image *im
 typedef struct gm_found_symbol {
     gm_symbol symbol;
     uint64_t index;
-    uint64_t distance; /* of gm_symbol_at: the address less the symbol's value; of a name 0 */
+    uint64_t distance; /* of an address: the address less the symbol's value; of a name 0 */
     uint32_t is_found, reserved;
 } gm_found_symbol;
 
@@ -392,6 +392,20 @@ uint32_t gm_symbol_named(const uint8_t *bytes, uint64_t len, const gm_image *ima
                          const gm_memory *memory, gm_error *error);
 uint32_t gm_symbol_at(const uint8_t *bytes, uint64_t len, const gm_image *image, uint64_t address, gm_found_symbol *symbol, const gm_memory *memory,
                       gm_error *error);
+
+/* Writes a map of an image's symbols by address to `order` if it fits in `cap` numbers, and how many numbers it has to *count. They are the numbers for
+   gm_symbols of the symbols that gm_symbol_at considers: those that are defined in sections and can be read, without entries for a debugger. They are
+   sorted by section, by value, and by number. If *count is greater than `cap`, the array holds the first of them in the table's order, and is no map.
+   image.symbols numbers always suffice. It opens the image again, and allocates memory while it runs. A refused call leaves the array and *count
+   unchanged. */
+uint32_t gm_symbol_map(const uint8_t *bytes, uint64_t len, const gm_image *image, uint64_t *order, uint64_t cap, uint64_t *count, const gm_memory *memory,
+                       gm_error *error);
+
+/* Finds the symbol that names an address, as gm_symbol_at does, by the `count` numbers that gm_symbol_map wrote to `order`. It opens the image again,
+   allocates memory while it runs, and reads few symbols: as many as `count` has bits. With other numbers it finds some symbol of the image or none, and
+   nothing is read out of bounds. A refused call leaves *symbol unchanged. */
+uint32_t gm_symbol_in_map(const uint8_t *bytes, uint64_t len, const gm_image *image, const uint64_t *order, uint64_t count, uint64_t address,
+                          gm_found_symbol *symbol, const gm_memory *memory, gm_error *error);
 
 /* Writes all symbols with a name from index `first` of these on, entries for a debugger too, and how many it wrote to *count. Symbols whose names can't
    be read are skipped. It opens the image again, allocates memory while it runs, and visits the symbols before: request many at a time. With a `cap` of

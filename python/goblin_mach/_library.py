@@ -84,6 +84,8 @@ def _prototypes() -> Dict[str, Tuple[Any, List[Any]]]:
         "gm_symbol_named": (c_uint32, [*held, image, *name, POINTER(s.gm_found_symbol), c_void_p, error]),
         "gm_symbols_named": (c_uint32, [*held, image, *name, *by_number, count, c_void_p, error]),
         "gm_symbol_at": (c_uint32, [*held, image, c_uint64, POINTER(s.gm_found_symbol), c_void_p, error]),
+        "gm_symbol_map": (c_uint32, [*held, image, c_void_p, c_uint64, count, c_void_p, error]),
+        "gm_symbol_in_map": (c_uint32, [*held, image, c_void_p, c_uint64, c_uint64, POINTER(s.gm_found_symbol), c_void_p, error]),
         "gm_function_at": (c_uint32, [*held, image, c_uint64, POINTER(s.gm_found_function), c_void_p, error]),
         "gm_segment_named": (c_bool, [*held, image, *name, POINTER(s.gm_segment)]),
         "gm_address_of_offset": (c_bool, [*held, image, c_uint64, POINTER(c_uint64)]),

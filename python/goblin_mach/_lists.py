@@ -283,7 +283,6 @@ ARCHIVE_SYMBOLS = Kind(lib.gm_archive_symbols, s.gm_archive_symbol, archive_symb
 COMMAND_ROWS = Kind(lib.gm_commands, s.gm_command, as_written, grows=True)
 LIBRARY_ROWS = Kind(lib.gm_libraries, s.gm_library, as_written, grows=True)
 RUN_PATH_ROWS = Kind(lib.gm_run_paths, s.gm_run_path, as_written, grows=True)
-SYMBOL_ROWS = Kind(lib.gm_symbols, s.gm_symbol, as_written)
 COMMANDS = Kind(lib.gm_commands, s.gm_command, commands, grows=True)
 SEGMENTS = Kind(lib.gm_segments, s.gm_segment, segments, grows=True)
 SECTIONS = Kind(lib.gm_sections, s.gm_section, sections)

@@ -172,12 +172,6 @@ class Image:
         return Rows(_lists.SYMBOLS, self._live, (self._pointer,),
                     table=lambda: (int(numbers.symbols_at), 16 if self.is_64 else 12, int(numbers.symbols)))
 
-    def _symbol_rows(self) -> Rows[Tuple[Any, ...]]:
-        """Returns the rows of `symbols()` within the bytes, as C writes them: their names are places."""
-        numbers = self._numbers
-        return Rows(_lists.SYMBOL_ROWS, self._live, (self._pointer,),
-                    table=lambda: (int(numbers.symbols_at), 16 if self.is_64 else 12, int(numbers.symbols))).in_bounds()
-
     def libraries(self) -> Rows[Library]:
         """Returns the libraries that it loads. Number k has ordinal k + 1."""
         return Rows(_lists.LIBRARIES, self._live, (self._pointer,), lambda: int(self._numbers.libraries))

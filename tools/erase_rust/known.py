@@ -14,8 +14,8 @@ METHODS = set("""
     all as_bytes as_mut as_mut_slice as_ref as_str cast_signed cast_unsigned chars checked_add checked_div checked_mul checked_sub clone contains
     contains_key copied copy_from_slice debug_struct debug_tuple div_ceil encode_utf8 enumerate err field filter filter_map finish get get_index_of into is_ascii_digit
     is_char_boundary is_empty is_err is_none is_ok is_some iter len map max min next ok or partition_point pop position push push_reserved rotate_left
-    rotate_right saturating_add saturating_mul saturating_sub simd_eq simd_ge sort_unstable split_at split_first starts_with strip_prefix strip_suffix
-    to_be_bytes to_bitmask trailing_zeros truncate try_into unsigned_abs unwrap unwrap_or wrapping_add wrapping_mul write_str
+    rotate_right saturating_add saturating_mul saturating_sub simd_eq simd_ge sort_unstable sort_unstable_by_key split_at split_first starts_with
+    strip_prefix strip_suffix to_be_bytes to_bitmask trailing_zeros truncate try_into unsigned_abs unwrap unwrap_or wrapping_add wrapping_mul write_str
 """.split())
 
 # Types of std, and their functions that mean the same in Rust.

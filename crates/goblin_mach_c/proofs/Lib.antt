@@ -3,6 +3,7 @@ pub mod CommandLists
 pub mod OpenedImage
 pub mod FatCodes
 pub mod SymbolTexts
+pub mod OrderedSymbols
 pub mod OpenedLists
 pub mod OpenedTables
 pub mod LastSaid

@@ -22,6 +22,7 @@ pub mod SlotRows
 pub mod ProviderRows
 pub mod SectionFinds
 pub mod SymbolFinds
+pub mod SymbolMaps
 pub mod FixupRows
 pub mod ExportRows
 pub mod ExportWalk

@@ -52,6 +52,8 @@ mod slots;
 mod starts;
 mod stated;
 mod symbol_finds;
+mod symbol_map;
+mod symbol_numbers;
 mod symbols;
 mod symbols_named;
 mod tools;

@@ -1,6 +1,6 @@
 //! Rows one after the other, and the caller's array that they are written to.
 
-ghost use Rattle.std.specs.Prelude.{◌≡◌, List, drop};
+ghost use Rattle.std.specs.Prelude.{◌≡◌, ◌<◌, ◌^◌, List, drop, length};
 ghost use Rattle.std.specs.Iterator.{YieldsFirst};
 ghost use Rattle.goblin_mach_c.specs.Fill.{Fills, WritesFound};
 
@@ -39,6 +39,20 @@ pub fn skip<R: Rows>(rows: &mut R, count: usize)
         let Some(_) = rows.next() else {
             return;
         };
+    }
+}
+
+/// Returns how many rows are left, and leaves none.
+pub fn count_rows<R: Rows>(rows: &mut R) -> usize
+    requires { length (R.left rows.old) < 2 ^ 64 }
+    ensures { result ≡ length (R.left rows.old) }
+{
+    let mut count = 0;
+    'rows: loop {
+        match rows.next() {
+            None => return count,
+            Some(_) => count += 1,
+        }
     }
 }
 

@@ -69,8 +69,8 @@ fn place_of_named(found: &Option<(usize, Nlist)>) -> Option<(usize, u64)>
     }
 }
 
-// Returns the index and the distance of a symbol that was looked up by an address.
-fn place_of_nearest(found: &Option<SymbolAt<'_>>) -> Option<(usize, u64)>
+/// Returns the index and the distance of a symbol that was looked up by an address.
+pub fn place_of_nearest(found: &Option<SymbolAt<'_>>) -> Option<(usize, u64)>
     ensures { result ≡ option_map (λ x. (x.index, x.distance)) found.now }
 {
     match found {

@@ -5,7 +5,6 @@ use Rattle.mach_base.proofs.Faults.{ErrorMeets-reported}
 use Rattle.mach_resolve.specs.Failures.{IsFailure}
 use Rattle.mach_resolve.specs.Opened.{given_view}
 use Rattle.mach_resolve.proofs.Found.{all_zip_push}
-use Rattle.mach_resolve.proofs.Notes.{memory_fails}
 use Rattle.mach_resolve.proofs.Steps.{reported}
 use Rattle.goblin_mach_c.specs.GivenFiles.{AreGiven, PartFault, given_at}
 use Rattle.goblin_mach_c.proofs.given_files.all_given.Goals as goal

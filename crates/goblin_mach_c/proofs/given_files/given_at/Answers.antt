@@ -6,7 +6,6 @@ use Rattle.std.proofs.lemmas.Str.{IsUtf8-from_is_utf8, is_utf8-from_IsUtf8}
 use Rattle.mach_base.specs.Answer.{◌>>=◌}
 use Rattle.mach_base.specs.Fault.{Fault, malformed}
 use Rattle.mach_base.specs.Number.{slice_at}
-use Rattle.mach_resolve.specs.Given.{GivenFile}
 use Rattle.goblin_mach_c.specs.GivenFiles.{given_at, given_file, path_of}
 use Rattle.goblin_mach_c.specs.declared.given_files.gm_given_file.{gm_given_file}
 use Rattle.goblin_mach_c.proofs.given_files.given_at.Goals as goal

@@ -42,6 +42,7 @@ pub use super::stated::{
     gmr_source_version, gmr_uuid,
 };
 pub use super::symbol_finds::{gmr_function_at, gmr_symbol_at, gmr_symbol_named};
+pub use super::symbol_map::{gmr_symbol_in_map, gmr_symbol_map};
 pub use super::symbols::gmr_symbols;
 pub use super::symbols_named::gmr_symbols_named;
 pub use super::tools::gmr_build_tools;
@@ -110,6 +111,8 @@ macro_rules! calls {
         $with!(gmr_function_at(bytes: &[u8], image: &gm_image, address: u64, function: &mut gm_found_function, error: &mut gm_error) -> u32);
         $with!(gmr_symbol_at(bytes: &[u8], image: &gm_image, address: u64, symbol: &mut gm_found_symbol, error: &mut gm_error) -> u32);
         $with!(gmr_symbol_named(bytes: &[u8], image: &gm_image, name: &[u8], symbol: &mut gm_found_symbol, error: &mut gm_error) -> u32);
+        $with!(gmr_symbol_in_map(bytes: &[u8], image: &gm_image, order: &[usize], address: u64, symbol: &mut gm_found_symbol, error: &mut gm_error) -> u32);
+        $with!(gmr_symbol_map(bytes: &[u8], image: &gm_image, order: &mut [usize], count: &mut usize, error: &mut gm_error) -> u32);
         $with!(gmr_symbols(bytes: &[u8], image: &gm_image, first: usize, out: &mut [gm_symbol]) -> usize);
         $with!(gmr_symbols_named(bytes: &[u8], image: &gm_image, name: &[u8], first: usize, out: &mut [gm_found_symbol], count: &mut usize, error: &mut gm_error) -> u32);
         $with!(gmr_build_tools(bytes: &[u8], image: &gm_image, first: usize, out: &mut [gm_build_tool]) -> usize);

@@ -50,6 +50,25 @@ pub fn skip<R: Rows>(rows: &mut R, count: usize) {
     }
 }
 
+/// Returns how many rows are left, and leaves none.
+///
+/// <details><summary>Proved</summary>
+///
+/// Callers make sure of: `length (R.left rows.old) < 2 ^ 64`.
+///
+/// - `result ≡ length (R.left rows.old)`
+///
+/// </details>
+pub fn count_rows<R: Rows>(rows: &mut R) -> usize {
+    let mut count = 0;
+    loop {
+        match rows.next() {
+            None => return count,
+            Some(_) => count += 1,
+        }
+    }
+}
+
 /// Writes a row that was found and returns 1, or leaves `place` unchanged and returns 0.
 ///
 /// <details><summary>Proved</summary>

@@ -65,8 +65,14 @@ fn place_of_named(found: &Option<(usize, Nlist)>) -> Option<(usize, u64)> {
     }
 }
 
-// Returns the index and the distance of a symbol that was looked up by an address.
-fn place_of_nearest(found: &Option<SymbolAt<'_>>) -> Option<(usize, u64)> {
+/// Returns the index and the distance of a symbol that was looked up by an address.
+///
+/// <details><summary>Proved</summary>
+///
+/// - `result ≡ option_map (λ x. (x.index, x.distance)) found`
+///
+/// </details>
+pub fn place_of_nearest(found: &Option<SymbolAt<'_>>) -> Option<(usize, u64)> {
     match found {
         Some(it) => Some((it.index, it.distance)),
         None => None,

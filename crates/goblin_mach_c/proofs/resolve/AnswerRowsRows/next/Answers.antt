@@ -1,4 +1,4 @@
-use Rattle.std.proofs.Common.{◌∙◌, ◌+◌, ◌∷◌, List, drop, map, ap, sym, arith}
+use Rattle.std.proofs.Common.{◌∙◌, ◌+◌, ◌∷◌, drop, map, ap, sym, arith}
 use Rattle.std.proofs.lemmas.List.{at_drop_more}
 use Rattle.mach_resolve.specs.ResolveViews.{answer_view}
 use Rattle.goblin_mach_c.specs.ResolveRows.{answer_row}
