@@ -1,4 +1,4 @@
--- The view of a file as it was given.
+-- The view of a given file.
 use Rattle.mach_resolve.specs.Given as given
 use Rattle.mach_resolve.specs.declared.inputs.Given.{Given}
 
